@@ -1,0 +1,4 @@
+pub mod Examples
+pub mod Joins
+pub mod Escapes
+pub mod Integers

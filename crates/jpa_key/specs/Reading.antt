@@ -1,0 +1,59 @@
+-- A key read off the front of bytes, part by part: what was read, and how many bytes it took.
+use Rattle.std.specs.Prelude.{ℕ, ℤ, pos, negsuc, ◌+◌, ◌-◌, ◌^◌, Bool, true, false, ◌==◌, ◌&&◌, nat_le, List, [], ◌∷◌, ◌++◌, take, drop, length, slice_index, Option, Some, None, if◌then◌else◌}
+use Rattle.std.specs.Int.{from_be_bytes, w64}
+use Rattle.std.specs.Str.{is_utf8}
+use Rattle.jpa_value.specs.declared.value.Value.{Value}
+use Rattle.jpa_value.specs.declared.value.Kind.{Kind}
+
+-- these bytes first, of which so many were read, and then what was read after them
+abbrev pub joined : {A : Type 0} → List A → ℕ → Option (List A × ℕ) → Option (List A × ℕ)
+joined front count None = None
+joined front count (Some read) = Some (front ++ read.0, count + read.1)
+
+-- up to the two bytes 0 that end it; the flag says that a byte 0 was just read
+abbrev pub unescaped : Bool → List ℕ → Option (List ℕ × ℕ)
+unescaped after_zero [] = None
+unescaped false (b ∷ bytes) = if b == 0 then joined [] 1 (unescaped true bytes) else joined (b ∷ []) 1 (unescaped false bytes)
+unescaped true (b ∷ bytes) = if b == 0 then Some ([], 1) else (if b == 255 then joined (0 ∷ []) 1 (unescaped false bytes) else None)
+
+abbrev pub unshifted : ℕ → ℤ
+unshifted k = if nat_le (2 ^ 63) k then pos (k - 2 ^ 63) else negsuc (2 ^ 63 - 1 - k)
+
+abbrev pub starts_with : ℕ → List ℕ → Bool
+starts_with tag [] = false
+starts_with tag (b ∷ bytes) = b == tag
+
+-- what stands between the tag and the two bytes 0
+abbrev pub tagged : ℕ → List ℕ → Option (List ℕ × ℕ)
+tagged tag bytes = if starts_with tag bytes then joined [] 1 (unescaped false (drop 1 bytes)) else None
+
+abbrev pub int_at : List ℕ → Option (Value × ℕ)
+int_at bytes = if starts_with 1 bytes && nat_le 9 (length bytes) then Some (Value.Int (unshifted (from_be_bytes w64 (take 8 (drop 1 bytes)))), 9) else None
+
+abbrev pub text_of : List ℕ → Option (List ℕ)
+text_of bytes = if is_utf8 bytes then Some bytes else None
+
+abbrev pub with_count : Option (List ℕ) → ℕ → Option (Value × ℕ)
+with_count None count = None
+with_count (Some text) count = Some (Value.Text text, count)
+
+abbrev pub text_in : Option (List ℕ × ℕ) → Option (Value × ℕ)
+text_in None = None
+text_in (Some read) = with_count (text_of read.0) read.1
+
+abbrev pub bytes_in : Option (List ℕ × ℕ) → Option (Value × ℕ)
+bytes_in None = None
+bytes_in (Some read) = Some (Value.Bytes read.0, read.1)
+
+abbrev pub part_at : Kind → List ℕ → Option (Value × ℕ)
+part_at Kind.Int bytes = int_at bytes
+part_at Kind.Text bytes = text_in (tagged 2 bytes)
+part_at Kind.Bytes bytes = bytes_in (tagged 3 bytes)
+
+abbrev pub then_key : Option (Value × ℕ) → (ℕ → Option (List Value × ℕ)) → Option (List Value × ℕ)
+then_key None later = None
+then_key (Some read) later = joined (read.0 ∷ []) read.1 (later read.1)
+
+abbrev pub key_at : List Kind → List ℕ → Option (List Value × ℕ)
+key_at [] bytes = Some ([], 0)
+key_at (kind ∷ kinds) bytes = then_key (part_at kind bytes) (λ count. key_at kinds (drop count bytes))

@@ -1,0 +1,8 @@
+//! Keys as bytes.
+#![tactic(auto)]
+
+mod read;
+mod write;
+
+
+pub use write::{encode_key, encode_pair};

@@ -1,0 +1,137 @@
+//! From bytes to keys.
+ghost use Rattle.std.specs.Prelude.{◌≡◌, ◌↔◌, ℕ, List, Option, Some, None, false, IfOk, IfErr, ◌++◌, ◌∷◌, [], IfSome, OnOk, OnErr, length, ◌≤◌};
+ghost use Rattle.std.specs.Cmp.Lexicographic.{slice_cmp};
+ghost use Rattle.std.specs.Ordering.{nat_cmp};
+ghost use Rattle.jpa_value.specs.Value.{key_cmp};
+ghost use Rattle.jpa_value.specs.declared.refusal.Cause.{Cause};
+ghost use Rattle.jpa_value.specs.declared.value.Value.{Value};
+ghost use Rattle.jpa_value.specs.declared.value.Kind.{Kind};
+ghost use Rattle.jpa_key.specs.Keys.{Spells, SpellsFront, SpellsPair};
+ghost use Rattle.jpa_key.specs.Reading as reading;
+
+use jpa_value::{Bytes, Cause, Key, Kind, Seq, Text, Value};
+use std::alloc::Global;
+use std::cmp::Ordering;
+
+const INT: u8 = 1;
+const TEXT: u8 = 2;
+const BYTES: u8 = 3;
+
+/// An integer moved down by 2^63.
+fn unshifted(number: u64) -> i64
+    ensures { result ≡ reading.unshifted number }
+{
+    if number >= 1 << 63 {
+        (number - (1 << 63)) as i64
+    } else {
+        number as i64 - i64::MAX - 1
+    }
+}
+
+/// The integer part that bytes begin with, and how many bytes it takes.
+fn read_int(bytes: &[u8]) -> Option<(Value, usize)>
+    ensures is { result ≡ reading.int_at bytes.now }
+    ensures within { IfSome result (λ read. read.1 ≤ length bytes.now) }
+{
+    if bytes.len() < 9 || bytes[0] != INT {
+        return None;
+    }
+    let number = u64::from_be_bytes([
+        bytes[1], bytes[2], bytes[3], bytes[4], bytes[5], bytes[6], bytes[7], bytes[8],
+    ]);
+    Some((Value::Int(unshifted(number)), 9))
+}
+
+/// Bytes up to the two bytes 0 that end them, with each 0 and 255 read as 0.
+fn read_escaped(alloc: Global, bytes: &[u8]) -> Result<Option<(Bytes, usize)>, Cause>
+    ensures ok { IfOk result (λ found. found ≡ reading.unescaped false bytes.now) }
+    ensures within { IfOk result (λ found. IfSome found (λ read. read.1 ≤ length bytes.now)) }
+    ensures err { IfErr result (λ cause. cause ≡ Cause.OutOfMemory) }
+{
+    let mut out = Vec::new(alloc);
+    let mut after_zero = false;
+    for (i, &byte) in bytes.iter().enumerate() {
+        if !after_zero {
+            if byte == 0 {
+                after_zero = true;
+            } else {
+                out.push(byte)?;
+            }
+        } else if byte == 0 {
+            return Ok(Some((Bytes::of(out), i + 1)));
+        } else if byte == 255 {
+            out.push(0)?;
+            after_zero = false;
+        } else {
+            return Ok(None);
+        }
+    }
+    Ok(None)
+}
+
+/// What stands between a tag and the two bytes 0, and how many bytes that takes in all.
+fn read_tagged(alloc: Global, tag: u8, bytes: &[u8]) -> Result<Option<(Bytes, usize)>, Cause>
+    ensures ok { IfOk result (λ found. found ≡ reading.tagged tag bytes.now) }
+    ensures within { IfOk result (λ found. IfSome found (λ read. read.1 ≤ length bytes.now)) }
+    ensures err { IfErr result (λ cause. cause ≡ Cause.OutOfMemory) }
+{
+    if bytes.is_empty() || bytes[0] != tag {
+        return Ok(None);
+    }
+    match read_escaped(alloc, &bytes[1..])? {
+        None => Ok(None),
+        Some((contents, count)) => Ok(Some((contents, 1 + count))),
+    }
+}
+
+/// Bytes as a text, where they are UTF-8.
+fn as_text(bytes: Bytes) -> Option<Text>
+    ensures { result ≡ reading.text_of bytes }
+{
+    match String::from_utf8(bytes.into_vec()) {
+        Ok(text) => Some(Text::from_string(text)),
+        Err(_) => None,
+    }
+}
+
+/// The part of a kind that bytes begin with, and how many bytes it takes.
+fn read_part(alloc: Global, kind: Kind, bytes: &[u8]) -> Result<Option<(Value, usize)>, Cause>
+    ensures ok { IfOk result (λ found. found ≡ reading.part_at kind bytes.now) }
+    ensures within { IfOk result (λ found. IfSome found (λ read. read.1 ≤ length bytes.now)) }
+    ensures err { IfErr result (λ cause. cause ≡ Cause.OutOfMemory) }
+{
+    match kind {
+        Kind::Int => Ok(read_int(bytes)),
+        Kind::Text => match read_tagged(alloc, TEXT, bytes)? {
+            None => Ok(None),
+            Some((contents, count)) => match as_text(contents) {
+                None => Ok(None),
+                Some(text) => Ok(Some((Value::Text(text), count))),
+            },
+        },
+        Kind::Bytes => match read_tagged(alloc, BYTES, bytes)? {
+            None => Ok(None),
+            Some((contents, count)) => Ok(Some((Value::Bytes(contents), count))),
+        },
+    }
+}
+
+/// The parts of these kinds that bytes begin with, and how many bytes they take.
+fn read_key(alloc: Global, kinds: &[Kind], bytes: &[u8]) -> Result<Option<(Key, usize)>, Cause>
+    ensures ok { IfOk result (λ found. found ≡ reading.key_at kinds.now bytes.now) }
+    ensures within { IfOk result (λ found. IfSome found (λ read. read.1 ≤ length bytes.now)) }
+    ensures err { IfErr result (λ cause. cause ≡ Cause.OutOfMemory) }
+{
+    let mut key = Seq::new(alloc);
+    let mut at = 0;
+    for &kind in kinds {
+        match read_part(alloc, kind, &bytes[at..])? {
+            None => return Ok(None),
+            Some((part, count)) => {
+                key.push(part)?;
+                at += count;
+            }
+        }
+    }
+    Ok(Some((key, at)))
+}

@@ -1,0 +1,4 @@
+pub mod Chains
+pub mod Described
+pub mod Lineage
+pub mod WellFormed

@@ -1,0 +1,48 @@
+//! The calls.
+
+use jpa_value::{Seq, Text, Value};
+
+/// What a call hands in as a value: of an attribute, or of a part of a key.
+#[derive(Drop)]
+pub enum Given {
+    Plain(Value),
+    /// An object by its number, from 1.
+    Object(i64),
+}
+
+/// A call. Managers and objects go by their numbers, from 1; a number that names none is refused when the call is
+/// served (Jakarta Persistence 3.1, chapter 3).
+#[derive(Drop)]
+pub enum Call {
+    /// Makes an entity manager.
+    CreateEntityManager,
+    /// Makes an object of an entity, which no manager knows yet.
+    NewObject {
+        entity: Text,
+    },
+    /// Gives an attribute or relation of an object, by its name, a value.
+    SetValue {
+        object: i64,
+        name: Text,
+        value: Given,
+    },
+    /// Begins the transaction of a manager.
+    Begin {
+        em: i64,
+    },
+    /// Makes an object managed.
+    Persist {
+        em: i64,
+        object: i64,
+    },
+    /// Commits the transaction of a manager.
+    Commit {
+        em: i64,
+    },
+    /// Finds an object by its entity and the parts of its key.
+    Find {
+        em: i64,
+        entity: Text,
+        key: Seq<Given>,
+    },
+}

@@ -1,0 +1,27 @@
+//! Values, keys, identities and refusals: what every layer of the provider speaks of.
+//!
+//! Contracts see `Text` and `Bytes` as lists of bytes, `Seq` as the list of its items and `Boxed` as what it
+//! holds; the other types are plain data. The definitions that contracts cite stand in `specs/`: values and
+//! their order in `Value`, the texts of refusals in `Refusal`. The crate stands on the standard library alone.
+#![tactic(auto)]
+
+mod boxed;
+mod copy;
+mod list;
+mod order;
+mod refusal;
+mod texts;
+mod value;
+
+pub use boxed::Boxed;
+pub use copy::TryCopy;
+pub use list::{Bytes, Seq, Text};
+pub use order::{
+    compare, equal3, is_same_identity, order_identities, order_keys, order_laws, order_values,
+};
+pub use refusal::{Argument, Cause, MappingFault, Persist, Refusal, State};
+pub use texts::refusal_text;
+pub use value::{Identity, Key, Kind, Value, fits};
+
+#[cfg(test)]
+mod tests;
