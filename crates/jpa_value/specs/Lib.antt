@@ -1,3 +1,4 @@
+pub mod Event
 pub mod Value
 pub mod Refusal
 pub mod formers

@@ -7,6 +7,7 @@
 
 mod boxed;
 mod copy;
+mod event;
 mod list;
 mod order;
 mod refusal;
@@ -15,6 +16,7 @@ mod value;
 
 pub use boxed::Boxed;
 pub use copy::TryCopy;
+pub use event::LifecycleEvent;
 pub use list::{Bytes, Seq, Text};
 pub use order::{
     compare, equal3, is_same_identity, order_identities, order_keys, order_laws, order_values,

@@ -1,9 +1,9 @@
 ghost use Rattle.std.specs.Prelude.{◌≡◌, length, IfOk};
 
 use crate::{
-    Argument, Boxed, Bytes, Cause, Identity, Kind, MappingFault, Persist, Refusal, Seq, State,
-    Text, TryCopy, Value, compare, equal3, fits, is_same_identity, order_identities, order_keys,
-    order_laws, order_values, refusal_text,
+    Argument, Boxed, Bytes, Cause, Identity, Kind, LifecycleEvent, MappingFault, Persist, Refusal,
+    Seq, State, Text, TryCopy, Value, compare, equal3, fits, is_same_identity, order_identities,
+    order_keys, order_laws, order_values, refusal_text,
 };
 use std::alloc::Global;
 use std::cmp::Ordering;
@@ -131,6 +131,7 @@ fn copies_and_holds(rt: HostRuntime) -> Result<(), Fail> {
         Bytes::of(vec![in a; 1u8]?).into_vec().as_slice(),
         [1u8].as_slice()
     );
+    assert_eq!(rt; LifecycleEvent::PreUpdate.name(), "PreUpdate");
     assert_eq!(rt; *Boxed::new(a, 5u8)?.get(), 5);
     Ok(())
 }

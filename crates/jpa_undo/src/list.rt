@@ -1,0 +1,102 @@
+//! The list.
+ghost use Rattle.std.specs.Prelude.{◌≡◌, ◌<◌, ◌≤◌, [], ◌∷◌, ◌++◌, length, slice_get, slice_set, OnOk, OnErr};
+
+use std::alloc::{AllocError, Global};
+use std::marker::Model;
+use std::mem;
+
+/// A list whose changes since they were last kept can be undone.
+#[derive(Drop)]
+pub struct UndoList<T> {
+    items: Vec<T>,
+    // How many items there were when the changes were last kept.
+    kept: usize,
+    // What was overwritten since, with its place, in the order of the changes.
+    overwritten: Vec<(usize, T)>,
+}
+
+impl<T> Model for UndoList<T> {
+    ghost use Rattle.std.specs.Prelude.{◌≤◌, length, take};
+    ghost use Rattle.jpa_undo.specs.Undo.{Changes, put_back};
+
+    ghost Value = { Changes T };
+
+    ghost view = { λ l. record { now = l.items.items; since = take l.kept (put_back l.items.items l.overwritten.items) } };
+
+    ghost invariant = { λ l. l.kept ≤ length l.items.items };
+}
+
+impl<T> UndoList<T> {
+    /// No items. Takes no memory.
+    pub fn new(alloc: Global) -> UndoList<T>
+        ensures now { result.now ≡ [] }
+        ensures since { result.since ≡ [] }
+    {
+        UndoList {
+            items: Vec::new(alloc),
+            kept: 0,
+            overwritten: Vec::new(alloc),
+        }
+    }
+
+    /// The items.
+    pub fn as_slice(&self) -> &[T]
+        ensures { result.now ≡ self.now.now }
+    {
+        self.items.as_slice()
+    }
+
+    /// How many items there are.
+    pub fn len(&self) -> usize
+        ensures { result ≡ length self.now.now }
+    {
+        self.items.len()
+    }
+}
+
+impl<T: Drop> UndoList<T> {
+    /// One more item, at the end. For want of memory nothing changes.
+    pub fn push(&mut self, item: T) -> Result<(), AllocError>
+        ensures pushed { OnOk result (self.new.now ≡ self.old.now ++ item ∷ []) }
+        ensures refused { OnErr result (self.new.now ≡ self.old.now) }
+        ensures since { self.new.since ≡ self.old.since }
+    {
+        self.items.push(item)?;
+        Ok(())
+    }
+
+    /// Another item at a place, counted from 0. For want of memory nothing changes.
+    pub fn set(&mut self, at: usize, item: T) -> Result<(), AllocError>
+        requires { at < length self.old.now }
+        ensures changed { OnOk result (self.new.now ≡ slice_set self.old.now at item) }
+        ensures refused { OnErr result (self.new.now ≡ self.old.now) }
+        ensures since { self.new.since ≡ self.old.since }
+    {
+        self.overwritten.try_reserve(1)?;
+        let old = mem::replace(&mut self.items[at], item);
+        self.overwritten.push((at, old)).unwrap();
+        Ok(())
+    }
+
+    /// Keeps the changes: from now on they are what undoing leads back to. Takes no memory.
+    pub fn keep(&mut self)
+        ensures now { self.new.now ≡ self.old.now }
+        ensures since { self.new.since ≡ self.old.now }
+    {
+        self.overwritten.clear();
+        self.kept = self.items.len();
+    }
+
+    /// Undoes every change since they were last kept. Takes no memory.
+    pub fn undo(&mut self)
+        ensures now { self.new.now ≡ self.old.since }
+        ensures since { self.new.since ≡ self.old.since }
+    {
+        while let Some((at, old)) = self.overwritten.pop() {
+            if at < self.items.len() {
+                self.items[at] = old;
+            }
+        }
+        self.items.truncate(self.kept);
+    }
+}
