@@ -1,7 +1,6 @@
 -- What is written with escapes is read again, whatever follows it, and what is read was written so.
 use Rattle.std.specs.Prelude.{◌≡◌, ℕ, suc, ◌+◌, ◌≤◌, Bool, true, false, cond, ◌==◌, List, [], ◌∷◌, ◌++◌, length, drop, Option, Some, None}
-use Rattle.std.proofs.Common.{refl, sym, ap, subst, ◌∙◌, arith}
-use Rattle.std.specs.FinMap.{nat_cmp-IsAntisymmetric}
+use Rattle.std.proofs.Common.{refl, sym, ap, ◌∙◌, arith}
 use Rattle.jpa_key.specs.Keys.{escaped}
 use Rattle.jpa_key.specs.Reading.{joined, unescaped}
 use Rattle.jpa_key.proofs.Joins.{some_none, some_parts, Joined, joined_some}
@@ -46,7 +45,7 @@ after_zero_byte : (b : ℕ) (bytes contents : List ℕ) (count : ℕ) (later : O
 after_zero_byte b bytes contents count later w e more = record {
   within = let h = more.within in let s = w.sum in omega arith;
   same = ap (λ z. z ∷ bytes) (tied_numbers b 0 e) ∙ more.same
-    ∙ (λ i. escaped (w.items i) ++ 0 ∷ 0 ∷ (sym (drop_more b bytes w.more) ∙ ap (λ k. drop k (b ∷ bytes)) w.sum) i);
+      ∙ (λ i. escaped (w.items i) ++ 0 ∷ 0 ∷ (sym (drop_more b bytes w.more) ∙ ap (λ k. drop k (b ∷ bytes)) w.sum) i);
 }
 
 -- any other byte stands for itself
@@ -54,7 +53,7 @@ after_plain : (b : ℕ) (bytes contents : List ℕ) (count : ℕ) (later : Optio
 after_plain b bytes contents count later w e more = record {
   within = let h = more.within in let s = w.sum in omega arith;
   same = ap (λ x. b ∷ x) more.same ∙ ap (λ x. x ++ 0 ∷ 0 ∷ drop w.more bytes) (sym (plain b w.rest e))
-    ∙ (λ i. escaped (w.items i) ++ 0 ∷ 0 ∷ (sym (drop_more b bytes w.more) ∙ ap (λ k. drop k (b ∷ bytes)) w.sum) i);
+      ∙ (λ i. escaped (w.items i) ++ 0 ∷ 0 ∷ (sym (drop_more b bytes w.more) ∙ ap (λ k. drop k (b ∷ bytes)) w.sum) i);
 }
 
 -- after a byte 0 the byte 255 ends an escape
@@ -62,7 +61,7 @@ after_escape : (b : ℕ) (bytes contents : List ℕ) (count : ℕ) (later : Opti
 after_escape b bytes contents count later w e more = record {
   within = let h = more.within in let s = w.sum in omega arith;
   same = ap (λ z. 0 ∷ z ∷ bytes) (tied_numbers b 255 e) ∙ ap (λ x. 0 ∷ 255 ∷ x) more.same
-    ∙ (λ i. escaped (w.items i) ++ 0 ∷ 0 ∷ (sym (drop_more b bytes w.more) ∙ ap (λ k. drop k (b ∷ bytes)) w.sum) i);
+      ∙ (λ i. escaped (w.items i) ++ 0 ∷ 0 ∷ (sym (drop_more b bytes w.more) ∙ ap (λ k. drop k (b ∷ bytes)) w.sum) i);
 }
 
 -- and the byte 0 ends the whole
@@ -85,7 +84,7 @@ escape_only true (b ∷ bytes) contents count e =
     elim (b == 0) as (λ x. b == 0 ≡ x → cond x (Some ([], 1)) (cond (b == 255) (joined (0 ∷ []) 1 (unescaped false bytes)) None) ≡ Some (contents, count) → Escaped true (b ∷ bytes) contents count) [
       | true ↦ λ h g. let ends = some_parts {A = List ℕ} {B = ℕ} ([], 1) (contents, count) g in at_end b bytes contents count h ends.0 ends.1
       | false ↦ λ h g. elim (b == 255) as (λ x. b == 255 ≡ x → cond x (joined (0 ∷ []) 1 (unescaped false bytes)) None ≡ Some (contents, count) → Escaped true (b ∷ bytes) contents count) [
-          | true ↦ λ k f. let w = joined_some (0 ∷ []) 1 (unescaped false bytes) contents count f in after_escape b bytes contents count _ w k (escape_only false bytes w.rest w.more w.was)
-          | false ↦ λ k f. absurd (some_none _ f)
-        ] refl g
+        | true ↦ λ k f. let w = joined_some (0 ∷ []) 1 (unescaped false bytes) contents count f in after_escape b bytes contents count _ w k (escape_only false bytes w.rest w.more w.was)
+        | false ↦ λ k f. absurd (some_none _ f)
+      ] refl g
     ] refl e

@@ -1,5 +1,5 @@
 -- Keys whose bytes are known, and what is read off bytes.
-use Rattle.std.specs.Prelude.{◌≡◌, refl, [], ◌∷◌, true, false, pos, negsuc, Some, None}
+use Rattle.std.specs.Prelude.{◌≡◌, refl, [], ◌∷◌, false, pos, negsuc, Some, None}
 use Rattle.jpa_value.specs.declared.value.Value.{Value}
 use Rattle.jpa_value.specs.declared.value.Kind.{Kind}
 use Rattle.jpa_key.specs.Keys.{key_bytes, is_key_of}

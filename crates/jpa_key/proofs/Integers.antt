@@ -1,11 +1,10 @@
 -- An integer moved up by 2^63 is moved back, and its eight bytes are in the order of the numbers.
-use Rattle.std.specs.Prelude.{◌≡◌, ℕ, zero, suc, ℤ, pos, negsuc, ◌+◌, ◌-◌, ◌*◌, ◌/◌, ◌%◌, ◌^◌, ◌<◌, ◌≤◌, true, false, cond, nat_le, nat_lt, List, [], ◌∷◌, ◌++◌}
-use Rattle.std.proofs.Common.{refl, sym, ap, subst, ◌∙◌, arith, take, drop, get_or, length, Less, Equal, Greater}
+use Rattle.std.specs.Prelude.{◌≡◌, ℕ, zero, suc, ℤ, pos, negsuc, ◌+◌, ◌-◌, ◌*◌, ◌/◌, ◌%◌, ◌^◌, ◌<◌, true, false, cond, ◌==◌, nat_le, nat_lt, List, ◌++◌}
+use Rattle.std.proofs.Common.{refl, sym, ap, subst, ◌∙◌, arith, get_or, Less, Equal, Greater}
 use Rattle.std.specs.Cmp.Lexicographic.{slice_cmp}
-use Rattle.std.specs.Int.{to_be_bytes, from_be_bytes, w64, byte_at, bytes_high_first, sum_through, byte_worth}
+use Rattle.std.specs.Int.{from_be_bytes, w64, byte_at, bytes_high_first}
 use Rattle.std.specs.Ordering.{nat_cmp, int_cmp, ordering_then}
 use Rattle.std.specs.declared.cmp.Ordering.{Ordering}
-use Rattle.std.proofs.lemmas.Nat.{from_be_bytes-to_be_bytes_8}
 use Rattle.std.proofs.lemmas.Bool.Decides.{nat_tests}
 use Rattle.std.proofs.Math.Nat.{mul-le-mul_left, div-add-mod, mul-add-mod_self_left, mod-eq_of_lt, mod-lt, pow-suc}
 use Rattle.jpa_value.specs.Value.{is_i64}
@@ -123,13 +122,16 @@ two_digits m q x p y hx hy =
     elim (nat_lt q p) as (λ t. nat_lt q p ≡ t → nat_cmp (m * q + x) (m * p + y) ≡ ordering_then (cond t Less (cond (q == p) Equal Greater)) (nat_cmp x y)) [
       | true ↦ λ h. higher m q x p y hx (is_below q p h)
       | false ↦ λ h. elim (q == p) as (λ t. q == p ≡ t → nat_cmp (m * q + x) (m * p + y) ≡ ordering_then (cond t Equal Greater) (nat_cmp x y)) [
-          | true ↦ λ g. ap (λ k. nat_cmp (m * k + x) (m * p + y)) (is_same q p g) ∙ level (m * p) x y
-          | false ↦ λ g. lower m q x p y hy (is_above q p h g)
-        ] refl
+        | true ↦ λ g. ap (λ k. nat_cmp (m * k + x) (m * p + y)) (is_same q p g) ∙ level (m * p) x y
+        | false ↦ λ g. lower m q x p y hy (is_above q p h g)
+      ] refl
     ] refl
 
+expanded : (m x p y : ℕ) → m * 256 * p + (m * y + x) ≡ m * (256 * p + y) + x
+expanded m x p y = omega arith
+
 regrouped : (m a q x p y : ℕ) → m * q + x ≡ a → 256 * p + y ≡ q → m * 256 * p + (m * y + x) ≡ a
-regrouped m a q x p y e h = omega arith
+regrouped m a q x p y e h = expanded m x p y ∙ ap (λ k. m * k + x) h ∙ e
 
 in_digit : (m x y : ℕ) → x < m → y < 256 → m * y + x < m * 256
 in_digit m x y hx hy = let k = mul-le-mul_left {m = suc y} {n = 256} m hy in omega (arith, k)
@@ -148,7 +150,7 @@ byte_is : (k n : ℕ) → byte_at k n ≡ n / 256 ^ k % 256
 byte_is zero n = omega arith
 byte_is (suc k) n = refl
 
-then_assoc : (a b c : Ordering) → ordering_then (ordering_then a b) c ≡ ordering_then a (ordering_then b c)
+pub then_assoc : (a b c : Ordering) → ordering_then (ordering_then a b) c ≡ ordering_then a (ordering_then b c)
 then_assoc Less b c = refl
 then_assoc Equal b c = refl
 then_assoc Greater b c = refl

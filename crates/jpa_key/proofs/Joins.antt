@@ -1,6 +1,6 @@
 -- What is read first and what is read after it.
 use Rattle.std.specs.Prelude.{◌≡◌, ℕ, ◌+◌, Bool, true, false, ◌&&◌, List, ◌++◌, Option, Some, None, T}
-use Rattle.std.proofs.Common.{refl, sym, ap, subst, ◌∙◌}
+use Rattle.std.proofs.Common.{refl, sym, ap, subst}
 use Rattle.jpa_key.specs.Reading.{joined}
 
 pub some_none : {A : Type 0} (x : A) → None ≡ Some x → ⊥
@@ -17,6 +17,9 @@ and_second false b e = absurd (subst T (sym e) tt)
 pub and_both : (a b : Bool) → a ≡ true → b ≡ true → a && b ≡ true
 and_both true b h g = g
 and_both false b h g = h
+
+pub some_in : {A : Type 0} (x y : A) → Some x ≡ Some y → x ≡ y
+some_in x y e = cc
 
 pub some_parts : {A B : Type 0} (x y : A × B) → Some x ≡ Some y → (x.0 ≡ y.0) × (x.1 ≡ y.1)
 some_parts {A} {B} x y e = let same : x ≡ y = cc in (ap (λ (p : A × B). p.0) same, ap (λ (p : A × B). p.1) same)

@@ -1,5 +1,5 @@
 -- A key read off the front of bytes, part by part: what was read, and how many bytes it took.
-use Rattle.std.specs.Prelude.{ℕ, ℤ, pos, negsuc, ◌+◌, ◌-◌, ◌^◌, Bool, true, false, ◌==◌, ◌&&◌, nat_le, List, [], ◌∷◌, ◌++◌, take, drop, length, slice_index, Option, Some, None, if◌then◌else◌}
+use Rattle.std.specs.Prelude.{ℕ, ℤ, pos, negsuc, ◌+◌, ◌-◌, ◌^◌, Bool, true, false, ◌==◌, ◌&&◌, nat_le, List, [], ◌∷◌, ◌++◌, take, drop, length, Option, Some, None, if◌then◌else◌}
 use Rattle.std.specs.Int.{from_be_bytes, w64}
 use Rattle.std.specs.Str.{is_utf8}
 use Rattle.jpa_value.specs.declared.value.Value.{Value}
@@ -57,3 +57,23 @@ then_key (Some read) later = joined (read.0 ∷ []) read.1 (later read.1)
 abbrev pub key_at : List Kind → List ℕ → Option (List Value × ℕ)
 key_at [] bytes = Some ([], 0)
 key_at (kind ∷ kinds) bytes = then_key (part_at kind bytes) (λ count. key_at kinds (drop count bytes))
+
+-- the key where it takes all of so many bytes
+abbrev pub if_all : ℕ → Option (List Value × ℕ) → Option (List Value)
+if_all total None = None
+if_all total (Some read) = if read.1 == total then Some read.0 else None
+
+abbrev pub key_in : List Kind → List ℕ → Option (List Value)
+key_in kinds bytes = if_all (length bytes) (key_at kinds bytes)
+
+-- and the key that takes all the rest
+abbrev pub beside : List Value → Option (List Value) → Option (List Value × List Value)
+beside owner None = None
+beside owner (Some target) = Some (owner, target)
+
+abbrev pub pair_after : List Kind → List ℕ → Option (List Value × ℕ) → Option (List Value × List Value)
+pair_after target_kinds bytes None = None
+pair_after target_kinds bytes (Some read) = beside read.0 (key_in target_kinds (drop read.1 bytes))
+
+abbrev pub pair_in : List Kind → List Kind → List ℕ → Option (List Value × List Value)
+pair_in owner_kinds target_kinds bytes = pair_after target_kinds bytes (key_at owner_kinds bytes)

@@ -1,4 +1,4 @@
-//! From bytes to keys.
+//! From bytes to keys: part by part, each with the number of bytes that it takes.
 ghost use Rattle.std.specs.Prelude.{◌≡◌, ◌↔◌, ℕ, List, Option, Some, None, false, IfOk, IfErr, ◌++◌, ◌∷◌, [], IfSome, OnOk, OnErr, length, ◌≤◌};
 ghost use Rattle.std.specs.Cmp.Lexicographic.{slice_cmp};
 ghost use Rattle.std.specs.Ordering.{nat_cmp};
@@ -9,13 +9,10 @@ ghost use Rattle.jpa_value.specs.declared.value.Kind.{Kind};
 ghost use Rattle.jpa_key.specs.Keys.{Spells, SpellsFront, SpellsPair};
 ghost use Rattle.jpa_key.specs.Reading as reading;
 
+use crate::tag::{BYTES, INT, TEXT};
 use jpa_value::{Bytes, Cause, Key, Kind, Seq, Text, Value};
 use std::alloc::Global;
 use std::cmp::Ordering;
-
-const INT: u8 = 1;
-const TEXT: u8 = 2;
-const BYTES: u8 = 3;
 
 /// An integer moved down by 2^63.
 fn unshifted(number: u64) -> i64
@@ -134,4 +131,92 @@ fn read_key(alloc: Global, kinds: &[Kind], bytes: &[u8]) -> Result<Option<(Key, 
         }
     }
     Ok(Some((key, at)))
+}
+
+/// The key that all of these bytes are read as, if any.
+fn read_whole(alloc: Global, kinds: &[Kind], bytes: &[u8]) -> Result<Option<Key>, Cause>
+    ensures ok { IfOk result (λ found. found ≡ reading.key_in kinds.now bytes.now) }
+    ensures err { IfErr result (λ cause. cause ≡ Cause.OutOfMemory) }
+{
+    match read_key(alloc, kinds, bytes)? {
+        None => Ok(None),
+        Some((key, count)) => {
+            if count == bytes.len() {
+                Ok(Some(key))
+            } else {
+                Ok(None)
+            }
+        }
+    }
+}
+
+/// The two keys, one after the other, that all of these bytes are read as, if any.
+fn read_pair(
+    alloc: Global,
+    owner_kinds: &[Kind],
+    target_kinds: &[Kind],
+    bytes: &[u8],
+) -> Result<Option<(Key, Key)>, Cause>
+    ensures ok { IfOk result (λ found. found ≡ reading.pair_in owner_kinds.now target_kinds.now bytes.now) }
+    ensures err { IfErr result (λ cause. cause ≡ Cause.OutOfMemory) }
+{
+    match read_key(alloc, owner_kinds, bytes)? {
+        None => Ok(None),
+        Some((owner, count)) => match read_whole(alloc, target_kinds, &bytes[count..])? {
+            None => Ok(None),
+            Some(target) => Ok(Some((owner, target))),
+        },
+    }
+}
+
+/// The key of these kinds that these bytes spell: `None` exactly where they spell none, so for each key one
+/// spelling is read and no other. A text or byte part may be of any length here.
+///
+/// Fails for want of memory alone, with `OutOfMemory`.
+pub fn decode_key(alloc: Global, kinds: &[Kind], bytes: &[u8]) -> Result<Option<Key>, Cause>
+    ensures spelled { IfOk result (λ found. (key : List Value) → (found ≡ Some key) ↔ Spells kinds.now bytes.now key) }
+    ensures refused { IfErr result (λ cause. cause ≡ Cause.OutOfMemory) }
+{
+    Ok(read_whole(alloc, kinds, bytes)?)
+}
+
+/// The key of these kinds that the first so many of these bytes spell, and that number: no other key's bytes
+/// begin these bytes. `None` exactly where no key's do.
+///
+/// Fails for want of memory alone, with `OutOfMemory`.
+pub fn decode_front(
+    alloc: Global,
+    kinds: &[Kind],
+    bytes: &[u8],
+) -> Result<Option<(Key, usize)>, Cause>
+    ensures spelled { IfOk result (λ found. (key : List Value) (count : ℕ) → (found ≡ Some (key, count)) ↔ SpellsFront kinds.now bytes.now key count) }
+    ensures refused { IfErr result (λ cause. cause ≡ Cause.OutOfMemory) }
+{
+    Ok(read_key(alloc, kinds, bytes)?)
+}
+
+/// The owner's key and after it the target's that these bytes spell, as `encode_pair` writes them: there is at
+/// most one such pair. `None` exactly where there is none.
+///
+/// Fails for want of memory alone, with `OutOfMemory`.
+pub fn decode_pair(
+    alloc: Global,
+    owner_kinds: &[Kind],
+    target_kinds: &[Kind],
+    bytes: &[u8],
+) -> Result<Option<(Key, Key)>, Cause>
+    ensures spelled { IfOk result (λ found. (owner target : List Value) → (found ≡ Some (owner, target)) ↔ SpellsPair owner_kinds.now target_kinds.now bytes.now owner target) }
+    ensures refused { IfErr result (λ cause. cause ≡ Cause.OutOfMemory) }
+{
+    Ok(read_pair(alloc, owner_kinds, target_kinds, bytes)?)
+}
+
+/// The order of two byte strings, a proper front of the other first. Where they spell keys of the same kinds it
+/// is the order of the keys. Takes no memory.
+#[tactic(auto, using(crate::proofs::Orders::spelled_order))]
+pub fn order_key_bytes(a: &[u8], b: &[u8]) -> Ordering
+    ensures bytes { result ≡ slice_cmp nat_cmp a.now b.now }
+    ensures keys { (kinds : List Kind) (x y : List Value) → Spells kinds a.now x → Spells kinds b.now y → result ≡ key_cmp x y }
+{
+    a.cmp(b)
 }

@@ -38,6 +38,11 @@ chain_from m (suc n) class (Origin.Extends parent) = chain_from m n parent (enti
 abbrev pub chain : PersistenceUnit → ℕ → List ℕ
 chain m class = chain_from m (length m.entities) class (entity_at m class).origin
 
+-- the superclass that an origin names
+abbrev pub superclass_in : Origin → Option ℕ
+superclass_in (Origin.Root r) = None
+superclass_in (Origin.Extends parent) = Some parent
+
 abbrev pub root_class : PersistenceUnit → ℕ → ℕ
 root_class m class = slice_index_or (chain m class) 0 class
 
@@ -126,14 +131,17 @@ abbrev pub or_else : {A : Type 0} → Option A → Option A → Option A
 or_else None b = b
 or_else (Some a) b = Some a
 
--- what the name means in the chain of the class
-abbrev pub member_of : PersistenceUnit → ℕ → List ℕ → Option Member
-member_of m class name =
-    let root = root_of m class in
+-- what the name means among these
+abbrev pub member_among : Root → List Attribute → List Relation → List ℕ → Option Member
+member_among root attributes relations name =
     or_else (option_map Member.KeyPart (position_from (λ part. same_name (part_name root part) name) 0 root.key))
     (or_else (if is_version_name root name then Some Member.Version else None)
-    (or_else (option_map Member.Attribute (position_from (λ a. same_name a.name name) 0 (attributes_of m class)))
-    (option_map Member.Relation (position_from (λ r. same_name r.name name) 0 (relations_of m class)))))
+    (or_else (option_map Member.Attribute (position_from (λ a. same_name a.name name) 0 attributes))
+    (option_map Member.Relation (position_from (λ r. same_name r.name name) 0 relations))))
+
+-- what the name means in the chain of the class
+abbrev pub member_of : PersistenceUnit → ℕ → List ℕ → Option Member
+member_of m class name = member_among (root_of m class) (attributes_of m class) (relations_of m class) name
 
 abbrev pub class_of : PersistenceUnit → List ℕ → Option ℕ
 class_of m name = position_from (λ e. same_name e.name name) 0 m.entities

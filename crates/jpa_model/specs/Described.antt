@@ -1,10 +1,10 @@
 -- The persistence unit that a description describes: places for names, in the order of the description.
-use Rattle.std.specs.Prelude.{ℕ, Bool, true, false, List, [], map, Option, Some, None, option_map, unwrap_or, unsigned_abs, codes, filter_map, if◌then◌else◌, Result, Ok, Err}
+use Rattle.std.specs.Prelude.{ℕ, Bool, true, false, List, map, Option, Some, None, option_map, unwrap_or, unsigned_abs, filter_map, if◌then◌else◌, Result, Ok, Err, ◌≡◌, ◌⊎◌}
 use Rattle.std.specs.List.{list_any, position_from}
 use Rattle.jpa_value.specs.declared.refusal.Cause.{Cause}
 use Rattle.jpa_value.specs.declared.refusal.MappingFault.{MappingFault}
 use Rattle.jpa_model.specs.Chains.{same_name}
-use Rattle.jpa_model.specs.Lineage.{place_of, relations_of, discriminator}
+use Rattle.jpa_model.specs.Drafted.{place_of, relations_of, discriminator, event_of}
 use Rattle.jpa_model.specs.WellFormed.{is_well_formed}
 use Rattle.jpa_model.specs.declared.draft.Cascade.{Cascade}
 use Rattle.jpa_model.specs.declared.draft.Draft.{Draft}
@@ -22,7 +22,6 @@ use Rattle.jpa_model.specs.declared.unit.Attribute.{Attribute}
 use Rattle.jpa_model.specs.declared.unit.Cascades.{Cascades}
 use Rattle.jpa_model.specs.declared.unit.Column.{Column}
 use Rattle.jpa_model.specs.declared.unit.Entity.{Entity}
-use Rattle.jpa_model.specs.declared.unit.LifecycleEvent.{LifecycleEvent}
 use Rattle.jpa_model.specs.declared.unit.Listener.{Listener}
 use Rattle.jpa_model.specs.declared.unit.Origin.{Origin}
 use Rattle.jpa_model.specs.declared.unit.PersistenceUnit.{PersistenceUnit}
@@ -60,10 +59,11 @@ inverse_side RelationKind.OneToMany owner = Side.OneToMany owner
 inverse_side RelationKind.ManyToOne owner = Side.OneToMany owner
 
 -- the place of the relation of this name among those of a class
-abbrev pub owner_place : Draft → ℕ → List ℕ → ℕ
-owner_place d target name = unwrap_or (position_from (λ o. same_name o.name name) 0 (relations_of d target)) 0
+abbrev pub owner_place : Draft → Option ℕ → List ℕ → ℕ
+owner_place d None name = 0
+owner_place d (Some target) name = unwrap_or (position_from (λ o. same_name o.name name) 0 (relations_of d target)) 0
 
-abbrev pub side_of : Draft → RelationKind → ℕ → DraftSide → Side
+abbrev pub side_of : Draft → RelationKind → Option ℕ → DraftSide → Side
 side_of d kind target (DraftSide.Column c) = owning_side kind (column_of c)
 side_of d kind target (DraftSide.JoinTable table) = Side.ManyToMany (unsigned_abs table)
 side_of d kind target (DraftSide.MappedBy name) = inverse_side kind (owner_place d target name)
@@ -114,19 +114,8 @@ cascades_of cs =
 
 abbrev pub relation_of : Draft → DraftRelation → Relation
 relation_of d r =
-    let target = unwrap_or (place_of d r.target) 0 in
-    record { name = r.name; side = side_of d r.kind target r.side; target = target; cascade = cascades_of r.cascade; orphan_removal = r.orphan_removal }
-
--- the event of this name
-abbrev pub event_of : List ℕ → Option LifecycleEvent
-event_of name =
-    if same_name name (codes "PrePersist") then Some LifecycleEvent.PrePersist else
-    if same_name name (codes "PostPersist") then Some LifecycleEvent.PostPersist else
-    if same_name name (codes "PreRemove") then Some LifecycleEvent.PreRemove else
-    if same_name name (codes "PostRemove") then Some LifecycleEvent.PostRemove else
-    if same_name name (codes "PreUpdate") then Some LifecycleEvent.PreUpdate else
-    if same_name name (codes "PostUpdate") then Some LifecycleEvent.PostUpdate else
-    if same_name name (codes "PostLoad") then Some LifecycleEvent.PostLoad else None
+    let target = place_of d r.target in
+    record { name = r.name; side = side_of d r.kind target r.side; target = unwrap_or target 0; cascade = cascades_of r.cascade; orphan_removal = r.orphan_removal }
 
 abbrev pub listener_of : DraftListener → Listener
 listener_of l = record { name = l.name; events = filter_map event_of l.events }
@@ -141,7 +130,7 @@ entity_of d e = record {
   listeners = map listener_of e.listeners;
   callbacks = map listener_of e.callbacks;
   exclude_default = e.exclude_default;
-  exclude_super = e.exclude_super
+  exclude_super = e.exclude_super;
 }
 
 abbrev pub unit_of : Draft → PersistenceUnit
@@ -150,3 +139,8 @@ unit_of d = record { listeners = map listener_of d.listeners; entities = map (en
 -- what a check answers where there is memory
 abbrev pub checked : Draft → Result PersistenceUnit Cause
 checked d = if is_well_formed d then Ok (unit_of d) else Err (Cause.Mapping MappingFault.Model)
+
+-- the answer is this one, unless a growth was refused
+abbrev pub IsUnlessMemory : {A : Type 0} → Result A Cause → Result A Cause → Type 0
+IsUnlessMemory (Ok a) wanted = Ok a ≡ wanted
+IsUnlessMemory (Err cause) wanted = (cause ≡ Cause.OutOfMemory) ⊎ (Err cause ≡ wanted)

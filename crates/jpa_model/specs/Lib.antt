@@ -1,4 +1,5 @@
 pub mod Chains
 pub mod Described
-pub mod Lineage
+pub mod Kept
+pub mod Drafted
 pub mod WellFormed

@@ -1,28 +1,35 @@
 -- When a description gives a metamodel: revision 1 and seven conditions on its declarations.
-use Rattle.std.specs.Prelude.{ℕ, ◌+◌, ℤ, pos, Bool, true, false, not, ◌&&◌, ◌||◌, ◌==◌, nat_le, int_le, List, [], ◌∷◌, map, length, Option, Some, None, is_some, count_by, sum_by, find, codes, IsTrue}
+use Rattle.std.specs.Prelude.{ℕ, ◌+◌, ℤ, pos, Bool, true, false, not, ◌&&◌, ◌||◌, ◌==◌, nat_le, int_le, List, [], ◌∷◌, length, Option, Some, None, is_some, count_by, sum_by, find, IsTrue}
 use Rattle.std.specs.List.{list_all, list_any, flat_map}
 use Rattle.std.specs.Ordering.{int_eq}
 use Rattle.jpa_value.specs.Value.{most_bytes}
 use Rattle.jpa_value.specs.declared.value.Kind.{Kind}
 use Rattle.jpa_model.specs.Chains.{same_name}
-use Rattle.jpa_model.specs.Lineage.{entity_at, classes, place_of, chain, chains, first_of, hierarchy, declared_by, member_names, columns, tables, discriminator, relations_of}
+use Rattle.jpa_model.specs.Drafted.{entity_at, classes, place_of, chain, chains, first_of, hierarchy, declared_by, member_names, columns, tables, discriminator, relations_of, event_of}
 use Rattle.jpa_model.specs.declared.unit.Part.{Part}
 use Rattle.jpa_model.specs.declared.draft.Draft.{Draft}
 use Rattle.jpa_model.specs.declared.draft.DraftAttribute.{DraftAttribute}
-use Rattle.jpa_model.specs.declared.draft.DraftColumn.{DraftColumn}
 use Rattle.jpa_model.specs.declared.draft.DraftEntity.{DraftEntity}
 use Rattle.jpa_model.specs.declared.draft.DraftListener.{DraftListener}
 use Rattle.jpa_model.specs.declared.draft.DraftOrigin.{DraftOrigin}
 use Rattle.jpa_model.specs.declared.draft.DraftRelation.{DraftRelation}
 use Rattle.jpa_model.specs.declared.draft.DraftRoot.{DraftRoot}
 use Rattle.jpa_model.specs.declared.draft.DraftSide.{DraftSide}
-use Rattle.jpa_model.specs.declared.draft.DraftVersion.{DraftVersion}
 use Rattle.jpa_model.specs.declared.draft.RelationKind.{RelationKind}
 
--- no item is the same as a later one
-abbrev pub are_distinct : {A : Type 0} → (A → A → Bool) → List A → Bool
-are_distinct same [] = true
-are_distinct same (x ∷ xs) = not (list_any (same x) xs) && are_distinct same xs
+-- no item has the name of a later one
+abbrev pub are_distinct_by : {A : Type 0} → (A → List ℕ) → List A → Bool
+are_distinct_by name [] = true
+are_distinct_by name (x ∷ xs) = not (list_any (λ y. same_name (name x) (name y)) xs) && are_distinct_by name xs
+
+-- no name stands twice
+abbrev pub are_distinct_names : List (List ℕ) → Bool
+are_distinct_names = are_distinct_by (λ name. name)
+
+-- no number stands twice
+abbrev pub are_distinct_numbers : List ℤ → Bool
+are_distinct_numbers [] = true
+are_distinct_numbers (x ∷ xs) = not (list_any (int_eq x) xs) && are_distinct_numbers xs
 
 -- a condition on what may be absent
 abbrev pub if_some : {A : Type 0} → (A → Bool) → Option A → Bool
@@ -37,9 +44,12 @@ is_letter c = (nat_le 65 c && nat_le c 90) || (nat_le 97 c && nat_le c 122) || c
 abbrev pub is_letter_or_digit : ℕ → Bool
 is_letter_or_digit c = is_letter c || (nat_le 48 c && nat_le c 57)
 
+abbrev pub begins_with_letter : List ℕ → Bool
+begins_with_letter [] = false
+begins_with_letter (c ∷ cs) = is_letter c
+
 abbrev pub is_name : List ℕ → Bool
-is_name [] = false
-is_name (c ∷ cs) = is_letter c && list_all is_letter_or_digit cs && nat_le (length (c ∷ cs)) 64
+is_name text = begins_with_letter text && nat_le (length text) 64 && list_all is_letter_or_digit text
 
 abbrev pub is_root_named : DraftOrigin → Bool
 is_root_named (DraftOrigin.Root root) =
@@ -60,7 +70,7 @@ is_entity_named e =
 abbrev pub has_entities : Draft → Bool
 has_entities d =
     nat_le 1 (length d.entities) && nat_le (length d.entities) 64 && are_listeners_named d.listeners
-    && list_all is_entity_named d.entities && are_distinct same_name (map (λ e. e.name) d.entities)
+    && list_all is_entity_named d.entities && are_distinct_by (λ e. e.name) d.entities
 
 -- 2. `extends` names an entity and has no cycle: the first class of each chain is a root. A root has 1 to 4 key
 -- parts of distinct names, more than one only in an embedded id; a generated key is one integer.
@@ -90,7 +100,7 @@ is_one_integer (part ∷ other ∷ parts) = false
 
 abbrev pub has_key : DraftRoot → Bool
 has_key root =
-    nat_le 1 (length root.key) && nat_le (length root.key) 4 && are_distinct same_name (map (λ part. part.name) root.key)
+    nat_le 1 (length root.key) && nat_le (length root.key) 4 && are_distinct_by (λ part. part.name) root.key
     && (nat_le (length root.key) 1 || is_some root.embedded) && (not root.generated || is_one_integer root.key)
 
 abbrev pub has_key_if_root : DraftEntity → Bool
@@ -110,22 +120,26 @@ abbrev pub is_number : ℤ → Bool
 is_number n = int_le (pos 1) n && int_le n (pos 1000000)
 
 abbrev pub are_numbers : List ℤ → Bool
-are_numbers ns = list_all is_number ns && are_distinct int_eq ns
+are_numbers ns = list_all is_number ns && are_distinct_numbers ns
 
 abbrev pub is_stored_apart : Draft → List ℕ → Bool
 is_stored_apart d places =
-    are_numbers (declared_by columns d places) && are_distinct same_name (map (λ class. discriminator (entity_at d class)) places)
+    are_numbers (declared_by columns d places) && are_distinct_by (λ class. discriminator (entity_at d class)) places
+
+abbrev pub is_discriminator_short : DraftEntity → Bool
+is_discriminator_short e = nat_le (length (discriminator e)) most_bytes
 
 abbrev pub has_numbers : Draft → Bool
 has_numbers d =
-    are_numbers (flat_map tables d.entities) && list_all (λ root. is_stored_apart d (hierarchy d root)) (classes d)
-    && list_all (λ e. nat_le (length (discriminator e)) most_bytes) d.entities
+    list_all is_discriminator_short d.entities && are_numbers (flat_map tables d.entities)
+    && list_all (λ root. is_stored_apart d (hierarchy d root)) (classes d)
 
 -- 4. The names along a chain are distinct, and at most 64 attributes and relations stand along it.
+abbrev pub member_count : DraftEntity → ℕ
+member_count e = length e.attributes + length e.relations
+
 abbrev pub is_distinct_along : Draft → List ℕ → Bool
-is_distinct_along d chain =
-    are_distinct same_name (declared_by member_names d chain)
-    && nat_le (sum_by (λ class. length (entity_at d class).attributes + length (entity_at d class).relations) chain) 64
+is_distinct_along d chain = nat_le (sum_by (λ class. member_count (entity_at d class)) chain) 64 && are_distinct_names (declared_by member_names d chain)
 
 abbrev pub has_members : Draft → Bool
 has_members d = list_all (is_distinct_along d) (chains d)
@@ -168,7 +182,7 @@ is_opposite RelationKind.ManyToMany RelationKind.OneToMany = false
 is_opposite RelationKind.ManyToMany RelationKind.OneToOne = false
 is_opposite RelationKind.ManyToMany RelationKind.ManyToMany = true
 
--- whether the relation that the second one names keeps the inverse side of it
+-- whether a relation is the owning side of an inverse one of this kind that the entity declares
 abbrev pub keeps : DraftEntity → RelationKind → DraftRelation → Bool
 keeps declaring kind owner = is_owning owner.side && is_opposite kind owner.kind && same_name owner.target declaring.name
 
@@ -184,6 +198,9 @@ is_kept d declaring r = by r.side
     by (DraftSide.JoinTable table) = true
     by (DraftSide.MappedBy name) =
         is_some_that (λ target. is_some_that (keeps declaring r.kind) (find (λ o. same_name o.name name) (relations_of d target))) (place_of d r.target)
+
+abbrev pub has_target_and_owner : Draft → DraftEntity → DraftRelation → Bool
+has_target_and_owner d declaring r = is_some (place_of d r.target) && goes_with r.kind r.side && is_kept d declaring r
 
 -- whether a relation is an inverse side of the owner that this class declares
 abbrev pub is_inverse_of : Draft → ℕ → DraftRelation → DraftRelation → Bool
@@ -201,7 +218,7 @@ has_one_inverse d class owner =
 
 abbrev pub has_relations : Draft → Bool
 has_relations d =
-    list_all (λ e. list_all (λ r. is_some (place_of d r.target) && goes_with r.kind r.side && is_kept d e r) e.relations) d.entities
+    list_all (λ e. list_all (has_target_and_owner d e) e.relations) d.entities
     && list_all (λ class. list_all (has_one_inverse d class) (entity_at d class).relations) (classes d)
 
 -- 6. Orphans are removed along relations of one object to others alone.
@@ -211,31 +228,33 @@ is_of_one RelationKind.OneToMany = true
 is_of_one RelationKind.OneToOne = true
 is_of_one RelationKind.ManyToMany = false
 
+abbrev pub may_remove_orphans : DraftRelation → Bool
+may_remove_orphans r = not r.orphan_removal || is_of_one r.kind
+
 abbrev pub has_orphans : Draft → Bool
-has_orphans d = list_all (λ e. list_all (λ r. not r.orphan_removal || is_of_one r.kind) e.relations) d.entities
+has_orphans d = list_all (λ e. list_all may_remove_orphans e.relations) d.entities
 
 -- 7. Events are the seven names, distinct within an entry; among the callbacks of one class an event is named at
 -- most once.
-abbrev pub event_names : List (List ℕ)
-event_names =
-    codes "PrePersist" ∷ codes "PostPersist" ∷ codes "PreRemove" ∷ codes "PostRemove" ∷ codes "PreUpdate" ∷ codes "PostUpdate" ∷ codes "PostLoad" ∷ []
-
 abbrev pub is_event : List ℕ → Bool
-is_event name = list_any (same_name name) event_names
+is_event name = is_some (event_of name)
 
 abbrev pub hears : DraftListener → Bool
-hears l = list_all is_event l.events && are_distinct same_name l.events
+hears l = list_all is_event l.events && are_distinct_names l.events
 
 abbrev pub has_events_of : DraftEntity → Bool
 has_events_of e =
-    list_all hears e.listeners && list_all hears e.callbacks && are_distinct same_name (flat_map (λ l. l.events) e.callbacks)
+    list_all hears e.listeners && list_all hears e.callbacks && are_distinct_names (flat_map (λ l. l.events) e.callbacks)
 
 abbrev pub has_events : Draft → Bool
 has_events d = list_all hears d.listeners && list_all has_events_of d.entities
 
+-- conditions 2 to 7
+abbrev pub stands_together : Draft → Bool
+stands_together d = has_roots d && (has_members d && (has_numbers d && (has_relations d && (has_orphans d && has_events d))))
+
 abbrev pub is_well_formed : Draft → Bool
-is_well_formed d =
-    int_eq d.revision (pos 1) && has_entities d && has_roots d && has_numbers d && has_members d && has_relations d && has_orphans d && has_events d
+is_well_formed d = int_eq d.revision (pos 1) && has_entities d && stands_together d
 
 abbrev pub IsWellFormed : Draft → Type 0
 IsWellFormed d = IsTrue (is_well_formed d)

@@ -1,5 +1,5 @@
 //! The entities of a persistence unit as plain data (chapters 2 and 8.2): what a name names is a place in a list.
-use jpa_value::{Kind, Seq, Text};
+use jpa_value::{Kind, LifecycleEvent, Seq, Text};
 
 /// A part of a primary key (chapter 2.4).
 #[derive(Debug, Drop)]
@@ -48,7 +48,7 @@ pub struct Attribute {
     pub column: u64,
     /// Whether it may not be null.
     pub required: bool,
-    /// The name of its converter (chapter 3.9), where it has one.
+    /// The name of its converter (chapter 3.8), where it has one.
     pub converter: Option<Text>,
 }
 
@@ -74,6 +74,43 @@ pub enum Side {
     ManyToManyInverse(usize),
 }
 
+impl Side {
+    ghost use Rattle.std.specs.Prelude.{◌≡◌};
+    ghost use Rattle.jpa_model.specs.Chains as chains;
+
+    /// Whether an object holds at most one other along it.
+    pub fn is_to_one(self) -> bool
+        ensures { result ≡ chains.is_to_one self }
+    {
+        !matches!(
+            self,
+            Side::OneToMany(_) | Side::ManyToMany(_) | Side::ManyToManyInverse(_)
+        )
+    }
+
+    /// The place of the owning side among the relations of the target, for an inverse side.
+    pub fn owner(self) -> Option<usize>
+        ensures { result ≡ chains.owner_of self }
+    {
+        match self {
+            Side::OneToOneInverse(owner)
+            | Side::OneToMany(owner)
+            | Side::ManyToManyInverse(owner) => Some(owner),
+            _ => None,
+        }
+    }
+
+    /// The column, for an owning to-one side.
+    pub fn column(self) -> Option<Column>
+        ensures { result ≡ chains.column_of self }
+    {
+        match self {
+            Side::ManyToOne(column) | Side::OneToOne(column) => Some(column),
+            _ => None,
+        }
+    }
+}
+
 /// Which operations go along a relation (chapter 3.2).
 #[derive(Clone, Copy, Debug)]
 pub struct Cascades {
@@ -93,18 +130,6 @@ pub struct Relation {
     pub target: usize,
     pub cascade: Cascades,
     pub orphan_removal: bool,
-}
-
-/// What happens to an object and is told to listeners (chapter 3.5.3).
-#[derive(Clone, Copy, Debug)]
-pub enum LifecycleEvent {
-    PrePersist,
-    PostPersist,
-    PreRemove,
-    PostRemove,
-    PreUpdate,
-    PostUpdate,
-    PostLoad,
 }
 
 /// A listener or a callback, with the events that it hears (chapter 3.5).

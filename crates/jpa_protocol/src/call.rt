@@ -5,6 +5,7 @@ use jpa_value::{Seq, Text, Value};
 /// What a call hands in as a value: of an attribute, or of a part of a key.
 #[derive(Drop)]
 pub enum Given {
+    /// A value, or null.
     Plain(Value),
     /// An object by its number, from 1.
     Object(i64),

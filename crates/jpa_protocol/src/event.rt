@@ -1,43 +1,12 @@
 //! The events of the life cycle, as a reply tells them.
-ghost use Rattle.std.specs.Prelude.{◌≡◌};
-ghost use Rattle.jpa_protocol.specs.Event.{event_name};
 
-use jpa_value::{Seq, Text};
-
-/// A life cycle event of an object (Jakarta Persistence 3.1, section 3.6.2).
-#[derive(Clone, Copy)]
-pub enum Event {
-    PrePersist,
-    PostPersist,
-    PreRemove,
-    PostRemove,
-    PreUpdate,
-    PostUpdate,
-    PostLoad,
-}
-
-impl Event {
-    /// Its name, as `PrePersist`.
-    pub fn name(self) -> &'static str
-        ensures { result.now ≡ event_name self }
-    {
-        match self {
-            Event::PrePersist => "PrePersist",
-            Event::PostPersist => "PostPersist",
-            Event::PreRemove => "PreRemove",
-            Event::PostRemove => "PostRemove",
-            Event::PreUpdate => "PreUpdate",
-            Event::PostUpdate => "PostUpdate",
-            Event::PostLoad => "PostLoad",
-        }
-    }
-}
+use jpa_value::{LifecycleEvent, Seq, Text};
 
 /// An event as it is told: what happened, to the object of which number (from 1), and the names of the listeners
-/// and callbacks that ran, in their order.
+/// and callbacks that ran, in their order (Jakarta Persistence 3.1, section 3.5.2).
 #[derive(Drop)]
 pub struct Told {
-    pub event: Event,
+    pub event: LifecycleEvent,
     pub object: u64,
     pub ran: Seq<Text>,
 }

@@ -12,6 +12,6 @@ mod provider;
 mod reply;
 
 pub use call::{Call, Given};
-pub use event::{Event, Told};
+pub use event::Told;
 pub use provider::PersistenceProvider;
 pub use reply::{Answer, Item, Reply};

@@ -13,10 +13,10 @@ pub trait PersistenceProvider {
     /// What stands between calls, as that the store holds what was committed.
     ghost stands: { Self → Type 0 };
 
-    /// A step keeps it.
-    ghost kept: { (old : Self) (call : Call) (reply : Reply) (new : Self) → steps old call reply new → stands old → stands new };
-
     /// Serves a call.
     fn call(&mut self, call: Call) -> Reply
         ensures { steps self.old call result self.new };
+
+    /// A step keeps what stands.
+    ghost kept: { (old : Self) (call : Call) (reply : Reply) (new : Self) → steps old call reply new → stands old → stands new };
 }

@@ -3,7 +3,7 @@
 use crate::event::Told;
 use jpa_value::{Refusal, Seq, Value};
 
-/// What stands in a row of a query's answer.
+/// What stands in a row of a query's answer (Jakarta Persistence 3.1, section 4.8).
 #[derive(Drop)]
 pub enum Item {
     Value(Value),
@@ -14,13 +14,19 @@ pub enum Item {
 /// What an accepted call answers. Objects and managers go by their numbers, from 1.
 #[derive(Drop)]
 pub enum Answer {
+    /// Nothing to tell, or no object.
     Null,
     Truth(bool),
+    /// The number of a manager, or how many objects a statement reached.
     Number(u64),
+    /// What an attribute holds.
     Value(Value),
     Object(u64),
+    /// The members of a relation, in its order, each as often as it stands there.
     Objects(Seq<u64>),
+    /// The one row of a query.
     Row(Seq<Item>),
+    /// The rows of a query, in their order.
     Rows(Seq<Seq<Item>>),
 }
 

@@ -2,7 +2,7 @@
 ghost use Rattle.std.specs.Prelude.{◌≡◌};
 ghost use Rattle.jpa_value.specs.Event.{event_name};
 
-/// What happens to an entity object and is told to listeners and callbacks (chapter 3.6.2).
+/// What happens to an entity object and is told to listeners and callbacks (chapter 3.5.2).
 #[derive(Clone, Copy, Debug)]
 pub enum LifecycleEvent {
     PrePersist,

@@ -104,9 +104,9 @@ pub enum Cause {
 pub enum Refusal {
     /// For this cause; a transaction stays open.
     Because(Cause),
-    /// A commit of a transaction that could only roll back (`RollbackException`, chapter 3.3).
+    /// A commit of a transaction that could only roll back (`RollbackException`, chapter 7.5).
     RollbackMarked,
-    /// A commit that was refused on its way, and rolled back (`RollbackException`, chapter 3.3).
+    /// A commit that was refused on its way, and rolled back (`RollbackException`, chapter 7.5).
     Rollback(Cause),
 }
 

@@ -1,0 +1,33 @@
+//! Stored functions: what a listener or a converter is shown, and what it answers.
+//!
+//! Their model is one record, the `World` of `specs/Behaviour.antt`: the entities, what each listener answers to each
+//! image, and both directions of each converter. Every definition of an operation takes a world. The crate stands on
+//! the metamodel.
+#![tactic(auto)]
+
+use jpa_value::{LifecycleEvent, Seq, Text, Value};
+
+/// What a listener or callback sees of an object (Jakarta Persistence 3.1, chapter 3.5): its entity's name, what
+/// happens to it, and its values in the order of the chain: key parts, version, attributes.
+#[derive(Drop)]
+pub struct Image {
+    pub entity: Text,
+    pub event: LifecycleEvent,
+    pub values: Seq<Named>,
+}
+
+/// A value under its name.
+#[derive(Drop)]
+pub struct Named {
+    pub name: Text,
+    pub value: Value,
+}
+
+/// What a listener or callback answers.
+#[derive(Drop)]
+pub enum Heard {
+    /// Attributes to be given these values, in this order.
+    Assign(Seq<Named>),
+    /// It threw, with this text.
+    Throw(Text),
+}

@@ -1,0 +1,24 @@
+//! Cascades: which objects an operation reaches along relations, in which order.
+//!
+//! The definitions stand in `specs/Waves.antt`: the targets of a node, and the waves of a cascade, breadth first. The
+//! crate stands on persistence contexts.
+#![tactic(auto)]
+
+use jpa_value::Identity;
+
+/// The operations that go along relations (Jakarta Persistence 3.1, chapter 3.2).
+#[derive(Clone, Copy)]
+pub enum Operation {
+    Persist,
+    Merge,
+    Remove,
+    Refresh,
+    Detach,
+}
+
+/// A node of a cascade: an object by its place in the heap, or an identity of the view without an instance in the context.
+#[derive(Drop)]
+pub enum Node {
+    Live(usize),
+    Bare(Identity),
+}

@@ -1,0 +1,35 @@
+use Rattle.std.proofs.Common.{to_z-of_z, not, ap, ◌∙◌, arith}
+use Rattle.sqlite.specs.Held.{state}
+use Rattle.sqlite.specs.State.{HasCleanDisk}
+use Rattle.jpa_cells_meaning.proofs.Texts.{table_plain}
+use Rattle.jpa_cells_meaning.proofs.Selects.{if_ok, if_err, all_shown, read_keeps, table_survives}
+use Rattle.jpa_cells_meaning.specs.Schema.{table_text}
+use Rattle.jpa_cells_meaning.proofs.Causes.{table_fault}
+use Rattle.jpa_cells.proofs.read.select_table.Goals as goal
+
+pub returns-clause-shows : goal.returns-clause-shows
+returns-clause-shows g c clean =
+    let old = state g.S.Store c.args.conn.now in
+    let new = state g.S.Store c.query_all.new.self in
+    let early : HasCleanDisk old = omega (arith, c.query_all.ensures.survives.clean) in
+    if_ok c.query_all.result (λ rows. all_shown old new c.requires.cells early c.args.table rows.items)
+    (rw (c.params-to_sql.ensures, to_z-of_z c.ranges.table) at (c.query_all.ensures.ok clean))
+
+pub returns-clause-kept : goal.returns-clause-kept
+returns-clause-kept g c clean live =
+    let old = state g.S.Store c.args.conn.now in
+    let new = state g.S.Store c.query_all.new.self in
+    let early : HasCleanDisk old = omega (arith, c.query_all.ensures.survives.clean) in
+    let settled = c.is_autocommit-idle.ensures.settled (c.is_autocommit-idle.ensures.value ∙ ap not c.requires.idle) in
+    read_keeps table_text table_plain _ old new c.requires.cells early settled (λ rows. rows.items) c.query_all.result (c.query_all.ensures.ok clean) (c.query_all.ensures.err clean) live
+
+pub returns-clause-survives : goal.returns-clause-survives
+returns-clause-survives g c = table_survives (state g.S.Store c.args.conn.now) (state g.S.Store c.query_all.new.self) _ c.query_all.ensures.survives
+
+pub returns-clause-cause : goal.returns-clause-cause
+returns-clause-cause g c clean =
+    let old = state g.S.Store c.args.conn.now in
+    let new = state g.S.Store c.query_all.new.self in
+    let early : HasCleanDisk old = omega (arith, c.query_all.ensures.survives.clean) in
+    if_err c.query_all.result (table_fault old new c.requires.cells early c.args.table)
+    (rw (c.params-to_sql.ensures, to_z-of_z c.ranges.table) at (c.query_all.ensures.err clean))

@@ -1,0 +1,33 @@
+use Rattle.std.proofs.Common.{◌≡◌, ap, length, arith, rules, SFits, w64, to_z-of_z}
+use Rattle.std.specs.Result.{IsErr}
+use Rattle.sqlite.specs.Held.{state}
+use Rattle.sqlite.specs.State.{HasCleanDisk}
+use Rattle.jpa_cells_meaning.specs.Content.{Steps, with_cells, without_cells}
+use Rattle.jpa_cells_meaning.specs.Tables.{statements_of}
+use Rattle.jpa_cells_meaning.proofs.Counting.{counts_err}
+use Rattle.jpa_cells_meaning.proofs.Inside.{steps_change}
+use Rattle.jpa_cells.proofs.write.put.Goals as goal
+
+pub returns-clause-steps : goal.returns-clause-steps
+returns-clause-steps g c clean =
+    let first = state g.S.Store c.args.tx.now.conn.now in
+    let mid = state g.S.Store c.delete.new.tx.conn.now in
+    let last = state g.S.Store c.insert_all.new.tx.conn.now in
+    let change = c.args.change.now in
+    let table : SFits w64 c.args.change.now.table = search rules in
+    let early : HasCleanDisk mid = omega (arith, c.insert_all.ensures.survives.clean) in
+    let dropped : Steps first mid (without_cells change.table change.row) = rw (c.as_slice.ensures, to_z-of_z table) at (c.in_ok-delete.ensures.steps early) in
+    let written : Steps mid last (with_cells change.table change.row change.cells) = rw (c.as_slice-2.ensures, c.as_slice-3.ensures, to_z-of_z table) at (c.in_ok-insert_all.ensures.steps clean) in
+    steps_change first mid last change dropped written
+
+pub returns-in_err-delete-clause-counted : goal.returns-in_err-delete-clause-counted
+returns-in_err-delete-clause-counted g c =
+    let failed : IsErr c.from_residual.result = search rules in
+    counts_err c.from_residual.result c.args.writes.now c.delete.new.writes (statements_of c.args.change.now) failed (omega (arith, c.delete.ensures.grown)) (omega (arith, c.delete.ensures.counted))
+
+pub returns-in_err-insert_all-clause-counted : goal.returns-in_err-insert_all-clause-counted
+returns-in_err-insert_all-clause-counted g c =
+    let failed : IsErr c.from_residual-in_err-insert_all.result = search rules in
+    let cells : length c.as_slice-3.result.now ≡ length c.args.change.now.cells = ap length c.as_slice-3.ensures in
+    counts_err c.from_residual-in_err-insert_all.result c.args.writes.now c.insert_all.new.writes (statements_of c.args.change.now) failed (omega (arith, c.delete.ensures.grown, c.insert_all.ensures.counted.1))
+    (omega (arith, cells, c.delete.ensures.counted, c.insert_all.ensures.counted.2))

@@ -1,0 +1,236 @@
+//! The store of cells.
+
+ghost use Rattle.std.specs.Prelude.{◌≡◌, ◌≢◌, ◌⊎◌, ◌+◌, ◌<◌, false, [], length, sum_by, IfOk, IfErr, OnOk, OnErr};
+ghost use Rattle.std.specs.Result.{IsOk};
+ghost use Rattle.jpa_cells_meaning.specs.Tables.{cells_at, tables_after, statements_of, AreRows, HandsOn, HandsSome};
+ghost use Rattle.jpa_cells_meaning.specs.Store.{up_to_greatest, Counts, Tells, TellsOf, faults_after, new_store, IsClean, IsOpen, tables_in, HoldsTable, IsOrderedIfFound, IsReady, Keeps, Becomes, Opens, Endures, HasFault};
+
+use crate::found;
+use crate::make::create;
+use crate::read::{read_row, read_table};
+use crate::sink::{RowSink, hand_on};
+use crate::write::apply_all;
+use jpa_cells_meaning::{Cell, CellChange, CellRow};
+use jpa_value::{Cause, Seq};
+use sqlite::{Alter, Connection, Error, ErrorCode};
+use std::alloc::Global;
+use std::marker::Model;
+
+/// Tables of rows of cells in a database of its own, which counts the statements that it runs and the refusals that it
+/// meets. Its calls refuse with `OutOfMemory` and `StoreFault` alone, and a refused call leaves the tables as they were.
+#[derive(Drop)]
+pub struct CellStore<S: Alter> {
+    conn: Connection<S>,
+    alloc: Global,
+    row_selects: u64,
+    table_selects: u64,
+    writes: u64,
+    creates: u64,
+    faults: u64,
+}
+
+impl<S: Alter> Model for CellStore<S> {
+    ghost use Rattle.std.specs.Prelude.{◌≡◌, false};
+    ghost use Rattle.jpa_cells_meaning.specs.Store.{Stored, stored_code, IsReady};
+
+    ghost Value = { Stored S };
+
+    ghost coded = { stored_code S.code };
+
+    ghost view = { λ s. record {
+      conn = s.conn;
+      row_selects = s.row_selects;
+      table_selects = s.table_selects;
+      writes = s.writes;
+      creates = s.creates;
+      faults = s.faults;
+    } };
+
+    ghost invariant = { λ s. (s.conn.in_transaction ≡ false) × IsReady S.Store s.conn };
+}
+
+/// Counts the refusal, unless it is for want of memory.
+fn refusal_of(error: Error, faults: &mut u64) -> Cause
+    ensures told { TellsOf result faults.old faults.new }
+    ensures cause { result ≡ Cause.StoreFault → error ≢ Error.SqliteFailure ErrorCode.OutOfMemory }
+{
+    match error {
+        Error::SqliteFailure(ErrorCode::OutOfMemory) => Cause::OutOfMemory,
+        _ => {
+            *faults = faults.saturating_add(1);
+            Cause::StoreFault
+        }
+    }
+}
+
+impl<S: Alter + Drop> CellStore<S> {
+    /// Takes the table `cell` where it stands in the database, and makes it where the database is empty. Refused, it
+    /// hands the connection back, whose database is as it was: `StoreFault` where the database holds anything else,
+    /// where the connection is in a transaction, and where the store refuses the statement for another cause than
+    /// memory.
+    pub fn open(
+        alloc: Global,
+        mut conn: Connection<S>,
+    ) -> Result<CellStore<S>, (Cause, Connection<S>)>
+        requires { IsOrderedIfFound S.Store conn }
+        ensures opens { IfOk result (Opens S.Store conn) }
+        ensures crash { IfOk result (λ store. Endures S.Store conn store.conn (λ tables. tables ≡ (λ t. []))) }
+        ensures refused { IfErr result (λ e. (e.0 ≡ Cause.OutOfMemory) ⊎ (e.0 ≡ Cause.StoreFault)) }
+        ensures takes { conn.in_transaction ≡ false → HoldsTable S.Store conn → IsOk result }
+        ensures kept { IfErr result (λ e. Keeps S.Store conn e.1) }
+        ensures again { IfErr result (λ e. IsOrderedIfFound S.Store e.1) }
+        ensures crash_err { IfErr result (λ e. Endures S.Store conn e.1 (λ tables. tables ≡ (λ t. []))) }
+    {
+        let mut faults = 0;
+        if !conn.is_autocommit() {
+            return Err((Cause::StoreFault, conn));
+        }
+        if found::is_empty_schema(conn.schema()) {
+            if let Err(error) = create(&mut conn) {
+                return Err((refusal_of(error, &mut faults), conn));
+            }
+            return Ok(CellStore::over(alloc, conn, 1));
+        }
+        if !found::is_cell_schema(conn.schema()) {
+            return Err((Cause::StoreFault, conn));
+        }
+        Ok(CellStore::over(alloc, conn, 0))
+    }
+
+    fn over(alloc: Global, conn: Connection<S>, creates: u64) -> CellStore<S>
+        requires idle { conn.in_transaction ≡ false }
+        requires ready { IsReady S.Store conn }
+        ensures { result ≡ new_store conn creates }
+    {
+        CellStore {
+            conn,
+            alloc,
+            row_selects: 0,
+            table_selects: 0,
+            writes: 0,
+            creates,
+            faults: 0,
+        }
+    }
+}
+
+impl<S: Alter> CellStore<S> {
+    /// How many SELECTs were run since the opening, up to the greatest u64. Takes no memory.
+    pub fn selects(&self) -> u64
+        ensures { result ≡ up_to_greatest (self.now.row_selects + self.now.table_selects) }
+    {
+        self.row_selects.saturating_add(self.table_selects)
+    }
+
+    /// How many DELETEs and INSERTs were run since the opening, up to the greatest u64. Takes no memory.
+    pub fn writes(&self) -> u64
+        ensures { result ≡ self.now.writes }
+    {
+        self.writes
+    }
+
+    /// How many statements were run since the opening, with the opening's CREATE, up to the greatest u64. Takes no
+    /// memory.
+    pub fn statements(&self) -> u64
+        ensures { result ≡ up_to_greatest (self.now.row_selects + self.now.table_selects + self.now.writes + self.now.creates) }
+    {
+        self.row_selects
+            .saturating_add(self.table_selects)
+            .saturating_add(self.writes)
+            .saturating_add(self.creates)
+    }
+
+    /// The connection, whose database is as the store left it. Takes no memory.
+    pub fn into_connection(self) -> Connection<S>
+        ensures same { result ≡ self.conn }
+        ensures again { IsOrderedIfFound S.Store result }
+    {
+        let CellStore {
+            conn,
+            alloc: _,
+            row_selects: _,
+            table_selects: _,
+            writes: _,
+            creates: _,
+            faults: _,
+        } = self;
+        conn
+    }
+
+    /// The cells of a row, in rising order of their columns, by one SELECT; none where there is no such row.
+    pub fn row(&mut self, table: i64, row: &[u8]) -> Result<Seq<Cell>, Cause>
+        ensures cells { IsClean S.Store self.new.conn → IfOk result (λ cells. cells ≡ cells_at row.now (tables_in S.Store self.old.conn table)) }
+        ensures open { IsClean S.Store self.new.conn → OnOk result (IsOpen S.Store self.old.conn × IsOpen S.Store self.new.conn) }
+        ensures kept { Keeps S.Store self.old.conn self.new.conn }
+        ensures counted { self.new.row_selects ≡ up_to_greatest (self.old.row_selects + 1) }
+        ensures told { Tells result self.old.faults self.new.faults }
+        ensures cause { IsClean S.Store self.new.conn → result ≡ Err Cause.StoreFault → HasFault S.Store self.old.conn self.new.conn }
+        ensures others { self.new ≡ record self.old { conn = self.new.conn; row_selects = self.new.row_selects; faults = self.new.faults } }
+        ensures crash { Endures S.Store self.old.conn self.new.conn (λ _. ⊥) }
+    {
+        self.row_selects = self.row_selects.saturating_add(1);
+        match read_row(&mut self.conn, self.alloc, table, row) {
+            Ok(cells) => Ok(cells),
+            Err(error) => Err(refusal_of(error, &mut self.faults)),
+        }
+    }
+
+    /// The rows of a table, in rising order of their bytes, each with its cells in rising order of their columns, by one
+    /// SELECT.
+    pub fn table(&mut self, table: i64) -> Result<Seq<CellRow>, Cause>
+        ensures rows { IsClean S.Store self.new.conn → IfOk result (λ rows. rows ≡ tables_in S.Store self.old.conn table) }
+        ensures rise { IsClean S.Store self.new.conn → IfOk result AreRows }
+        ensures open { IsClean S.Store self.new.conn → OnOk result (IsOpen S.Store self.old.conn × IsOpen S.Store self.new.conn) }
+        ensures kept { Keeps S.Store self.old.conn self.new.conn }
+        ensures counted { self.new.table_selects ≡ up_to_greatest (self.old.table_selects + 1) }
+        ensures told { Tells result self.old.faults self.new.faults }
+        ensures cause { IsClean S.Store self.new.conn → result ≡ Err Cause.StoreFault → HasFault S.Store self.old.conn self.new.conn }
+        ensures others { self.new ≡ record self.old { conn = self.new.conn; table_selects = self.new.table_selects; faults = self.new.faults } }
+        ensures crash { Endures S.Store self.old.conn self.new.conn (λ _. ⊥) }
+    {
+        self.table_selects = self.table_selects.saturating_add(1);
+        match read_table(&mut self.conn, self.alloc, table) {
+            Ok(rows) => Ok(rows),
+            Err(error) => Err(refusal_of(error, &mut self.faults)),
+        }
+    }
+
+    /// Hands the rows of a table on, in rising order, by one SELECT: all of them, or up to the one after which the sink wants
+    /// no more. A refusal of the sink is the answer; the rows before it were taken.
+    pub fn each<K: RowSink>(&mut self, table: i64, sink: &mut K) -> Result<(), Cause>
+        ensures taken { IsClean S.Store self.new.conn → OnOk result (HandsOn (tables_in S.Store self.old.conn table) (K.taken sink.old) (K.taken sink.new) (K.is_done sink.new)) }
+        ensures refused { IsClean S.Store self.new.conn → OnErr result (HandsSome (tables_in S.Store self.old.conn table) (K.taken sink.old) (K.taken sink.new)) }
+        ensures own { IfErr result (λ cause. (cause ≡ Cause.OutOfMemory) ⊎ (cause ≡ Cause.StoreFault) ⊎ K.refuses cause) }
+        ensures open { IsClean S.Store self.new.conn → OnOk result (IsOpen S.Store self.old.conn × IsOpen S.Store self.new.conn) }
+        ensures kept { Keeps S.Store self.old.conn self.new.conn }
+        ensures counted { self.new.table_selects ≡ up_to_greatest (self.old.table_selects + 1) }
+        ensures told { self.new.faults ≡ faults_after result self.old.faults }
+        ensures cause { IsClean S.Store self.new.conn → result ≡ Err Cause.StoreFault → HasFault S.Store self.old.conn self.new.conn }
+        ensures others { self.new ≡ record self.old { conn = self.new.conn; table_selects = self.new.table_selects; faults = self.new.faults } }
+        ensures crash { Endures S.Store self.old.conn self.new.conn (λ _. ⊥) }
+    {
+        let rows = self.table(table)?;
+        hand_on(rows.into_vec(), sink)
+    }
+
+    /// Makes the changes in turn, all in one transaction or none: a row's cells are replaced by one DELETE and by one
+    /// INSERT for each new cell, and without cells the row is dropped. An empty list runs no statement. A change that
+    /// names a column twice is a `StoreFault`.
+    pub fn apply(&mut self, changes: &[CellChange]) -> Result<(), Cause>
+        ensures applied { 0 < length changes.now → OnOk result (Becomes S.Store self.old.conn self.new.conn (tables_after changes.now)) }
+        ensures nothing { length changes.now ≡ 0 → (result ≡ Ok tt) × (self.new ≡ self.old) }
+        ensures kept { OnErr result (Keeps S.Store self.old.conn self.new.conn) }
+        ensures counted { 0 < length changes.now → Counts result self.old.writes self.new.writes (sum_by statements_of changes.now) }
+        ensures told { Tells result self.old.faults self.new.faults }
+        ensures others { self.new ≡ record self.old { conn = self.new.conn; writes = self.new.writes; faults = self.new.faults } }
+        ensures crash { Endures S.Store self.old.conn self.new.conn (λ tables. tables ≡ tables_after changes.now (tables_in S.Store self.old.conn)) }
+    {
+        if changes.is_empty() {
+            return Ok(());
+        }
+        match apply_all(&mut self.conn, changes, &mut self.writes) {
+            Ok(()) => Ok(()),
+            Err(error) => Err(refusal_of(error, &mut self.faults)),
+        }
+    }
+}

@@ -1,0 +1,152 @@
+//! The DELETE and the INSERT, and the transaction that makes a list of changes.
+
+ghost use Rattle.std.specs.Prelude.{◌≡◌, ◌+◌, ◌<◌, ◌≤◌, false, length, sum_by, IsTrue, OnOk, OnErr};
+ghost use Rattle.sqlite.specs.Held.{state};
+ghost use Rattle.sqlite.specs.State.{HasCleanDisk, KeepsCommit, Survives};
+ghost use Rattle.jpa_cells_meaning.specs.Tables.{statements_of, tables_after};
+ghost use Rattle.jpa_cells_meaning.specs.Store.{Counts, up_to_greatest};
+ghost use Rattle.jpa_cells_meaning.specs.Content.{IsCellStore, KeepsContent, Steps, Turns, Applied, Leaves, tables_of, with_cell, with_cells, without_cells, replaced};
+
+use jpa_cells_meaning::{Cell, CellChange};
+use sqlite::{Alter, Connection, Error, Transaction, params};
+
+const INSERT: &str = "INSERT INTO cell (t, r, c, v) VALUES (?1, ?2, ?3, ?4)";
+
+const DELETE: &str = "DELETE FROM cell WHERE t = ?1 AND r = ?2";
+
+/// Adds a cell within the transaction.
+fn insert<S: Alter>(
+    tx: &mut Transaction<'_, S>,
+    table: i64,
+    row: &[u8],
+    cell: &Cell,
+    writes: &mut u64,
+) -> Result<usize, Error>
+    requires inside { HasCleanDisk (state S.Store tx.old.conn.now) → IsTrue (state S.Store tx.old.conn.now).in_transaction }
+    requires cells { IsCellStore (state S.Store tx.old.conn.now) }
+    ensures same_reference { tx.new.conn.ghost_name ≡ tx.old.conn.ghost_name }
+    ensures steps { HasCleanDisk (state S.Store tx.new.conn.now) → OnOk result (Steps (state S.Store tx.old.conn.now) (state S.Store tx.new.conn.now) (with_cell table row.now cell.now)) }
+    ensures kept { HasCleanDisk (state S.Store tx.new.conn.now) → OnErr result (KeepsCommit (state S.Store tx.old.conn.now) (state S.Store tx.new.conn.now)) }
+    ensures survives { Survives (state S.Store tx.old.conn.now) (state S.Store tx.new.conn.now) (λ _. ⊥) }
+    ensures counted { writes.new ≡ up_to_greatest (writes.old + 1) }
+    ensures grown { writes.old ≤ writes.new }
+{
+    *writes = writes.saturating_add(1);
+    tx.execute(
+        INSERT,
+        params![table, row, cell.column, cell.value.as_slice()],
+    )
+}
+
+/// Drops a row within the transaction.
+fn delete<S: Alter>(
+    tx: &mut Transaction<'_, S>,
+    table: i64,
+    row: &[u8],
+    writes: &mut u64,
+) -> Result<usize, Error>
+    requires inside { HasCleanDisk (state S.Store tx.old.conn.now) → IsTrue (state S.Store tx.old.conn.now).in_transaction }
+    requires cells { IsCellStore (state S.Store tx.old.conn.now) }
+    ensures same_reference { tx.new.conn.ghost_name ≡ tx.old.conn.ghost_name }
+    ensures steps { HasCleanDisk (state S.Store tx.new.conn.now) → OnOk result (Steps (state S.Store tx.old.conn.now) (state S.Store tx.new.conn.now) (without_cells table row.now)) }
+    ensures kept { HasCleanDisk (state S.Store tx.new.conn.now) → OnErr result (KeepsCommit (state S.Store tx.old.conn.now) (state S.Store tx.new.conn.now)) }
+    ensures survives { Survives (state S.Store tx.old.conn.now) (state S.Store tx.new.conn.now) (λ _. ⊥) }
+    ensures counted { writes.new ≡ up_to_greatest (writes.old + 1) }
+    ensures grown { writes.old ≤ writes.new }
+{
+    *writes = writes.saturating_add(1);
+    tx.execute(DELETE, params![table, row])
+}
+
+/// Writes the cells of a row, within the transaction.
+fn insert_all<S: Alter>(
+    tx: &mut Transaction<'_, S>,
+    table: i64,
+    row: &[u8],
+    cells: &[Cell],
+    writes: &mut u64,
+) -> Result<(), Error>
+    requires inside { HasCleanDisk (state S.Store tx.old.conn.now) → IsTrue (state S.Store tx.old.conn.now).in_transaction }
+    requires cells { IsCellStore (state S.Store tx.old.conn.now) }
+    requires open { HasCleanDisk (state S.Store tx.old.conn.now) → IsTrue (state S.Store tx.old.conn.now).is_open }
+    ensures same_reference { tx.new.conn.ghost_name ≡ tx.old.conn.ghost_name }
+    ensures steps { HasCleanDisk (state S.Store tx.new.conn.now) → OnOk result (Steps (state S.Store tx.old.conn.now) (state S.Store tx.new.conn.now) (with_cells table row.now cells.now)) }
+    ensures kept { HasCleanDisk (state S.Store tx.new.conn.now) → OnErr result (KeepsCommit (state S.Store tx.old.conn.now) (state S.Store tx.new.conn.now)) }
+    ensures survives { Survives (state S.Store tx.old.conn.now) (state S.Store tx.new.conn.now) (λ _. ⊥) }
+    ensures counted { Counts result writes.old writes.new (length cells.now) }
+{
+    let _writes = *writes;
+    'cells: for cell in cells {
+        insert(tx, table, row, cell, writes)?;
+    }
+    Ok(())
+}
+
+/// Makes one change within the transaction.
+fn put<S: Alter>(
+    tx: &mut Transaction<'_, S>,
+    change: &CellChange,
+    writes: &mut u64,
+) -> Result<(), Error>
+    requires inside { HasCleanDisk (state S.Store tx.old.conn.now) → IsTrue (state S.Store tx.old.conn.now).in_transaction }
+    requires cells { IsCellStore (state S.Store tx.old.conn.now) }
+    ensures same_reference { tx.new.conn.ghost_name ≡ tx.old.conn.ghost_name }
+    ensures steps { HasCleanDisk (state S.Store tx.new.conn.now) → OnOk result (Steps (state S.Store tx.old.conn.now) (state S.Store tx.new.conn.now) (replaced change.now)) }
+    ensures kept { HasCleanDisk (state S.Store tx.new.conn.now) → OnErr result (KeepsCommit (state S.Store tx.old.conn.now) (state S.Store tx.new.conn.now)) }
+    ensures survives { Survives (state S.Store tx.old.conn.now) (state S.Store tx.new.conn.now) (λ _. ⊥) }
+    ensures counted { Counts result writes.old writes.new (statements_of change.now) }
+{
+    delete(tx, change.table, change.row.as_slice(), writes)?;
+    insert_all(
+        tx,
+        change.table,
+        change.row.as_slice(),
+        change.cells.as_slice(),
+        writes,
+    )?;
+    Ok(())
+}
+
+/// Makes the changes within the transaction.
+fn put_all<S: Alter>(
+    tx: &mut Transaction<'_, S>,
+    changes: &[CellChange],
+    writes: &mut u64,
+) -> Result<(), Error>
+    requires some { 0 < length changes.now }
+    requires inside { HasCleanDisk (state S.Store tx.old.conn.now) → IsTrue (state S.Store tx.old.conn.now).in_transaction }
+    requires cells { IsCellStore (state S.Store tx.old.conn.now) }
+    ensures same_reference { tx.new.conn.ghost_name ≡ tx.old.conn.ghost_name }
+    ensures turns { HasCleanDisk (state S.Store tx.new.conn.now) → OnOk result (Turns (state S.Store tx.old.conn.now) (state S.Store tx.new.conn.now) changes.now) }
+    ensures kept { HasCleanDisk (state S.Store tx.new.conn.now) → OnErr result (KeepsCommit (state S.Store tx.old.conn.now) (state S.Store tx.new.conn.now)) }
+    ensures survives { Survives (state S.Store tx.old.conn.now) (state S.Store tx.new.conn.now) (λ _. ⊥) }
+    ensures counted { Counts result writes.old writes.new (sum_by statements_of changes.now) }
+{
+    let _writes = *writes;
+    'changes: for change in changes {
+        put(tx, change, writes)?;
+    }
+    Ok(())
+}
+
+/// Makes the changes in a transaction of their own.
+pub fn apply_all<S: Alter>(
+    conn: &mut Connection<S>,
+    changes: &[CellChange],
+    writes: &mut u64,
+) -> Result<(), Error>
+    requires some { 0 < length changes.now }
+    requires idle { conn.old.in_transaction ≡ false }
+    requires cells { IsCellStore (state S.Store conn.old) }
+    ensures idle { conn.new.in_transaction ≡ false }
+    ensures applied { HasCleanDisk (state S.Store conn.new) → OnOk result (Applied (state S.Store conn.old) (state S.Store conn.new) changes.now) }
+    ensures kept { OnErr result (KeepsContent (state S.Store conn.old) (state S.Store conn.new)) }
+    ensures crash { Survives (state S.Store conn.old) (state S.Store conn.new) (Leaves (λ tables. tables ≡ tables_after changes.now (tables_of (state S.Store conn.old).now))) }
+    ensures counted { Counts result writes.old writes.new (sum_by statements_of changes.now) }
+{
+    let _idle = conn.is_autocommit();
+    let mut tx = conn.transaction();
+    put_all(&mut tx, changes, writes)?;
+    tx.commit()?;
+    Ok(())
+}

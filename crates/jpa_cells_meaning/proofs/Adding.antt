@@ -1,0 +1,62 @@
+-- The rows of the entries so far, with one more entry.
+use Rattle.std.proofs.Common.{inl, inr, ◌≡◌, ℕ, Bool, true, false, cond, List, [], ◌∷◌, ◌++◌, map, take, get_or, ◌+◌, ◌<◌, length, refl, sym, ap, ◌∙◌, subst, is_eq}
+use Rattle.std.proofs.lemmas.Bool.{cases_Bool}
+use Rattle.std.proofs.lemmas.List.{map_more}
+use Rattle.sqlite.specs.Order.{Row}
+use Rattle.jpa_cells_meaning.specs.declared.Cell.{Cell}
+use Rattle.jpa_cells_meaning.specs.declared.CellRow.{CellRow}
+use Rattle.jpa_cells_meaning.specs.Tables.{row_of, key_cmp}
+use Rattle.jpa_cells_meaning.specs.Content.{Entry, joined, grouped, added, shown_entry}
+use Rattle.jpa_cells_meaning.proofs.Rows.{equal, itself}
+
+abbrev same : List ℕ → List ℕ → Bool
+same a b = is_eq (key_cmp a b)
+
+joined_added : (x e : Entry) (rows : List CellRow) → joined x (added rows e) ≡ added (joined x rows) e
+joined_added x e [] = refl
+joined_added x e (g ∷ []) = go (same x.0 g.row) refl
+  where
+    first : (b : Bool) → same x.0 g.row ≡ b → (rows : List CellRow) (r : CellRow) → r.row ≡ g.row → joined x (r ∷ rows) ≡ cond b (row_of x.0 (x.1 ∷ r.cells) ∷ rows) (row_of x.0 (x.1 ∷ []) ∷ r ∷ rows)
+    first b is rows r key = ap (λ t. cond t (row_of x.0 (x.1 ∷ r.cells) ∷ rows) (row_of x.0 (x.1 ∷ []) ∷ r ∷ rows)) (ap (same x.0) key ∙ is)
+
+    go : (b : Bool) → same x.0 g.row ≡ b → joined x (added (g ∷ []) e) ≡ added (cond b (row_of x.0 (x.1 ∷ g.cells) ∷ []) (row_of x.0 (x.1 ∷ []) ∷ g ∷ [])) e
+    go true is =
+        subst (λ t. joined x (cond (same g.row e.0) (row_of g.row (g.cells ++ e.1 ∷ []) ∷ []) (g ∷ row_of e.0 (e.1 ∷ []) ∷ [])) ≡ cond t (row_of x.0 (x.1 ∷ (g.cells ++ e.1 ∷ [])) ∷ []) (row_of x.0 (x.1 ∷ g.cells) ∷ row_of e.0 (e.1 ∷ []) ∷ []))
+        (ap (λ k. same k e.0) (sym (equal x.0 g.row is)))
+        (elim (same g.row e.0) as (λ a. joined x (cond a (row_of g.row (g.cells ++ e.1 ∷ []) ∷ []) (g ∷ row_of e.0 (e.1 ∷ []) ∷ [])) ≡ cond a (row_of x.0 (x.1 ∷ (g.cells ++ e.1 ∷ [])) ∷ []) (row_of x.0 (x.1 ∷ g.cells) ∷ row_of e.0 (e.1 ∷ []) ∷ []))
+        [ true ↦ first true is [] (row_of g.row (g.cells ++ e.1 ∷ [])) refl | false ↦ first true is (row_of e.0 (e.1 ∷ []) ∷ []) g refl ])
+    go false is =
+        elim (same g.row e.0) as (λ a. joined x (cond a (row_of g.row (g.cells ++ e.1 ∷ []) ∷ []) (g ∷ row_of e.0 (e.1 ∷ []) ∷ [])) ≡ row_of x.0 (x.1 ∷ []) ∷ cond a (row_of g.row (g.cells ++ e.1 ∷ []) ∷ []) (g ∷ row_of e.0 (e.1 ∷ []) ∷ []))
+        [ true ↦ first false is [] (row_of g.row (g.cells ++ e.1 ∷ [])) refl | false ↦ first false is (row_of e.0 (e.1 ∷ []) ∷ []) g refl ]
+joined_added x e (g ∷ h ∷ rest) =
+    elim (same x.0 g.row) as (λ b. cond b (row_of x.0 (x.1 ∷ g.cells) ∷ added (h ∷ rest) e) (row_of x.0 (x.1 ∷ []) ∷ g ∷ added (h ∷ rest) e) ≡ added (cond b (row_of x.0 (x.1 ∷ g.cells) ∷ h ∷ rest) (row_of x.0 (x.1 ∷ []) ∷ g ∷ h ∷ rest)) e)
+    [ true ↦ refl | false ↦ refl ]
+
+pub grouped_added : (es : List Entry) (e : Entry) → grouped (es ++ e ∷ []) ≡ added (grouped es) e
+grouped_added [] e = refl
+grouped_added (x ∷ es) e = ap (joined x) (grouped_added es e) ∙ joined_added x e (grouped es)
+
+abbrev Last : Bool → CellRow → Entry → List CellRow
+Last b last e = cond b (row_of last.row (last.cells ++ e.1 ∷ []) ∷ []) (last ∷ row_of e.0 (e.1 ∷ []) ∷ [])
+
+added_last : (front : List CellRow) (last : CellRow) (e : Entry) → added (front ++ last ∷ []) e ≡ front ++ Last (same last.row e.0) last e
+added_last [] last e = refl
+added_last (f ∷ []) last e = refl
+added_last (f ∷ g ∷ front) last e = ap (λ l. f ∷ l) (added_last (g ∷ front) last e)
+
+-- the last row takes the entry's cell
+pub added_to : (front : List CellRow) (last : CellRow) (key : List ℕ) (cell : Cell) → last.row ≡ key → added (front ++ last ∷ []) (key, cell) ≡ front ++ row_of last.row (last.cells ++ cell ∷ []) ∷ []
+added_to front last key cell is = added_last front last (key, cell) ∙ ap (λ b. front ++ Last b last (key, cell)) (subst (λ k. same last.row k ≡ true) is (itself last.row))
+
+-- or it is the first of a row of its own
+pub added_after : (front : List CellRow) (last : CellRow) (key : List ℕ) (cell : Cell) → (last.row ≡ key → ⊥) → added (front ++ last ∷ []) (key, cell) ≡ front ++ last ∷ row_of key (cell ∷ []) ∷ []
+added_after front last key cell other =
+    added_last front last (key, cell)
+    ∙ elim (cases_Bool (same last.row key)) [ inl is ↦ absurd (other (equal last.row key is)) | inr not ↦ ap (λ b. front ++ Last b last (key, cell)) not ]
+
+-- the rows of one entry more
+pub one_entry_more : (shown : List Row) (at : ℕ) (row : Row) (before after : List CellRow) → at < length shown → row ≡ get_or shown at row → before ≡ grouped (map shown_entry (take at shown)) → after ≡ added before (shown_entry row)
+    → after ≡ grouped (map shown_entry (take (at + 1) shown))
+one_entry_more shown at row before after within is so_far next =
+    next ∙ ap (λ l. added l (shown_entry row)) so_far ∙ sym (grouped_added (map shown_entry (take at shown)) (shown_entry row))
+    ∙ ap grouped (sym (map_more shown_entry shown at row within ∙ ap (λ r. map shown_entry (take at shown) ++ shown_entry r ∷ []) (sym is)))

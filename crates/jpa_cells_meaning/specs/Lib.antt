@@ -1,0 +1,4 @@
+pub mod Tables
+pub mod Schema
+pub mod Content
+pub mod Store

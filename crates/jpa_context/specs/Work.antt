@@ -1,0 +1,107 @@
+-- What an operation of one manager works on, and what it reads of it: the persistence context and the states of its
+-- objects (Jakarta Persistence 3.1, chapters 3.2 and 3.3).
+use Rattle.std.specs.Prelude.{ℕ, Bool, true, false, ◌==◌, List, [], ◌∷◌, ◌++◌, map, slice_set, Option, Some, None, if◌then◌else◌}
+use Rattle.std.specs.List.{find}
+use Rattle.jpa_value.specs.declared.value.Identity.{Identity}
+use Rattle.jpa_value.specs.Value.{same_identity}
+use Rattle.jpa_model.specs.declared.unit.PersistenceUnit.{PersistenceUnit}
+use Rattle.jpa_stored.specs.declared.stored.Stored.{Stored}
+use Rattle.jpa_stored.specs.Sets.{StoredSet, stored_at}
+use Rattle.jpa_heap.specs.declared.Life.{Life}
+use Rattle.jpa_heap.specs.declared.LiveObject.{LiveObject}
+use Rattle.jpa_heap.specs.Objects.{object_at, identity_of, with_life}
+use Rattle.jpa_context.specs.declared.Lock.{Lock}
+use Rattle.jpa_context.specs.declared.Base.{Base}
+use Rattle.jpa_context.specs.declared.Entry.{Entry}
+use Rattle.jpa_context.specs.declared.EntityState.{EntityState}
+use Rattle.jpa_protocol.specs.declared.event.Told.{Told}
+
+-- one manager at work: the live objects, its context, the next number of each class that is a root, the set that it sees, and what was told so far
+pub record Work : Type 0 where
+  pub manager : ℕ
+  pub objects : List LiveObject
+  pub context : List Entry
+  pub numbers : List ℕ
+  pub view : StoredSet
+  pub events : List Told
+
+-- a state of an object as this manager sees it: one that another manager holds counts as detached
+abbrev pub state_from : ℕ → Life → EntityState
+state_from manager Life.New = EntityState.New
+state_from manager (Life.Managed k) = if k == manager then EntityState.Managed else EntityState.Detached
+state_from manager (Life.Removed k) = if k == manager then EntityState.Removed else EntityState.Detached
+state_from manager Life.Detached = EntityState.Detached
+
+abbrev pub is_managed : EntityState → Bool
+is_managed EntityState.Managed = true
+is_managed EntityState.New = false
+is_managed EntityState.Removed = false
+is_managed EntityState.Detached = false
+
+abbrev pub is_removed : EntityState → Bool
+is_removed EntityState.Removed = true
+is_removed EntityState.New = false
+is_removed EntityState.Managed = false
+is_removed EntityState.Detached = false
+
+abbrev pub object : Work → ℕ → LiveObject
+object w n = object_at w.objects n
+
+abbrev pub state_of : Work → ℕ → EntityState
+state_of w n = state_from w.manager (object w n).life
+
+abbrev pub has_identity : Option Identity → Identity → Bool
+has_identity None id = false
+has_identity (Some own) id = same_identity own id
+
+abbrev pub identity_at : PersistenceUnit → Work → ℕ → Option Identity
+identity_at m w n = identity_of m (object w n)
+
+-- the entry of an object
+abbrev pub entry_of : Work → ℕ → Option Entry
+entry_of w n = find (λ e. e.object == n) w.context
+
+abbrev pub object_in : Option Entry → Option ℕ
+object_in None = None
+object_in (Some e) = Some e.object
+
+-- the object of the context with this identity
+abbrev pub instance : PersistenceUnit → Work → Identity → Option ℕ
+instance m w id = object_in (find (λ e. has_identity (identity_at m w e.object) id) w.context)
+
+abbrev pub row : Work → Identity → Option Stored
+row w id = stored_at w.view id
+
+abbrev pub row_at : Work → Option Identity → Option Stored
+row_at w None = None
+row_at w (Some id) = row w id
+
+-- ---- what changes
+
+abbrev pub with_object : ℕ → LiveObject → Work → Work
+with_object n x w = record w { objects = slice_set w.objects n x }
+
+abbrev pub with_life_of : ℕ → Life → Work → Work
+with_life_of n life w = with_object n (with_life (object w n) life) w
+
+-- the object enters the context as its last entry, without a lock and a base
+abbrev pub entered : ℕ → Work → Work
+entered n w = record w { context = w.context ++ record { object = n; lock = Lock.Unlocked; base = None } ∷ [] }
+
+abbrev pub with_entry : ℕ → (Entry → Entry) → Work → Work
+with_entry n f w = record w { context = map (λ e. if e.object == n then f e else e) w.context }
+
+abbrev pub with_base : ℕ → Option Base → Work → Work
+with_base n b w = with_entry n (λ e. record e { base = b }) w
+
+abbrev pub told : Told → Work → Work
+told e w = record w { events = w.events ++ e ∷ [] }
+
+-- ---- the base of an object
+
+abbrev pub base_in : Option Entry → Option Base
+base_in None = None
+base_in (Some e) = e.base
+
+abbrev pub base_of : Work → ℕ → Option Base
+base_of w n = base_in (entry_of w n)

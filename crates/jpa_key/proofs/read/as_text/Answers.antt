@@ -1,0 +1,14 @@
+use Rattle.std.specs.Prelude.{T}
+use Rattle.std.proofs.Common.{ap, sym, subst, ◌∙◌}
+use Rattle.std.specs.Str.{IsUtf8}
+use Rattle.std.proofs.lemmas.Str.{IsUtf8-string_bytes}
+use Rattle.jpa_key.proofs.Texts.{text_there, no_text}
+use Rattle.jpa_key.proofs.read.as_text.Goals as goal
+
+pub returns-in-Ok : goal.returns-in-Ok
+returns-in-Ok c =
+    text_there _ _ (subst IsUtf8 (sym c.from_string.ensures) (IsUtf8-string_bytes c.in-Ok.text))
+    (c.from_string.ensures ∙ ap (λ v. v.items) (c.in-Ok.ensures.ok) ∙ c.into_vec.ensures)
+
+pub returns : goal.returns
+returns c = no_text _ (λ u. subst T (sym (c.in-Err.ensures.succeeds (subst IsUtf8 (sym c.into_vec.ensures) u))) tt)

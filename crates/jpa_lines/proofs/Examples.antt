@@ -1,0 +1,128 @@
+-- Worked examples: what lines mean, and how replies are written.
+use Rattle.std.proofs.Common.{◌≡◌, [], ◌∷◌, Ok, Err, codes, pos, negsuc, refl}
+use Rattle.std.specs.Str.{is_utf8, chars}
+use Rattle.std.specs.Fmt.{digits}
+use Rattle.hex.specs.Hex.{decode_pairs, encode_with}
+use Rattle.serde_json.proofs.OnLiterals.{serde_json_on_literals}
+use Rattle.jpa_value.specs.declared.refusal.Cause.{Cause}
+use Rattle.jpa_value.specs.declared.refusal.Persist.{Persist}
+use Rattle.jpa_value.specs.declared.refusal.Refusal.{Refusal}
+use Rattle.jpa_value.specs.declared.value.Value.{Value}
+use Rattle.jpa_protocol.specs.declared.call.Call.{Call}
+use Rattle.jpa_protocol.specs.declared.call.Given.{Given}
+use Rattle.jpa_value.specs.declared.event.LifecycleEvent.{LifecycleEvent}
+use Rattle.jpa_protocol.specs.declared.reply.Answer.{Answer}
+use Rattle.jpa_protocol.specs.declared.reply.Item.{Item}
+use Rattle.jpa_lines.specs.CallOf.{meaning, text_call, call_of, create_of, new_of, set_of, em_of, persist_of, find_of, given_of, marked_of, key_of, hex_of}
+use Rattle.jpa_lines.specs.ReplyText.{reply_text}
+use Rattle.jpa_lines.specs.Run.{lines_of}
+
+-- ---- lines
+
+-- a line feed ends a line, and the last one may go without
+lines_apart : lines_of (codes "ab\n\nc") ≡ codes "ab" ∷ [] ∷ codes "c" ∷ []
+lines_apart = refl
+
+no_lines : lines_of [] ≡ []
+no_lines = refl
+
+-- ---- what they mean
+
+creates : meaning (codes "{\"call\":\"createEntityManager\"}") ≡ Ok Call.CreateEntityManager
+unfolding is_utf8 chars meaning text_call call_of create_of serde_json_on_literals
+creates = refl
+
+makes : meaning (codes "{\"call\":\"new\",\"entity\":\"Person\"}") ≡ Ok (Call.NewObject (codes "Person"))
+unfolding is_utf8 chars meaning text_call call_of new_of serde_json_on_literals
+makes = refl
+
+gives_text : meaning (codes "{\"call\":\"set\",\"object\":1,\"name\":\"name\",\"value\":\"Ada\"}") ≡ Ok (Call.SetValue (pos 1) (codes "name") (Given.Plain (Value.Text (codes "Ada"))))
+unfolding is_utf8 chars meaning text_call call_of set_of given_of serde_json_on_literals
+gives_text = refl
+
+gives_bytes : meaning (codes "{\"call\":\"set\",\"object\":1,\"name\":\"name\",\"value\":{\"hex\":\"0aFF\"}}") ≡ Ok (Call.SetValue (pos 1) (codes "name") (Given.Plain (Value.Bytes (10 ∷ 255 ∷ []))))
+unfolding is_utf8 chars meaning text_call call_of set_of given_of marked_of hex_of decode_pairs serde_json_on_literals
+gives_bytes = refl
+
+-- members in any order
+gives_object : meaning (codes "{\"value\":{\"object\":-2},\"call\":\"set\",\"name\":\"a\",\"object\":1}") ≡ Ok (Call.SetValue (pos 1) (codes "a") (Given.Object (negsuc 1)))
+unfolding is_utf8 chars meaning text_call call_of set_of given_of marked_of serde_json_on_literals
+gives_object = refl
+
+begins : meaning (codes "{\"call\":\"begin\",\"em\":1}") ≡ Ok (Call.Begin (pos 1))
+unfolding is_utf8 chars meaning text_call call_of em_of serde_json_on_literals
+begins = refl
+
+persists : meaning (codes "{\"call\":\"persist\",\"em\":1,\"object\":1}") ≡ Ok (Call.Persist (pos 1) (pos 1))
+unfolding is_utf8 chars meaning text_call call_of persist_of serde_json_on_literals
+persists = refl
+
+commits : meaning (codes " {\"call\":\"commit\",\"em\":1}\t") ≡ Ok (Call.Commit (pos 1))
+unfolding is_utf8 chars meaning text_call call_of em_of serde_json_on_literals
+commits = refl
+
+finds : meaning (codes "{\"call\":\"find\",\"em\":1,\"entity\":\"Person\",\"key\":[1,null]}") ≡ Ok (Call.Find (pos 1) (codes "Person") (Given.Plain (Value.Int (pos 1)) ∷ Given.Plain Value.Null ∷ []))
+unfolding is_utf8 chars meaning text_call call_of find_of key_of given_of serde_json_on_literals
+finds = refl
+
+cut_short : meaning (codes "{\"call\":\"find\"") ≡ Err Cause.BadLine
+unfolding is_utf8 chars meaning text_call call_of serde_json_on_literals
+cut_short = refl
+
+no_text : meaning (255 ∷ []) ≡ Err Cause.BadLine
+unfolding is_utf8 chars meaning text_call call_of serde_json_on_literals
+no_text = refl
+
+no_call : meaning (codes "{\"call\":\"x\"}") ≡ Err Cause.BadLine
+unfolding is_utf8 chars meaning text_call call_of serde_json_on_literals
+no_call = refl
+
+empty : meaning [] ≡ Err Cause.BadLine
+unfolding is_utf8 chars meaning text_call call_of serde_json_on_literals
+empty = refl
+
+surplus : meaning (codes "{\"call\":\"begin\",\"em\":1,\"x\":1}") ≡ Err Cause.BadLine
+unfolding is_utf8 chars meaning text_call call_of em_of serde_json_on_literals
+surplus = refl
+
+fraction : meaning (codes "{\"call\":\"begin\",\"em\":1.5}") ≡ Err Cause.BadLine
+unfolding is_utf8 chars meaning text_call call_of em_of serde_json_on_literals
+fraction = refl
+
+beyond : meaning (codes "{\"call\":\"begin\",\"em\":9223372036854775808}") ≡ Err Cause.BadLine
+unfolding is_utf8 chars meaning text_call call_of em_of serde_json_on_literals
+beyond = refl
+
+-- ---- replies
+
+numbered : reply_text (record { events = []; answer = Ok (Answer.Number 1) }) ≡ codes "{\"events\":[],\"ok\":1}\n"
+unfolding digits serde_json_on_literals
+numbered = refl
+
+made : reply_text (record { events = []; answer = Ok (Answer.Object 1) }) ≡ codes "{\"events\":[],\"ok\":{\"object\":1}}\n"
+unfolding digits serde_json_on_literals
+made = refl
+
+persisted : reply_text (record { events = record { event = LifecycleEvent.PrePersist; object = 1; ran = codes "d" ∷ codes "b" ∷ [] } ∷ []; answer = Ok Answer.Null }) ≡ codes "{\"events\":[[\"PrePersist\",1,\"d\",\"b\"]],\"ok\":null}\n"
+unfolding digits serde_json_on_literals
+persisted = refl
+
+stale : reply_text (record { events = record { event = LifecycleEvent.PreUpdate; object = 1; ran = [] } ∷ []; answer = Err (Refusal.Rollback (Cause.Persistence Persist.Version)) }) ≡ codes "{\"error\":{\"name\":\"Rollback\",\"no\":14,\"why\":\"Persistence(version)\"},\"events\":[[\"PreUpdate\",1]]}\n"
+unfolding digits serde_json_on_literals
+stale = refl
+
+marked : reply_text (record { events = []; answer = Err Refusal.RollbackMarked }) ≡ codes "{\"error\":{\"name\":\"Rollback\",\"no\":14,\"why\":\"marked\"},\"events\":[]}\n"
+unfolding digits serde_json_on_literals
+marked = refl
+
+bad : reply_text (record { events = []; answer = Err (Refusal.Because Cause.BadLine) }) ≡ codes "{\"error\":{\"name\":\"BadLine\",\"no\":3},\"events\":[]}\n"
+unfolding digits serde_json_on_literals
+bad = refl
+
+listed : reply_text (record { events = []; answer = Ok (Answer.Objects (2 ∷ 3 ∷ 2 ∷ [])) }) ≡ codes "{\"events\":[],\"ok\":[{\"object\":2},{\"object\":3},{\"object\":2}]}\n"
+unfolding digits serde_json_on_literals
+listed = refl
+
+rows : reply_text (record { events = []; answer = Ok (Answer.Rows ((Item.Value (Value.Int (negsuc 0)) ∷ []) ∷ (Item.Value (Value.Bytes (10 ∷ 255 ∷ [])) ∷ Item.Value Value.Null ∷ []) ∷ [])) }) ≡ codes "{\"events\":[],\"ok\":[-1,[{\"hex\":\"0aff\"},null]]}\n"
+unfolding digits encode_with serde_json_on_literals
+rows = refl

@@ -1,0 +1,21 @@
+use Rattle.std.proofs.Common.{◌≡◌, ◌<◌, length, arith}
+use Rattle.std.proofs.lemmas.Bool.Decides.{nat_tests}
+use Rattle.std.proofs.lemmas.Result.{on_ok_weaker, IfErr-weaker}
+use Rattle.std.proofs.lemmas.List.{nil_from_length}
+use Rattle.jpa_lines.proofs.SoFar.{all_served, last_served, last_off}
+use Rattle.jpa_lines.proofs.run.finish.Goals as goal
+
+pub returns-then-is_empty-clause-ok : goal.returns-then-is_empty-clause-ok
+returns-then-is_empty-clause-ok g c =
+    let none : length c.args.held.now ≡ 0 = grind (arith, nat_tests, c.if-is_empty.ensures) in
+    all_served g.P.PersistenceProvider.steps c.args.provider.now c.args.held.now (g.W.Write.contents c.args.writer.now) (nil_from_length c.args.held.now none)
+
+pub returns-else-is_empty-clause-ok : goal.returns-else-is_empty-clause-ok
+returns-else-is_empty-clause-ok g c =
+    let some : 0 < length c.args.held.now = grind (arith, nat_tests, c.if-is_empty.ensures, c.is_empty.ensures) in
+    on_ok_weaker c.serve.result (last_served g.P.PersistenceProvider.steps c.args.provider.now c.serve.new.provider c.args.held.now _ _ some) c.serve.ensures.ok
+
+pub returns-else-is_empty-clause-err : goal.returns-else-is_empty-clause-err
+returns-else-is_empty-clause-err g c =
+    let some : 0 < length c.args.held.now = grind (arith, nat_tests, c.if-is_empty.ensures, c.is_empty.ensures) in
+    IfErr-weaker c.serve.result _ _ (λ fault. last_off g.P.PersistenceProvider.steps c.args.provider.now c.serve.new.provider fault c.args.held.now _ _ some) c.serve.ensures.err

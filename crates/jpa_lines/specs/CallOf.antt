@@ -1,0 +1,176 @@
+-- Which call a line means.
+use Rattle.std.specs.Prelude.{◌==◌, ℕ, ℤ, nat_lt, List, [], ◌∷◌, length, codes, if◌then◌else◌, Option, Some, None, Result, Ok, Err, bytes_eq}
+use Rattle.std.specs.Str.{is_utf8}
+use Rattle.hex.specs.Hex.{decode_of}
+use Rattle.hex.specs.declared.error.FromHexError.{FromHexError}
+use Rattle.jpa_value.specs.declared.refusal.Cause.{Cause}
+use Rattle.jpa_value.specs.declared.refusal.Cause.TheVariants.{BadLine, Limit}
+use Rattle.jpa_value.specs.declared.value.Value.TheVariants.{Null, Int, Text, Bytes}
+use Rattle.jpa_protocol.specs.declared.call.Call.{Call}
+use Rattle.jpa_protocol.specs.declared.call.Call.TheVariants.{CreateEntityManager, NewObject, SetValue, Begin, Persist, Commit, Find}
+use Rattle.jpa_protocol.specs.declared.call.Given.{Given}
+use Rattle.jpa_protocol.specs.declared.call.Given.TheVariants as given
+use Rattle.serde_json.specs.Data.{Data, null, boolean, number, string, array, object, Items, no_items, item}
+use Rattle.serde_json.specs.Events.{members_len}
+use Rattle.serde_json.specs.Find.{get, as_number, as_str, as_array, as_i64}
+use Rattle.serde_json.specs.Read.{read}
+use Rattle.jpa_lines.specs.Outcome.{◌>>=◌, guard}
+use Rattle.jpa_lines.specs.declared.reading.Word.{Word}
+use Rattle.jpa_lines.specs.declared.reading.Word.TheVariants as word
+
+-- how many members an object has
+abbrev pub count_of : Data → ℕ
+count_of null = 0
+count_of (boolean b) = 0
+count_of (number n) = 0
+count_of (string s) = 0
+count_of (array ds) = 0
+count_of (object ms) = members_len ms
+
+abbrev pub integer_of : Data → Option ℤ
+integer_of d = as_number d >>= as_i64
+
+abbrev pub integer_at : List ℕ → Data → Option ℤ
+integer_at name d = get name d >>= integer_of
+
+abbrev pub text_at : List ℕ → Data → Option (List ℕ)
+text_at name d = get name d >>= as_str
+
+-- the bytes that hex digits of either case stand for
+abbrev pub decoded : Result (List ℕ) FromHexError → Option (List ℕ)
+decoded (Ok bytes) = Some bytes
+decoded (Err e) = None
+
+unfoldable pub hex_of : List ℕ → Option (List ℕ)
+hex_of digits = decoded (decode_of digits)
+
+-- an object of the one member `object`, or of the one member `hex`
+abbrev pub marked : Option Data → Option Data → Option Given
+marked (Some n) digits = do
+  z ← integer_of n
+  Some (given.Object z)
+marked None digits = do
+  d ← digits
+  s ← as_str d
+  bytes ← hex_of s
+  Some (given.Plain (Bytes bytes))
+
+unfoldable pub marked_of : Data → Option Given
+marked_of d = do
+  one ← guard (count_of d == 1)
+  marked (get (codes "object") d) (get (codes "hex") d)
+
+abbrev pub plain_integer : Option ℤ → Option Given
+plain_integer (Some z) = Some (given.Plain (Int z))
+plain_integer None = None
+
+unfoldable pub given_of : Data → Option Given
+given_of null = Some (given.Plain Null)
+given_of (boolean b) = None
+given_of (number n) = plain_integer (as_i64 n)
+given_of (string s) = Some (given.Plain (Text s))
+given_of (array ds) = None
+given_of (object ms) = marked_of (object ms)
+
+unfoldable pub key_of : Items → Option (List Given)
+key_of no_items = Some []
+key_of (item d ds) = do
+  x ← given_of d
+  xs ← key_of ds
+  Some (x ∷ xs)
+
+-- ---- the calls, each of exactly its members
+
+unfoldable pub create_of : Data → Option Call
+create_of d = do
+  all ← guard (count_of d == 1)
+  Some CreateEntityManager
+
+unfoldable pub new_of : Data → Option Call
+new_of d = do
+  all ← guard (count_of d == 2)
+  entity ← text_at (codes "entity") d
+  Some (NewObject entity)
+
+unfoldable pub set_of : Data → Option Call
+set_of d = do
+  all ← guard (count_of d == 4)
+  on ← integer_at (codes "object") d
+  name ← text_at (codes "name") d
+  member ← get (codes "value") d
+  value ← given_of member
+  Some (SetValue on name value)
+
+-- the manager, of a call that has no other member
+unfoldable pub em_of : Data → Option ℤ
+em_of d = do
+  all ← guard (count_of d == 2)
+  integer_at (codes "em") d
+
+unfoldable pub persist_of : Data → Option Call
+persist_of d = do
+  all ← guard (count_of d == 3)
+  em ← integer_at (codes "em") d
+  on ← integer_at (codes "object") d
+  Some (Persist em on)
+
+unfoldable pub find_of : Data → Option Call
+find_of d = do
+  all ← guard (count_of d == 4)
+  em ← integer_at (codes "em") d
+  entity ← text_at (codes "entity") d
+  member ← get (codes "key") d
+  parts ← as_array member
+  key ← key_of parts
+  Some (Find em entity key)
+
+abbrev pub word_of : List ℕ → Option Word
+word_of name =
+    if bytes_eq name (codes "createEntityManager") then Some word.CreateEntityManager
+    else if bytes_eq name (codes "new") then Some word.New
+    else if bytes_eq name (codes "set") then Some word.Set
+    else if bytes_eq name (codes "begin") then Some word.Begin
+    else if bytes_eq name (codes "persist") then Some word.Persist
+    else if bytes_eq name (codes "commit") then Some word.Commit
+    else if bytes_eq name (codes "find") then Some word.Find
+    else None
+
+-- the call of this word with the members of d
+abbrev pub worded_call : Word → Data → Option Call
+worded_call word.CreateEntityManager d = create_of d
+worded_call word.New d = new_of d
+worded_call word.Set d = set_of d
+worded_call word.Begin d = do
+  em ← em_of d
+  Some (Begin em)
+worded_call word.Persist d = persist_of d
+worded_call word.Commit d = do
+  em ← em_of d
+  Some (Commit em)
+worded_call word.Find d = find_of d
+
+unfoldable pub call_of : Data → Option Call
+call_of d = do
+  name ← text_at (codes "call") d
+  w ← word_of name
+  worded_call w d
+
+-- the call that a text means, where it is one
+unfoldable pub text_call : List ℕ → Option Call
+text_call text = do
+  unicode ← guard (is_utf8 text)
+  d ← read text
+  call_of d
+
+-- ---- lines
+
+abbrev pub line_limit : ℕ
+line_limit = 1048576
+
+abbrev pub or_bad_line : Option Call → Result Call Cause
+or_bad_line (Some call) = Ok call
+or_bad_line None = Err BadLine
+
+-- what a line means: a call, or the refusal that answers it
+unfoldable pub meaning : List ℕ → Result Call Cause
+meaning line = if nat_lt line_limit (length line) then Err Limit else or_bad_line (text_call line)

@@ -1,0 +1,214 @@
+//! The run over lines.
+ghost use Rattle.std.specs.Prelude.{◌≡◌, ◌≤◌, ◌∷◌, [], ◌++◌, ℕ, List, length, take, IfOk, IfErr, OnOk, OnErr};
+ghost use Rattle.std.specs.Io.{StartsWith};
+ghost use Rattle.std.specs.Io.KnownBytes.{Appends};
+ghost use Rattle.jpa_lines.specs.declared.run.RunFault.TheVariants.{Write as write_fault, Memory as memory_fault};
+ghost use Rattle.jpa_lines.specs.Run.{Answers, ServesLine, BreaksLine, GoesOn, BreaksOff, Finishes, FailsToFinish, Served, Broken, AnswersRead, IsNoRead, kept_len};
+
+use crate::reading::read_call;
+use crate::writing::write_reply;
+use jpa_protocol::{PersistenceProvider, Reply};
+use jpa_value::{Cause, Refusal, Seq};
+use std::alloc::Global;
+use std::io::{Read, Write};
+use thiserror::Error;
+
+/// How many reads a run makes.
+pub const MOST_READS: u64 = 1 << 40;
+
+/// How much of a line is kept: enough to see that it is too long.
+const KEPT_LEN: usize = 1_048_577;
+
+const PIECE_LEN: usize = 8192;
+
+/// Why a run broke off: the input or the output failed, or memory ran out for a line or a reply.
+#[derive(Clone, Copy, Debug, PartialEq, Eq, Error)]
+pub enum RunFault {
+    #[error("read")]
+    Read,
+    #[error("write")]
+    Write,
+    #[error("memory")]
+    Memory,
+}
+
+/// Answers each line of the input by a reply, until the input ends. A line of any length takes at most `LINE_LIMIT` + 1
+/// bytes of memory; what is past them is skipped to its line feed. The output is flushed whenever the lines that were
+/// read are answered.
+///
+/// Where a fault ends the run, the lines before it are answered and their replies written, but for at most the last
+/// one, whose call is done: of its reply a front is written after `Write` and nothing after `Memory`. After `Read` all
+/// whole lines that were read are answered, and their replies written. More than `MOST_READS` reads are a `Read` fault.
+///
+/// What stands between calls stands at the end, whatever the input, also where the run breaks off.
+pub fn run<R: Read, W: Write, P: PersistenceProvider>(
+    alloc: Global,
+    reader: &mut R,
+    writer: &mut W,
+    provider: &mut P,
+) -> Result<(), RunFault>
+    ensures ok { OnOk result (Served P.steps provider.old provider.new
+        (R.remaining reader.old) (W.contents writer.old) (W.contents writer.new)) }
+    ensures err { IfErr result (λ fault. Broken P.steps provider.old provider.new fault
+        (R.remaining reader.old) (W.contents writer.old) (W.contents writer.new)) }
+    ensures read { IfErr result (λ fault. AnswersRead P.steps provider.old provider.new fault
+        (R.remaining reader.old) (R.remaining reader.new) (W.contents writer.old) (W.contents writer.new)) }
+    ensures stands { P.stands provider.old → P.stands provider.new }
+{
+    answer_lines(alloc, reader, writer, provider)
+}
+
+fn answer_lines<R: Read, W: Write, P: PersistenceProvider>(
+    alloc: Global,
+    reader: &mut R,
+    writer: &mut W,
+    provider: &mut P,
+) -> Result<(), RunFault>
+    ensures ok { OnOk result (Served P.steps provider.old provider.new
+        (R.remaining reader.old) (W.contents writer.old) (W.contents writer.new)) }
+    ensures err { IfErr result (λ fault. Broken P.steps provider.old provider.new fault
+        (R.remaining reader.old) (W.contents writer.old) (W.contents writer.new)) }
+    ensures read { IfErr result (λ fault. AnswersRead P.steps provider.old provider.new fault
+        (R.remaining reader.old) (R.remaining reader.new) (W.contents writer.old) (W.contents writer.new)) }
+{
+    let mut held = Vec::new(alloc);
+    let mut piece = [0u8; PIECE_LEN];
+    'reads: for _ in 0..MOST_READS {
+        let Ok(count) = reader.read(&mut piece) else {
+            return Err(RunFault::Read);
+        };
+        if count == 0 {
+            return finish(alloc, held.as_slice(), writer, provider);
+        }
+        take_piece(alloc, &piece[..count], &mut held, writer, provider)?;
+        if writer.flush().is_err() {
+            return Err(RunFault::Write);
+        }
+    }
+    Err(RunFault::Read)
+}
+
+fn finish<W: Write, P: PersistenceProvider>(
+    alloc: Global,
+    held: &[u8],
+    writer: &mut W,
+    provider: &mut P,
+) -> Result<(), RunFault>
+    ensures ok { OnOk result (Finishes P.steps provider.old provider.new held.now
+        (W.contents writer.old) (W.contents writer.new)) }
+    ensures err { IfErr result (λ fault. FailsToFinish P.steps provider.old provider.new fault held.now
+        (W.contents writer.old) (W.contents writer.new)) }
+    ensures no_read { IfErr result IsNoRead }
+{
+    if held.is_empty() {
+        Ok(())
+    } else {
+        serve(alloc, held, writer, provider)
+    }
+}
+
+fn take_piece<W: Write, P: PersistenceProvider>(
+    alloc: Global,
+    piece: &[u8],
+    held: &mut Vec<u8>,
+    writer: &mut W,
+    provider: &mut P,
+) -> Result<(), RunFault>
+    ensures ok { OnOk result (GoesOn P.steps provider.old provider.new held.old.items held.new.items
+        piece.now (W.contents writer.old) (W.contents writer.new)) }
+    ensures err { IfErr result (λ fault. BreaksOff P.steps provider.old provider.new fault
+        held.old.items piece.now (W.contents writer.old) (W.contents writer.new)) }
+    ensures no_read { IfErr result IsNoRead }
+{
+    for byte in piece {
+        take_byte(alloc, *byte, held, writer, provider)?;
+    }
+    Ok(())
+}
+
+fn take_byte<W: Write, P: PersistenceProvider>(
+    alloc: Global,
+    byte: u8,
+    held: &mut Vec<u8>,
+    writer: &mut W,
+    provider: &mut P,
+) -> Result<(), RunFault>
+    ensures ok { OnOk result (GoesOn P.steps provider.old provider.new held.old.items held.new.items
+        (byte ∷ []) (W.contents writer.old) (W.contents writer.new)) }
+    ensures err { IfErr result (λ fault. BreaksOff P.steps provider.old provider.new fault
+        held.old.items (byte ∷ []) (W.contents writer.old) (W.contents writer.new)) }
+    ensures no_read { IfErr result IsNoRead }
+{
+    if byte == b'\n' {
+        serve(alloc, held.as_slice(), writer, provider)?;
+        held.clear();
+        return Ok(());
+    }
+    hold(held, byte)
+}
+
+fn hold(held: &mut Vec<u8>, byte: u8) -> Result<(), RunFault>
+    ensures ok { OnOk result (length held.old.items ≤ kept_len
+        → held.new.items ≡ take kept_len (held.old.items ++ byte ∷ [])) }
+    ensures no_read { IfErr result IsNoRead }
+{
+    if held.len() >= KEPT_LEN {
+        return Ok(());
+    }
+    match held.push(byte) {
+        Ok(()) => Ok(()),
+        Err(_) => Err(RunFault::Memory),
+    }
+}
+
+fn serve<W: Write, P: PersistenceProvider>(
+    alloc: Global,
+    line: &[u8],
+    writer: &mut W,
+    provider: &mut P,
+) -> Result<(), RunFault>
+    ensures ok { OnOk result (ServesLine P.steps provider.old provider.new line.now
+        (W.contents writer.old) (W.contents writer.new)) }
+    ensures err { IfErr result (λ fault. BreaksLine P.steps provider.old provider.new fault line.now
+        (W.contents writer.old) (W.contents writer.new)) }
+    ensures no_read { IfErr result IsNoRead }
+{
+    let reply = answer(alloc, line, provider)?;
+    let Ok(text) = write_reply(alloc, &reply) else {
+        return Err(RunFault::Memory);
+    };
+    write_text(writer, text.as_slice())
+}
+
+fn answer<P: PersistenceProvider>(
+    alloc: Global,
+    line: &[u8],
+    provider: &mut P,
+) -> Result<Reply, RunFault>
+    ensures ok { IfOk result (λ reply. Answers P.steps provider.old line.now reply provider.new) }
+    ensures err { IfErr result (λ fault. (fault ≡ memory_fault) × (provider.new ≡ provider.old)) }
+{
+    match read_call(alloc, line) {
+        Ok(call) => Ok(provider.call(call)),
+        Err(Cause::OutOfMemory) => Err(RunFault::Memory),
+        Err(cause) => Ok(Reply {
+            events: Seq::new(alloc),
+            answer: Err(Refusal::Because(cause)),
+        }),
+    }
+}
+
+fn write_text<W: Write>(writer: &mut W, text: &[u8]) -> Result<(), RunFault>
+    ensures ok { OnOk result (Appends (W.contents writer.old) (W.contents writer.new) text.now) }
+    ensures err { IfErr result (λ fault. (fault ≡ write_fault) × ((part : List ℕ) × StartsWith text.now part
+        × Appends (W.contents writer.old) (W.contents writer.new) part)) }
+{
+    let mut done = 0;
+    while done < text.len() {
+        match writer.write(&text[done..]) {
+            Ok(count) if count > 0 => done += count,
+            _ => return Err(RunFault::Write),
+        }
+    }
+    Ok(())
+}

@@ -1,0 +1,4 @@
+pub mod Examples
+pub mod Items
+pub mod Listed
+pub mod Texts

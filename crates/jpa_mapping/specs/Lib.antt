@@ -1,0 +1,3 @@
+pub mod DraftOf
+pub mod MappingOf
+pub mod Outcome

@@ -1,0 +1,3 @@
+pub mod Load
+pub mod Members
+pub mod States

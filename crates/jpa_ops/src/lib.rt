@@ -1,0 +1,5 @@
+//! The operations of an entity manager on its objects.
+//!
+//! The definitions stand in `specs/`: `Load` loads and finds, `Members` sets, `States` persists and removes. The crate
+//! stands on cascades and on listeners.
+#![tactic(auto)]

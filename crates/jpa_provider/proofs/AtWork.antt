@@ -1,0 +1,159 @@
+-- What holds while a manager is at work, and how the machine gives the work and takes it back.
+use Rattle.std.proofs.Common.{◌≡◌, ◌≢◌, ◌<◌, ◌≤◌, ◌⊎◌, inl, inr, ℕ, Bool, true, false, List, length, refl, ap, sym, subst, ◌∙◌}
+use Rattle.std.specs.Prelude.{slice_index_or, slice_set, nat_le, Option, Some, None, ◌==◌, if◌then◌else◌}
+use Rattle.std.specs.List.{All, list_any}
+use Rattle.std.proofs.lemmas.Bool.{false≢true, cases_eq, eqb-true, eq-eqb, ne_eqb}
+use Rattle.std.proofs.lemmas.List.{get_or-set_same, get_or-set_other, length-set}
+use Rattle.jpa_value.specs.declared.refusal.Cause.{Cause}
+use Rattle.jpa_behaviour.specs.Behaviour.{World}
+use Rattle.jpa_stored.specs.Sets.{StoredSet, each_fits, all_distinct}
+use Rattle.jpa_rows.specs.Cells.{CanBeHeld, are_numbers}
+use Rattle.jpa_heap.specs.declared.Life.{Life}
+use Rattle.jpa_heap.specs.declared.LiveObject.{LiveObject}
+use Rattle.jpa_heap.specs.Objects.{object_at}
+use Rattle.jpa_context.specs.declared.Entry.{Entry}
+use Rattle.jpa_context.specs.Work.{Work, object}
+use Rattle.jpa_context.specs.Steps.{Outcome, Done, Refused, Op, after, require}
+use Rattle.jpa_ops.specs.Load.{most_objects}
+use Rattle.jpa_provider.specs.Machine.{Machine, Manager, Transaction, manager_at, no_manager, work_of, kept, seen_in, view_in}
+use Rattle.jpa_provider.specs.Step.{most_managers}
+use Rattle.jpa_provider.specs.Invariant.{IsMachine, IsManager, IsTransaction, IsLive, IsEntry, are_one, is_idle, stands_in, context_of}
+use Rattle.jpa_provider.proofs.Facts.{held_more, numbers_same, numbers_trans}
+
+-- ---- what holds where an operation is done
+
+abbrev pub HoldsAfter : {A : Type 0} → (A → Work → Type 0) → Outcome A → Type 0
+HoldsAfter P (Done a w) = P a w
+HoldsAfter P (Refused r events) = Unit {0}
+
+pub after_holds : {A B : Type 0} (P : B → Work → Type 0) (Q : A → Work → Type 0) (o : Outcome A) (f : A → Op B) → HoldsAfter Q o →
+    ((a : A) (w : Work) → Q a w → HoldsAfter P (f a w)) → HoldsAfter P (after o f)
+after_holds P Q (Done a w) f h k = k a w h
+after_holds P Q (Refused r events) f h k = tt
+
+pub require_holds : {B : Type 0} (P : B → Work → Type 0) (b : Bool) (r : Cause) (w : Work) (f : Unit {0} → Op B) → (b ≡ true → HoldsAfter P (f tt w)) →
+    HoldsAfter P (after (require b r w) f)
+require_holds P true r w f k = k refl
+require_holds P false r w f k = tt
+
+-- a requirement that is the last of an operation
+pub require_holds_last : (P : Unit {0} → Work → Type 0) (b : Bool) (r : Cause) (w : Work) → (b ≡ true → P tt w) → HoldsAfter P (require b r w)
+require_holds_last P true r w k = k refl
+require_holds_last P false r w k = tt
+
+-- ---- a manager at work
+
+-- the contexts then: its own as the work has it
+abbrev pub contexts : Machine → ℕ → Work → ℕ → List Entry
+contexts M m w k = if k == m then w.context else context_of M k
+
+pub record IsAtWork (world : World) (M : Machine) (m : ℕ) (w : Work) : Type 0 where
+  pub manager : w.manager ≡ m
+  pub objects : All (IsLive world.model w.objects) w.objects
+  pub entries : All (IsEntry world.model w.objects w.numbers m) w.context
+  pub distinct : all_distinct (are_one world.model w.objects) w.context ≡ true
+  pub others : (k : ℕ) → k < length M.managers → k ≢ m → IsManager world w.objects w.numbers k (manager_at M k)
+  pub placed : (n : ℕ) → n < length w.objects → stands_in (contexts M m w) n (object w n).life ≡ true
+  pub view : CanBeHeld world w.view w.numbers
+  pub numbered : are_numbers world.model w.numbers ≡ true
+  pub raised : each_fits nat_le M.numbers w.numbers ≡ true
+  pub few : length w.objects ≤ most_objects
+
+-- ---- the machine gives the work
+
+view_held : (world : World) (C : StoredSet) (ns stored : List ℕ) (t : Option Transaction) → CanBeHeld world C stored → each_fits nat_le stored ns ≡ true →
+    are_numbers world.model ns ≡ true → IsTransaction world ns t → CanBeHeld world (view_in t C) ns
+view_held world C ns stored None c l n h = held_more ns c l n
+view_held world C ns stored (Some t) c l n h = h.1
+
+pub stands_same : (c d : ℕ → List Entry) (n : ℕ) (life : Life) → ((k : ℕ) → c k ≡ d k) → stands_in c n life ≡ true → stands_in d n life ≡ true
+stands_same c d n Life.New e h = refl
+stands_same c d n (Life.Managed k) e h = subst (λ es. list_any (λ x. x.object == n) es ≡ true) (e k) h
+stands_same c d n (Life.Removed k) e h = subst (λ es. list_any (λ x. x.object == n) es ≡ true) (e k) h
+stands_same c d n Life.Detached e h = refl
+
+either : (b : Bool) (xs ys : List Entry) → (b ≡ true → xs ≡ ys) → ys ≡ (if b then xs else ys)
+either true xs ys e = sym (e refl)
+either false xs ys e = refl
+
+contexts_same : (M : Machine) (m k : ℕ) → context_of M k ≡ contexts M m (work_of M m) k
+contexts_same M m k = either (k == m) (context_of M m) (context_of M k) (λ e. ap (context_of M) (sym (eqb-true k m e)))
+
+pub taken : {world : World} {M : Machine} (m : ℕ) → m < length M.managers → IsMachine world M → IsAtWork world M m (work_of M m)
+taken {world} {M} m l h =
+    record {
+      manager = refl;
+      objects = h.objects;
+      entries = (h.managers m l).entries;
+      distinct = (h.managers m l).distinct;
+      others = λ k l' apart. h.managers k l';
+      placed = λ n l'. stands_same (context_of M) (contexts M m (work_of M m)) n (object_at M.objects n).life (contexts_same M m) (h.placed n l');
+      view = view_held world M.committed M.numbers M.stored_numbers (manager_at M m).transaction h.committed h.stored h.numbered (h.managers m l).transaction;
+      numbered = h.numbered;
+      raised = numbers_same M.numbers;
+      few = h.objects_few;
+    }
+
+-- ---- the machine takes it back
+
+-- the manager of a work again
+abbrev back : Machine → ℕ → Work → Manager
+back M m w = record (manager_at M m) { context = w.context; transaction = seen_in (manager_at M m).transaction w.view }
+
+seen_held : (world : World) (ns ms : List ℕ) (set : StoredSet) (t : Option Transaction) → each_fits nat_le ns ms ≡ true → are_numbers world.model ms ≡ true →
+    CanBeHeld world set ms → IsTransaction world ns t → IsTransaction world ms (seen_in t set)
+seen_held world ns ms set None l n s h = tt
+seen_held world ns ms set (Some t) l n s h = (held_more ms h.0 l n, s)
+
+idle_open : (b : Bool) (es : List Entry) (t : Option Transaction) → b ≡ true → is_idle b es t ≡ true
+idle_open true es t e = refl
+idle_open false es t e = absurd (false≢true e)
+
+pub manager_set : (xs : List Manager) (m k : ℕ) (x : Manager) → m < length xs →
+    ((k ≡ m) × (slice_index_or (slice_set xs m x) k no_manager ≡ x)) ⊎ ((k ≢ m) × (slice_index_or (slice_set xs m x) k no_manager ≡ slice_index_or xs k no_manager))
+manager_set xs m k x l = by_cases (cases_eq k m)
+  where
+    by_cases : (k ≡ m) ⊎ (k ≢ m) → ((k ≡ m) × (slice_index_or (slice_set xs m x) k no_manager ≡ x)) ⊎ ((k ≢ m) × (slice_index_or (slice_set xs m x) k no_manager ≡ slice_index_or xs k no_manager))
+    by_cases (inl e) = inl (e, ap (λ j. slice_index_or (slice_set xs m x) j no_manager) e ∙ get_or-set_same xs m x no_manager l)
+    by_cases (inr apart) = inr (apart, get_or-set_other xs m k x no_manager apart)
+
+-- a machine whose manager m is replaced
+pub managers_set : {world : World} {objects : List LiveObject} {numbers : List ℕ} (xs : List Manager) (m : ℕ) (x : Manager) → m < length xs →
+    IsManager world objects numbers m x →
+    ((k : ℕ) → k < length xs → k ≢ m → IsManager world objects numbers k (slice_index_or xs k no_manager)) →
+    (k : ℕ) → k < length (slice_set xs m x) → IsManager world objects numbers k (slice_index_or (slice_set xs m x) k no_manager)
+managers_set {world} {objects} {numbers} xs m x l own others k l' = by_cases (manager_set xs m k x l)
+  where
+    by_cases : ((k ≡ m) × (slice_index_or (slice_set xs m x) k no_manager ≡ x)) ⊎ ((k ≢ m) × (slice_index_or (slice_set xs m x) k no_manager ≡ slice_index_or xs k no_manager)) →
+        IsManager world objects numbers k (slice_index_or (slice_set xs m x) k no_manager)
+    by_cases (inl h) = subst (IsManager world objects numbers k) (sym h.1) (subst (λ j. IsManager world objects numbers j x) (sym h.0) own)
+    by_cases (inr h) = subst (IsManager world objects numbers k) (sym h.1) (others k (subst (λ n. k < n) (length-set xs m x) l') h.0)
+
+pub contexts_set : (xs : List Manager) (m k : ℕ) (x : Manager) → m < length xs →
+    (if k == m then x.context else (slice_index_or xs k no_manager).context) ≡ (slice_index_or (slice_set xs m x) k no_manager).context
+contexts_set xs m k x l = by_cases (manager_set xs m k x l)
+  where
+    by_cases : ((k ≡ m) × (slice_index_or (slice_set xs m x) k no_manager ≡ x)) ⊎ ((k ≢ m) × (slice_index_or (slice_set xs m x) k no_manager ≡ slice_index_or xs k no_manager)) →
+        (if k == m then x.context else (slice_index_or xs k no_manager).context) ≡ (slice_index_or (slice_set xs m x) k no_manager).context
+    by_cases (inl h) = ap (λ b. if b then x.context else (slice_index_or xs k no_manager).context) (eq-eqb k m h.0) ∙ sym (ap (λ (y : Manager). y.context) h.1)
+    by_cases (inr h) = ap (λ b. if b then x.context else (slice_index_or xs k no_manager).context) (ne_eqb k m h.0) ∙ sym (ap (λ (y : Manager). y.context) h.1)
+
+pub given_back : {world : World} {M : Machine} {m : ℕ} {w : Work} → m < length M.managers → (manager_at M m).is_open ≡ true → IsMachine world M → IsAtWork world M m w → IsMachine world (kept M m w)
+given_back {world} {M} {m} {w} l is_open h at =
+    record {
+      objects = at.objects;
+      managers = managers_set M.managers m (back M m w) l
+          (record {
+            entries = at.entries;
+            distinct = at.distinct;
+            transaction = seen_held world M.numbers w.numbers w.view (manager_at M m).transaction at.raised at.numbered at.view (h.managers m l).transaction;
+            idle = idle_open (manager_at M m).is_open w.context (seen_in (manager_at M m).transaction w.view) is_open;
+          })
+          at.others;
+      placed = λ n l'. stands_same (contexts M m w) (context_of (kept M m w)) n (object w n).life (λ k. contexts_set M.managers m k (back M m w) l) (at.placed n l');
+      committed = h.committed;
+      numbered = at.numbered;
+      stored = numbers_trans M.stored_numbers M.numbers w.numbers h.stored at.raised;
+      objects_few = at.few;
+      managers_few = subst (λ n. n ≤ most_managers) (sym (length-set M.managers m (back M m w))) h.managers_few;
+    }

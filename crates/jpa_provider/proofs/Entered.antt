@@ -1,0 +1,260 @@
+-- What holds while a manager is at work is kept where an object enters its context, and by persist as a whole, in units
+-- without relations and listeners.
+use Rattle.std.proofs.Common.{◌≡◌, ◌≢◌, ◌<◌, ◌≤◌, ℕ, Bool, true, false, List, [], ◌∷◌, ◌++◌, length, refl, ap, sym, subst, ◌∙◌, arith}
+use Rattle.std.specs.Prelude.{slice_set, not, Option, Some, None, ◌==◌, ◌&&◌, ◌||◌, if◌then◌else◌, ℤ, is_some}
+use Rattle.std.specs.List.{AllByRecursion, list_any, find}
+use Rattle.std.proofs.lemmas.Bool.{false≢true, true≢false, eq-eqb, ne_eqb, and_parts, and_from, or_from, or_left, or_right, not-true, not_from_false}
+use Rattle.std.proofs.lemmas.List.{length-set}
+use Rattle.std.proofs.lemmas.List.Elements.{All-weaker, All-push, recursion_from_All}
+use Rattle.std.proofs.lemmas.List.Folds.{list_any-append}
+use Rattle.jpa_value.specs.declared.value.Value.{Value}
+use Rattle.jpa_value.specs.declared.value.Identity.{Identity}
+use Rattle.jpa_value.specs.declared.refusal.Cause.{Cause}
+use Rattle.jpa_value.specs.declared.event.LifecycleEvent.{LifecycleEvent}
+use Rattle.jpa_value.specs.Value.{fits, is_null, same_identity}
+use Rattle.jpa_model.specs.declared.unit.PersistenceUnit.{PersistenceUnit}
+use Rattle.jpa_model.specs.declared.unit.Part.{Part}
+use Rattle.jpa_model.specs.Chains.{root_of, root_class}
+use Rattle.jpa_behaviour.specs.Behaviour.{World}
+use Rattle.jpa_stored.specs.Sets.{each_fits, all_distinct, is_key_of}
+use Rattle.jpa_heap.specs.declared.Life.{Life}
+use Rattle.jpa_heap.specs.declared.LiveObject.{LiveObject}
+use Rattle.jpa_heap.specs.Objects.{object_at, no_object, is_whole, identity_of}
+use Rattle.jpa_context.specs.declared.Base.{Base}
+use Rattle.jpa_context.specs.declared.Lock.{Lock}
+use Rattle.jpa_context.specs.declared.Entry.{Entry}
+use Rattle.jpa_context.specs.declared.EntityState.{EntityState}
+use Rattle.jpa_context.specs.Work.{Work, object, state_of, identity_at, instance, has_identity, object_in, with_life_of, entered, base_of}
+use Rattle.jpa_context.specs.Steps.{each}
+use Rattle.jpa_cascade.specs.declared.Operation.{Operation}
+use Rattle.jpa_cascade.proofs.Plain.{plain_waves}
+use Rattle.jpa_lifecycle.specs.Callbacks.{callback}
+use Rattle.jpa_ops.specs.Load.{most_objects}
+use Rattle.jpa_ops.specs.States.{persist, persist_one, persist_node, become_managed, give_key, pre_persist_if, has_instance}
+use Rattle.jpa_provider.specs.Machine.{Machine}
+use Rattle.jpa_provider.specs.Calls.{object_numbered}
+use Rattle.jpa_provider.specs.Step.{persist_call}
+use Rattle.jpa_provider.specs.Invariant.{IsFlat, IsEntry, is_held_by, stands_in, context_of, are_one, name_of}
+use Rattle.jpa_provider.proofs.Facts.{numbers_same}
+use Rattle.jpa_provider.proofs.AtWork.{HoldsAfter, after_holds, require_holds, IsAtWork, contexts}
+use Rattle.jpa_provider.proofs.Kept.{KeepsHeld, manager_kept, entry_kept, distinct_kept, names_kept}
+use Rattle.jpa_provider.proofs.Changed.{holds_set, holds_apart, live_set, placed_set, numbered_holds, InHeap}
+use Rattle.jpa_rows.specs.Cells.{key_given_by}
+use Rattle.jpa_provider.proofs.Persisted.{callback_holds, told_at_work, HasKey, give_key_holds, new_apart, at_place, state_code, life_new, life_removed}
+
+-- ---- no other entry has the identity
+
+-- all of a list, and one more that is none of them
+pub distinct_push : {A : Type 0} (eq : A → A → Bool) (xs : List A) (y : A) → all_distinct eq xs ≡ true → AllByRecursion (λ x. eq x y ≡ false) xs → all_distinct eq (xs ++ y ∷ []) ≡ true
+distinct_push eq [] y d h = refl
+distinct_push eq (x ∷ xs) y d h =
+    let p = and_parts (not (list_any (eq x) xs)) (all_distinct eq xs) d in
+    let apart : list_any (eq x) (xs ++ y ∷ []) ≡ false =
+    list_any-append (eq x) xs (y ∷ []) ∙ or_from (list_any (eq x) xs) (eq x y || false) (not-true (list_any (eq x) xs) p.0) (or_from (eq x y) false h.0 refl) in
+    and_from (not (list_any (eq x) (xs ++ y ∷ []))) (all_distinct eq (xs ++ y ∷ [])) (not_from_false (list_any (eq x) (xs ++ y ∷ [])) apart) (distinct_push eq xs y p.1 h.1)
+
+find_step : {A B : Type 0} (f : Option A → Option B) (b : Bool) (x : A) (o : Option A) → is_some (f (Some x)) ≡ true → is_some (f (if b then Some x else o)) ≡ false →
+    (b ≡ false) × (is_some (f o) ≡ false)
+find_step f true x o k h = absurd (true≢false (sym k ∙ h))
+find_step f false x o k h = (refl, h)
+
+pub none_found : (p : Entry → Bool) (xs : List Entry) → is_some (object_in (find p xs)) ≡ false → AllByRecursion (λ x. p x ≡ false) xs
+none_found p [] h = tt
+none_found p (x ∷ xs) h = let s = find_step object_in (p x) x (find p xs) refl h in (s.0, none_found p xs s.1)
+
+whole_part : (f null : Bool) → (f && not null) ≡ true → not null ≡ true
+whole_part f null h = (and_parts f (not null) h).1
+
+key_is_whole : (ps : List Part) (vs : List Value) → each_fits (λ (part : Part) v. fits part.kind v && not (is_null v)) ps vs ≡ true → is_whole vs ≡ true
+key_is_whole [] [] h = refl
+key_is_whole [] (v ∷ vs) h = absurd (false≢true h)
+key_is_whole (p ∷ ps) [] h = absurd (false≢true h)
+key_is_whole (p ∷ ps) (v ∷ vs) h =
+    let a = and_parts (fits p.kind v && not (is_null v)) (each_fits (λ (part : Part) u. fits part.kind u && not (is_null u)) ps vs) h in
+    and_from (not (is_null v)) (is_whole vs) (whole_part (fits p.kind v) (is_null v) a.0) (key_is_whole ps vs a.1)
+
+identity_whole : (m : PersistenceUnit) (x : LiveObject) → is_whole x.key ≡ true → identity_of m x ≡ Some (name_of m x)
+identity_whole m x h = ap (λ b. if b then Some (name_of m x) else None) h
+
+pub named : (m : PersistenceUnit) (x : LiveObject) → is_key_of (root_of m x.class) x.key ≡ true → identity_of m x ≡ Some (name_of m x)
+named m x h = identity_whole m x (key_is_whole (root_of m x.class).key x.key h)
+
+-- where no instance of an identity is found, no entry has it
+pub apart_from : (m : PersistenceUnit) (w : Work) (k : ℕ) (id : Identity) (xs : List Entry) → AllByRecursion (IsEntry m w.objects w.numbers k) xs →
+    AllByRecursion (λ (e : Entry). has_identity (identity_at m w e.object) id ≡ false) xs →
+    AllByRecursion (λ (e : Entry). same_identity (name_of m (object w e.object)) id ≡ false) xs
+apart_from m w k id [] h g = tt
+apart_from m w k id (e ∷ es) h g =
+    (ap (λ o. has_identity o id) (sym (named m (object w e.object) (h.0).whole)) ∙ g.0, apart_from m w k id es h.1 g.1)
+
+-- ---- an object enters
+
+to_pushed : (p : Entry → Bool) (xs : List Entry) (y : Entry) → list_any p xs ≡ true → list_any p (xs ++ y ∷ []) ≡ true
+to_pushed p xs y h = list_any-append p xs (y ∷ []) ∙ or_left (list_any p xs) (p y || false) h
+
+pub is_pushed : (p : Entry → Bool) (xs : List Entry) (y : Entry) → p y ≡ true → list_any p (xs ++ y ∷ []) ≡ true
+is_pushed p xs y h = list_any-append p xs (y ∷ []) ∙ or_right (list_any p xs) (p y || false) (or_left (p y) false h)
+
+pushed_if : (p : Entry → Bool) (b : Bool) (xs ys : List Entry) (y : Entry) → list_any p (if b then xs else ys) ≡ true → list_any p (if b then xs ++ y ∷ [] else ys) ≡ true
+pushed_if p true xs ys y h = to_pushed p xs y h
+pushed_if p false xs ys y h = h
+
+-- a context that grows keeps each object that stands in it
+pub stands_pushed : (M : Machine) (m : ℕ) (w : Work) (y : Entry) (n : ℕ) (life : Life) → stands_in (contexts M m w) n life ≡ true →
+    stands_in (contexts M m (record w { context = w.context ++ y ∷ [] })) n life ≡ true
+stands_pushed M m w y n Life.New h = refl
+stands_pushed M m w y n (Life.Managed k) h = pushed_if (λ e. e.object == n) (k == m) w.context (context_of M k) y h
+stands_pushed M m w y n (Life.Removed k) h = pushed_if (λ e. e.object == n) (k == m) w.context (context_of M k) y h
+stands_pushed M m w y n Life.Detached h = refl
+
+-- the manager's own object stands in its context
+pub stands_own : (M : Machine) (m : ℕ) (w : Work) (n : ℕ) → list_any (λ (e : Entry). e.object == n) w.context ≡ true → stands_in (contexts M m w) n (Life.Managed m) ≡ true
+stands_own M m w n h = subst (λ b. list_any (λ (e : Entry). e.object == n) (if b then w.context else context_of M m) ≡ true) (sym (eq-eqb m m refl)) h
+
+-- the entry of an object that enters without a base
+abbrev entry_at : ℕ → Entry
+entry_at n = record { object = n; lock = Lock.Unlocked; base = None }
+
+abbrev managed_by : ℕ → LiveObject → LiveObject
+managed_by m x = record x { life = Life.Managed m }
+
+-- its identity is none of the others'
+pub names_apart : (m : PersistenceUnit) (os ps : List LiveObject) (ns : List ℕ) (k n : ℕ) (id : Identity) (xs : List Entry) → KeepsHeld k os ps → AllByRecursion (IsEntry m os ns k) xs →
+    name_of m (object_at ps n) ≡ id →
+    AllByRecursion (λ (e : Entry). same_identity (name_of m (object_at os e.object)) id ≡ false) xs →
+    AllByRecursion (λ (e : Entry). are_one m ps e (entry_at n) ≡ false) xs
+names_apart m os ps ns k n id [] keeps h same g = tt
+names_apart m os ps ns k n id (e ∷ es) keeps h same g = (
+  ap (λ a. same_identity a (name_of m (object_at ps n))) (names_kept keeps e h.0) ∙ ap (same_identity (name_of m (object_at os e.object))) same ∙ g.0,
+  names_apart m os ps ns k n id es keeps h.1 same g.1,
+)
+
+entered_at_work : {world : World} {M : Machine} {m n : ℕ} {w : Work} → HasKey world M m n w → has_instance world.model w (identity_at world.model w n) ≡ false →
+    IsAtWork world M m (entered n (with_life_of n (Life.Managed m) w))
+entered_at_work {world} {M} {m} {n} {w} h free =
+    let model = world.model in
+    let os = w.objects in
+    let x = object w n in
+    let y = managed_by m x in
+    let ps = slice_set os n y in
+    let l = h.within in
+    let at = h.at in
+    let keeps : (k : ℕ) → KeepsHeld k os ps = λ k. holds_apart os n y l k (new_apart k x.life h.new) in
+    let here : y ≡ object_at ps n = sym (at_place os n y l) in
+    let live = (at.objects) n no_object l in
+    let old = recursion_from_All (IsEntry model os w.numbers m) w.context at.entries in
+    let none : is_some (instance model w (name_of model x)) ≡ false = ap (has_instance model w) (sym (named model x h.whole)) ∙ free in
+    let up = numbers_same w.numbers in
+    record {
+      manager = at.manager;
+      objects = live_set os n y l model refl at.objects
+          (record {
+            class = live.class;
+            key = live.key;
+            version = live.version;
+            values = live.values;
+            relations = live.relations;
+            key_representable = live.key_representable;
+            version_representable = live.version_representable;
+            values_representable = live.values_representable;
+          });
+      entries = All-push (IsEntry model ps w.numbers m) w.context (entry_at n)
+          (All-weaker (IsEntry model os w.numbers m) (IsEntry model ps w.numbers m) (λ e. entry_kept (keeps m) up) w.context at.entries)
+          (record {
+            within = let e = length-set os n y in omega (arith, e, l);
+            held = subst (λ (z : LiveObject). is_held_by m z.life ≡ true) here (eq-eqb m m refl);
+            whole = subst (λ (z : LiveObject). is_key_of (root_of model z.class) z.key ≡ true) here h.whole;
+            given = subst (λ (z : LiveObject). key_given_by w.numbers (root_class model z.class) (root_of model z.class).generated z.key ≡ true) here h.given;
+            base = refl;
+          });
+      distinct = distinct_push (are_one model ps) w.context (entry_at n) (distinct_kept w.context (keeps m) at.entries at.distinct)
+          (names_apart model os ps w.numbers m n (name_of model x) w.context (keeps m) old (ap (name_of model) (sym here))
+          (apart_from model w m (name_of model x) w.context old (none_found (λ e. has_identity (identity_at model w e.object) (name_of model x)) w.context none)));
+      others = λ k l' apart. manager_kept (keeps k) up at.numbered (at.others k l' apart);
+      placed = placed_set os n y l (contexts M m (record w { context = w.context ++ entry_at n ∷ [] }))
+          (λ k l'. stands_pushed M m w (entry_at n) k (object_at os k).life (at.placed k l'))
+          (stands_own M m (record w { context = w.context ++ entry_at n ∷ [] }) n (is_pushed (λ e. e.object == n) w.context (entry_at n) (eq-eqb n n refl)));
+      view = at.view;
+      numbered = at.numbered;
+      raised = at.raised;
+      few = subst (λ j. j ≤ most_objects) (sym (length-set os n y)) at.few;
+    }
+
+-- ---- persist
+
+become_holds : {world : World} {M : Machine} {m : ℕ} {w : Work} → IsFlat world.model → (n : ℕ) → IsAtWork world M m w → n < length w.objects → (object w n).life ≡ Life.New →
+    HoldsAfter (λ u w'. IsAtWork world M m w') (become_managed world n w)
+become_holds {world} {M} {m} {w} flat n h l new =
+    let b = (root_of world.model (object w n).class).generated in
+    after_holds _ (λ u w'. HasKey world M m n w') (give_key world n b w) _ (give_key_holds flat n b h l new refl) (λ u v k.
+    require_holds _ (not (has_instance world.model v (identity_at world.model v n))) Cause.EntityExists v _ (λ free.
+    subst (λ j. IsAtWork world M m (entered n (with_life_of n (Life.Managed j) v))) (sym (k.at).manager)
+    (entered_at_work k (not-true (has_instance world.model v (identity_at world.model v n)) free))))
+
+-- a removed object is managed again
+revived : {world : World} {M : Machine} {m : ℕ} {w : Work} (n : ℕ) → IsAtWork world M m w → n < length w.objects → (object w n).life ≡ Life.Removed m →
+    IsAtWork world M m (with_life_of n (Life.Managed m) w)
+revived {world} {M} {m} {w} n h l removed =
+    let os = w.objects in
+    let x = object w n in
+    let y = managed_by m x in
+    let ps = slice_set os n y in
+    let live = (h.objects) n no_object l in
+    let own : KeepsHeld m os ps = holds_set os n y l m (λ e. (refl, refl, eq-eqb m m refl)) in
+    let apart : (k : ℕ) → k ≢ m → KeepsHeld k os ps = λ k d. holds_apart os n y l k (ap (is_held_by k) removed ∙ ne_eqb m k (λ e. d (sym e))) in
+    let up = numbers_same w.numbers in
+    record {
+      manager = h.manager;
+      objects = live_set os n y l world.model refl h.objects
+          (record {
+            class = live.class;
+            key = live.key;
+            version = live.version;
+            values = live.values;
+            relations = live.relations;
+            key_representable = live.key_representable;
+            version_representable = live.version_representable;
+            values_representable = live.values_representable;
+          });
+      entries = All-weaker (IsEntry world.model os w.numbers m) (IsEntry world.model ps w.numbers m) (λ e. entry_kept own up) w.context h.entries;
+      distinct = distinct_kept w.context own h.entries h.distinct;
+      others = λ k l' d. manager_kept (apart k d) up h.numbered (h.others k l' d);
+      placed = placed_set os n y l (contexts M m w) h.placed (subst (λ life. stands_in (contexts M m w) n life ≡ true) removed (h.placed n l));
+      view = h.view;
+      numbered = h.numbered;
+      raised = h.raised;
+      few = subst (λ j. j ≤ most_objects) (sym (length-set os n y)) h.few;
+    }
+
+told_holds : {world : World} {M : Machine} {m : ℕ} {w : Work} → IsFlat world.model → (event : LifecycleEvent) (n : ℕ) → IsAtWork world M m w →
+    HoldsAfter (λ u w'. IsAtWork world M m w') (callback world event n w)
+told_holds {world} {M} {m} {w} flat event n h = callback_holds (λ u w'. IsAtWork world M m w') world flat event n w (λ e. told_at_work e h)
+
+pre_persist_holds : {world : World} {M : Machine} {m : ℕ} {w : Work} → IsFlat world.model → (n : ℕ) (b : Option Base) → IsAtWork world M m w →
+    HoldsAfter (λ u w'. IsAtWork world M m w') (pre_persist_if world n b w)
+pre_persist_holds flat n None h = told_holds flat LifecycleEvent.PrePersist n h
+pre_persist_holds flat n (Some b) h = h
+
+persist_one_holds : {world : World} {M : Machine} {m : ℕ} {w : Work} → IsFlat world.model → (n : ℕ) (s : EntityState) → state_of w n ≡ s → IsAtWork world M m w → n < length w.objects →
+    HoldsAfter (λ u w'. IsAtWork world M m w') (persist_one world n s w)
+persist_one_holds {world} {M} {m} {w} flat n EntityState.New e h l =
+    after_holds _ (λ u w'. IsAtWork world M m w') (become_managed world n w) _ (become_holds flat n h l (life_new w.manager (object w n).life (ap state_code e)))
+    (λ u v k. told_holds flat LifecycleEvent.PrePersist n k)
+persist_one_holds flat n EntityState.Managed e h l = h
+persist_one_holds {world} {M} {m} {w} flat n EntityState.Removed e h l =
+    let removed : (object w n).life ≡ Life.Removed m = life_removed w.manager (object w n).life (ap state_code e) ∙ ap Life.Removed h.manager in
+    let v = with_life_of n (Life.Managed w.manager) w in
+    pre_persist_holds flat n (base_of v n) (subst (λ j. IsAtWork world M m (with_life_of n (Life.Managed j) w)) (sym h.manager) (revived n h l removed))
+persist_one_holds flat n EntityState.Detached e h l = tt
+
+pub persist_holds : {world : World} {M : Machine} {m : ℕ} {w : Work} → IsFlat world.model → (n : ℕ) → IsAtWork world M m w → n < length w.objects →
+    HoldsAfter (λ u w'. IsAtWork world M m w') (persist world n w)
+persist_holds {world} {M} {m} {w} flat n h l =
+    subst (λ nodes. HoldsAfter (λ u w'. IsAtWork world M m w') (each (persist_node world) nodes w)) (sym (plain_waves world.model Operation.Persist w n (flat.relations (object w n).class)))
+    (after_holds _ (λ u w'. IsAtWork world M m w') (persist_one world n (state_of w n) w) _ (persist_one_holds flat n (state_of w n) refl h l) (λ u v k. k))
+
+pub persist_call_holds : {world : World} {M : Machine} {m : ℕ} {w : Work} → IsFlat world.model → (number : ℤ) → IsAtWork world M m w →
+    HoldsAfter (λ u w'. IsAtWork world M m w') (persist_call world number w)
+persist_call_holds {world} {M} {m} {w} flat number h =
+    after_holds _ (InHeap w) (object_numbered number w) (persist world) (numbered_holds number w)
+    (λ n v e. subst (λ v'. HoldsAfter (λ u w'. IsAtWork world M m w') (persist world n v')) (sym e.1) (persist_holds flat n h e.0))

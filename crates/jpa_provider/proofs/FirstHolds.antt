@@ -1,0 +1,79 @@
+-- What holds of the machine between calls holds over the first run.
+use Rattle.std.proofs.Common.{ap, arith, subst, sym, ◌∙◌, ◌<◌}
+use Rattle.std.specs.List.{filter, Contains}
+use Rattle.std.specs.Str.{is_utf8}
+use Rattle.std.proofs.lemmas.Str.{is_utf8-from_IsUtf8, IsUtf8-from_ascii}
+use Rattle.std.specs.Prelude.{codes, slice_index, ◌↔◌, ◌&&◌, ◌≡◌, refl, nat_lt, ℕ, zero, suc, pos, true, [], ◌∷◌}
+use Rattle.std.proofs.lemmas.Bool.{false≢true}
+use Rattle.jpa_value.specs.declared.value.Value.{Value}
+use Rattle.jpa_model.specs.Chains.{relations_of, root_of, root_class}
+use Rattle.jpa_lifecycle.specs.Callbacks.{hearers}
+use Rattle.jpa_behaviour.proofs.Regular.{no_converter_answers}
+use Rattle.jpa_behaviour.specs.Behaviour.{AnswersConvertible}
+use Rattle.jpa_stored.specs.Sets.{is_key_of}
+use Rattle.jpa_rows.specs.Cells.{Cell, CanBeHeld, StandFor, is_own_cell}
+use Rattle.jpa_provider.specs.Step.{machine_after}
+use Rattle.jpa_provider.specs.Invariant.{IsFlat, IsMachine}
+use Rattle.jpa_provider.proofs.Sample.{P1}
+use Rattle.jpa_provider.proofs.FirstRun.{fresh, first_run, after_first, person_cells, first_cells, set_key}
+use Rattle.jpa_provider.proofs.Settled.{opened_holds}
+use Rattle.jpa_provider.proofs.Outcome.{machine_after_keeps}
+
+persons_flat : IsFlat P1.model
+persons_flat = record { relations = relations; hearers = none_hear; rooted = rooted; generated = generated }
+  where
+    relations : (class : ℕ) → relations_of P1.model class ≡ []
+    relations zero = refl
+    relations (suc class) = refl
+
+    none_hear : (class : ℕ) → hearers P1.model class ≡ []
+    none_hear zero = refl
+    none_hear (suc class) = refl
+
+    rooted : (class : ℕ) → nat_lt class 1 ≡ true → nat_lt (root_class P1.model class) 1 ≡ true
+    rooted zero h = refl
+    rooted (suc class) h = h
+
+    generated : (class k : ℕ) → (root_of P1.model class).generated ≡ true → is_key_of (root_of P1.model class) (Value.Int (pos k) ∷ []) ≡ true
+    generated zero k h = refl
+    generated (suc class) k h = absurd (false≢true h)
+
+persons_convert : AnswersConvertible P1
+persons_convert = no_converter_answers P1.model
+
+ada_text : is_utf8 (codes "Ada") ≡ true
+ada_text = is_utf8-from_IsUtf8 (codes "Ada") (IsUtf8-from_ascii (codes "Ada") below)
+  where
+    below : (i : ℕ) → slice_index (codes "Ada") i < 128
+    below zero = omega arith
+    below (suc zero) = omega arith
+    below (suc (suc zero)) = omega arith
+    below (suc (suc (suc i))) = omega arith
+
+-- an empty store, and what the first run commits
+empty_held : CanBeHeld P1 [] (1 ∷ [])
+empty_held = record { representable = refl; numbered = refl; rising = tt; shaped = refl; sound = refl; converted = refl; given = refl }
+
+committed_held : CanBeHeld P1 after_first.committed after_first.stored_numbers
+committed_held = record { representable = ap (λ b. ((b && true) && true) && true) ada_text; numbered = refl; rising = tt; shaped = refl; sound = refl; converted = refl; given = refl }
+
+-- between any two calls
+first_holds : IsMachine P1 after_first
+first_holds = machine_after_keeps persons_flat persons_convert fresh first_run (ap (λ b. b && true) ada_text) (opened_holds empty_held)
+
+set_key_holds : IsMachine P1 (machine_after P1 after_first set_key)
+set_key_holds = machine_after_keeps persons_flat persons_convert after_first set_key refl first_holds
+
+-- its cells stand for what was committed, whatever stands in tables of others
+abbrev foreign : Cell
+foreign = record { table = 9; row = []; column = pos 0; bytes = [] }
+
+own_cells : filter (is_own_cell P1.model) (foreign ∷ person_cells 0 (codes "Ada")) ≡ person_cells 0 (codes "Ada")
+own_cells = refl
+
+first_stands : StandFor P1 (foreign ∷ person_cells 0 (codes "Ada")) after_first.committed after_first.stored_numbers
+first_stands =
+    record {
+      rows = λ c. subst (λ xs. Contains (filter (is_own_cell P1.model) (foreign ∷ person_cells 0 (codes "Ada"))) c ↔ Contains xs c) (own_cells ∙ sym first_cells) (λ h. h, λ h. h);
+      held = committed_held;
+    }

@@ -1,0 +1,372 @@
+-- What holds while a manager is at work is kept by a flush, in units without relations and listeners.
+use Rattle.std.proofs.Common.{◌≡◌, ◌≢◌, ◌<◌, ◌⊎◌, inl, inr, ℕ, zero, suc, Bool, true, false, List, [], ◌∷◌, length, map, refl, ap, sym, subst, ◌∙◌, arith}
+use Rattle.std.specs.Prelude.{slice_set, slice_get, Option, Some, None, ◌==◌, ◌&&◌, if◌then◌else◌, ℤ}
+use Rattle.std.specs.List.{AllByRecursion, list_all, flat_map, filter, zip, enumerate_from}
+use Rattle.std.specs.FinMap.Entries.{is_sorted-where_key}
+use Rattle.std.proofs.lemmas.Bool.{false≢true, eqb-true, and_parts, and_from, cond_both}
+use Rattle.std.proofs.lemmas.List.{length-set}
+use Rattle.std.proofs.lemmas.List.Elements.{recursion_from_All}
+use Rattle.jpa_value.specs.declared.value.Value.{Value}
+use Rattle.jpa_value.specs.declared.value.Identity.{Identity}
+use Rattle.jpa_value.specs.declared.refusal.Cause.{Cause}
+use Rattle.jpa_value.specs.declared.refusal.State.{State}
+use Rattle.jpa_value.specs.declared.refusal.Persist.{Persist}
+use Rattle.jpa_value.specs.declared.event.LifecycleEvent.{LifecycleEvent}
+use Rattle.jpa_value.specs.Value.{identity_cmp}
+use Rattle.jpa_model.specs.declared.unit.PersistenceUnit.{PersistenceUnit}
+use Rattle.jpa_model.specs.declared.unit.Attribute.{Attribute}
+use Rattle.jpa_model.specs.declared.unit.Relation.{Relation}
+use Rattle.jpa_model.specs.Chains.{root_of, root_class, attributes_of, relations_of}
+use Rattle.jpa_behaviour.specs.Behaviour.{World, AnswersConvertible}
+use Rattle.jpa_stored.specs.declared.stored.Stored.{Stored}
+use Rattle.jpa_stored.specs.Sets.{StoredSet, without, fault_of, each_fits, is_shaped}
+use Rattle.jpa_rows.specs.Cells.{CanBeHeld, version_representable, holds_representable, names_representable, passes, key_given_by}
+use Rattle.jpa_heap.specs.declared.LiveObject.{LiveObject}
+use Rattle.jpa_heap.specs.Objects.{object_at, no_object, is_whole}
+use Rattle.jpa_context.specs.declared.Base.{Base}
+use Rattle.jpa_context.specs.declared.Entry.{Entry}
+use Rattle.jpa_context.specs.declared.EntityState.{EntityState}
+use Rattle.jpa_context.specs.Work.{Work, object, state_of, is_managed, identity_at}
+use Rattle.jpa_context.specs.Steps.{◌>>◌, Outcome, Done, Refused, Op, after, each}
+use Rattle.jpa_cascade.specs.declared.Operation.{Operation}
+use Rattle.jpa_cascade.specs.Waves.{live_nodes}
+use Rattle.jpa_cascade.proofs.Plain.{plain_targets}
+use Rattle.jpa_ops.specs.States.{persist}
+use Rattle.jpa_flush.specs.Flush.{Action, Insert, Replace, Drop, action_of, written, actions, listed, replaces_row, flushed, settled, settled_entry, settled_all, remembered, remembered_in, members_held, all_remembered, after_flush, sound_or, post, post_event, held_now, persist_targets, persist_behind, persist_from, orphans_of, orphans_along, remove_orphan, remove_orphans_of, remove_orphans, check_links, links_stored, pre_update_for, pre_update_one, pre_update, check_one, check_actions, write_all, flush}
+use Rattle.jpa_provider.specs.Machine.{Machine}
+use Rattle.jpa_provider.specs.Transactions.{commit_work, reads_hold}
+use Rattle.jpa_provider.specs.Invariant.{IsFlat, IsLive, IsEntry, name_of, base_fits, known_fits, version_fits, held_fits}
+use Rattle.jpa_provider.proofs.Facts.{each_fits_none, list_all_weaker}
+use Rattle.jpa_provider.proofs.AtWork.{HoldsAfter, after_holds, require_holds, require_holds_last, IsAtWork}
+use Rattle.jpa_provider.proofs.Persisted.{callback_holds, told_at_work, at_place}
+use Rattle.jpa_provider.proofs.Changed.{object_read}
+use Rattle.jpa_provider.proofs.Loaded.{version_loads}
+use Rattle.jpa_provider.proofs.Written.{IsFit, all_joined_hold, all_joined_rise, part_holds, name_is}
+use Rattle.jpa_lifecycle.specs.Callbacks.{callback}
+use Rattle.jpa_provider.proofs.Planned.{Checked, check_action_holds, IsPlanned, Writes, context_planned, mapped_at_work, based_entry, IsBase, new_base, versioned, versioned_at_work}
+
+-- ---- what is written settles
+
+-- objects keep class and key, and no number changes
+record IsSame (before w : Work) : Type 0 where
+  many : length w.objects ≡ length before.objects
+  class : (k : ℕ) → (object w k).class ≡ (object before k).class
+  key : (k : ℕ) → (object w k).key ≡ (object before k).key
+  numbers : w.numbers ≡ before.numbers
+
+base_of_writes : {world : World} {before w : Work} {n : ℕ} {x : Stored} → IsSame before w → Writes world before n x → IsBase world.model (object w n) x
+base_of_writes {world} {before} {w} {n} {x} same h =
+    let m = world.model in
+    let c = same.class n in
+    let k = same.key n in
+    let name : name_of m (object before n) ≡ name_of m (object w n) = λ i. record { table = (root_of m (sym c i)).table; key = sym k i } in
+    record {
+      class = h.class ∙ sym c;
+      shaped = subst (λ i. is_shaped m i x ≡ true) name h.shaped;
+      version = subst (λ j. version_fits (root_of m j).version x.version ≡ true) (sym c) (version_loads (root_of m (object before n).class).version x.version h.version);
+      held = h.held;
+    }
+
+same_base : {m : PersistenceUnit} {x : LiveObject} {s : Stored} (v : Option ℤ) → IsBase m x s → IsBase m (versioned x v) s
+same_base v h = record { class = h.class; shaped = h.shaped; version = h.version; held = h.held }
+
+same_if : (b : Bool) (x e : Entry) → x.object ≡ e.object → (if b then x else e).object ≡ e.object
+same_if true x e q = q
+same_if false x e q = refl
+
+settled_one : {world : World} {M : Machine} {m : ℕ} {before w : Work} → IsFlat world.model → (n : ℕ) (x : Option Stored) → n < length before.objects →
+    ((s : Stored) → x ≡ Some s → Writes world before n s) → IsSame before w → IsAtWork world M m w → IsAtWork world M m (settled n x w) × IsSame before (settled n x w)
+settled_one {world} {M} {m} {before} {w} flat n None l h same at = (
+  mapped_at_work (λ e. if e.object == n then record e { base = None } else e) (λ e. same_if (e.object == n) (record e { base = None }) e refl)
+      (λ e k. cond_both (e.object == n) (record e { base = None }) e (IsEntry world.model w.objects w.numbers m) (λ q. based_entry e None refl k) (λ q. k)) at,
+  record { many = same.many; class = same.class; key = same.key; numbers = same.numbers },
+)
+settled_one {world} {M} {m} {before} {w} flat n (Some x) l h same at =
+    let model = world.model in
+    let l' : n < length w.objects = let q = same.many in omega (arith, q, l) in
+    let y = versioned (object w n) x.version in
+    let ps = slice_set w.objects n y in
+    let base = base_of_writes same (h x refl) in
+    let rep : version_representable x.version ≡ true = (and_parts (version_representable x.version) _ base.held).0 in
+    let done = versioned_at_work n x.version l' base.version rep at in
+    let here : (e : Entry) → (e.object == n) ≡ true → y ≡ object_at ps e.object =
+    λ e q. sym (ap (object_at ps) (eqb-true e.object n q) ∙ at_place w.objects n y l') in (
+      mapped_at_work (λ e. if e.object == n then settled_entry x e else e) (λ e. same_if (e.object == n) (settled_entry x e) e refl)
+          (λ e k. cond_both (e.object == n) (settled_entry x e) e (IsEntry model ps w.numbers m)
+          (λ q. record {
+            within = k.within;
+            held = k.held;
+            whole = k.whole;
+            given = k.given;
+            base = subst (λ (z : LiveObject). base_fits model z (Some (record { stored = x; members = [] })) ≡ true) (here e q) (new_base flat y x (same_base x.version base));
+          })
+          (λ q. k)) done,
+      record {
+        many = length-set w.objects n y ∙ same.many;
+        class = λ k. read_same (λ (z : LiveObject). z.class) k refl ∙ same.class k;
+        key = λ k. read_same (λ (z : LiveObject). z.key) k refl ∙ same.key k;
+        numbers = same.numbers;
+      },
+    )
+  where
+    read_same : {A : Type 0} (f : LiveObject → A) (k : ℕ) → f (versioned (object w n) x.version) ≡ f (object w n) →
+        f (object_at (slice_set w.objects n (versioned (object w n) x.version)) k) ≡ f (object w k)
+    read_same f k e = by_cases (object_read w.objects n (versioned (object w n) x.version) (let q = same.many in omega (arith, q, l)) k)
+      where
+        by_cases : ((k ≡ n) × (object_at (slice_set w.objects n (versioned (object w n) x.version)) k ≡ versioned (object w n) x.version))
+            ⊎ ((k ≢ n) × (object_at (slice_set w.objects n (versioned (object w n) x.version)) k ≡ object_at w.objects k)) →
+            f (object_at (slice_set w.objects n (versioned (object w n) x.version)) k) ≡ f (object w k)
+        by_cases (inl q) = ap f q.1 ∙ e ∙ sym (ap (λ j. f (object_at w.objects j)) q.0)
+        by_cases (inr q) = ap f q.1
+
+settled_each : {world : World} {M : Machine} {m : ℕ} (before w : Work) → IsFlat world.model → (plan : List (ℕ × Action)) → AllByRecursion (IsPlanned world before) plan → IsSame before w →
+    IsAtWork world M m w → IsAtWork world M m (settled_all world.model before plan w) × IsSame before (settled_all world.model before plan w)
+settled_each before w flat [] h same at = (at, same)
+settled_each {world} {M} {m} before w flat (a ∷ as') h same at =
+    let one = settled_one flat a.0 (written world.model before a.0 a.1) (h.0).0 (h.0).1 same at in
+    settled_each before (settled a.0 (written world.model before a.0 a.1) w) flat as' h.1 one.1 one.0
+
+-- ---- bases remember the members that were read: none, without relations
+
+remembered_base : (m : PersistenceUnit) (x : LiveObject) (ms : List (Option (List Identity))) (b : Option Base) → relations_of m x.class ≡ [] → ms ≡ [] → base_fits m x b ≡ true →
+    base_fits m x (remembered_in ms b) ≡ true
+remembered_base m x ms None flat e h = refl
+remembered_base m x ms (Some b) flat e h =
+    let a = and_parts ((b.stored).class == x.class) _ h in
+    let c = and_parts (is_shaped m (name_of m x) b.stored) _ a.1 in
+    let d = and_parts (holds_representable b.stored) _ c.1 in
+    and_from ((b.stored).class == x.class) _ a.0
+    (and_from (is_shaped m (name_of m x) b.stored) _ c.0
+    (and_from (holds_representable b.stored) _ d.0
+    (subst (λ (rs : List Relation). each_fits known_fits rs ms ≡ true) (sym flat) (subst (λ ks. each_fits known_fits [] ks ≡ true) (sym e) refl))))
+
+no_members_held : {m : PersistenceUnit} (w : Work) (n : ℕ) → IsFlat m → IsLive m w.objects (object w n) → members_held m w n ≡ []
+no_members_held {m} w n flat h =
+    ap (map (held_now m w))
+    (each_fits_none (held_fits m w.objects) (object w n).relations
+    (subst (λ (rs : List Relation). each_fits (held_fits m w.objects) rs (object w n).relations ≡ true) (flat.relations (object w n).class) h.relations))
+
+remembered_at_work : {world : World} {M : Machine} {m : ℕ} {w : Work} → IsFlat world.model → IsAtWork world M m w → IsAtWork world M m (all_remembered world.model w)
+remembered_at_work {world} {M} {m} {w} flat h =
+    mapped_at_work (remembered world.model w)
+    (λ e. same_if (is_managed (state_of w e.object)) (record e { base = remembered_in (members_held world.model w e.object) e.base }) e refl)
+    (λ e k. cond_both (is_managed (state_of w e.object)) (record e { base = remembered_in (members_held world.model w e.object) e.base }) e (IsEntry world.model w.objects w.numbers m)
+    (λ q. based_entry e (remembered_in (members_held world.model w e.object) e.base)
+    (remembered_base world.model (object w e.object) (members_held world.model w e.object) e.base (flat.relations (object w e.object).class)
+    (no_members_held w e.object flat (h.objects e.object no_object k.within)) k.base) k)
+    (λ q. k)) h
+
+-- ---- the new set can be held
+
+-- what is known of an entry of a set that can be held, in four tests
+abbrev shape_test : World → Identity × Stored → Bool
+shape_test world e = is_shaped world.model e.0 e.1
+
+abbrev value_test : Identity × Stored → Bool
+value_test e = names_representable e.0 && holds_representable e.1
+
+abbrev pass_test : World → Identity × Stored → Bool
+pass_test world e = list_all (λ (p : Attribute × Value). passes world p.0 p.1) (zip (attributes_of world.model (e.1).class) (e.1).values)
+
+abbrev given_test : World → List ℕ → Identity × Stored → Bool
+given_test world ns e = key_given_by ns (root_class world.model (e.1).class) (root_of world.model (e.1).class).generated (e.0).key
+
+abbrev is_well : World → List ℕ → Identity × Stored → Bool
+is_well world ns e = shape_test world e && (value_test e && (pass_test world e && given_test world ns e))
+
+well_parts : (a b c d : Bool) → (a && (b && (c && d))) ≡ true → (a ≡ true) × (b ≡ true) × (c ≡ true) × (d ≡ true)
+well_parts true true true true h = (refl, refl, refl, refl)
+well_parts true true true false h = absurd (false≢true h)
+well_parts true true false d h = absurd (false≢true h)
+well_parts true false c d h = absurd (false≢true h)
+well_parts false b c d h = absurd (false≢true h)
+
+well_from : (a b c d : Bool) → a ≡ true → b ≡ true → c ≡ true → d ≡ true → (a && (b && (c && d))) ≡ true
+well_from a b c d p q r s = and_from a _ p (and_from b _ q (and_from c d r s))
+
+all_well : (world : World) (ns : List ℕ) (s : StoredSet) → list_all (shape_test world) s ≡ true → list_all value_test s ≡ true → list_all (pass_test world) s ≡ true → list_all (given_test world ns) s ≡ true →
+    list_all (is_well world ns) s ≡ true
+all_well world ns [] a b c d = refl
+all_well world ns (e ∷ es) a b c d =
+    let p = and_parts (shape_test world e) (list_all (shape_test world) es) a in
+    let q = and_parts (value_test e) (list_all value_test es) b in
+    let r = and_parts (pass_test world e) (list_all (pass_test world) es) c in
+    let s = and_parts (given_test world ns e) (list_all (given_test world ns) es) d in
+    and_from (is_well world ns e) (list_all (is_well world ns) es) (well_from (shape_test world e) (value_test e) (pass_test world e) (given_test world ns e) p.0 q.0 r.0 s.0)
+    (all_well world ns es p.1 q.1 r.1 s.1)
+
+well_fit : {world : World} (w : Work) (a : ℕ × Action) → IsPlanned world w a → IsFit (is_well world w.numbers) world.model w a
+well_fit {world} w a h id x e q =
+    let k = h.1 x q in
+    subst (λ i. is_well world w.numbers (i, x) ≡ true) (sym (name_is world.model (object w a.0) (is_whole (object w a.0).key) id e))
+    (let own : Identity × Stored = (name_of world.model (object w a.0), x) in
+    well_from (shape_test world own) (value_test own) (pass_test world own) (given_test world w.numbers own) k.shaped
+    (and_from (names_representable (name_of world.model (object w a.0))) (holds_representable x) k.named k.held) k.passed k.given)
+
+all_fit : (world : World) (w : Work) (plan : List (ℕ × Action)) → AllByRecursion (IsPlanned world w) plan → AllByRecursion (IsFit (is_well world w.numbers) world.model w) plan
+all_fit world w [] h = tt
+all_fit world w (a ∷ as') h = (well_fit w a h.0, all_fit world w as' h.1)
+
+flushed_held : {world : World} (w : Work) (plan : List (ℕ × Action)) → AllByRecursion (IsPlanned world w) plan → CanBeHeld world w.view w.numbers → fault_of world.model (flushed world.model w plan) ≡ None →
+    CanBeHeld world (flushed world.model w plan) w.numbers
+flushed_held {world} w plan h v sound =
+    let ids = flat_map (λ (a : ℕ × Action). listed (identity_at world.model w a.0)) (filter (λ (a : ℕ × Action). replaces_row a.1) plan) in
+    let s = without ids w.view in
+    let well : list_all (is_well world w.numbers) (flushed world.model w plan) ≡ true =
+    all_joined_hold (is_well world w.numbers) world.model w plan s (all_fit world w plan h)
+    (part_holds (is_well world w.numbers) _ w.view (all_well world w.numbers w.view v.shaped v.representable v.converted v.given)) in
+    let parts = λ (e : Identity × Stored) (q : is_well world w.numbers e ≡ true). well_parts (shape_test world e) (value_test e) (pass_test world e) (given_test world w.numbers e) q in
+    record {
+      representable = list_all_weaker (is_well world w.numbers) value_test (λ e q. (parts e q).1) (flushed world.model w plan) well;
+      numbered = v.numbered;
+      rising = all_joined_rise world.model w plan s (is_sorted-where_key identity_cmp _ w.view v.rising);
+      shaped = list_all_weaker (is_well world w.numbers) (shape_test world) (λ e q. (parts e q).0) (flushed world.model w plan) well;
+      sound = sound;
+      converted = list_all_weaker (is_well world w.numbers) (pass_test world) (λ e q. (parts e q).2) (flushed world.model w plan) well;
+      given = list_all_weaker (is_well world w.numbers) (given_test world w.numbers) (λ e q. (parts e q).3) (flushed world.model w plan) well;
+    }
+
+-- another view that can be held
+viewed_at_work : {world : World} {M : Machine} {m : ℕ} {w : Work} (s : StoredSet) → CanBeHeld world s w.numbers → IsAtWork world M m w → IsAtWork world M m (record w { view = s })
+viewed_at_work s v h =
+    record {
+      manager = h.manager;
+      objects = h.objects;
+      entries = h.entries;
+      distinct = h.distinct;
+      others = h.others;
+      placed = h.placed;
+      view = v;
+      numbered = h.numbered;
+      raised = h.raised;
+      few = h.few;
+    }
+
+same_itself : (w : Work) → IsSame w w
+same_itself w = record { many = refl; class = λ k. refl; key = λ k. refl; numbers = refl }
+
+flushed_at_work : {world : World} {M : Machine} {m : ℕ} {w : Work} → IsFlat world.model → (plan : List (ℕ × Action)) → AllByRecursion (IsPlanned world w) plan →
+    fault_of world.model (flushed world.model w plan) ≡ None → IsAtWork world M m w → IsAtWork world M m (after_flush world.model plan (flushed world.model w plan) w)
+flushed_at_work {world} {M} {m} {w} flat plan h sound at =
+    let s = settled_each w w flat plan h (same_itself w) at in
+    viewed_at_work (flushed world.model w plan)
+    (subst (CanBeHeld world (flushed world.model w plan)) (sym (s.1).numbers) (flushed_held w plan h at.view sound))
+    (remembered_at_work flat s.0)
+
+-- ---- the parts of a flush
+
+each_holds : {A : Type 0} (P : Work → Type 0) (f : A → Op (Unit {0})) → ((x : A) (w : Work) → P w → HoldsAfter (λ u w'. P w') (f x w)) → (xs : List A) (w : Work) → P w →
+    HoldsAfter (λ u w'. P w') (each f xs w)
+each_holds P f k [] w h = h
+each_holds P f k (x ∷ xs) w h = after_holds (λ u w'. P w') (λ u w'. P w') (f x w) _ (k x w h) (λ u w' h'. each_holds P f k xs w' h')
+
+-- persist along cascades: no relation, so nothing
+no_targets : (world : World) → IsFlat world.model → (n : ℕ) (s : EntityState) (w : Work) → Done tt w ≡ persist_targets world n s w
+no_targets world flat n EntityState.Managed w =
+    ap (λ ns. each (persist world) (live_nodes ns) w) (sym (plain_targets world.model Operation.Persist w n (flat.relations (object w n).class)))
+no_targets world flat n EntityState.New w = refl
+no_targets world flat n EntityState.Removed w = refl
+no_targets world flat n EntityState.Detached w = refl
+
+nothing_behind : (world : World) → IsFlat world.model → (o : Option Entry) (w : Work) → Done tt w ≡ persist_behind world o w
+nothing_behind world flat None w = refl
+nothing_behind world flat (Some e) w = no_targets world flat e.object (state_of w e.object) w
+
+nothing_from : (world : World) → IsFlat world.model → (bound i : ℕ) (w : Work) → Done tt w ≡ persist_from world bound i w
+nothing_from world flat zero i w = refl
+nothing_from world flat (suc bound) i w =
+    nothing_from world flat bound (suc i) w ∙ ap (λ o. after o (λ _. persist_from world bound (suc i))) (nothing_behind world flat (slice_get w.context i) w)
+
+-- orphans: none
+no_orphans : (m : PersistenceUnit) → IsFlat m → (w : Work) (n : ℕ) (s : EntityState) → [] ≡ orphans_of m w n s
+no_orphans m flat w n EntityState.Managed = ap (λ (rs : List Relation). flat_map (orphans_along m w n) (enumerate_from 0 rs)) (sym (flat.relations (object w n).class))
+no_orphans m flat w n EntityState.New = refl
+no_orphans m flat w n EntityState.Removed = refl
+no_orphans m flat w n EntityState.Detached = refl
+
+no_orphan_of : (world : World) → IsFlat world.model → (e : Entry) (w : Work) → Done tt w ≡ remove_orphans_of world e w
+no_orphan_of world flat e w = ap (λ ids. each (remove_orphan world) ids w) (no_orphans world.model flat w e.object (state_of w e.object))
+
+no_orphan : (world : World) → IsFlat world.model → (es : List Entry) (w : Work) → Done tt w ≡ each (remove_orphans_of world) es w
+no_orphan world flat [] w = refl
+no_orphan world flat (e ∷ es) w = no_orphan world flat es w ∙ ap (λ o. after o (λ _. each (remove_orphans_of world) es)) (no_orphan_of world flat e w)
+
+told_holds : {world : World} {M : Machine} {m : ℕ} → IsFlat world.model → (event : LifecycleEvent) (n : ℕ) (w : Work) → IsAtWork world M m w →
+    HoldsAfter (λ u w'. IsAtWork world M m w') (callback world event n w)
+told_holds {world} {M} {m} flat event n w h = callback_holds (λ u w'. IsAtWork world M m w') world flat event n w (λ e. told_at_work e h)
+
+pre_update_holds : {world : World} {M : Machine} {m : ℕ} → IsFlat world.model → (e : Entry) (a : Option Action) (w : Work) → IsAtWork world M m w →
+    HoldsAfter (λ u w'. IsAtWork world M m w') (pre_update_for world e a w)
+pre_update_holds flat e (Some (Replace b)) w h = told_holds flat LifecycleEvent.PreUpdate e.object w h
+pre_update_holds flat e (Some Insert) w h = h
+pre_update_holds flat e (Some (Drop b)) w h = h
+pre_update_holds flat e None w h = h
+
+-- the checks change nothing
+checks_hold : (world : World) (es : List Entry) (w : Work) →
+    HoldsAfter (λ u w'. (w' ≡ w) × AllByRecursion (λ (e : Entry). Checked world w e.object (action_of world.model w e)) es) (each (check_one world) es w)
+checks_hold world [] w = (refl, tt)
+checks_hold world (e ∷ es) w =
+    after_holds _ (λ u w'. (w' ≡ w) × Checked world w e.object (action_of world.model w e)) (check_one world e w) _ (check_action_holds world w e (action_of world.model w e))
+    (λ u v h. subst (λ v'. HoldsAfter (λ u' w'. (w' ≡ w) × AllByRecursion (λ (e' : Entry). Checked world w e'.object (action_of world.model w e')) (e ∷ es)) (each (check_one world) es v')) (sym h.0)
+    (weaker (each (check_one world) es w) (λ u' w' k. (k.0, (h.1, k.1))) (checks_hold world es w)))
+  where
+    weaker : {P Q : Unit {0} → Work → Type 0} (o : Outcome (Unit {0})) → ((u : Unit {0}) (v : Work) → P u v → Q u v) → HoldsAfter P o → HoldsAfter Q o
+    weaker (Done u v) k h = k u v h
+    weaker (Refused r es) k h = tt
+
+sound_holds : (P : Unit {0} → Work → Type 0) (f : Option Persist) (w : Work) (next : Unit {0} → Op (Unit {0})) → (f ≡ None → HoldsAfter P (next tt w)) → HoldsAfter P (after (sound_or f w) next)
+sound_holds P None w next k = k refl
+sound_holds P (Some fault) w next k = tt
+
+write_holds : {world : World} {M : Machine} {m : ℕ} {w : Work} → IsFlat world.model → AnswersConvertible world →
+    AllByRecursion (λ (e : Entry). Checked world w e.object (action_of world.model w e)) w.context → IsAtWork world M m w → HoldsAfter (λ u w'. IsAtWork world M m w') (write_all world w)
+write_holds {world} {M} {m} {w} flat convertible checked h =
+    let plan = actions world.model w in
+    let known = context_planned world w m flat convertible w.context (recursion_from_All (IsEntry world.model w.objects w.numbers m) w.context h.entries) h.objects checked in
+    sound_holds (λ u w'. IsAtWork world M m w') (fault_of world.model (flushed world.model w plan)) w _ (λ sound.
+    each_holds (IsAtWork world M m) (post world) (λ a v k. told_holds flat (post_event a.1) a.0 v k) plan (after_flush world.model plan (flushed world.model w plan) w)
+    (flushed_at_work flat plan known sound h))
+
+-- the flush from its last part back
+abbrev writing : World → Op (Unit {0})
+writing world = check_actions world >> write_all world
+
+abbrev updating : World → Op (Unit {0})
+updating world = pre_update world >> writing world
+
+abbrev linking : World → Op (Unit {0})
+linking world = check_links world >> updating world
+
+abbrev orphaning : World → Op (Unit {0})
+orphaning world = remove_orphans world >> linking world
+
+writing_holds : {world : World} {M : Machine} {m : ℕ} {w : Work} → IsFlat world.model → AnswersConvertible world → IsAtWork world M m w → HoldsAfter (λ u w'. IsAtWork world M m w') (writing world w)
+writing_holds {world} {M} {m} {w} flat convertible h =
+    after_holds _ (λ u w'. (w' ≡ w) × AllByRecursion (λ (e : Entry). Checked world w e.object (action_of world.model w e)) w.context) (check_actions world w) _ (checks_hold world w.context w)
+    (λ u v k. subst (λ v'. HoldsAfter (λ u' w'. IsAtWork world M m w') (write_all world v')) (sym k.0) (write_holds flat convertible k.1 h))
+
+updating_holds : {world : World} {M : Machine} {m : ℕ} {w : Work} → IsFlat world.model → AnswersConvertible world → IsAtWork world M m w → HoldsAfter (λ u w'. IsAtWork world M m w') (updating world w)
+updating_holds {world} {M} {m} {w} flat convertible h =
+    after_holds _ (λ u w'. IsAtWork world M m w') (pre_update world w) _
+    (each_holds (IsAtWork world M m) (pre_update_one world) (λ e v k. pre_update_holds flat e (action_of world.model v e) v k) w.context w h)
+    (λ u v k. writing_holds flat convertible k)
+
+linking_holds : {world : World} {M : Machine} {m : ℕ} {w : Work} → IsFlat world.model → AnswersConvertible world → IsAtWork world M m w → HoldsAfter (λ u w'. IsAtWork world M m w') (linking world w)
+linking_holds {world} {M} {m} {w} flat convertible h =
+    require_holds _ (list_all (links_stored world.model w) w.context) (Cause.IllegalState State.Reference) w _ (λ linked. updating_holds flat convertible h)
+
+pub flush_holds : {world : World} {M : Machine} {m : ℕ} {w : Work} → IsFlat world.model → AnswersConvertible world → IsAtWork world M m w →
+    HoldsAfter (λ u w'. IsAtWork world M m w') (flush world w)
+flush_holds {world} {M} {m} {w} flat convertible h =
+    let P : Unit {0} → Work → Type 0 = λ u w'. IsAtWork world M m w' in
+    subst (λ o. HoldsAfter P (after o (λ _. orphaning world))) (nothing_from world flat (length w.objects) 0 w)
+    (subst (λ o. HoldsAfter P (after o (λ _. linking world))) (no_orphan world flat w.context w) (linking_holds flat convertible h))
+
+-- ---- commit
+
+pub commit_work_holds : {world : World} {M : Machine} {m : ℕ} {w : Work} → IsFlat world.model → AnswersConvertible world → IsAtWork world M m w →
+    HoldsAfter (λ u w'. IsAtWork world M m w') (commit_work world w)
+commit_work_holds {world} {M} {m} {w} flat convertible h =
+    after_holds _ (λ u w'. IsAtWork world M m w') (flush world w) _ (flush_holds flat convertible h)
+    (λ u v k. require_holds_last _ (reads_hold world.model v) Cause.OptimisticLock v (λ hold. k))

@@ -1,0 +1,251 @@
+-- What holds while a manager is at work is kept by find, in units without relations and listeners.
+use Rattle.std.proofs.Common.{◌≡◌, ◌<◌, ℕ, Bool, true, false, List, [], ◌∷◌, ◌++◌, length, map, refl, ap, sym, subst, ◌∙◌, arith}
+use Rattle.std.specs.Prelude.{nat_lt, Option, Some, None, ◌==◌, ◌&&◌, if◌then◌else◌, ℤ, is_some}
+use Rattle.std.specs.List.{AllByRecursion, list_all, enumerate_from}
+use Rattle.std.specs.Option.{unwrap_or}
+use Rattle.std.specs.Ordering.{is_eq}
+use Rattle.std.specs.declared.cmp.Ordering.{Ordering}
+use Rattle.std.specs.declared.cmp.Ordering.TheVariants.{Less, Equal, Greater}
+use Rattle.std.specs.FinMap.Entries.{find as entry_found}
+use Rattle.std.proofs.lemmas.Bool.{false≢true, true≢false, ltb-true, eqb-true, eq-eqb, ne_eqb, and_parts, and_from}
+use Rattle.std.proofs.lemmas.List.{length-append, get_or_push}
+use Rattle.std.proofs.lemmas.List.Elements.{All-weaker, All-push, recursion_from_All}
+use Rattle.jpa_value.specs.declared.value.Value.{Value}
+use Rattle.jpa_value.specs.declared.value.Identity.{Identity}
+use Rattle.jpa_value.specs.declared.refusal.Cause.{Cause}
+use Rattle.jpa_value.specs.declared.refusal.Argument.{Argument}
+use Rattle.jpa_value.specs.declared.event.LifecycleEvent.{LifecycleEvent}
+use Rattle.jpa_value.specs.Value.{identity_cmp, is_representable, same_identity, fits}
+use Rattle.jpa_value.proofs.Orders.{identity_exact}
+use Rattle.jpa_model.specs.declared.unit.PersistenceUnit.{PersistenceUnit}
+use Rattle.jpa_model.specs.declared.unit.Relation.{Relation}
+use Rattle.jpa_model.specs.declared.unit.VersionColumn.{VersionColumn}
+use Rattle.jpa_model.specs.Chains.{root_of, root_class, attributes_of, relations_of, is_kind_of, is_to_one, class_of}
+use Rattle.jpa_behaviour.specs.Behaviour.{World}
+use Rattle.jpa_stored.specs.declared.stored.Stored.{Stored}
+use Rattle.jpa_stored.specs.Sets.{StoredSet, stored_at, each_fits, is_key_of, is_identity_of, is_shaped, version_there, members}
+use Rattle.jpa_rows.specs.Cells.{CanBeHeld, key_given_by, names_representable, holds_representable, version_representable}
+use Rattle.jpa_heap.specs.declared.Life.{Life}
+use Rattle.jpa_heap.specs.declared.LiveObject.{LiveObject}
+use Rattle.jpa_heap.specs.Objects.{object_at, no_object}
+use Rattle.jpa_context.specs.declared.Base.{Base}
+use Rattle.jpa_context.specs.declared.Lock.{Lock}
+use Rattle.jpa_context.specs.declared.Entry.{Entry}
+use Rattle.jpa_context.specs.Work.{Work, identity_at, instance, row, has_identity, entered, with_base}
+use Rattle.jpa_lifecycle.specs.Callbacks.{callback}
+use Rattle.jpa_ops.specs.Load.{most_objects, object_loaded, base_loaded, held_loaded, made, load, found, found_row, find, known, unread}
+use Rattle.jpa_protocol.specs.declared.call.Given.{Given}
+use Rattle.jpa_provider.specs.Machine.{Machine}
+use Rattle.jpa_provider.specs.Calls.{give_or, class_named, key_given, is_short_given, whole_key}
+use Rattle.jpa_provider.specs.Step.{find_call}
+use Rattle.jpa_provider.specs.Invariant.{IsFlat, IsLive, IsEntry, is_held_by, stands_in, are_one, name_of, version_fits, held_fits, known_fits, base_fits}
+use Rattle.jpa_provider.proofs.Facts.{numbers_same}
+use Rattle.jpa_provider.proofs.AtWork.{HoldsAfter, after_holds, require_holds, IsAtWork, contexts}
+use Rattle.jpa_provider.proofs.Kept.{manager_kept, entry_kept, distinct_kept, holds_more, live_more, placed_more}
+use Rattle.jpa_provider.proofs.Persisted.{callback_holds, told_at_work, fitting_key}
+use Rattle.jpa_provider.proofs.Entered.{distinct_push, none_found, apart_from, stands_pushed, stands_own, is_pushed, names_apart}
+
+-- ---- what stands in a set
+
+equal : (o : Ordering) → is_eq o ≡ true → o ≡ Equal
+equal Less e = absurd (false≢true e)
+equal Equal e = refl
+equal Greater e = absurd (false≢true e)
+
+pub same_exact : (a b : Identity) → same_identity a b ≡ true → a ≡ b
+same_exact a b e = identity_exact a b (equal (identity_cmp a b) e)
+
+row_step : (p : Identity × Stored → Bool) (id : Identity) (x : Stored) (e : Identity × Stored) (o : Option Stored) (b : Bool) → is_eq (identity_cmp id e.0) ≡ b →
+    (o ≡ Some x → p (id, x) ≡ true) → p e ≡ true → (if b then Some e.1 else o) ≡ Some x → p (id, x) ≡ true
+row_step p id x e o true t k h g = subst (λ i. p (i, x) ≡ true) (sym (same_exact id e.0 t)) (subst (λ y. p (e.0, y) ≡ true) (ap (λ o'. unwrap_or o' x) g) h)
+row_step p id x e o false t k h g = k g
+
+-- what holds of each entry holds of the row under an identity
+pub row_holds : (p : Identity × Stored → Bool) (id : Identity) (x : Stored) (s : StoredSet) → list_all p s ≡ true → stored_at s id ≡ Some x → p (id, x) ≡ true
+row_holds p id x [] h e = absurd (true≢false (sym (ap is_some e)))
+row_holds p id x (y ∷ ys) h e =
+    let a = and_parts (p y) (list_all p ys) h in
+    row_step p id x y (entry_found identity_cmp id ys) (is_eq (identity_cmp id y.0)) refl (row_holds p id x ys a.1) a.0 e
+
+-- ---- a row as an object
+
+pub version_loads : (c : Option VersionColumn) (v : Option ℤ) → version_there c v ≡ true → version_fits c v ≡ true
+version_loads None None h = refl
+version_loads None (Some n) h = absurd (false≢true h)
+version_loads (Some c) v h = refl
+
+-- what is known of a row of a class
+record IsRow (m : PersistenceUnit) (ns : List ℕ) (id : Identity) (x : Stored) : Type 0 where
+  class : nat_lt x.class (length m.entities) ≡ true
+  table : (id.table == (root_of m x.class).table) ≡ true
+  key : is_key_of (root_of m x.class) id.key ≡ true
+  version : version_there (root_of m x.class).version x.version ≡ true
+  values : each_fits (λ a v. fits a.kind v) (attributes_of m x.class) x.values ≡ true
+  shaped : is_shaped m id x ≡ true
+  given : key_given_by ns (root_class m x.class) (root_of m x.class).generated id.key ≡ true
+  named : names_representable id ≡ true
+  held : holds_representable x ≡ true
+
+is_row : {world : World} {ns : List ℕ} (id : Identity) (x : Stored) (s : StoredSet) → CanBeHeld world s ns → stored_at s id ≡ Some x → IsRow world.model ns id x
+is_row {world} {ns} id x s h e =
+    let m = world.model in
+    let shaped = row_holds (λ (p : Identity × Stored). is_shaped m p.0 p.1) id x s h.shaped e in
+    let a = and_parts (nat_lt x.class (length m.entities)) _ shaped in
+    let b = and_parts (is_identity_of (root_of m x.class) id) _ a.1 in
+    let c = and_parts (id.table == (root_of m x.class).table) (is_key_of (root_of m x.class) id.key) b.0 in
+    let d = and_parts (version_there (root_of m x.class).version x.version) _ b.1 in
+    let f = and_parts (each_fits (λ at v. fits at.kind v) (attributes_of m x.class) x.values) _ d.1 in
+    let r = row_holds (λ (p : Identity × Stored). names_representable p.0 && holds_representable p.1) id x s h.representable e in
+    let g = and_parts (names_representable id) (holds_representable x) r in
+    record {
+      class = a.0;
+      table = c.0;
+      key = c.1;
+      version = d.0;
+      values = f.0;
+      shaped = shaped;
+      given = row_holds (λ (p : Identity × Stored). key_given_by ns (root_class m (p.1).class) (root_of m (p.1).class).generated (p.0).key) id x s h.given e;
+      named = g.0;
+      held = g.1;
+    }
+
+-- the identity of a row is its object's
+name_loaded : {m : PersistenceUnit} {ns : List ℕ} {id : Identity} {x : Stored} (manager : ℕ) (s : StoredSet) → IsRow m ns id x → name_of m (object_loaded m manager s id x) ≡ id
+name_loaded {m} {ns} {id} {x} manager s h = λ i. record { table = sym (eqb-true id.table (root_of m x.class).table h.table) i; key = id.key }
+
+no_held : (m : PersistenceUnit) (s : StoredSet) (id : Identity) (x : Stored) → relations_of m x.class ≡ [] → held_loaded m s id x ≡ []
+no_held m s id x e = ap (λ (rs : List Relation). map (λ (p : ℕ × Relation). unread (is_to_one (p.1).side) (members m s id x p.0)) (enumerate_from 0 rs)) e
+
+no_members : (m : PersistenceUnit) (s : StoredSet) (id : Identity) (x : Stored) → relations_of m x.class ≡ [] → (base_loaded m s id x).members ≡ []
+no_members m s id x e = ap (λ (rs : List Relation). map (λ (p : ℕ × Relation). known (is_to_one (p.1).side) (members m s id x p.0)) (enumerate_from 0 rs)) e
+
+loaded_live : {m : PersistenceUnit} {ns : List ℕ} {id : Identity} {x : Stored} → IsFlat m → (os : List LiveObject) (manager : ℕ) (s : StoredSet) → IsRow m ns id x →
+    IsLive m os (object_loaded m manager s id x)
+loaded_live {m} {ns} {id} {x} flat os manager s h =
+    let r = and_parts (version_representable x.version) _ h.held in
+    let v = and_parts (list_all is_representable x.values) _ r.1 in
+    record {
+      class = h.class;
+      key = fitting_key (root_of m x.class).key id.key h.key;
+      version = version_loads (root_of m x.class).version x.version h.version;
+      values = h.values;
+      relations =
+          subst (λ (rs : List Relation). each_fits (held_fits m os) rs (held_loaded m s id x) ≡ true) (sym (flat.relations x.class))
+          (subst (λ hs. each_fits (held_fits m os) [] hs ≡ true) (sym (no_held m s id x (flat.relations x.class))) refl);
+      key_representable = h.named;
+      version_representable = r.0;
+      values_representable = v.0;
+    }
+
+loaded_base : {m : PersistenceUnit} {ns : List ℕ} {id : Identity} {x : Stored} → IsFlat m → (manager : ℕ) (s : StoredSet) → IsRow m ns id x →
+    base_fits m (object_loaded m manager s id x) (Some (base_loaded m s id x)) ≡ true
+loaded_base {m} {ns} {id} {x} flat manager s h =
+    and_from (x.class == x.class) _ (eq-eqb x.class x.class refl)
+    (and_from (is_shaped m (name_of m (object_loaded m manager s id x)) x) _ (subst (λ i. is_shaped m i x ≡ true) (sym (name_loaded manager s h)) h.shaped)
+    (and_from (holds_representable x) _ h.held
+    (subst (λ (rs : List Relation). each_fits known_fits rs (base_loaded m s id x).members ≡ true) (sym (flat.relations x.class))
+    (subst (λ ks. each_fits known_fits [] ks ≡ true) (sym (no_members m s id x (flat.relations x.class))) refl))))
+
+-- ---- a row is loaded
+
+abbrev based : ℕ → Option Base → Entry → Entry
+based n b e = if e.object == n then record e { base = b } else e
+
+abbrev entry_with : ℕ → Option Base → Entry
+entry_with n b = record { object = n; lock = Lock.Unlocked; base = b }
+
+based_last : (n : ℕ) (b : Option Base) (es : List Entry) → AllByRecursion (λ (e : Entry). (e.object == n) ≡ false) es →
+    map (based n b) (es ++ entry_with n None ∷ []) ≡ es ++ entry_with n b ∷ []
+based_last n b [] h = ap (λ t. (if t then entry_with n b else entry_with n None) ∷ []) (eq-eqb n n refl)
+based_last n b (e ∷ es) h = λ i. (ap (λ t. if t then record e { base = b } else e) h.0 i) ∷ (based_last n b es h.1 i)
+
+earlier : (m : PersistenceUnit) (os : List LiveObject) (ns : List ℕ) (k : ℕ) (es : List Entry) → AllByRecursion (IsEntry m os ns k) es → AllByRecursion (λ (e : Entry). (e.object == length os) ≡ false) es
+earlier m os ns k [] h = tt
+earlier m os ns k (e ∷ es) h = (let l = (h.0).within in ne_eqb e.object (length os) (λ q. omega (arith, l, q)), earlier m os ns k es h.1)
+
+load_at_work : {world : World} {M : Machine} {m : ℕ} {w : Work} → IsFlat world.model → (id : Identity) (x : Stored) → IsAtWork world M m w → row w id ≡ Some x →
+    is_some (instance world.model w id) ≡ false → length w.objects < most_objects →
+    IsAtWork world M m (with_base (length w.objects) (Some (base_loaded world.model w.view id x)) (entered (length w.objects) (made (object_loaded world.model w.manager w.view id x) w)))
+load_at_work {world} {M} {m} {w} flat id x h e free few =
+    let model = world.model in
+    let os = w.objects in
+    let n = length os in
+    let obj = object_loaded model w.manager w.view id x in
+    let ps = os ++ obj ∷ [] in
+    let b = base_loaded model w.view id x in
+    let entry = entry_with n (Some b) in
+    let r = is_row id x w.view h.view e in
+    let old = recursion_from_All (IsEntry model os w.numbers m) w.context h.entries in
+    let up = numbers_same w.numbers in
+    let here : obj ≡ object_at ps n = sym (get_or_push os obj no_object n refl) in
+    let name : name_of model (object_at ps n) ≡ id = ap (name_of model) (sym here) ∙ name_loaded w.manager w.view r in
+    let context : w.context ++ entry ∷ [] ≡ map (based n (Some b)) (w.context ++ entry_with n None ∷ []) = sym (based_last n (Some b) w.context (earlier model os w.numbers m w.context old)) in
+    let at : IsAtWork world M m (record w { objects = ps; context = w.context ++ entry ∷ [] }) =
+    record {
+      manager = h.manager;
+      objects = live_more model os obj h.objects (loaded_live flat ps w.manager w.view r);
+      entries = All-push (IsEntry model ps w.numbers m) w.context entry
+          (All-weaker (IsEntry model os w.numbers m) (IsEntry model ps w.numbers m) (λ e'. entry_kept (holds_more m os obj) up) w.context h.entries)
+          (record {
+            within = let s = length-append os (obj ∷ []) in omega (arith, s);
+            held = subst (λ (z : LiveObject). is_held_by m z.life ≡ true) here (eq-eqb w.manager m h.manager);
+            whole = subst (λ (z : LiveObject). is_key_of (root_of model z.class) z.key ≡ true) here r.key;
+            given = subst (λ (z : LiveObject). key_given_by w.numbers (root_class model z.class) (root_of model z.class).generated z.key ≡ true) here r.given;
+            base = subst (λ (z : LiveObject). base_fits model z (Some b) ≡ true) here (loaded_base flat w.manager w.view r);
+          });
+      distinct = distinct_push (are_one model ps) w.context entry (distinct_kept w.context (holds_more m os obj) h.entries h.distinct)
+          (names_apart model os ps w.numbers m n id w.context (holds_more m os obj) old name
+          (apart_from model w m id w.context old (none_found (λ e'. has_identity (identity_at model w e'.object) id) w.context free)));
+      others = λ k l' apart. manager_kept (holds_more k os obj) up h.numbered (h.others k l' apart);
+      placed = placed_more (contexts M m (record w { context = w.context ++ entry ∷ [] })) os obj
+          (λ k l'. stands_pushed M m w entry k (object_at os k).life (h.placed k l'))
+          (subst (λ j. stands_in (contexts M m (record w { context = w.context ++ entry ∷ [] })) n (Life.Managed j) ≡ true) (sym h.manager)
+          (stands_own M m (record w { context = w.context ++ entry ∷ [] }) n (is_pushed (λ e'. e'.object == n) w.context entry (eq-eqb n n refl))));
+      view = h.view;
+      numbered = h.numbered;
+      raised = h.raised;
+      few = let s = length-append os (obj ∷ []) in omega (arith, s, few);
+    } in
+    subst (λ es. IsAtWork world M m (record w { objects = ps; context = es })) context at
+
+load_holds : {world : World} {M : Machine} {m : ℕ} {w : Work} → IsFlat world.model → (id : Identity) (x : Stored) → IsAtWork world M m w → row w id ≡ Some x →
+    is_some (instance world.model w id) ≡ false → HoldsAfter (λ n w'. IsAtWork world M m w') (load world id x w)
+load_holds {world} {M} {m} {w} flat id x h e free =
+    let n = length w.objects in
+    let v = with_base n (Some (base_loaded world.model w.view id x)) (entered n (made (object_loaded world.model w.manager w.view id x) w)) in
+    require_holds _ (nat_lt n most_objects) Cause.Limit w _ (λ few.
+    after_holds _ (λ u w'. IsAtWork world M m w') (callback world LifecycleEvent.PostLoad n v) _
+    (callback_holds (λ u w'. IsAtWork world M m w') world flat LifecycleEvent.PostLoad n v (λ t. told_at_work t (load_at_work flat id x h e free (ltb-true n most_objects few))))
+    (λ u w' k. k))
+
+-- ---- find
+
+found_row_holds : {world : World} {M : Machine} {m : ℕ} {w : Work} → IsFlat world.model → (class : ℕ) (id : Identity) (x : Stored) (b : Bool) → IsAtWork world M m w → row w id ≡ Some x →
+    is_some (instance world.model w id) ≡ false → HoldsAfter (λ n w'. IsAtWork world M m w') (found_row world class id x b w)
+found_row_holds {world} {M} {m} {w} flat class id x true h e free =
+    after_holds _ (λ n w'. IsAtWork world M m w') (load world id x w) _ (load_holds flat id x h e free) (λ n w' k. k)
+found_row_holds flat class id x false h e free = h
+
+found_holds : {world : World} {M : Machine} {m : ℕ} {w : Work} → IsFlat world.model → (class : ℕ) (id : Identity) (o : Option ℕ) (s : Option Stored) → IsAtWork world M m w →
+    instance world.model w id ≡ o → row w id ≡ s → HoldsAfter (λ n w'. IsAtWork world M m w') (found world class id o s w)
+found_holds flat class id (Some n) s h i r = h
+found_holds {world} flat class id None (Some x) h i r = found_row_holds flat class id x (is_kind_of world.model x.class class) h r (ap is_some i)
+found_holds flat class id None None h i r = h
+
+find_holds : {world : World} {M : Machine} {m : ℕ} {w : Work} → IsFlat world.model → (class : ℕ) (key : List Value) → IsAtWork world M m w →
+    HoldsAfter (λ n w'. IsAtWork world M m w') (find world class key w)
+find_holds {world} {M} {m} {w} flat class key h =
+    let id : Identity = record { table = (root_of world.model class).table; key = key } in
+    found_holds flat class id (instance world.model w id) (row w id) h refl refl
+
+given_or : {A : Type 0} (r : Cause) (o : Option A) (w : Work) → HoldsAfter (λ a w'. w' ≡ w) (give_or r o w)
+given_or r None w = tt
+given_or r (Some a) w = refl
+
+pub find_call_holds : {world : World} {M : Machine} {m : ℕ} {w : Work} → IsFlat world.model → (name : List ℕ) (key : List Given) → IsAtWork world M m w →
+    HoldsAfter (λ n w'. IsAtWork world M m w') (find_call world name key w)
+find_call_holds {world} {M} {m} {w} flat name key h =
+    require_holds _ (list_all is_short_given key) Cause.Limit w _ (λ short.
+    after_holds _ (λ class w'. w' ≡ w) (class_named world name w) _ (given_or (Cause.IllegalArgument Argument.Entity) (class_of world.model name) w) (λ class v e.
+    after_holds _ (λ vs w'. w' ≡ v) (key_given world class key v) _ (given_or (Cause.IllegalArgument Argument.Key) (whole_key (root_of world.model class).key key) v) (λ vs u e'.
+    subst (λ w'. HoldsAfter (λ n w''. IsAtWork world M m w'') (find world class vs w')) (sym (e' ∙ e)) (find_holds flat class vs h))))

@@ -1,0 +1,113 @@
+-- What a call hands in, in the order in which it is judged, and the reply to an operation (the order is this provider's own).
+use Rattle.std.specs.Prelude.{ℕ, suc, ℤ, Bool, true, false, not, ◌&&◌, List, [], ◌∷◌, length, Option, Some, None, Ok, Err, if◌then◌else◌}
+use Rattle.jpa_value.specs.declared.value.Value.{Value}
+use Rattle.jpa_value.specs.declared.refusal.Cause.{Cause}
+use Rattle.jpa_value.specs.declared.refusal.Refusal.{Refusal}
+use Rattle.jpa_value.specs.declared.refusal.Argument.{Argument}
+use Rattle.jpa_value.specs.declared.refusal.Persist.{Persist}
+use Rattle.jpa_value.specs.Value.{fits, is_null}
+use Rattle.jpa_model.specs.declared.unit.Part.{Part}
+use Rattle.jpa_model.specs.Chains.{class_of, root_of}
+use Rattle.jpa_behaviour.specs.Behaviour.{World, is_short}
+use Rattle.jpa_heap.specs.declared.Handed.{Handed}
+use Rattle.jpa_heap.specs.Objects.{place_of}
+use Rattle.jpa_context.specs.Steps.{◌>>=◌, ◌>>◌, Outcome, Done, Refused, Op, give, refuse, require}
+use Rattle.jpa_protocol.specs.declared.call.Given.{Given}
+use Rattle.jpa_protocol.specs.declared.event.Told.{Told}
+use Rattle.jpa_protocol.specs.declared.reply.Answer.{Answer}
+use Rattle.jpa_protocol.specs.declared.reply.Reply.{Reply}
+use Rattle.jpa_provider.specs.Machine.{Machine, kept, marked}
+
+-- ---- what is handed in
+
+abbrev pub give_or : {A : Type 0} → Cause → Option A → Op A
+give_or r (Some x) = give x
+give_or r None = refuse r
+
+-- an object by its number
+abbrev pub object_numbered : ℤ → Op ℕ
+object_numbered n w = give_or Cause.NoSuchObject (place_of (length w.objects) n) w
+
+abbrev pub is_short_given : Given → Bool
+is_short_given (Given.Plain v) = is_short v
+is_short_given (Given.Object n) = true
+
+abbrev pub handed : Given → Op Handed
+handed (Given.Plain v) = do
+  require (is_short v) Cause.Limit
+  give (Handed.Plain v)
+handed (Given.Object n) = do
+  k ← object_numbered n
+  give (Handed.Object k)
+
+abbrev pub class_named : World → List ℕ → Op ℕ
+class_named world name = give_or (Cause.IllegalArgument Argument.Entity) (class_of world.model name)
+
+-- a value for each part of the key, of its kind and not null
+abbrev pub onto : Option Value → Option (List Value) → Option (List Value)
+onto None vs = None
+onto (Some v) None = None
+onto (Some v) (Some vs) = Some (v ∷ vs)
+
+abbrev pub part_given : Part → Given → Option Value
+part_given part (Given.Plain v) = if fits part.kind v && not (is_null v) then Some v else None
+part_given part (Given.Object n) = None
+
+abbrev pub whole_key : List Part → List Given → Option (List Value)
+whole_key [] [] = Some []
+whole_key [] (g ∷ gs) = None
+whole_key (p ∷ ps) [] = None
+whole_key (p ∷ ps) (g ∷ gs) = onto (part_given p g) (whole_key ps gs)
+
+abbrev pub key_given : World → ℕ → List Given → Op (List Value)
+key_given world class gs = give_or (Cause.IllegalArgument Argument.Key) (whole_key (root_of world.model class).key gs)
+
+-- ---- replies
+
+abbrev pub accepted : List Told → Answer → Machine → Reply × Machine
+accepted events answer M = (record { events = events; answer = Ok answer }, M)
+
+abbrev pub refused : List Told → Refusal → Machine → Reply × Machine
+refused events r M = (record { events = events; answer = Err r }, M)
+
+-- refused before anything was told
+abbrev pub because : Machine → Cause → Reply × Machine
+because M r = refused [] (Refusal.Because r) M
+
+-- the refusals that leave the manager's transaction able only to roll back
+abbrev pub marks : Cause → Bool
+marks (Cause.IllegalArgument a) = true
+marks (Cause.IllegalState s) = true
+marks Cause.TransactionRequired = true
+marks Cause.EntityExists = true
+marks Cause.EntityNotFound = true
+marks Cause.OptimisticLock = true
+marks (Cause.Persistence p) = true
+marks (Cause.Listener t) = true
+marks Cause.Overflow = true
+marks Cause.Limit = true
+marks _ = false
+
+-- of a call that names no manager only a callback's
+abbrev pub marks_if_callback : Cause → Bool
+marks_if_callback (Cause.Persistence Persist.Callback) = true
+marks_if_callback (Cause.Listener t) = true
+marks_if_callback _ = false
+
+abbrev pub marked_if : Bool → Machine → ℕ → Machine
+marked_if true M m = marked M m
+marked_if false M m = M
+
+-- done: the manager keeps what the operation made; refused: nothing stays but the mark, and the events are told
+abbrev pub concluded : {A : Type 0} → (Cause → Bool) → Machine → ℕ → (A → Answer) → Outcome A → Reply × Machine
+concluded rule M m answer (Done a w) = accepted w.events (answer a) (kept M m w)
+concluded rule M m answer (Refused r events) = refused events (Refusal.Because r) (marked_if (rule r) M m)
+
+-- ---- answers
+
+abbrev pub nothing : Unit {0} → Answer
+nothing u = Answer.Null
+
+abbrev pub object_or_null : Option ℕ → Answer
+object_or_null None = Answer.Null
+object_or_null (Some n) = Answer.Object (suc n)

@@ -1,0 +1,173 @@
+-- What holds of the machine between calls: the objects have the shape of their classes, contexts and states of objects agree,
+-- each identity has one instance in a context, and every set of the machine is one that a store can hold.
+use Rattle.std.specs.Prelude.{◌≡◌, ◌<◌, ◌≤◌, ℕ, ℤ, pos, Bool, true, false, not, nat_lt, nat_le, ◌&&◌, ◌==◌, List, [], ◌∷◌, length, Option, Some, None}
+use Rattle.std.specs.List.{All, list_any, list_all}
+use Rattle.jpa_value.specs.declared.value.Value.{Value}
+use Rattle.jpa_value.specs.declared.value.Identity.{Identity}
+use Rattle.jpa_value.specs.Value.{fits, same_identity, is_representable}
+use Rattle.jpa_model.specs.declared.unit.PersistenceUnit.{PersistenceUnit}
+use Rattle.jpa_model.specs.declared.unit.Relation.{Relation}
+use Rattle.jpa_model.specs.declared.unit.VersionColumn.{VersionColumn}
+use Rattle.jpa_model.specs.Chains.{attributes_of, relations_of, root_of, root_class, is_to_one}
+use Rattle.jpa_behaviour.specs.Behaviour.{World}
+use Rattle.jpa_stored.specs.Sets.{each_fits, all_distinct, is_key_of, is_identity_of, is_rising, is_shaped}
+use Rattle.jpa_rows.specs.Cells.{CanBeHeld, are_numbers, key_given_by, version_representable, holds_representable}
+use Rattle.jpa_heap.specs.declared.Link.{Link}
+use Rattle.jpa_heap.specs.declared.Collection.{Collection}
+use Rattle.jpa_heap.specs.declared.Held.{Held}
+use Rattle.jpa_heap.specs.declared.Life.{Life}
+use Rattle.jpa_heap.specs.declared.LiveObject.{LiveObject}
+use Rattle.jpa_heap.specs.Objects.{object_at}
+use Rattle.jpa_context.specs.declared.Base.{Base}
+use Rattle.jpa_context.specs.declared.Entry.{Entry}
+use Rattle.jpa_ops.specs.Load.{most_objects}
+use Rattle.jpa_lifecycle.specs.Callbacks.{hearers}
+use Rattle.jpa_protocol.specs.declared.call.Call.{Call}
+use Rattle.jpa_protocol.specs.declared.call.Given.{Given}
+use Rattle.jpa_provider.specs.Machine.{Machine, Manager, Transaction, manager_at, has_transaction}
+use Rattle.jpa_provider.specs.Step.{most_managers}
+
+-- ---- live objects
+
+-- an object within the heap, of the hierarchy of the relation's target
+abbrev pub leads_to : PersistenceUnit → List LiveObject → ℕ → ℕ → Bool
+leads_to m objects target k = nat_lt k (length objects) && (root_class m (object_at objects k).class == root_class m target)
+
+abbrev pub link_fits : PersistenceUnit → List LiveObject → ℕ → Link → Bool
+link_fits m objects target Link.None = true
+link_fits m objects target (Link.Object k) = leads_to m objects target k
+link_fits m objects target (Link.Key id) = is_identity_of (root_of m target) id
+
+abbrev pub collection_fits : PersistenceUnit → List LiveObject → ℕ → Collection → Bool
+collection_fits m objects target Collection.Unfetched = true
+collection_fits m objects target (Collection.Fetched ks) = list_all (leads_to m objects target) ks
+
+-- a to-one relation holds a link, any other a collection
+abbrev pub held_fits : PersistenceUnit → List LiveObject → Relation → Held → Bool
+held_fits m objects r (Held.One l) = is_to_one r.side && link_fits m objects r.target l
+held_fits m objects r (Held.Many c) = not (is_to_one r.side) && collection_fits m objects r.target c
+
+-- no version where the class has none
+abbrev pub version_fits : Option VersionColumn → Option ℤ → Bool
+version_fits None None = true
+version_fits None (Some n) = false
+version_fits (Some c) version = true
+
+-- a live object has what its class says; parts of its key may be null
+pub record IsLive (m : PersistenceUnit) (objects : List LiveObject) (x : LiveObject) : Type 0 where
+  pub class : nat_lt x.class (length m.entities) ≡ true
+  pub key : each_fits (λ part v. fits part.kind v) (root_of m x.class).key x.key ≡ true
+  pub version : version_fits (root_of m x.class).version x.version ≡ true
+  pub values : each_fits (λ a v. fits a.kind v) (attributes_of m x.class) x.values ≡ true
+  pub relations : each_fits (held_fits m objects) (relations_of m x.class) x.relations ≡ true
+  pub key_representable : list_all is_representable x.key ≡ true
+  pub version_representable : version_representable x.version ≡ true
+  pub values_representable : list_all is_representable x.values ≡ true
+
+-- ---- entries of a context
+
+abbrev pub is_held_by : ℕ → Life → Bool
+is_held_by manager Life.New = false
+is_held_by manager (Life.Managed k) = k == manager
+is_held_by manager (Life.Removed k) = k == manager
+is_held_by manager Life.Detached = false
+
+-- the identity of an object whose key is whole
+abbrev pub name_of : PersistenceUnit → LiveObject → Identity
+name_of m x = record { table = (root_of m x.class).table; key = x.key }
+
+-- what a base knows of a relation: a to-one's identity always; each identity once, rising
+abbrev pub known_fits : Relation → Option (List Identity) → Bool
+known_fits r None = not (is_to_one r.side)
+known_fits r (Some ids) = is_rising ids
+
+-- the base is of the object's class, and stood under its identity
+abbrev pub base_fits : PersistenceUnit → LiveObject → Option Base → Bool
+base_fits m x None = true
+base_fits m x (Some b) =
+    ((b.stored).class == x.class)
+    && (is_shaped m (name_of m x) b.stored
+    && (holds_representable b.stored
+    && each_fits known_fits (relations_of m x.class) b.members))
+
+-- an entry names an object that the manager holds, with a whole key of its hierarchy; a generated key was given
+pub record IsEntry (m : PersistenceUnit) (objects : List LiveObject) (numbers : List ℕ) (manager : ℕ) (e : Entry) : Type 0 where
+  pub within : e.object < length objects
+  pub held : is_held_by manager (object_at objects e.object).life ≡ true
+  pub whole : is_key_of (root_of m (object_at objects e.object).class) (object_at objects e.object).key ≡ true
+  pub given : key_given_by numbers (root_class m (object_at objects e.object).class) (root_of m (object_at objects e.object).class).generated (object_at objects e.object).key ≡ true
+  pub base : base_fits m (object_at objects e.object) e.base ≡ true
+
+abbrev pub are_one : PersistenceUnit → List LiveObject → Entry → Entry → Bool
+are_one m objects a b = same_identity (name_of m (object_at objects a.object)) (name_of m (object_at objects b.object))
+
+-- ---- managers
+
+-- a store can hold the set at the transaction's begin, and the one that it sees
+abbrev pub IsTransaction : World → List ℕ → Option Transaction → Type 0
+IsTransaction world numbers None = Unit {0}
+IsTransaction world numbers (Some t) = CanBeHeld world t.begun numbers × CanBeHeld world t.view numbers
+
+-- a closed manager holds nothing
+abbrev pub is_idle : Bool → List Entry → Option Transaction → Bool
+is_idle true context t = true
+is_idle false [] None = true
+is_idle false [] (Some t) = false
+is_idle false (e ∷ es) t = false
+
+pub record IsManager (world : World) (objects : List LiveObject) (numbers : List ℕ) (manager : ℕ) (x : Manager) : Type 0 where
+  pub entries : All (IsEntry world.model objects numbers manager) x.context
+  pub distinct : all_distinct (are_one world.model objects) x.context ≡ true
+  pub transaction : IsTransaction world numbers x.transaction
+  pub idle : is_idle x.is_open x.context x.transaction ≡ true
+
+-- ---- the machine
+
+-- an object that a manager holds stands in that manager's context
+abbrev pub stands_in : (ℕ → List Entry) → ℕ → Life → Bool
+stands_in context n Life.New = true
+stands_in context n (Life.Managed k) = list_any (λ e. e.object == n) (context k)
+stands_in context n (Life.Removed k) = list_any (λ e. e.object == n) (context k)
+stands_in context n Life.Detached = true
+
+abbrev pub context_of : Machine → ℕ → List Entry
+context_of M m = (manager_at M m).context
+
+pub record IsMachine (world : World) (M : Machine) : Type 0 where
+  pub objects : All (IsLive world.model M.objects) M.objects
+  pub managers : (m : ℕ) → m < length M.managers → IsManager world M.objects M.numbers m (manager_at M m)
+  pub placed : (n : ℕ) → n < length M.objects → stands_in (context_of M) n (object_at M.objects n).life ≡ true
+  pub committed : CanBeHeld world M.committed M.stored_numbers
+  pub numbered : are_numbers world.model M.numbers ≡ true
+  pub stored : each_fits nat_le M.stored_numbers M.numbers ≡ true
+  pub objects_few : length M.objects ≤ most_objects
+  pub managers_few : length M.managers ≤ most_managers
+
+-- one transaction is open at a time: where a manager has one, no other has
+abbrev pub HasOneTransaction : Machine → Type 0
+HasOneTransaction M = (m k : ℕ) → has_transaction (manager_at M m) ≡ true → has_transaction (manager_at M k) ≡ true → m ≡ k
+
+-- ---- units whose entities have no relations and no listeners
+
+-- besides, what each well formed unit keeps: a class's root is an entity, and an integer is a whole generated key
+pub record IsFlat (m : PersistenceUnit) : Type 0 where
+  pub relations : (class : ℕ) → relations_of m class ≡ []
+  pub hearers : (class : ℕ) → hearers m class ≡ []
+  pub rooted : (class : ℕ) → nat_lt class (length m.entities) ≡ true → nat_lt (root_class m class) (length m.entities) ≡ true
+  pub generated : (class k : ℕ) → (root_of m class).generated ≡ true → is_key_of (root_of m class) (Value.Int (pos k) ∷ []) ≡ true
+
+-- ---- calls
+
+abbrev pub given_representable : Given → Bool
+given_representable (Given.Plain v) = is_representable v
+given_representable (Given.Object n) = true
+
+-- what a call hands in are values of the program
+abbrev pub hands_representable : Call → Bool
+hands_representable Call.CreateEntityManager = true
+hands_representable (Call.NewObject name) = true
+hands_representable (Call.SetValue object name value) = given_representable value
+hands_representable (Call.Begin em) = true
+hands_representable (Call.Persist em object) = true
+hands_representable (Call.Commit em) = true
+hands_representable (Call.Find em name key) = list_all given_representable key

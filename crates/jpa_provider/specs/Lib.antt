@@ -1,0 +1,5 @@
+pub mod Machine
+pub mod Calls
+pub mod Transactions
+pub mod Step
+pub mod Invariant

@@ -1,0 +1,129 @@
+-- The machine: live objects, managers with their contexts and transactions, the last committed set and the next numbers
+-- of the generators (Jakarta Persistence 3.1, chapters 3.3 persistence contexts, 7 entity managers and transactions).
+use Rattle.std.specs.Prelude.{ℕ, Bool, true, false, not, List, [], map, slice_index_or, slice_set, Option, Some, None}
+use Rattle.std.specs.List.{filter, list_any}
+use Rattle.jpa_stored.specs.Sets.{StoredSet}
+use Rattle.jpa_heap.specs.declared.LiveObject.{LiveObject}
+use Rattle.jpa_context.specs.declared.Entry.{Entry}
+use Rattle.jpa_context.specs.declared.Lock.{Lock}
+use Rattle.jpa_context.specs.Work.{Work, state_of, is_removed}
+use Rattle.jpa_ops.specs.States.{detach_each}
+
+-- a manager's open transaction: the committed set at its begin, the set that it sees, and whether it can only roll back
+pub record Transaction : Type 0 where
+  pub begun : StoredSet
+  pub view : StoredSet
+  pub is_marked : Bool
+
+-- an entity manager: its context in order of entry, and its open transaction
+pub record Manager : Type 0 where
+  pub is_open : Bool
+  pub context : List Entry
+  pub transaction : Option Transaction
+
+-- objects and managers by their places. numbers are the next ones of the generators as given, one for each class;
+-- stored_numbers are those that were last stored, with the committed set
+pub record Machine : Type 0 where
+  pub objects : List LiveObject
+  pub managers : List Manager
+  pub numbers : List ℕ
+  pub stored_numbers : List ℕ
+  pub committed : StoredSet
+
+-- as a store that holds this set and these next numbers is opened
+abbrev pub opened : StoredSet → List ℕ → Machine
+opened set numbers = record { objects = []; managers = []; numbers = numbers; stored_numbers = numbers; committed = set }
+
+-- ---- managers
+
+-- as one is created
+abbrev pub new_manager : Manager
+new_manager = record { is_open = true; context = []; transaction = None }
+
+-- what stands where a number names no manager
+abbrev pub no_manager : Manager
+no_manager = record { is_open = false; context = []; transaction = None }
+
+abbrev pub manager_at : Machine → ℕ → Manager
+manager_at M m = slice_index_or M.managers m no_manager
+
+abbrev pub with_manager : Machine → ℕ → Manager → List Manager
+with_manager M m x = slice_set M.managers m x
+
+-- ---- transactions
+
+abbrev pub is_begun : Option Transaction → Bool
+is_begun None = false
+is_begun (Some t) = true
+
+abbrev pub has_transaction : Manager → Bool
+has_transaction x = is_begun x.transaction
+
+-- whether a manager's transaction is open
+abbrev pub is_busy : Machine → Bool
+is_busy M = list_any has_transaction M.managers
+
+abbrev pub view_in : Option Transaction → StoredSet → StoredSet
+view_in None committed = committed
+view_in (Some t) committed = t.view
+
+-- what a manager sees: its open transaction's set, or the committed set
+abbrev pub view : Machine → ℕ → StoredSet
+view M m = view_in (manager_at M m).transaction M.committed
+
+-- ---- a manager at work
+
+abbrev pub work_of : Machine → ℕ → Work
+work_of M m = record { manager = m; objects = M.objects; context = (manager_at M m).context; numbers = M.numbers; view = view M m; events = [] }
+
+abbrev pub seen_in : Option Transaction → StoredSet → Option Transaction
+seen_in None set = None
+seen_in (Some t) set = Some (record t { view = set })
+
+-- the machine after an operation of the manager
+abbrev pub kept : Machine → ℕ → Work → Machine
+kept M m w =
+    let x = manager_at M m in
+    record M {
+      objects = w.objects;
+      managers = with_manager M m (record x { context = w.context; transaction = seen_in x.transaction w.view });
+      numbers = w.numbers;
+    }
+
+abbrev pub marked_in : Option Transaction → Option Transaction
+marked_in None = None
+marked_in (Some t) = Some (record t { is_marked = true })
+
+-- the manager's transaction, where one is open, can only roll back
+abbrev pub marked : Machine → ℕ → Machine
+marked M m =
+    let x = manager_at M m in
+    record M { managers = with_manager M m (record x { transaction = marked_in x.transaction }) }
+
+-- ---- the end of a transaction
+
+-- rolled back: the manager's objects are detached as they are
+abbrev pub rolled_back : Machine → ℕ → Machine
+rolled_back M m =
+    let x = manager_at M m in
+    record M {
+      objects = detach_each x.context M.objects;
+      managers = with_manager M m (record x { context = []; transaction = None });
+    }
+
+abbrev pub is_gone : Work → Entry → Bool
+is_gone w e = is_removed (state_of w e.object)
+
+abbrev pub unlocked : Entry → Entry
+unlocked e = record e { lock = Lock.Unlocked }
+
+-- committed: the set and the numbers are stored, removed objects are detached, and locks end
+abbrev pub committed_after : Machine → ℕ → Work → Machine
+committed_after M m w =
+    record M {
+      objects = detach_each (filter (is_gone w) w.context) w.objects;
+      managers = with_manager M m (record (manager_at M m) { context = map unlocked (filter (λ e. not (is_gone w e)) w.context); transaction = None });
+      numbers = w.numbers;
+      stored_numbers = w.numbers;
+      committed = w.view;
+    }

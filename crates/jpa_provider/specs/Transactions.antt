@@ -1,0 +1,70 @@
+-- begin and commit (Jakarta Persistence 3.1, chapters 7.5 transactions, 3.4 optimistic locking).
+use Rattle.std.specs.Prelude.{ℕ, Bool, true, false, not, ◌&&◌, ◌||◌, [], Option, Some, None, if◌then◌else◌}
+use Rattle.std.specs.List.{list_all}
+use Rattle.jpa_value.specs.declared.refusal.Cause.{Cause}
+use Rattle.jpa_value.specs.declared.refusal.Refusal.{Refusal}
+use Rattle.jpa_value.specs.declared.refusal.State.{State}
+use Rattle.jpa_model.specs.declared.unit.PersistenceUnit.{PersistenceUnit}
+use Rattle.jpa_behaviour.specs.Behaviour.{World}
+use Rattle.jpa_context.specs.declared.Base.{Base}
+use Rattle.jpa_context.specs.declared.Entry.{Entry}
+use Rattle.jpa_context.specs.declared.Lock.{Lock}
+use Rattle.jpa_context.specs.Work.{Work, state_of, is_managed, row_at, identity_at}
+use Rattle.jpa_context.specs.Steps.{◌>>=◌, ◌>>◌, Outcome, Done, Refused, Op, require, read}
+use Rattle.jpa_flush.specs.Flush.{flush, row_is_base}
+use Rattle.jpa_protocol.specs.declared.reply.Answer.{Answer}
+use Rattle.jpa_protocol.specs.declared.reply.Reply.{Reply}
+use Rattle.jpa_provider.specs.Machine.{Machine, Transaction, manager_at, with_manager, is_busy, work_of, rolled_back, committed_after}
+use Rattle.jpa_provider.specs.Calls.{accepted, refused, because}
+
+-- ---- begin
+
+-- the transaction sees what is committed now
+abbrev pub begun : Machine → ℕ → Machine
+begun M m = record M { managers = with_manager M m (record (manager_at M m) { transaction = Some (record { begun = M.committed; view = M.committed; is_marked = false }) }) }
+
+abbrev pub begin_in : Machine → ℕ → Option Transaction → Reply × Machine
+begin_in M m (Some t) = because M (Cause.IllegalState State.Active)
+begin_in M m None = if is_busy M then because M Cause.Busy else accepted [] Answer.Null (begun M m)
+
+-- one transaction is open at a time: busy where another manager has one
+abbrev pub begin : Machine → ℕ → Reply × Machine
+begin M m = begin_in M m (manager_at M m).transaction
+
+-- ---- commit
+
+abbrev pub is_read_lock : Lock → Bool
+is_read_lock Lock.Read = true
+is_read_lock Lock.Write = false
+is_read_lock Lock.Unlocked = false
+
+abbrev pub base_is_row : PersistenceUnit → Work → Entry → Option Base → Bool
+base_is_row m w e None = true
+base_is_row m w e (Some b) = row_is_base (row_at w (identity_at m w e.object)) b
+
+-- each managed object that is locked READ has the version that its row has
+abbrev pub reads_hold : PersistenceUnit → Work → Bool
+reads_hold m w = list_all (λ e. not (is_read_lock e.lock && is_managed (state_of w e.object)) || base_is_row m w e e.base) w.context
+
+abbrev pub commit_work : World → Op (Unit {0})
+commit_work world = do
+  flush world
+  hold ← read (reads_hold world.model)
+  require hold Cause.OptimisticLock
+
+-- a refusal on the way rolls back what was before the call
+abbrev pub commit_of : Machine → ℕ → Outcome (Unit {0}) → Reply × Machine
+commit_of M m (Done u w) = accepted w.events Answer.Null (committed_after M m w)
+commit_of M m (Refused r events) = refused events (Refusal.Rollback r) (rolled_back M m)
+
+abbrev pub commit_if : World → Machine → ℕ → Bool → Reply × Machine
+commit_if world M m true = refused [] Refusal.RollbackMarked (rolled_back M m)
+commit_if world M m false = commit_of M m (commit_work world (work_of M m))
+
+abbrev pub commit_in : World → Machine → ℕ → Option Transaction → Reply × Machine
+commit_in world M m None = because M (Cause.IllegalState State.Inactive)
+commit_in world M m (Some t) = commit_if world M m t.is_marked
+
+-- the transaction's set becomes the committed one, or the transaction rolls back
+abbrev pub commit : World → Machine → ℕ → Reply × Machine
+commit world M m = commit_in world M m (manager_at M m).transaction

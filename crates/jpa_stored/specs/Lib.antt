@@ -1,0 +1,4 @@
+pub mod ClaimOrder
+pub mod Lineages
+pub mod Places
+pub mod Sets
