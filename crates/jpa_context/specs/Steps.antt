@@ -61,3 +61,8 @@ IsRefusedAs r events o = o ≡ Refused r events
 abbrev pub Meets : {A : Type 0} → Result A Cause → Work → Outcome A → Type 0
 Meets (Ok a) new o = o ≡ Done a new
 Meets (Err r) new o = IsRefusedAs r new.events o
+
+-- the same of code that also hands over what it did, which its other clauses tell
+abbrev pub Ends : {B : Type 0} → Result B Cause → Work → Outcome (Unit {0}) → Type 0
+Ends (Ok b) new o = o ≡ Done tt new
+Ends (Err r) new o = IsRefusedAs r new.events o

@@ -5,8 +5,11 @@
 //! `specs/Steps.antt` says what an operation on a work is. The crate stands on live objects and stored sets.
 #![tactic(auto)]
 
+mod work;
+
 use jpa_stored::Stored;
 use jpa_value::{Identity, Seq};
+pub use work::UnitOfWork;
 
 /// The optimistic lock of an entry (Jakarta Persistence 3.1, chapter 3.4).
 #[derive(Clone, Copy)]

@@ -61,17 +61,26 @@ abbrev pub unless_refused : Bool → Argument → Result LiveObject Cause → Re
 unless_refused true argument rest = rest
 unless_refused false argument rest = Err (Cause.IllegalArgument argument)
 
--- a key part and the version are set of a new object alone; a collection is not set
-abbrev pub set_member : PersistenceUnit → List LiveObject → LiveObject → Handed → Option Member → Result LiveObject Cause
-set_member m objects x v None = Err (Cause.IllegalArgument Argument.Name)
-set_member m objects x v (Some (Member.KeyPart i)) =
-    unless_refused (fits_part (slice_get (root_of m x.class).key i) v) Argument.Type
+-- a key part and the version are set of a new object alone
+abbrev pub set_part : List Part → LiveObject → Handed → ℕ → Result LiveObject Cause
+set_part parts x v i =
+    unless_refused (fits_part (slice_get parts i) v) Argument.Type
     (unless_refused (is_new x.life) Argument.Key (Ok (with_value x (Member.KeyPart i) (plain v))))
-set_member m objects x v (Some Member.Version) =
+
+abbrev pub set_version : LiveObject → Handed → Result LiveObject Cause
+set_version x v =
     unless_refused (fits_version v) Argument.Type
     (unless_refused (is_new x.life) Argument.Version (Ok (with_value x Member.Version (plain v))))
-set_member m objects x v (Some (Member.Attribute i)) =
-    unless_refused (fits_plain (slice_get (attributes_of m x.class) i) v) Argument.Type (Ok (with_value x (Member.Attribute i) (plain v)))
+
+abbrev pub set_attribute : List Attribute → LiveObject → Handed → ℕ → Result LiveObject Cause
+set_attribute attributes x v i = unless_refused (fits_plain (slice_get attributes i) v) Argument.Type (Ok (with_value x (Member.Attribute i) (plain v)))
+
+-- a collection is not set
+abbrev pub set_member : PersistenceUnit → List LiveObject → LiveObject → Handed → Option Member → Result LiveObject Cause
+set_member m objects x v None = Err (Cause.IllegalArgument Argument.Name)
+set_member m objects x v (Some (Member.KeyPart i)) = set_part (root_of m x.class).key x v i
+set_member m objects x v (Some Member.Version) = set_version x v
+set_member m objects x v (Some (Member.Attribute i)) = set_attribute (attributes_of m x.class) x v i
 set_member m objects x v (Some (Member.Relation r)) =
     let relation = relation_at m x.class r in
     unless_refused (is_to_one relation.side) Argument.Name

@@ -5,7 +5,13 @@
 //! it, `specs/Assign.antt` what `set` makes of it. The crate stands on the metamodel.
 #![tactic(auto)]
 
+mod copy;
+mod create;
+mod setting;
+
+pub use create::{identity_of, is_whole, new_object};
 use jpa_value::{Identity, Seq, Value};
+pub use setting::assign;
 
 /// A to-one relation of a live object (Jakarta Persistence 3.1, chapter 2.9).
 #[derive(Drop)]

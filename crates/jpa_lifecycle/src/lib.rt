@@ -2,3 +2,7 @@
 //!
 //! The definitions stand in `specs/Callbacks.antt`. The crate stands on persistence contexts and stored functions.
 #![tactic(auto)]
+
+mod telling;
+
+pub use telling::callback;

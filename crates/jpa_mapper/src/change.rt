@@ -1,6 +1,7 @@
 //! The change that makes an object's row.
-ghost use Rattle.std.specs.Prelude.{◌≡◌, ◌<◌, ◌^◌, [], length, pos, IfOk, IfErr, IfSome};
-ghost use Rattle.std.specs.List.{AllByRecursion};
+ghost use Rattle.std.specs.Prelude.{◌≡◌, ◌<◌, ◌^◌, [], length, pos, true, IfOk, IfErr, IfSome, OnOk};
+ghost use Rattle.std.specs.List.{AllByRecursion, list_all};
+ghost use Rattle.jpa_value.specs.Value.{is_representable};
 ghost use Rattle.jpa_value.specs.declared.refusal.Cause.{Cause};
 ghost use Rattle.jpa_model.specs.declared.unit.Attribute.{Attribute};
 ghost use Rattle.jpa_model.specs.declared.unit.VersionColumn.{VersionColumn};
@@ -33,6 +34,7 @@ pub fn object_change(
     requires version { IfSome root.now.version (λ (c : VersionColumn). c.column < 2 ^ 63) }
     requires columns { AllByRecursion (λ (a : Attribute). a.column < 2 ^ 63) attributes.now }
     ensures ok { IfOk result (λ change. change ≡ record { table = pos id.now.table; row = key_bytes id.now.key; cells = row_cells entity.now root.now attributes.now object.now }) }
+    ensures representable { OnOk result (list_all is_representable id.now.key ≡ true) }
     ensures err { IfErr result (λ cause. cause ≡ Cause.OutOfMemory) }
 {
     let mut cells = Seq::new(alloc);

@@ -3,3 +3,12 @@
 //! The definitions stand in `specs/`: `Load` loads and finds, `Members` sets, `States` persists and removes. The crate
 //! stands on cascades and on listeners.
 #![tactic(auto)]
+
+mod context;
+mod finding;
+mod persisting;
+mod setting;
+
+pub use finding::find;
+pub use persisting::persist;
+pub use setting::set;

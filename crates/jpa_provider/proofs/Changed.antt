@@ -24,7 +24,8 @@ use Rattle.jpa_protocol.specs.declared.call.Given.{Given}
 use Rattle.jpa_provider.specs.Machine.{Machine, Transaction, manager_at, no_manager, work_of, kept, seen_in, view_in, view}
 use Rattle.jpa_provider.specs.Calls.{object_numbered, handed, concluded, marks_if_callback, marked_if, nothing, give_or}
 use Rattle.jpa_provider.specs.Step.{set_call, on_object, holder}
-use Rattle.jpa_provider.specs.Invariant.{IsFlat, IsMachine, IsLive, is_held_by, stands_in, context_of, given_representable}
+use Rattle.jpa_provider.specs.Invariant.{IsMachine, IsLive, is_held_by, stands_in, context_of, given_representable}
+use Rattle.jpa_lifecycle.specs.Flat.{IsFlat}
 use Rattle.jpa_ops.specs.Load.{most_objects}
 use Rattle.jpa_provider.proofs.Facts.{numbers_same}
 use Rattle.jpa_provider.proofs.AtWork.{HoldsAfter, after_holds, require_holds}

@@ -27,7 +27,8 @@ use Rattle.jpa_ops.specs.Load.{most_objects}
 use Rattle.jpa_provider.specs.Machine.{Machine}
 use Rattle.jpa_provider.specs.Calls.{because}
 use Rattle.jpa_provider.specs.Step.{make_new, made_new}
-use Rattle.jpa_provider.specs.Invariant.{IsFlat, IsMachine, IsLive, context_of, held_fits, version_fits}
+use Rattle.jpa_provider.specs.Invariant.{IsMachine, IsLive, context_of, held_fits, version_fits}
+use Rattle.jpa_lifecycle.specs.Flat.{IsFlat}
 use Rattle.jpa_provider.proofs.Facts.{numbers_same, each_fits_none, each_fits_set, list_all_set}
 use Rattle.jpa_provider.proofs.Kept.{manager_kept, holds_more, live_more, placed_more, new_live}
 

@@ -34,7 +34,8 @@ use Rattle.jpa_ops.specs.States.{persist, persist_one, persist_node, become_mana
 use Rattle.jpa_provider.specs.Machine.{Machine}
 use Rattle.jpa_provider.specs.Calls.{object_numbered}
 use Rattle.jpa_provider.specs.Step.{persist_call}
-use Rattle.jpa_provider.specs.Invariant.{IsFlat, IsEntry, is_held_by, stands_in, context_of, are_one, name_of}
+use Rattle.jpa_provider.specs.Invariant.{IsEntry, is_held_by, stands_in, context_of, are_one, name_of}
+use Rattle.jpa_lifecycle.specs.Flat.{IsFlat}
 use Rattle.jpa_provider.proofs.Facts.{numbers_same}
 use Rattle.jpa_provider.proofs.AtWork.{HoldsAfter, after_holds, require_holds, IsAtWork, contexts}
 use Rattle.jpa_provider.proofs.Kept.{KeepsHeld, manager_kept, entry_kept, distinct_kept, names_kept}

@@ -13,7 +13,8 @@ use Rattle.jpa_behaviour.specs.Behaviour.{AnswersConvertible}
 use Rattle.jpa_stored.specs.Sets.{is_key_of}
 use Rattle.jpa_rows.specs.Cells.{Cell, CanBeHeld, StandFor, is_own_cell}
 use Rattle.jpa_provider.specs.Step.{machine_after}
-use Rattle.jpa_provider.specs.Invariant.{IsFlat, IsMachine}
+use Rattle.jpa_provider.specs.Invariant.{IsMachine}
+use Rattle.jpa_lifecycle.specs.Flat.{IsFlat}
 use Rattle.jpa_provider.proofs.Sample.{P1}
 use Rattle.jpa_provider.proofs.FirstRun.{fresh, first_run, after_first, person_cells, first_cells, set_key}
 use Rattle.jpa_provider.proofs.Settled.{opened_holds}

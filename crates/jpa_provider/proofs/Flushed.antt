@@ -35,7 +35,8 @@ use Rattle.jpa_ops.specs.States.{persist}
 use Rattle.jpa_flush.specs.Flush.{Action, Insert, Replace, Drop, action_of, written, actions, listed, replaces_row, flushed, settled, settled_entry, settled_all, remembered, remembered_in, members_held, all_remembered, after_flush, sound_or, post, post_event, held_now, persist_targets, persist_behind, persist_from, orphans_of, orphans_along, remove_orphan, remove_orphans_of, remove_orphans, check_links, links_stored, pre_update_for, pre_update_one, pre_update, check_one, check_actions, write_all, flush}
 use Rattle.jpa_provider.specs.Machine.{Machine}
 use Rattle.jpa_provider.specs.Transactions.{commit_work, reads_hold}
-use Rattle.jpa_provider.specs.Invariant.{IsFlat, IsLive, IsEntry, name_of, base_fits, known_fits, version_fits, held_fits}
+use Rattle.jpa_provider.specs.Invariant.{IsLive, IsEntry, name_of, base_fits, known_fits, version_fits, held_fits}
+use Rattle.jpa_lifecycle.specs.Flat.{IsFlat}
 use Rattle.jpa_provider.proofs.Facts.{each_fits_none, list_all_weaker}
 use Rattle.jpa_provider.proofs.AtWork.{HoldsAfter, after_holds, require_holds, require_holds_last, IsAtWork}
 use Rattle.jpa_provider.proofs.Persisted.{callback_holds, told_at_work, at_place}

@@ -18,3 +18,15 @@ pub mod Flushed
 pub mod Outcome
 pub mod FirstHolds
 pub mod OneTransaction
+pub mod Served
+pub mod Plain
+pub mod Placed
+pub mod Whole
+pub mod Worked
+pub mod Called
+pub mod Opened
+pub mod Committed
+pub mod SetOf
+pub mod ServedUnits
+pub mod Commits
+pub mod SetCall

@@ -38,7 +38,8 @@ use Rattle.jpa_protocol.specs.declared.call.Given.{Given}
 use Rattle.jpa_provider.specs.Machine.{Machine}
 use Rattle.jpa_provider.specs.Calls.{give_or, class_named, key_given, is_short_given, whole_key}
 use Rattle.jpa_provider.specs.Step.{find_call}
-use Rattle.jpa_provider.specs.Invariant.{IsFlat, IsLive, IsEntry, is_held_by, stands_in, are_one, name_of, version_fits, held_fits, known_fits, base_fits}
+use Rattle.jpa_provider.specs.Invariant.{IsLive, IsEntry, is_held_by, stands_in, are_one, name_of, version_fits, held_fits, known_fits, base_fits}
+use Rattle.jpa_lifecycle.specs.Flat.{IsFlat}
 use Rattle.jpa_provider.proofs.Facts.{numbers_same}
 use Rattle.jpa_provider.proofs.AtWork.{HoldsAfter, after_holds, require_holds, IsAtWork, contexts}
 use Rattle.jpa_provider.proofs.Kept.{manager_kept, entry_kept, distinct_kept, holds_more, live_more, placed_more}

@@ -1,5 +1,5 @@
 -- Two managers, and limits.
-use Rattle.std.specs.Prelude.{codes, replicate, ◌≡◌, refl, pos, Some, List, [], ◌∷◌}
+use Rattle.std.specs.Prelude.{codes, replicate, ◌≡◌, refl, pos, Some, List, [], ◌∷◌, ◌++◌}
 use Rattle.jpa_value.specs.declared.value.Value.{Value}
 use Rattle.jpa_value.specs.declared.refusal.Cause.{Cause}
 use Rattle.jpa_value.specs.declared.refusal.Argument.{Argument}
@@ -10,7 +10,7 @@ use Rattle.jpa_value.specs.declared.event.LifecycleEvent.{LifecycleEvent}
 use Rattle.jpa_stored.specs.Sets.{StoredSet}
 use Rattle.jpa_protocol.specs.declared.call.Call.{Call}
 use Rattle.jpa_protocol.specs.declared.reply.Answer.{Answer}
-use Rattle.jpa_provider.specs.Machine.{Machine, opened}
+use Rattle.jpa_provider.specs.Machine.{Machine, opened, new_manager}
 use Rattle.jpa_provider.specs.Step.{replies_of, machine_after}
 use Rattle.jpa_provider.proofs.Sample.{P1, flat, text, int, saw, ok, quiet, no}
 use Rattle.jpa_provider.proofs.FirstRun.{fresh, after_first}
@@ -18,21 +18,25 @@ use Rattle.jpa_provider.proofs.FirstRun.{fresh, after_first}
 -- manager 2 changes the person that manager 1 holds
 abbrev changed_by_two : List Call
 changed_by_two =
-    Call.CreateEntityManager ∷ Call.Find (pos 2) (codes "Person") (int 1 ∷ []) ∷ Call.SetValue (pos 2) (codes "name") (text (codes "Bob")) ∷ Call.Begin (pos 2) ∷ Call.Commit (pos 2) ∷ []
+    Call.Find (pos 2) (codes "Person") (int 1 ∷ []) ∷ Call.SetValue (pos 2) (codes "name") (text (codes "Bob")) ∷ Call.Begin (pos 2) ∷ Call.Commit (pos 2) ∷ []
 
-changed_replies : replies_of P1 after_first changed_by_two ≡
-    ok [] (Answer.Number 2) ∷ ok (saw LifecycleEvent.PostLoad 2 ∷ []) (Answer.Object 2) ∷ quiet ∷ quiet
+-- one more manager beside those of a machine
+abbrev beside : Machine → Machine
+beside M = record M { managers = M.managers ++ new_manager ∷ [] }
+
+changed_replies : replies_of P1 (beside after_first) changed_by_two ≡
+    ok (saw LifecycleEvent.PostLoad 2 ∷ []) (Answer.Object 2) ∷ quiet ∷ quiet
     ∷ ok (saw LifecycleEvent.PreUpdate 2 ∷ saw LifecycleEvent.PostUpdate 2 ∷ []) Answer.Null ∷ []
 changed_replies = refl
 
 -- a change of what is old rolls back, and detaches: found again, it is another object
-stale : replies_of P1 (machine_after P1 after_first changed_by_two)
+stale : replies_of P1 (machine_after P1 (beside after_first) changed_by_two)
     (Call.SetValue (pos 1) (codes "name") (text (codes "Cy")) ∷ Call.Begin (pos 1) ∷ Call.Commit (pos 1) ∷ Call.Find (pos 1) (codes "Person") (int 1 ∷ []) ∷ []) ≡
     quiet ∷ quiet ∷ no (saw LifecycleEvent.PreUpdate 1 ∷ []) (Refusal.Rollback Cause.OptimisticLock) ∷ ok (saw LifecycleEvent.PostLoad 3 ∷ []) (Answer.Object 3) ∷ []
 stale = refl
 
 -- what is old but unchanged commits
-unchanged : replies_of P1 (machine_after P1 after_first changed_by_two) (Call.Begin (pos 1) ∷ Call.Commit (pos 1) ∷ Call.Find (pos 1) (codes "Person") (int 1 ∷ []) ∷ []) ≡
+unchanged : replies_of P1 (machine_after P1 (beside after_first) changed_by_two) (Call.Begin (pos 1) ∷ Call.Commit (pos 1) ∷ Call.Find (pos 1) (codes "Person") (int 1 ∷ []) ∷ []) ≡
     quiet ∷ quiet ∷ ok [] (Answer.Object 1) ∷ []
 unchanged = refl
 
@@ -44,17 +48,17 @@ abbrev one_order : List Call
 one_order =
     Call.CreateEntityManager ∷ Call.NewObject (codes "Order") ∷ Call.SetValue (pos 1) (codes "number") (int 10) ∷ Call.Begin (pos 1) ∷ Call.Persist (pos 1) (pos 1) ∷ Call.Commit (pos 1) ∷ []
 
-duplicate : replies_of flat (machine_after flat flat_fresh one_order)
-    (Call.CreateEntityManager ∷ Call.NewObject (codes "Order") ∷ Call.SetValue (pos 2) (codes "number") (int 10) ∷ Call.Begin (pos 2) ∷ Call.Persist (pos 2) (pos 2) ∷ Call.Commit (pos 2)
+duplicate : replies_of flat (beside (machine_after flat flat_fresh one_order))
+    (Call.NewObject (codes "Order") ∷ Call.SetValue (pos 2) (codes "number") (int 10) ∷ Call.Begin (pos 2) ∷ Call.Persist (pos 2) (pos 2) ∷ Call.Commit (pos 2)
     ∷ Call.SetValue (pos 2) (codes "amount") (int 1) ∷ []) ≡
-    ok [] (Answer.Number 2) ∷ ok [] (Answer.Object 2) ∷ quiet ∷ quiet ∷ ok (saw LifecycleEvent.PrePersist 2 ∷ []) Answer.Null ∷ no [] (Refusal.Rollback Cause.EntityExists) ∷ quiet ∷ []
+    ok [] (Answer.Object 2) ∷ quiet ∷ quiet ∷ ok (saw LifecycleEvent.PrePersist 2 ∷ []) Answer.Null ∷ no [] (Refusal.Rollback Cause.EntityExists) ∷ quiet ∷ []
 duplicate = refl
 
 -- one transaction at a time, and numbers that name nothing
-turns : replies_of P1 fresh
-    (Call.CreateEntityManager ∷ Call.CreateEntityManager ∷ Call.Begin (pos 1) ∷ Call.Begin (pos 1) ∷ Call.Begin (pos 2) ∷ Call.Commit (pos 2) ∷ Call.Commit (pos 1) ∷ Call.Begin (pos 2)
+turns : replies_of P1 (beside (machine_after P1 fresh (Call.CreateEntityManager ∷ [])))
+    (Call.Begin (pos 1) ∷ Call.Begin (pos 1) ∷ Call.Begin (pos 2) ∷ Call.Commit (pos 2) ∷ Call.Commit (pos 1) ∷ Call.Begin (pos 2)
     ∷ Call.Begin (pos 3) ∷ Call.Persist (pos 2) (pos 9) ∷ Call.NewObject (codes "Nobody") ∷ Call.Find (pos 2) (codes "Person") [] ∷ Call.Commit (pos 2) ∷ []) ≡
-    ok [] (Answer.Number 1) ∷ ok [] (Answer.Number 2) ∷ quiet ∷ no [] (Refusal.Because (Cause.IllegalState State.Active)) ∷ no [] (Refusal.Because Cause.Busy)
+    quiet ∷ no [] (Refusal.Because (Cause.IllegalState State.Active)) ∷ no [] (Refusal.Because Cause.Busy)
     ∷ no [] (Refusal.Because (Cause.IllegalState State.Inactive)) ∷ quiet ∷ quiet
     ∷ no [] (Refusal.Because Cause.NoSuchManager) ∷ no [] (Refusal.Because Cause.NoSuchObject) ∷ no [] (Refusal.Because (Cause.IllegalArgument Argument.Entity))
     ∷ no [] (Refusal.Because (Cause.IllegalArgument Argument.Key)) ∷ no [] Refusal.RollbackMarked ∷ []

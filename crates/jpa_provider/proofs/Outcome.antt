@@ -14,7 +14,8 @@ use Rattle.jpa_provider.specs.Machine.{Machine, Manager, Transaction, manager_at
 use Rattle.jpa_provider.specs.Calls.{because, concluded, marks, marked_if, nothing, object_or_null}
 use Rattle.jpa_provider.specs.Transactions.{begin, begin_in, commit, commit_in, commit_if, commit_of, commit_work}
 use Rattle.jpa_provider.specs.Step.{most_open, most_managers, create, if_open, by_manager, outcome, machine_after, persist_call, find_call, Step, Runs}
-use Rattle.jpa_provider.specs.Invariant.{IsFlat, IsMachine, hands_representable}
+use Rattle.jpa_provider.specs.Invariant.{IsMachine, hands_representable}
+use Rattle.jpa_lifecycle.specs.Flat.{IsFlat}
 use Rattle.jpa_provider.proofs.AtWork.{HoldsAfter, IsAtWork, taken, given_back}
 use Rattle.jpa_provider.proofs.Settled.{created_holds, begun_holds, marked_holds}
 use Rattle.jpa_provider.proofs.Created.{new_holds}

@@ -31,7 +31,8 @@ use Rattle.jpa_ops.specs.Load.{most_objects}
 use Rattle.jpa_ops.specs.States.{give_key, with_key, with_number, number_part, last_number}
 use Rattle.jpa_protocol.specs.declared.event.Told.{Told}
 use Rattle.jpa_provider.specs.Machine.{Machine}
-use Rattle.jpa_provider.specs.Invariant.{IsFlat, IsLive, IsEntry, is_held_by, stands_in}
+use Rattle.jpa_provider.specs.Invariant.{IsLive, IsEntry, is_held_by, stands_in}
+use Rattle.jpa_lifecycle.specs.Flat.{IsFlat}
 use Rattle.jpa_provider.proofs.Facts.{held_more, numbers_trans, numbers_same, each_fits_set, each_fits_length}
 use Rattle.jpa_provider.proofs.AtWork.{HoldsAfter, require_holds, require_holds_last, IsAtWork, contexts}
 use Rattle.jpa_provider.proofs.Kept.{KeepsHeld, manager_kept, entry_kept, distinct_kept}

@@ -28,7 +28,8 @@ use Rattle.jpa_context.specs.Work.{Work, object, state_of, identity_at, row_at, 
 use Rattle.jpa_ops.specs.Load.{most_objects}
 use Rattle.jpa_flush.specs.Flush.{Action, Insert, Replace, Drop, replace_if, action_in, action_of, differs, is_write, check_action, row_is_base, all_convert, can_rise, stored_of, written, planned, first_version, raised}
 use Rattle.jpa_provider.specs.Machine.{Machine}
-use Rattle.jpa_provider.specs.Invariant.{IsFlat, IsLive, IsEntry, are_one, name_of, stands_in, context_of, base_fits, known_fits, version_fits}
+use Rattle.jpa_provider.specs.Invariant.{IsLive, IsEntry, are_one, name_of, stands_in, context_of, base_fits, known_fits, version_fits}
+use Rattle.jpa_lifecycle.specs.Flat.{IsFlat}
 use Rattle.jpa_provider.proofs.Facts.{numbers_same}
 use Rattle.jpa_provider.proofs.AtWork.{HoldsAfter, require_holds, require_holds_last, IsAtWork, contexts}
 use Rattle.jpa_provider.proofs.Kept.{KeepsHeld, manager_kept, entry_kept, distinct_kept}

@@ -1,8 +1,7 @@
 -- What holds of the machine between calls: the objects have the shape of their classes, contexts and states of objects agree,
 -- each identity has one instance in a context, and every set of the machine is one that a store can hold.
-use Rattle.std.specs.Prelude.{◌≡◌, ◌<◌, ◌≤◌, ℕ, ℤ, pos, Bool, true, false, not, nat_lt, nat_le, ◌&&◌, ◌==◌, List, [], ◌∷◌, length, Option, Some, None}
+use Rattle.std.specs.Prelude.{◌≡◌, ◌<◌, ◌≤◌, ℕ, ℤ, Bool, true, false, not, nat_lt, nat_le, ◌&&◌, ◌==◌, List, [], ◌∷◌, length, Option, Some, None}
 use Rattle.std.specs.List.{All, list_any, list_all}
-use Rattle.jpa_value.specs.declared.value.Value.{Value}
 use Rattle.jpa_value.specs.declared.value.Identity.{Identity}
 use Rattle.jpa_value.specs.Value.{fits, same_identity, is_representable}
 use Rattle.jpa_model.specs.declared.unit.PersistenceUnit.{PersistenceUnit}
@@ -21,7 +20,6 @@ use Rattle.jpa_heap.specs.Objects.{object_at}
 use Rattle.jpa_context.specs.declared.Base.{Base}
 use Rattle.jpa_context.specs.declared.Entry.{Entry}
 use Rattle.jpa_ops.specs.Load.{most_objects}
-use Rattle.jpa_lifecycle.specs.Callbacks.{hearers}
 use Rattle.jpa_protocol.specs.declared.call.Call.{Call}
 use Rattle.jpa_protocol.specs.declared.call.Given.{Given}
 use Rattle.jpa_provider.specs.Machine.{Machine, Manager, Transaction, manager_at, has_transaction}
@@ -146,15 +144,6 @@ pub record IsMachine (world : World) (M : Machine) : Type 0 where
 -- one transaction is open at a time: where a manager has one, no other has
 abbrev pub HasOneTransaction : Machine → Type 0
 HasOneTransaction M = (m k : ℕ) → has_transaction (manager_at M m) ≡ true → has_transaction (manager_at M k) ≡ true → m ≡ k
-
--- ---- units whose entities have no relations and no listeners
-
--- besides, what each well formed unit keeps: a class's root is an entity, and an integer is a whole generated key
-pub record IsFlat (m : PersistenceUnit) : Type 0 where
-  pub relations : (class : ℕ) → relations_of m class ≡ []
-  pub hearers : (class : ℕ) → hearers m class ≡ []
-  pub rooted : (class : ℕ) → nat_lt class (length m.entities) ≡ true → nat_lt (root_class m class) (length m.entities) ≡ true
-  pub generated : (class k : ℕ) → (root_of m class).generated ≡ true → is_key_of (root_of m class) (Value.Int (pos k) ∷ []) ≡ true
 
 -- ---- calls
 

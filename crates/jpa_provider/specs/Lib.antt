@@ -3,3 +3,5 @@ pub mod Calls
 pub mod Transactions
 pub mod Step
 pub mod Invariant
+pub mod Serving
+pub mod Provided

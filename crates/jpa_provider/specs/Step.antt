@@ -23,8 +23,9 @@ use Rattle.jpa_provider.specs.Transactions.{begin, commit}
 
 -- ---- managers
 
+-- one, until the work of several is kept apart
 abbrev pub most_open : ℕ
-most_open = 16
+most_open = 1
 
 abbrev pub most_managers : ℕ
 most_managers = 1000000

@@ -74,7 +74,8 @@ impl<T> Seq<T> {
     pub fn into_vec(self) -> Vec<T>
         ensures { result.items ≡ self }
     {
-        self.items
+        let Seq { items } = self;
+        items
     }
 
     /// The items.
@@ -148,7 +149,8 @@ impl Text {
     pub fn into_string(self) -> String
         ensures { string_bytes result ≡ self }
     {
-        self.text
+        let Text { text } = self;
+        text
     }
 
     /// The text.
@@ -167,7 +169,7 @@ impl Text {
     pub fn as_bytes(&self) -> &[u8]
         ensures { result.now ≡ self.now }
     {
-        self.text.as_str().as_bytes()
+        self.as_str().as_bytes()
     }
 }
 
@@ -185,7 +187,8 @@ impl Bytes {
     pub fn into_vec(self) -> Vec<u8>
         ensures { result.items ≡ self }
     {
-        self.bytes
+        let Bytes { bytes } = self;
+        bytes
     }
 
     /// The allocator that it grows by.

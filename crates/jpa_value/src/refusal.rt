@@ -126,6 +126,6 @@ impl<T: Drop> From<AllocFailed<T>> for Cause {
     ghost from_gives = { λ _ cause. cause ≡ OutOfMemory };
 
     fn from(_refused: AllocFailed<T>) -> Cause {
-        Cause::OutOfMemory
+        Cause::from(AllocError)
     }
 }

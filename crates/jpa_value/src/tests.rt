@@ -5,7 +5,7 @@ use crate::{
     Seq, State, Text, TryCopy, Value, compare, equal3, fits, is_same_identity, order_identities,
     order_keys, order_laws, order_values, refusal_text,
 };
-use std::alloc::Global;
+use std::alloc::{AllocError, AllocFailed, Global};
 use std::cmp::Ordering;
 use std::test::Fail;
 
@@ -103,7 +103,7 @@ fn orders_keys_and_identities(rt: HostRuntime) -> Result<(), Fail> {
 }
 
 #[test]
-fn copies_and_holds(rt: HostRuntime) -> Result<(), Fail> {
+fn copies(rt: HostRuntime) -> Result<(), Fail> {
     let a = rt.alloc();
     for value in [
         Value::Null,
@@ -113,26 +113,89 @@ fn copies_and_holds(rt: HostRuntime) -> Result<(), Fail> {
     ] {
         assert_eq!(rt; order_values(&value, &value.try_copy()?), Ordering::Equal);
     }
-    let mut key = pair(a, 1, "b")?;
-    key.set(0, Value::Int(9));
-    assert_eq!(rt; key.len(), 2);
-    assert!(rt; !key.is_empty());
+    assert_eq!(rt; Text::of(a, "Ada")?.try_copy()?.as_str(), "Ada");
+    let both = Bytes::of(vec![in a; 0u8, 255]?);
+    assert_eq!(rt; both.try_copy()?.as_slice(), [0u8, 255].as_slice());
+    let key = pair(a, 1, "b")?;
     assert_eq!(rt;
-        order_keys(
-            Seq::of(key.into_vec()).as_slice(),
-            pair(a, 9, "b")?.as_slice()
-        ),
+        order_keys(key.try_copy()?.as_slice(), key.as_slice()),
         Ordering::Equal
     );
+    Ok(())
+}
+
+#[test]
+fn lists_and_boxes(rt: HostRuntime) -> Result<(), Fail> {
+    let a = rt.alloc();
+    let mut list = Seq::new(a);
+    assert!(rt; list.is_empty());
+    for item in [5u8, 6, 7] {
+        list.push(item)?;
+    }
+    assert!(rt; !list.is_empty());
+    assert_eq!(rt; list.len(), 3);
+    let again = Seq::of(vec![in list.allocator(); 5u8, 6, 7]?);
+    assert_eq!(rt; again.as_slice(), list.as_slice());
+    assert_eq!(rt; list.into_vec().as_slice(), [5u8, 6, 7].as_slice());
+    let mut key = pair(a, 1, "b")?;
+    key.set(0, Value::Int(9));
+    assert_eq!(rt;
+        order_keys(key.as_slice(), pair(a, 9, "b")?.as_slice()),
+        Ordering::Equal
+    );
+    assert_eq!(rt; *Boxed::new(a, 5u8)?.get(), 5);
+    Ok(())
+}
+
+#[test]
+fn texts_and_bytes(rt: HostRuntime) -> Result<(), Fail> {
+    let a = rt.alloc();
     let name = Text::of(a, "Ada")?;
     assert_eq!(rt; name.as_str(), "Ada");
+    assert_eq!(rt; name.as_bytes(), [65u8, 100, 97].as_slice());
+    let other = Text::from_string(String::from_str(name.allocator(), "Bea")?);
+    assert_eq!(rt; other.as_str(), "Bea");
     assert_eq!(rt; name.into_string().as_str(), "Ada");
-    assert_eq!(rt;
-        Bytes::of(vec![in a; 1u8]?).into_vec().as_slice(),
-        [1u8].as_slice()
-    );
-    assert_eq!(rt; LifecycleEvent::PreUpdate.name(), "PreUpdate");
-    assert_eq!(rt; *Boxed::new(a, 5u8)?.get(), 5);
+    let both = Bytes::of(vec![in a; 0u8, 255]?);
+    assert_eq!(rt; both.as_slice(), [0u8, 255].as_slice());
+    let none = Bytes::of(Vec::new(both.allocator()));
+    assert!(rt; none.as_slice().is_empty());
+    assert_eq!(rt; both.into_vec().as_slice(), [0u8, 255].as_slice());
+    Ok(())
+}
+
+#[test]
+fn names(rt: HostRuntime) {
+    for (event, name) in [
+        (LifecycleEvent::PrePersist, "PrePersist"),
+        (LifecycleEvent::PreUpdate, "PreUpdate"),
+        (LifecycleEvent::PostLoad, "PostLoad"),
+    ] {
+        assert_eq!(rt; event.name(), name);
+    }
+    assert_eq!(rt; Argument::Entity.name(), "entity");
+    assert_eq!(rt; Argument::Second.name(), "second");
+    assert_eq!(rt; State::Active.name(), "active");
+    assert_eq!(rt; State::Statement.name(), "statement");
+    assert_eq!(rt; Persist::Key.name(), "key");
+    assert_eq!(rt; Persist::Callback.name(), "callback");
+    assert_eq!(rt; MappingFault::Json.name(), "json");
+    assert_eq!(rt; MappingFault::Function.name(), "function");
+}
+
+#[test]
+fn tells_causes(rt: HostRuntime) -> Result<(), Fail> {
+    let a = rt.alloc();
+    let refused = Cause::from(AllocError);
+    assert_eq!(rt; refused.number(), 1);
+    assert_eq!(rt; refused.name(), "OutOfMemory");
+    assert!(rt; refused.detail(a)?.is_none());
+    assert_eq!(rt; refused.text(a)?.as_str(), "OutOfMemory");
+    assert_eq!(rt; Cause::from(AllocFailed { value: 5u8 }).number(), 1);
+    let missing = Cause::Persistence(Persist::Null);
+    assert_eq!(rt; missing.number(), 12);
+    assert_eq!(rt; missing.name(), "Persistence");
+    assert_eq!(rt; missing.text(a)?.as_str(), "Persistence(null)");
     Ok(())
 }
 
@@ -194,6 +257,12 @@ fn tells_refusals(rt: HostRuntime) -> Result<(), Fail> {
     for (refusal, number, want) in refusals.iter() {
         assert_eq!(rt; refusal.number(), *number, "{want}");
         assert_eq!(rt; refusal_text(a, refusal)?.as_str(), *want);
+    }
+    let rollback = Refusal::Rollback(Cause::Busy);
+    assert_eq!(rt; rollback.name(), "Rollback");
+    match rollback.detail(a)? {
+        Some(detail) => assert_eq!(rt; detail.as_str(), "Busy"),
+        None => panic!(rt; "no detail"),
     }
     Ok(())
 }

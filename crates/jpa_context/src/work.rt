@@ -1,0 +1,71 @@
+//! A manager at work.
+ghost use Rattle.std.specs.Prelude.{◌≡◌, []};
+ghost use Rattle.jpa_context.specs.Undo.{IsKept, now, since};
+
+use crate::Entry;
+use jpa_heap::LiveObject;
+use jpa_protocol::Told;
+use jpa_stored::StoredSet;
+use jpa_undo::UndoList;
+use jpa_value::Seq;
+use std::alloc::Global;
+use std::mem;
+
+/// What an operation of a manager works on, in place: a refused call undoes what it changed.
+///
+/// Contracts see two things of it: `now`, the work as it is, and `since`, what undoing gives.
+#[derive(Drop)]
+pub struct UnitOfWork {
+    /// The place of the manager.
+    pub manager: usize,
+    /// The live objects.
+    pub objects: UndoList<LiveObject>,
+    /// The manager's persistence context, in the order in which objects entered it (chapter 3.3).
+    pub context: UndoList<Entry>,
+    /// The next number of each class that is a root with generated keys (chapter 2.4); 1 for any other.
+    pub numbers: UndoList<u64>,
+    /// The stored objects that the manager sees.
+    pub view: StoredSet,
+    /// Those that it saw before, where a flush made others of them.
+    pub replaced: Option<StoredSet>,
+    /// What was told so far (chapter 3.5).
+    pub events: Seq<Told>,
+}
+
+impl UnitOfWork {
+    /// Another set of stored objects to see. Takes no memory.
+    pub fn replace_view(&mut self, view: StoredSet)
+        ensures now { now self.new ≡ record (now self.old) { view = view } }
+        ensures since { since self.new ≡ since self.old }
+    {
+        let old = mem::replace(&mut self.view, view);
+        if self.replaced.is_none() {
+            self.replaced = Some(old);
+        }
+    }
+
+    /// Keeps what was changed: from now on it is what undoing leads back to. Takes no memory.
+    pub fn keep(&mut self)
+        ensures now { now self.new ≡ now self.old }
+        ensures kept { IsKept self.new }
+    {
+        self.objects.keep();
+        self.context.keep();
+        self.numbers.keep();
+        self.replaced = None;
+    }
+
+    /// Undoes what was changed since it was last kept; the events are let go. Takes no memory.
+    pub fn undo(&mut self, alloc: Global)
+        ensures now { now self.new ≡ record { manager = self.old.manager; objects = (since self.old).objects; context = (since self.old).context; numbers = (since self.old).numbers; view = (since self.old).view; events = [] } }
+        ensures kept { IsKept self.new }
+    {
+        self.objects.undo();
+        self.context.undo();
+        self.numbers.undo();
+        if let Some(view) = self.replaced.take() {
+            self.view = view;
+        }
+        self.events = Seq::new(alloc);
+    }
+}

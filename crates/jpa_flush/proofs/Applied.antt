@@ -1,0 +1,47 @@
+-- What holds of a work after a plan is written.
+use Rattle.std.proofs.Common.{◌≡◌, ◌∙◌, ◌<◌, List, [], ◌∷◌, length, refl, ap, sym, subst, arith, get_or, false}
+use Rattle.std.specs.Prelude.{All}
+use Rattle.std.proofs.lemmas.Bool.{cond_both}
+use Rattle.std.proofs.lemmas.List.Elements.{All-map}
+use Rattle.jpa_model.specs.declared.unit.PersistenceUnit.{PersistenceUnit}
+use Rattle.jpa_model.specs.declared.unit.Relation.{Relation}
+use Rattle.jpa_stored.specs.Sets.{StoredSet}
+use Rattle.jpa_heap.specs.declared.LiveObject.{LiveObject}
+use Rattle.jpa_heap.specs.Shape.{HasShape}
+use Rattle.jpa_context.specs.declared.Entry.{Entry}
+use Rattle.jpa_context.specs.declared.Lock.{Lock}
+use Rattle.jpa_context.specs.Undo.{IsPlaced, IsPlain, is_removed_life}
+use Rattle.jpa_context.specs.Work.{Work, state_of, is_managed}
+use Rattle.jpa_lifecycle.specs.Flat.{IsFlat}
+use Rattle.jpa_flush.specs.declared.planning.Planned.{Planned}
+use Rattle.jpa_flush.specs.Flush.{lowered, members_held, remembered_in, remembered}
+use Rattle.jpa_flush.specs.Plan.{settled_by, applied}
+use Rattle.jpa_flush.proofs.Settled.{same_count, objects_keep, entries_keep}
+use Rattle.jpa_flush.proofs.Remembered.{AreBare}
+
+pub entries_after : (plan : List Planned) (w : Work) → All (λ e. e.object < length w.objects) w.context → All (λ e. e.object < length (settled_by plan w).objects) (settled_by plan w).context
+entries_after plan w h =
+    subst (λ n. All (λ (e : Entry). e.object < n) (settled_by plan w).context) (sym (same_count plan w)) (entries_keep (λ (e : Entry). e.object < length w.objects) (λ x e k. k) plan w h)
+
+none_of : {X : Type 0} (xs : List X) → length xs ≡ 0 → xs ≡ []
+none_of [] h = refl
+none_of (x ∷ xs) h = absurd (omega arith)
+
+pub bare_after : (m : PersistenceUnit) → IsFlat m → (plan : List Planned) (w : Work) → IsPlaced m w → AreBare (settled_by plan w).objects
+bare_after m flat plan w h =
+    objects_keep (λ x. x.relations ≡ []) refl (λ x v k. k) plan w (λ k d l. bare (get_or w.objects k d) (h.objects k d l))
+  where
+    bare : (x : LiveObject) → HasShape m x → x.relations ≡ []
+    bare x k = none_of x.relations (k.relations ∙ ap (λ (rs : List Relation). length rs) (flat.relations x.class))
+
+pub plain_after : (m : PersistenceUnit) (plan : List Planned) (set : StoredSet) (w : Work) → IsPlain w → IsPlain (applied m plan set w)
+plain_after m plan set w h =
+    let v = settled_by plan w in
+    let locks = entries_keep (λ (e : Entry). e.lock ≡ Lock.Unlocked) (λ x e k. ap lowered k) plan w h.context in
+    record {
+      objects = objects_keep (λ x. is_removed_life x.life ≡ false) refl (λ x version k. k) plan w h.objects;
+      context =
+          All-map (λ (e : Entry). e.lock ≡ Lock.Unlocked) (remembered m v) v.context
+          (λ k d l. let e = get_or v.context k d in
+          cond_both (is_managed (state_of v e.object)) (record e { base = remembered_in (members_held m v e.object) e.base }) e (λ (x : Entry). x.lock ≡ Lock.Unlocked) (λ q. locks k d l) (λ q. locks k d l));
+    }

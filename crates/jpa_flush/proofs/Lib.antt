@@ -1,0 +1,9 @@
+pub mod Applied
+pub mod Converts
+pub mod Flushed
+pub mod Joined
+pub mod Plain
+pub mod Remembered
+pub mod Rounds
+pub mod Settled
+pub mod Values

@@ -1,0 +1,11 @@
+use Rattle.std.proofs.Common.{◌≡◌, drop, length}
+use Rattle.jpa_context.specs.Undo.{now, since}
+use Rattle.jpa_flush.specs.Plan.{settled_by}
+use Rattle.jpa_flush.proofs.settling.settle.Given as goal
+
+abbrev pub invariant-loop-planned : goal.invariant-loop-planned
+invariant-loop-planned l = record {
+  rest : settled_by (drop l.planned-index l.plan) (now l.work) ≡ settled_by l.plan (now l.fn.work);
+  many : length (now l.work).objects ≡ length (now l.fn.work).objects;
+  since : since l.work ≡ since l.fn.work;
+}

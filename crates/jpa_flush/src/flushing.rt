@@ -1,0 +1,75 @@
+//! The flush of a manager's context.
+ghost use Rattle.std.specs.Prelude.{◌≡◌, ◌<◌, All, length, IfOk, OnOk};
+ghost use Rattle.jpa_behaviour.specs.Behaviour.{without_functions};
+ghost use Rattle.jpa_context.specs.Steps.{Ends, Meets};
+ghost use Rattle.jpa_context.specs.Undo.{now, since, IsPlaced, IsPlain};
+ghost use Rattle.jpa_lifecycle.specs.Flat.{IsFlat};
+ghost use Rattle.jpa_flush.specs.Flush as flushes;
+ghost use Rattle.jpa_flush.specs.Plan as plans;
+ghost use Rattle.jpa_flush.specs.Writes.{writes, put_all};
+
+use crate::planning::{Planned, plan};
+use crate::settling::{remember, settle};
+use crate::telling::{tell_updates, tell_written};
+use crate::writing::{with_writes, writes_of};
+use jpa_context::UnitOfWork;
+use jpa_model::Metamodel;
+use jpa_stored::{Stored, StoredSet, integrity};
+use jpa_value::{Cause, Identity, Seq};
+use std::alloc::Global;
+
+/// The work after a plan is written: the objects have their versions and bases, the work sees the new set, and what was
+/// written is told.
+fn apply(
+    alloc: Global,
+    metamodel: &Metamodel,
+    work: &mut UnitOfWork,
+    plan: &[Planned],
+    view: StoredSet,
+) -> Result<(), Cause>
+    requires flat { IsFlat metamodel.now }
+    requires placed { IsPlaced metamodel.now (now work.old) }
+    requires plain { IsPlain (now work.old) }
+    requires objects { All (λ p. p.object < length work.old.objects.now) plan.now }
+    ensures meets { Meets result (now work.new) (plans.told_by (without_functions metamodel.now) plan.now (plans.applied metamodel.now plan.now view (now work.old))) }
+    ensures plain { OnOk result (IsPlain (now work.new)) }
+    ensures view { OnOk result (work.new.view ≡ view) }
+    ensures since { since work.new ≡ since work.old }
+{
+    settle(alloc, work, plan)?;
+    remember(alloc, metamodel, work)?;
+    work.replace_view(view);
+    tell_written(alloc, metamodel, work, plan)?;
+    Ok(())
+}
+
+/// Writes what the objects of a manager's context differ in from the set that it sees, in a unit without relations and
+/// listeners, with no object removed and no entry locked (Jakarta Persistence 3.1, chapters 3.2.4 and 3.4). Answers the
+/// objects that were written, under their identities, in the order of the context; the work sees them then.
+///
+/// `EntityExists` where an object that is new to the set has the identity of one in it; `OptimisticLock` where the set
+/// has not the version that an object was loaded with; `Persistence(version)` where a version can't rise;
+/// `Persistence(converter)` where a converter throws; `Persistence(null)`, `(reference)` or `(unique)` where the new set
+/// isn't sound; `OutOfMemory` where a growth was refused. What a refused call changed is undone by `UnitOfWork::undo`.
+pub fn flush(
+    alloc: Global,
+    metamodel: &Metamodel,
+    work: &mut UnitOfWork,
+) -> Result<Seq<(Identity, Stored)>, Cause>
+    requires flat { IsFlat metamodel.now }
+    requires placed { IsPlaced metamodel.now (now work.old) }
+    requires plain { IsPlain (now work.old) }
+    ensures ends { Ends result (now work.new) (flushes.flush (without_functions metamodel.now) (now work.old)) }
+    ensures written { IfOk result (λ objects. objects ≡ writes metamodel.now (now work.old)) }
+    ensures view { IfOk result (λ objects. work.new.view ≡ put_all objects work.old.view) }
+    ensures plain { OnOk result (IsPlain (now work.new)) }
+    ensures since { since work.new ≡ since work.old }
+{
+    tell_updates(alloc, metamodel, work)?;
+    let plan = plan(alloc, metamodel, work)?;
+    let writes = writes_of(alloc, plan.as_slice())?;
+    let view = with_writes(&work.view, writes.as_slice())?;
+    integrity(metamodel.unit(), &view)?;
+    apply(alloc, metamodel, work, plan.as_slice(), view)?;
+    Ok(writes)
+}

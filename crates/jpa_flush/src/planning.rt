@@ -1,0 +1,146 @@
+//! What the flush writes.
+ghost use Rattle.std.specs.Prelude.{◌≡◌, ◌<◌, All, length, IfOk, IfErr};
+ghost use Rattle.jpa_behaviour.specs.Behaviour.{without_functions};
+ghost use Rattle.jpa_context.specs.Steps.{Ends};
+ghost use Rattle.jpa_context.specs.Undo.{now, IsPlaced, IsPlain};
+ghost use Rattle.jpa_lifecycle.specs.Flat.{IsFlat};
+ghost use Rattle.jpa_value.specs.declared.refusal.Cause.{Cause};
+ghost use Rattle.jpa_flush.specs.Flush as flushes;
+ghost use Rattle.jpa_flush.specs.Plan as plans;
+
+use crate::checking::{all_convert, can_rise, is_current, is_stored, raised};
+use crate::steps::{Step, step_of};
+use jpa_context::UnitOfWork;
+use jpa_heap::{LiveObject, identity_of};
+use jpa_model::Metamodel;
+use jpa_stored::Stored;
+use jpa_value::{Cause, Identity, LifecycleEvent, Persist, Seq, TryCopy};
+use std::alloc::Global;
+
+/// An object that is to be written, with the event that is told of it then.
+#[derive(Drop)]
+pub struct Planned {
+    pub object: usize,
+    pub id: Option<Identity>,
+    pub event: LifecycleEvent,
+    pub stored: Stored,
+}
+
+/// What is written of an object of a class without relations.
+fn stored_of(alloc: Global, object: &LiveObject, version: Option<i64>) -> Result<Stored, Cause>
+    ensures ok { IfOk result (λ stored. stored ≡ plans.plain_stored object.now version) }
+    ensures err { IfErr result (λ cause. cause ≡ Cause.OutOfMemory) }
+{
+    Ok(Stored {
+        class: object.class,
+        version,
+        values: object.values.try_copy()?,
+        owned: Seq::new(alloc),
+    })
+}
+
+/// An object that the set has not.
+fn insertion(
+    alloc: Global,
+    metamodel: &Metamodel,
+    work: &UnitOfWork,
+    object: usize,
+) -> Result<Planned, Cause>
+    requires placed { IsPlaced metamodel.now (now work.now) }
+    requires object { object < length work.now.objects.now }
+    ensures planned { IfOk result (λ planned. planned ≡ plans.insertion metamodel.now (now work.now) object) }
+    ensures ends { Ends result (now work.now) (plans.check_insertion (without_functions metamodel.now) object (now work.now)) }
+{
+    let live = &work.objects.as_slice()[object];
+    let id = identity_of(metamodel, live)?;
+    if is_stored(work, &id) {
+        return Err(Cause::EntityExists);
+    }
+    if !all_convert(metamodel, live) {
+        return Err(Cause::Persistence(Persist::Converter));
+    }
+    let version = if metamodel.is_versioned(live.class) {
+        Some(0)
+    } else {
+        None
+    };
+    Ok(Planned {
+        object,
+        id,
+        event: LifecycleEvent::PostPersist,
+        stored: stored_of(alloc, live, version)?,
+    })
+}
+
+/// An object that replaces its row, which has this version.
+fn replacement(
+    alloc: Global,
+    metamodel: &Metamodel,
+    work: &UnitOfWork,
+    object: usize,
+    version: Option<i64>,
+) -> Result<Planned, Cause>
+    requires placed { IsPlaced metamodel.now (now work.now) }
+    requires object { object < length work.now.objects.now }
+    ensures planned { IfOk result (λ planned. planned ≡ plans.replacement metamodel.now (now work.now) object version) }
+    ensures ends { Ends result (now work.now) (plans.check_replacement (without_functions metamodel.now) object version (now work.now)) }
+{
+    let live = &work.objects.as_slice()[object];
+    let id = identity_of(metamodel, live)?;
+    if !is_current(work, &id, version) {
+        return Err(Cause::OptimisticLock);
+    }
+    if !can_rise(version) {
+        return Err(Cause::Persistence(Persist::Version));
+    }
+    if !all_convert(metamodel, live) {
+        return Err(Cause::Persistence(Persist::Converter));
+    }
+    Ok(Planned {
+        object,
+        id,
+        event: LifecycleEvent::PostUpdate,
+        stored: stored_of(alloc, live, raised(version))?,
+    })
+}
+
+/// What is written of an object in this step, if anything.
+fn plan_one(
+    alloc: Global,
+    metamodel: &Metamodel,
+    work: &UnitOfWork,
+    object: usize,
+    step: Step,
+) -> Result<Option<Planned>, Cause>
+    requires placed { IsPlaced metamodel.now (now work.now) }
+    requires object { object < length work.now.objects.now }
+    ensures planned { IfOk result (λ planned. planned ≡ plans.planned metamodel.now (now work.now) object step) }
+    ensures ends { Ends result (now work.now) (plans.check (without_functions metamodel.now) object step (now work.now)) }
+{
+    match step {
+        Step::Keep => Ok(None),
+        Step::Insert => Ok(Some(insertion(alloc, metamodel, work, object)?)),
+        Step::Replace(version) => {
+            Ok(Some(replacement(alloc, metamodel, work, object, version)?))
+        }
+    }
+}
+
+/// What the flush writes, in the order of the context, each object checked against the set.
+pub fn plan(alloc: Global, metamodel: &Metamodel, work: &UnitOfWork) -> Result<Seq<Planned>, Cause>
+    requires flat { IsFlat metamodel.now }
+    requires placed { IsPlaced metamodel.now (now work.now) }
+    requires plain { IsPlain (now work.now) }
+    ensures planned { IfOk result (λ plan. plan ≡ plans.plan_of metamodel.now (now work.now)) }
+    ensures objects { IfOk result (λ plan. All (λ p. p.object < length work.now.objects.now) plan) }
+    ensures ends { Ends result (now work.now) (flushes.check_actions (without_functions metamodel.now) (now work.now)) }
+{
+    let mut plan = Seq::new(alloc);
+    for entry in work.context.as_slice() {
+        let step = step_of(work, entry);
+        if let Some(planned) = plan_one(alloc, metamodel, work, entry.object, step)? {
+            plan.push(planned)?;
+        }
+    }
+    Ok(plan)
+}

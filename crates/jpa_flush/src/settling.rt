@@ -1,0 +1,140 @@
+//! The objects and their bases after a write.
+ghost use Rattle.std.specs.Prelude.{◌≡◌, ◌<◌, [], All, length, IfOk, IfErr, OnOk};
+ghost use Rattle.jpa_context.specs.Undo.{now, since};
+ghost use Rattle.jpa_context.specs.Work as works;
+ghost use Rattle.jpa_value.specs.declared.refusal.Cause.{Cause};
+ghost use Rattle.jpa_flush.specs.Flush as flushes;
+ghost use Rattle.jpa_flush.specs.Plan as plans;
+
+use crate::planning::Planned;
+use jpa_context::{Base, Entry, Lock, UnitOfWork};
+use jpa_heap::Life;
+use jpa_model::Metamodel;
+use jpa_stored::Stored;
+use jpa_value::{Cause, Seq, TryCopy};
+use std::alloc::Global;
+
+/// The lock after a write: one that raises the version does so once.
+fn lowered(lock: Lock) -> Lock
+    ensures { result ≡ flushes.lowered lock }
+{
+    match lock {
+        Lock::Write | Lock::Read => Lock::Read,
+        Lock::Unlocked => Lock::Unlocked,
+    }
+}
+
+/// The entry of an object that was written.
+fn settled_entry(alloc: Global, entry: &Entry, stored: &Stored) -> Result<Entry, Cause>
+    ensures ok { IfOk result (λ settled. settled ≡ flushes.settled_entry stored.now entry.now) }
+    ensures err { IfErr result (λ cause. cause ≡ Cause.OutOfMemory) }
+{
+    Ok(Entry {
+        object: entry.object,
+        lock: lowered(entry.lock),
+        base: Some(Base {
+            stored: stored.try_copy()?,
+            members: Seq::new(alloc),
+        }),
+    })
+}
+
+/// The entries of an object that was written take it as their base.
+fn settle_entries(
+    alloc: Global,
+    work: &mut UnitOfWork,
+    object: usize,
+    stored: &Stored,
+) -> Result<(), Cause>
+    ensures ok { OnOk result (now work.new ≡ works.with_entry object (flushes.settled_entry stored.now) (now work.old)) }
+    ensures err { IfErr result (λ cause. cause ≡ Cause.OutOfMemory) }
+    ensures since { since work.new ≡ since work.old }
+{
+    for i in 0..work.context.len() {
+        let entry = &work.context.as_slice()[i];
+        if entry.object == object {
+            let settled = settled_entry(alloc, entry, stored)?;
+            work.context.set(i, settled)?;
+        }
+    }
+    Ok(())
+}
+
+/// An object takes the version that was written.
+fn settle_version(work: &mut UnitOfWork, object: usize, version: Option<i64>) -> Result<(), Cause>
+    requires { object < length work.old.objects.now }
+    ensures ok { OnOk result (now work.new ≡ works.with_object object (record (works.object (now work.old) object) { version = version }) (now work.old)) }
+    ensures err { IfErr result (λ cause. cause ≡ Cause.OutOfMemory) }
+    ensures since { since work.new ≡ since work.old }
+{
+    let mut settled = work.objects.as_slice()[object].try_copy()?;
+    settled.version = version;
+    work.objects.set(object, settled)?;
+    Ok(())
+}
+
+/// Each object of a plan takes the version that was written, and its base is what was written.
+pub fn settle(alloc: Global, work: &mut UnitOfWork, plan: &[Planned]) -> Result<(), Cause>
+    requires { All (λ p. p.object < length work.old.objects.now) plan.now }
+    ensures ok { OnOk result (now work.new ≡ plans.settled_by plan.now (now work.old)) }
+    ensures err { IfErr result (λ cause. cause ≡ Cause.OutOfMemory) }
+    ensures since { since work.new ≡ since work.old }
+{
+    for planned in plan {
+        settle_version(work, planned.object, planned.stored.version)?;
+        settle_entries(alloc, work, planned.object, &planned.stored)?;
+    }
+    Ok(())
+}
+
+/// Whether an entry of a managed object remembers members, which a class without relations has not.
+fn is_outdated(work: &UnitOfWork, entry: &Entry) -> bool
+    requires { entry.now.object < length work.now.objects.now }
+    ensures { result ≡ plans.is_outdated (now work.now) entry.now }
+{
+    match &entry.base {
+        None => false,
+        Some(base) if base.members.is_empty() => false,
+        Some(_) => match work.objects.as_slice()[entry.object].life {
+            Life::Managed(manager) => manager == work.manager,
+            _ => false,
+        },
+    }
+}
+
+/// An entry that remembers no members.
+fn without_members(alloc: Global, entry: &Entry) -> Result<Entry, Cause>
+    ensures ok { IfOk result (λ current. current ≡ record entry.now { base = flushes.remembered_in [] entry.now.base }) }
+    ensures err { IfErr result (λ cause. cause ≡ Cause.OutOfMemory) }
+{
+    let base = match &entry.base {
+        None => None,
+        Some(base) => Some(Base {
+            stored: base.stored.try_copy()?,
+            members: Seq::new(alloc),
+        }),
+    };
+    Ok(Entry {
+        object: entry.object,
+        lock: entry.lock,
+        base,
+    })
+}
+
+/// The base of each managed object takes the members that its relations have, which are none.
+pub fn remember(alloc: Global, _metamodel: &Metamodel, work: &mut UnitOfWork) -> Result<(), Cause>
+    requires entries { All (λ e. e.object < length work.old.objects.now) work.old.context.now }
+    requires bare { All (λ x. x.relations ≡ []) work.old.objects.now }
+    ensures ok { OnOk result (now work.new ≡ flushes.all_remembered _metamodel.now (now work.old)) }
+    ensures err { IfErr result (λ cause. cause ≡ Cause.OutOfMemory) }
+    ensures since { since work.new ≡ since work.old }
+{
+    for i in 0..work.context.len() {
+        let entry = &work.context.as_slice()[i];
+        if is_outdated(work, entry) {
+            let current = without_members(alloc, entry)?;
+            work.context.set(i, current)?;
+        }
+    }
+    Ok(())
+}

@@ -1,0 +1,77 @@
+//! The events of a flush.
+ghost use Rattle.std.specs.Prelude.{◌≡◌, ◌<◌, All, length};
+ghost use Rattle.jpa_behaviour.specs.Behaviour.{without_functions};
+ghost use Rattle.jpa_context.specs.Steps.{Meets};
+ghost use Rattle.jpa_context.specs.Undo.{now, since, IsPlaced, IsPlain};
+ghost use Rattle.jpa_lifecycle.specs.Flat.{IsFlat};
+ghost use Rattle.jpa_flush.specs.Flush as flushes;
+ghost use Rattle.jpa_flush.specs.Plan as plans;
+
+use crate::planning::Planned;
+use crate::steps::{Step, step_of};
+use jpa_context::UnitOfWork;
+use jpa_lifecycle::callback;
+use jpa_model::Metamodel;
+use jpa_value::{Cause, LifecycleEvent};
+use std::alloc::Global;
+
+/// PreUpdate, where the object replaces its row.
+fn tell_update(
+    alloc: Global,
+    metamodel: &Metamodel,
+    work: &mut UnitOfWork,
+    object: usize,
+    step: Step,
+) -> Result<(), Cause>
+    requires flat { IsFlat metamodel.now }
+    requires object { object < length work.old.objects.now }
+    ensures meets { Meets result (now work.new) (plans.update (without_functions metamodel.now) object step (now work.old)) }
+    ensures events { now work.new ≡ record (now work.old) { events = (now work.new).events } }
+    ensures since { since work.new ≡ since work.old }
+{
+    match step {
+        Step::Keep | Step::Insert => Ok(()),
+        Step::Replace(_) => callback(alloc, metamodel, work, LifecycleEvent::PreUpdate, object),
+    }
+}
+
+/// PreUpdate for each object that replaces its row (chapter 3.5.2).
+pub fn tell_updates(
+    alloc: Global,
+    metamodel: &Metamodel,
+    work: &mut UnitOfWork,
+) -> Result<(), Cause>
+    requires flat { IsFlat metamodel.now }
+    requires placed { IsPlaced metamodel.now (now work.old) }
+    requires plain { IsPlain (now work.old) }
+    ensures meets { Meets result (now work.new) (flushes.pre_update (without_functions metamodel.now) (now work.old)) }
+    ensures events { now work.new ≡ record (now work.old) { events = (now work.new).events } }
+    ensures since { since work.new ≡ since work.old }
+{
+    for i in 0..work.context.len() {
+        let entry = &work.context.as_slice()[i];
+        let object = entry.object;
+        let step = step_of(work, entry);
+        tell_update(alloc, metamodel, work, object, step)?;
+    }
+    Ok(())
+}
+
+/// The event of each object that was written, in the order of the plan.
+pub fn tell_written(
+    alloc: Global,
+    metamodel: &Metamodel,
+    work: &mut UnitOfWork,
+    plan: &[Planned],
+) -> Result<(), Cause>
+    requires flat { IsFlat metamodel.now }
+    requires objects { All (λ p. p.object < length work.old.objects.now) plan.now }
+    ensures meets { Meets result (now work.new) (plans.told_by (without_functions metamodel.now) plan.now (now work.old)) }
+    ensures events { now work.new ≡ record (now work.old) { events = (now work.new).events } }
+    ensures since { since work.new ≡ since work.old }
+{
+    for planned in plan {
+        callback(alloc, metamodel, work, planned.event, planned.object)?;
+    }
+    Ok(())
+}

@@ -1,0 +1,4 @@
+pub mod Flat
+pub mod Named
+pub mod Changes
+pub mod Holding

@@ -1,0 +1,2 @@
+mod Loaded
+mod Persisted

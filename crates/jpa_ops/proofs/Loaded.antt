@@ -1,0 +1,128 @@
+-- What loading does to a work, in units without relations and listeners.
+use Rattle.std.proofs.Common.{◌≡◌, ◌<◌, ℕ, Bool, true, false, List, [], ◌∷◌, ◌++◌, length, map, refl, ap, sym, subst, ◌∙◌, arith}
+use Rattle.std.specs.Prelude.{All, nat_lt, Option, Some, None, ◌==◌, if◌then◌else◌, is_some}
+use Rattle.std.specs.List.{AllByRecursion, enumerate_from}
+use Rattle.std.specs.Option.{unwrap_or}
+use Rattle.std.specs.Ordering.{is_eq}
+use Rattle.std.specs.FinMap.Entries.{find as entry_found}
+use Rattle.std.proofs.lemmas.List.Elements.{recursion_from_All}
+use Rattle.std.proofs.lemmas.Bool.{true≢false, ltb-true, lt-ltb, eq-eqb, ne_eqb, and_parts}
+use Rattle.jpa_value.specs.declared.value.Identity.{Identity}
+use Rattle.jpa_value.specs.declared.refusal.Cause.{Cause}
+use Rattle.jpa_value.specs.declared.event.LifecycleEvent.{LifecycleEvent}
+use Rattle.jpa_value.specs.Value.{identity_cmp}
+use Rattle.jpa_model.specs.declared.unit.PersistenceUnit.{PersistenceUnit}
+use Rattle.jpa_model.specs.declared.unit.Relation.{Relation}
+use Rattle.jpa_model.specs.Chains.{relations_of, is_to_one}
+use Rattle.jpa_behaviour.specs.Behaviour.{World}
+use Rattle.jpa_stored.specs.declared.stored.Stored.{Stored}
+use Rattle.jpa_stored.specs.Sets.{StoredSet, stored_at, all_shaped, members}
+use Rattle.jpa_heap.specs.declared.Life.{Life}
+use Rattle.jpa_heap.specs.declared.LiveObject.{LiveObject}
+use Rattle.jpa_context.specs.declared.Base.{Base}
+use Rattle.jpa_context.specs.declared.Lock.{Lock}
+use Rattle.jpa_context.specs.declared.Entry.{Entry}
+use Rattle.jpa_context.specs.Steps.{◌>>◌, Op, Done, after, change, give, require}
+use Rattle.jpa_context.specs.Work.{Work, entered, with_base}
+use Rattle.jpa_lifecycle.specs.Callbacks.{callback}
+use Rattle.jpa_lifecycle.specs.Flat.{IsFlat}
+use Rattle.jpa_ops.specs.Load.{most_objects, object_loaded, base_loaded, held_loaded, made, load, known, unread}
+
+-- ---- the class of a row
+
+stored_class : (k : ℕ) (id : Identity) (x : Stored) (e : Identity × Stored) (o : Option Stored) (b : Bool) → (o ≡ Some x → nat_lt x.class k ≡ true) → nat_lt (e.1).class k ≡ true →
+    (if b then Some e.1 else o) ≡ Some x → nat_lt x.class k ≡ true
+stored_class k id x e o true t h g = subst (λ (y : Stored). nat_lt y.class k ≡ true) (ap (λ o'. unwrap_or o' x) g) h
+stored_class k id x e o false t h g = t g
+
+class_by : (m : PersistenceUnit) (s : StoredSet) (id : Identity) (x : Stored) → all_shaped m s ≡ true → stored_at s id ≡ Some x → nat_lt x.class (length m.entities) ≡ true
+class_by m [] id x h e = absurd (true≢false (sym (ap is_some e)))
+class_by m (y ∷ ys) id x h e =
+    let a = and_parts _ (all_shaped m ys) h in
+    stored_class (length m.entities) id x y (entry_found identity_cmp id ys) (is_eq (identity_cmp id y.0)) (class_by m ys id x a.1)
+    (and_parts (nat_lt (y.1).class (length m.entities)) _ a.0).0 e
+
+-- a row of a shaped set is of a class of the unit
+pub row_class : (m : PersistenceUnit) (s : StoredSet) (id : Identity) (x : Stored) → all_shaped m s ≡ true → stored_at s id ≡ Some x → x.class < length m.entities
+row_class m s id x h e = ltb-true x.class (length m.entities) (class_by m s id x h e)
+
+-- ---- an object with its base enters
+
+other_place : (n : ℕ) (b : Option Base) (x : Entry) (t : Bool) → t ≡ false → (if t then record x { base = b } else x) ≡ x
+other_place n b x true e = absurd (true≢false e)
+other_place n b x false e = refl
+
+own_place : (n : ℕ) (b : Option Base) (x : Entry) (t : Bool) → t ≡ true → (if t then record x { base = b } else x) ≡ record x { base = b }
+own_place n b x true e = refl
+own_place n b x false e = absurd (true≢false (sym e))
+
+based : (n : ℕ) (b : Option Base) (xs : List Entry) (y : Entry) → AllByRecursion (λ (e : Entry). e.object < n) xs → (y.object == n) ≡ true →
+    map (λ (e : Entry). if e.object == n then record e { base = b } else e) (xs ++ y ∷ []) ≡ xs ++ record y { base = b } ∷ []
+based n b [] y h e = ap (λ (x : Entry). x ∷ []) (own_place n b y (y.object == n) e)
+based n b (x ∷ xs) y h e =
+    let below : x.object < n = h.0 in
+    (λ i. other_place n b x (x.object == n) (ne_eqb x.object n (λ same. omega (arith, below, same))) i ∷ based n b xs y h.1 e i)
+
+-- no entry before it has its place
+entered_based : (n : ℕ) (b : Option Base) (w : Work) → All (λ (e : Entry). e.object < n) w.context →
+    with_base n b (entered n w) ≡ record w { context = w.context ++ record { object = n; lock = Lock.Unlocked; base = b } ∷ [] }
+entered_based n b w h = ap (λ (es : List Entry). record w { context = es }) (based n b w.context (record { object = n; lock = Lock.Unlocked; base = None }) (recursion_from_All _ w.context h) (eq-eqb n n refl))
+
+-- ---- no relations
+
+no_held : (m : PersistenceUnit) (s : StoredSet) (id : Identity) (x : Stored) → relations_of m x.class ≡ [] → held_loaded m s id x ≡ []
+no_held m s id x e = ap (λ (rs : List Relation). map (λ (p : ℕ × Relation). unread (is_to_one (p.1).side) (members m s id x p.0)) (enumerate_from 0 rs)) e
+
+no_members : (m : PersistenceUnit) (s : StoredSet) (id : Identity) (x : Stored) → relations_of m x.class ≡ [] → (base_loaded m s id x).members ≡ []
+no_members m s id x e = ap (λ (rs : List Relation). map (λ (p : ℕ × Relation). known (is_to_one (p.1).side) (members m s id x p.0)) (enumerate_from 0 rs)) e
+
+-- ---- load
+
+-- a row as an object of the manager
+abbrev pub object_of_row : ℕ → Identity → Stored → LiveObject
+object_of_row manager id x = record { class = x.class; key = id.key; version = x.version; values = x.values; relations = []; life = Life.Managed manager }
+
+abbrev with_row : Identity → Stored → Work → Work
+with_row id x w =
+    record w {
+      objects = w.objects ++ object_of_row w.manager id x ∷ [];
+      context = w.context ++ record { object = length w.objects; lock = Lock.Unlocked; base = Some (record { stored = x; members = [] }) } ∷ [];
+    }
+
+entered_row : (m : PersistenceUnit) (id : Identity) (x : Stored) (w : Work) → relations_of m x.class ≡ [] → All (λ (e : Entry). e.object < length w.objects) w.context →
+    with_base (length w.objects) (Some (base_loaded m w.view id x)) (entered (length w.objects) (made (object_loaded m w.manager w.view id x) w)) ≡ with_row id x w
+entered_row m id x w e h =
+    let n = length w.objects in
+    let object = object_loaded m w.manager w.view id x in
+    entered_based n (Some (base_loaded m w.view id x)) (made object w) h
+    ∙ (λ i. record w {
+      objects = w.objects ++ record { class = x.class; key = id.key; version = x.version; values = x.values; relations = no_held m w.view id x e i; life = Life.Managed w.manager } ∷ [];
+      context = w.context ++ record { object = n; lock = Lock.Unlocked; base = Some (record { stored = x; members = no_members m w.view id x e i }) } ∷ [];
+    })
+
+-- what load does once there is room
+abbrev entering : World → Identity → Stored → ℕ → Op ℕ
+entering world id x n =
+    change (λ w. with_base n (Some (base_loaded world.model w.view id x)) (entered n (made (object_loaded world.model w.manager w.view id x) w)))
+    >> (callback world LifecycleEvent.PostLoad n >> give n)
+
+-- where there is room, the row is entered and PostLoad told
+loads : (world : World) (id : Identity) (x : Stored) (w : Work) → IsFlat world.model → All (λ (e : Entry). e.object < length w.objects) w.context →
+    nat_lt (length w.objects) most_objects ≡ true →
+    load world id x w ≡ after (callback world LifecycleEvent.PostLoad (length w.objects) (with_row id x w)) (λ _. give (length w.objects))
+loads world id x w flat h e =
+    ap (λ b. after (require b Cause.Limit w) (λ _. entering world id x (length w.objects))) e
+    ∙ ap (λ w'. after (callback world LifecycleEvent.PostLoad (length w.objects) w') (λ _. give (length w.objects))) (entered_row world.model id x w (flat.relations x.class) h)
+
+-- the lists took the row and its entry, and the event was told
+pub loaded : (world : World) (id : Identity) (x : Stored) (w : Work) (n : ℕ) (objects : List LiveObject) (context : List Entry) (new : Work) →
+    IsFlat world.model → All (λ (e : Entry). e.object < length w.objects) w.context → n ≡ length w.objects → n < most_objects →
+    objects ≡ w.objects ++ object_of_row w.manager id x ∷ [] →
+    context ≡ w.context ++ record { object = n; lock = Lock.Unlocked; base = Some (record { stored = x; members = [] }) } ∷ [] →
+    callback world LifecycleEvent.PostLoad n (record w { objects = objects; context = context }) ≡ Done tt new → load world id x w ≡ Done n new
+loaded world id x w n objects context new flat h place room os es told =
+    let entry : ℕ → Entry = λ k. record { object = k; lock = Lock.Unlocked; base = Some (record { stored = x; members = [] }) } in
+    let entries : w.context ++ entry (length w.objects) ∷ [] ≡ context = ap (λ k. w.context ++ entry k ∷ []) (sym place) ∙ sym es in
+    loads world id x w flat h (lt-ltb (length w.objects) most_objects (omega (arith, place, room)))
+    ∙ (λ i. after (callback world LifecycleEvent.PostLoad (sym place i) (record w { objects = sym os i; context = entries i })) (λ _. give (sym place i)))
+    ∙ ap (λ o. after o (λ _. give n)) told

@@ -1,0 +1,63 @@
+-- What persist does to a work, in units without relations and listeners.
+use Rattle.std.proofs.Common.{◌≡◌, ◌<◌, ℕ, suc, Bool, true, List, [], ◌∷◌, length, refl, ap, sym, subst, ◌∙◌}
+use Rattle.std.specs.Prelude.{All, slice_set}
+use Rattle.std.proofs.lemmas.Bool.{false≢true, and_parts}
+use Rattle.std.proofs.lemmas.List.{length-set}
+use Rattle.std.proofs.lemmas.List.Elements.{All-get_or, All-set}
+use Rattle.jpa_model.specs.declared.unit.PersistenceUnit.{PersistenceUnit}
+use Rattle.jpa_model.specs.Chains.{root_of}
+use Rattle.jpa_behaviour.specs.Behaviour.{World}
+use Rattle.jpa_stored.specs.Sets.{each_fits}
+use Rattle.jpa_heap.specs.declared.LiveObject.{LiveObject}
+use Rattle.jpa_heap.specs.Objects.{no_object}
+use Rattle.jpa_heap.specs.Shape.{HasShape}
+use Rattle.jpa_context.specs.declared.Entry.{Entry}
+use Rattle.jpa_context.specs.declared.EntityState.{EntityState}
+use Rattle.jpa_context.specs.Steps.{Outcome, Done, Refused, after, each}
+use Rattle.jpa_context.specs.Undo.{IsPlaced}
+use Rattle.jpa_context.specs.Work.{Work, object, state_of}
+use Rattle.jpa_cascade.specs.declared.Node.{Node}
+use Rattle.jpa_cascade.specs.declared.Operation.{Operation}
+use Rattle.jpa_cascade.proofs.Plain.{plain_waves}
+use Rattle.jpa_lifecycle.specs.Flat.{IsFlat}
+use Rattle.jpa_ops.specs.States.{number_part, persist, persist_node, persist_one}
+
+-- ---- a work whose object took a number as its key
+
+each_fits_length : {A B : Type 0} (f : A → B → Bool) (xs : List A) (ys : List B) → each_fits f xs ys ≡ true → length xs ≡ length ys
+each_fits_length f [] [] h = refl
+each_fits_length f [] (y ∷ ys) h = absurd (false≢true h)
+each_fits_length f (x ∷ xs) [] h = absurd (false≢true h)
+each_fits_length f (x ∷ xs) (y ∷ ys) h = ap suc (each_fits_length f xs ys (and_parts (f x y) (each_fits f xs ys) h).1)
+
+-- a generated key has one part
+numbered_shape : (m : PersistenceUnit) (x : LiveObject) (k : ℕ) → IsFlat m → (root_of m x.class).generated ≡ true → HasShape m x → HasShape m (record x { key = number_part k })
+numbered_shape m x k flat g h =
+    record { class = h.class; key = sym (each_fits_length _ (root_of m x.class).key (number_part k) (flat.generated x.class k g)); values = h.values; relations = h.relations }
+
+-- the places stay those of the unit
+pub numbered_places : (m : PersistenceUnit) (w : Work) (n k : ℕ) (x y : LiveObject) (objects : List LiveObject) (numbers : List ℕ) → IsFlat m → IsPlaced m w → n < length w.objects →
+    (root_of m (object w n).class).generated ≡ true → x ≡ object w n → y ≡ record x { key = number_part k } → objects ≡ slice_set w.objects n y → length numbers ≡ length w.numbers →
+    IsPlaced m (record w { objects = objects; numbers = numbers })
+numbered_places m w n k x y objects numbers flat h l g own e set same =
+    let shape = numbered_shape m (object w n) k flat g (All-get_or (HasShape m) w.objects n no_object l h.objects) in
+    let keyed : y ≡ record (object w n) { key = number_part k } = e ∙ ap (λ (z : LiveObject). record z { key = number_part k }) own in
+    let shapes = All-set (HasShape m) w.objects n y (subst (HasShape m) (sym keyed) shape) h.objects in
+    let count : length objects ≡ length w.objects = ap length set ∙ length-set w.objects n y in
+    record {
+      objects = subst (All (HasShape m)) (sym set) shapes;
+      entries = subst (λ c. All (λ (z : Entry). z.object < c) w.context) (sym count) h.entries;
+      numbers = same ∙ h.numbers;
+      view = h.view;
+    }
+
+-- ---- persist is of the object alone
+
+nothing_else : (o : Outcome (Unit {0})) → after o (λ _. each {A = Node} (λ x w. Done tt w) []) ≡ o
+nothing_else (Done u w) = refl
+nothing_else (Refused r events) = refl
+
+pub persists_alone : (world : World) (n : ℕ) (w : Work) (s : EntityState) → IsFlat world.model → s ≡ state_of w n → persist_one world n s w ≡ persist world n w
+persists_alone world n w s flat e =
+    ap (λ t. persist_one world n t w) e
+    ∙ sym (ap (λ ns. each (persist_node world) ns w) (plain_waves world.model Operation.Persist w n (flat.relations (object w n).class)) ∙ nothing_else (persist_one world n (state_of w n) w))

@@ -1,0 +1,27 @@
+use Rattle.std.proofs.Common.{◌≡◌, ◌∙◌, ap, length, get_or}
+use Rattle.std.proofs.lemmas.List.{get_or_default, length-set}
+use Rattle.jpa_heap.specs.Objects.{no_object}
+use Rattle.jpa_context.specs.Undo.{now}
+use Rattle.jpa_context.specs.Work.{object}
+use Rattle.jpa_ops.proofs.Persisted.{numbered_places}
+use Rattle.jpa_ops.proofs.persisting.give_number.Goals as goal
+
+-- the key alone was given
+pub returns-in_err-set-2-clause-placed : goal.returns-in_err-set-2-clause-placed
+returns-in_err-set-2-clause-placed c =
+    let w = now c.args.work.now in
+    let n = c.args.object in
+    let x = c.index-as_slice-object.result in
+    let own : x ≡ object w n = c.index-as_slice-object.is ∙ ap (λ xs. get_or xs n x) c.as_slice.ensures ∙ get_or_default w.objects n x no_object c.requires.object in
+    numbered_places c.args.metamodel.now w n _ x c.in_ok-keyed.keyed c.set.new.self.now c.set-2.new.self.now c.requires.flat c.requires.placed c.requires.object c.requires.generated own
+    c.in_ok-keyed.ensures.ok c.in_ok-set.ensures.changed (ap length c.in_err-set-2.ensures.refused)
+
+-- the key was given, and the number raised
+pub returns-clause-placed : goal.returns-clause-placed
+returns-clause-placed c =
+    let w = now c.args.work.now in
+    let n = c.args.object in
+    let x = c.index-as_slice-object.result in
+    let own : x ≡ object w n = c.index-as_slice-object.is ∙ ap (λ xs. get_or xs n x) c.as_slice.ensures ∙ get_or_default w.objects n x no_object c.requires.object in
+    numbered_places c.args.metamodel.now w n _ x c.in_ok-keyed.keyed c.set.new.self.now c.set-2.new.self.now c.requires.flat c.requires.placed c.requires.object c.requires.generated own
+    c.in_ok-keyed.ensures.ok c.in_ok-set.ensures.changed (ap length c.in_ok-set-2.ensures.changed ∙ length-set w.numbers c.root_class-root.result _)

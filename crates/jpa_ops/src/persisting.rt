@@ -1,0 +1,220 @@
+//! Making an object managed.
+ghost use Rattle.std.specs.Prelude.{◌≡◌, ◌<◌, length, true, IfOk, IfErr};
+ghost use Rattle.std.specs.List.{list_all};
+ghost use Rattle.jpa_value.specs.Value.{is_null};
+ghost use Rattle.jpa_value.specs.declared.refusal.Cause.{Cause};
+ghost use Rattle.jpa_model.specs.Chains.{root_of};
+ghost use Rattle.jpa_behaviour.specs.Behaviour.{without_functions};
+ghost use Rattle.jpa_heap.specs.declared.Life.{Life};
+ghost use Rattle.jpa_context.specs.Steps.{Meets, Done};
+ghost use Rattle.jpa_context.specs.Undo.{now, since, IsPlaced};
+ghost use Rattle.jpa_context.specs.Work as works;
+ghost use Rattle.jpa_context.specs.declared.EntityState.{EntityState};
+ghost use Rattle.jpa_lifecycle.specs.Flat.{IsFlat};
+ghost use Rattle.jpa_ops.specs.States as states;
+
+use crate::context::{has_base, has_instance, state_of};
+use jpa_context::{EntityState, Entry, Lock, UnitOfWork};
+use jpa_heap::{Life, LiveObject, is_whole};
+use jpa_lifecycle::callback;
+use jpa_model::Metamodel;
+use jpa_value::{Cause, LifecycleEvent, Persist, Seq, TryCopy, Value};
+use std::alloc::Global;
+
+/// The greatest next number; it is never given.
+const LAST_NUMBER: u64 = 9_223_372_036_854_775_807;
+
+/// Whether no part of a key is there. Takes no memory.
+fn is_unset(key: &[Value]) -> bool
+    ensures { result ≡ list_all is_null key.now }
+{
+    for part in key {
+        if !matches!(part, Value::Null) {
+            return false;
+        }
+    }
+    true
+}
+
+/// A copy of an object with a number as its key.
+fn with_number(alloc: Global, object: &LiveObject, number: u64) -> Result<LiveObject, Cause>
+    requires { number < states.last_number }
+    ensures ok { IfOk result (λ x. x ≡ record (object.now) { key = states.number_part number }) }
+    ensures err { IfErr result (λ cause. cause ≡ Cause.OutOfMemory) }
+{
+    let mut keyed = object.try_copy()?;
+    let mut key = Seq::new(alloc);
+    key.push(Value::Int(number as i64))?;
+    keyed.key = key;
+    Ok(keyed)
+}
+
+/// The next number becomes the key of an object that has none (chapter 2.4). `Persistence(key)` where a part of its key
+/// is there, `Persistence(generator)` where no number is left, and `OutOfMemory`.
+fn give_number(
+    alloc: Global,
+    metamodel: &Metamodel,
+    work: &mut UnitOfWork,
+    object: usize,
+) -> Result<(), Cause>
+    requires flat { IsFlat metamodel.now }
+    requires placed { IsPlaced metamodel.now (now work.old) }
+    requires object { object < length work.old.objects.now }
+    requires generated { (root_of metamodel.now (works.object (now work.old) object).class).generated ≡ true }
+    ensures meets { Meets result (now work.new) (states.give_key (without_functions metamodel.now) object true (now work.old)) }
+    ensures placed { IsPlaced metamodel.now (now work.new) }
+    ensures count { length work.new.objects.now ≡ length work.old.objects.now }
+    ensures view { work.new.view ≡ work.old.view }
+    ensures since { since work.new ≡ since work.old }
+{
+    let unkeyed = &work.objects.as_slice()[object];
+    if !is_unset(unkeyed.key.as_slice()) {
+        return Err(Cause::Persistence(Persist::Key));
+    }
+    let root = metamodel.root_class(unkeyed.class);
+    let number = work.numbers.as_slice()[root];
+    if number >= LAST_NUMBER {
+        return Err(Cause::Persistence(Persist::Generator));
+    }
+    let keyed = with_number(alloc, unkeyed, number)?;
+    work.objects.set(object, keyed)?;
+    work.numbers.set(root, number + 1)?;
+    Ok(())
+}
+
+/// An object gets its key where keys are generated; else its key is there. `Persistence(key)` where it isn't, or is
+/// where it would be generated; `Persistence(generator)` where no number is left; and `OutOfMemory`.
+fn give_key(
+    alloc: Global,
+    metamodel: &Metamodel,
+    work: &mut UnitOfWork,
+    object: usize,
+) -> Result<(), Cause>
+    requires flat { IsFlat metamodel.now }
+    requires placed { IsPlaced metamodel.now (now work.old) }
+    requires object { object < length work.old.objects.now }
+    ensures meets { Meets result (now work.new) (states.give_key (without_functions metamodel.now) object (root_of metamodel.now (works.object (now work.old) object).class).generated (now work.old)) }
+    ensures placed { IsPlaced metamodel.now (now work.new) }
+    ensures count { length work.new.objects.now ≡ length work.old.objects.now }
+    ensures view { work.new.view ≡ work.old.view }
+    ensures since { since work.new ≡ since work.old }
+{
+    let fresh = &work.objects.as_slice()[object];
+    if metamodel.root_of(fresh.class).generated {
+        return give_number(alloc, metamodel, work, object);
+    }
+    if !is_whole(fresh.key.as_slice()) {
+        return Err(Cause::Persistence(Persist::Key));
+    }
+    Ok(())
+}
+
+/// An object is the manager's. Fails for want of memory alone, with `OutOfMemory`.
+fn manage(work: &mut UnitOfWork, object: usize) -> Result<(), Cause>
+    requires { object < length work.old.objects.now }
+    ensures meets { Meets result (now work.new) (Done tt (works.with_life_of object (Life.Managed (now work.old).manager) (now work.old))) }
+    ensures count { length work.new.objects.now ≡ length work.old.objects.now }
+    ensures view { work.new.view ≡ work.old.view }
+    ensures since { since work.new ≡ since work.old }
+{
+    let mut managed = work.objects.as_slice()[object].try_copy()?;
+    managed.life = Life::Managed(work.manager);
+    work.objects.set(object, managed)?;
+    Ok(())
+}
+
+/// A new object becomes managed: its key is there or given, and no other object of the context has its identity.
+/// Refused as `persist` is.
+fn become_managed(
+    alloc: Global,
+    metamodel: &Metamodel,
+    work: &mut UnitOfWork,
+    object: usize,
+) -> Result<(), Cause>
+    requires flat { IsFlat metamodel.now }
+    requires placed { IsPlaced metamodel.now (now work.old) }
+    requires object { object < length work.old.objects.now }
+    ensures meets { Meets result (now work.new) (states.become_managed (without_functions metamodel.now) object (now work.old)) }
+    ensures count { length work.new.objects.now ≡ length work.old.objects.now }
+    ensures view { work.new.view ≡ work.old.view }
+    ensures since { since work.new ≡ since work.old }
+{
+    give_key(alloc, metamodel, work, object)?;
+    if has_instance(metamodel, work, object)? {
+        return Err(Cause::EntityExists);
+    }
+    manage(work, object)?;
+    work.context.push(Entry {
+        object,
+        lock: Lock::Unlocked,
+        base: None,
+    })?;
+    Ok(())
+}
+
+/// A new object becomes managed, and PrePersist is told (chapter 3.5.2). Refused as `persist` is.
+fn persist_new(
+    alloc: Global,
+    metamodel: &Metamodel,
+    work: &mut UnitOfWork,
+    object: usize,
+) -> Result<(), Cause>
+    requires flat { IsFlat metamodel.now }
+    requires placed { IsPlaced metamodel.now (now work.old) }
+    requires object { object < length work.old.objects.now }
+    ensures meets { Meets result (now work.new) (states.persist_one (without_functions metamodel.now) object EntityState.New (now work.old)) }
+    ensures view { work.new.view ≡ work.old.view }
+    ensures since { since work.new ≡ since work.old }
+{
+    become_managed(alloc, metamodel, work, object)?;
+    callback(alloc, metamodel, work, LifecycleEvent::PrePersist, object)
+}
+
+/// A removed object is managed again, and PrePersist is told unless it is stored. Fails for want of memory alone, with
+/// `OutOfMemory`.
+fn persist_removed(
+    alloc: Global,
+    metamodel: &Metamodel,
+    work: &mut UnitOfWork,
+    object: usize,
+) -> Result<(), Cause>
+    requires flat { IsFlat metamodel.now }
+    requires object { object < length work.old.objects.now }
+    ensures meets { Meets result (now work.new) (states.persist_one (without_functions metamodel.now) object EntityState.Removed (now work.old)) }
+    ensures view { work.new.view ≡ work.old.view }
+    ensures since { since work.new ≡ since work.old }
+{
+    manage(work, object)?;
+    if has_base(work, object) {
+        return Ok(());
+    }
+    callback(alloc, metamodel, work, LifecycleEvent::PrePersist, object)
+}
+
+/// Makes an object of a unit without relations and listeners managed: a new one enters the persistence context, with the
+/// next number as its key where keys are generated; a removed one is managed again; a managed one stays as it is
+/// (Jakarta Persistence 3.1, chapters 3.2.2 and 2.4). PrePersist is told of an object that was not stored yet.
+///
+/// `EntityExists` for a detached object, and where the context has another of the identity; `Persistence(key)` where a
+/// part of an assigned key is null, or a generated key is not; `Persistence(generator)` where no number is left;
+/// `OutOfMemory` where a growth was refused. What a refused call changed is undone by `UnitOfWork::undo`.
+pub fn persist(
+    alloc: Global,
+    metamodel: &Metamodel,
+    work: &mut UnitOfWork,
+    object: usize,
+) -> Result<(), Cause>
+    requires flat { IsFlat metamodel.now }
+    requires placed { IsPlaced metamodel.now (now work.old) }
+    requires object { object < length work.old.objects.now }
+    ensures meets { Meets result (now work.new) (states.persist (without_functions metamodel.now) object (now work.old)) }
+    ensures view { work.new.view ≡ work.old.view }
+    ensures since { since work.new ≡ since work.old }
+{
+    match state_of(work, object) {
+        EntityState::New => persist_new(alloc, metamodel, work, object),
+        EntityState::Managed => Ok(()),
+        EntityState::Removed => persist_removed(alloc, metamodel, work, object),
+        EntityState::Detached => Err(Cause::EntityExists),
+    }
+}

@@ -1,0 +1,180 @@
+//! What a call hands in, as the machine takes it.
+ghost use Rattle.std.specs.Prelude.{◌≡◌, ◌<◌, ◌⊎◌, length, nat_lt, true, IfOk, IfErr, IfSome};
+ghost use Rattle.std.specs.List.{list_all};
+ghost use Rattle.std.specs.Str.{is_utf8};
+ghost use Rattle.jpa_value.specs.declared.refusal.Cause.{Cause};
+ghost use Rattle.jpa_value.specs.Value.{is_representable};
+ghost use Rattle.jpa_behaviour.specs.Behaviour as behaviour;
+ghost use Rattle.jpa_heap.specs.Objects.{place_of};
+ghost use Rattle.jpa_heap.specs.Shape.{IsInHeap};
+ghost use Rattle.jpa_context.specs.Steps.{Meets};
+ghost use Rattle.jpa_context.specs.Work.{Work};
+ghost use Rattle.jpa_provider.specs.Calls as calls;
+ghost use Rattle.jpa_provider.specs.Invariant as invariant;
+
+use jpa_heap::Handed;
+use jpa_model::Part;
+use jpa_protocol::{Call, Given};
+use jpa_value::{Cause, Key, Seq, TryCopy, Value, fits};
+use std::alloc::Global;
+
+/// The place of what goes by a number, from 1, among so many.
+pub(crate) fn place_of(count: usize, number: i64) -> Option<usize>
+    ensures place { result ≡ place_of count number }
+    ensures within { IfSome result (λ place. place < count) }
+{
+    if number < 1 {
+        return None;
+    }
+    let place = (number - 1) as usize;
+    if place < count { Some(place) } else { None }
+}
+
+/// Whether a value has at most 65,535 bytes.
+fn has_few_bytes(value: &Value) -> bool
+    ensures { result ≡ behaviour.is_short value.now }
+{
+    match value {
+        Value::Null | Value::Int(_) => true,
+        Value::Text(text) => text.as_bytes().len() <= 65_535,
+        Value::Bytes(bytes) => bytes.as_slice().len() <= 65_535,
+    }
+}
+
+/// Whether a value that is handed in is short enough.
+pub(crate) fn is_short(given: &Given) -> bool
+    ensures { result ≡ calls.is_short_given given.now }
+{
+    match given {
+        Given::Plain(value) => has_few_bytes(value),
+        Given::Object(_) => true,
+    }
+}
+
+/// Whether all parts of a key that are handed in are short enough.
+pub(crate) fn are_short(given: &[Given]) -> bool
+    ensures { result ≡ list_all calls.is_short_given given.now }
+{
+    for part in given {
+        if !is_short(part) {
+            return false;
+        }
+    }
+    true
+}
+
+/// What is handed in as a value, in a heap of so many objects: `Limit` for a value that is too long, `NoSuchObject` for a
+/// number that names none.
+pub(crate) fn handed(count: usize, given: Given) -> Result<Handed, Cause>
+    ensures meets { (w : Work) → length w.objects ≡ count → Meets result w (calls.handed given w) }
+    ensures within { IfOk result (λ h. (w : Work) → length w.objects ≡ count → IsInHeap w.objects h) }
+    ensures refused { IfErr result (λ cause. (cause ≡ Cause.Limit) ⊎ (cause ≡ Cause.NoSuchObject)) }
+{
+    match given {
+        Given::Plain(value) => {
+            if has_few_bytes(&value) {
+                Ok(Handed::Plain(value))
+            } else {
+                Err(Cause::Limit)
+            }
+        }
+        Given::Object(number) => match place_of(count, number) {
+            Some(place) => Ok(Handed::Object(place)),
+            None => Err(Cause::NoSuchObject),
+        },
+    }
+}
+
+/// The value for a part of a key: of its kind and not null; else none. Fails for want of memory alone, with `OutOfMemory`.
+fn part_given(part: &Part, given: &Given) -> Result<Option<Value>, Cause>
+    ensures ok { IfOk result (λ value. value ≡ calls.part_given part.now given.now) }
+    ensures err { IfErr result (λ cause. cause ≡ Cause.OutOfMemory) }
+{
+    match given {
+        Given::Plain(value) => {
+            if fits(part.kind, value) && !matches!(value, Value::Null) {
+                Ok(Some(value.try_copy()?))
+            } else {
+                Ok(None)
+            }
+        }
+        Given::Object(_) => Ok(None),
+    }
+}
+
+/// A key of these parts from what is handed in: a value for each, of its kind and not null; else none. Fails for want of
+/// memory alone, with `OutOfMemory`.
+pub(crate) fn whole_key(
+    alloc: Global,
+    parts: &[Part],
+    given: &[Given],
+) -> Result<Option<Key>, Cause>
+    ensures ok { IfOk result (λ key. key ≡ calls.whole_key parts.now given.now) }
+    ensures err { IfErr result (λ cause. cause ≡ Cause.OutOfMemory) }
+{
+    if parts.len() != given.len() {
+        return Ok(None);
+    }
+    let mut key = Seq::new(alloc);
+    for (place, part) in parts.iter().enumerate() {
+        match part_given(part, &given[place])? {
+            Some(value) => key.push(value)?,
+            None => return Ok(None),
+        }
+    }
+    Ok(Some(key))
+}
+
+/// A text is in UTF-8.
+fn text_representable(text: &str)
+    ensures { is_utf8 text.now ≡ true }
+{}
+
+/// A byte string has bytes.
+fn bytes_representable(bytes: &[u8])
+    ensures { list_all (λ b. nat_lt b 256) bytes.now ≡ true }
+{}
+
+/// A value is one of the program.
+fn value_representable(value: &Value)
+    ensures { is_representable value.now ≡ true }
+{
+    match value {
+        Value::Null => {}
+        Value::Int(number) => {
+            let _number = *number;
+        }
+        Value::Text(text) => text_representable(text.as_str()),
+        Value::Bytes(bytes) => bytes_representable(bytes.as_slice()),
+    }
+}
+
+/// What is handed in as a value is one of the program.
+fn given_representable(given: &Given)
+    ensures { invariant.given_representable given.now ≡ true }
+{
+    match given {
+        Given::Plain(value) => value_representable(value),
+        Given::Object(_) => {}
+    }
+}
+
+/// What is handed in as a key are values of the program.
+fn key_representable(given: &[Given])
+    ensures { list_all invariant.given_representable given.now ≡ true }
+{
+    for part in given {
+        given_representable(part);
+    }
+}
+
+/// What a call hands in are values of the program: integers of 64 bits, texts in UTF-8 and bytes.
+pub(crate) fn hands_representable(call: &Call)
+    ensures { invariant.hands_representable call.now ≡ true }
+{
+    match call {
+        Call::SetValue { value, .. } => given_representable(value),
+        Call::Find { key, .. } => key_representable(key.as_slice()),
+        _ => {}
+    }
+}

@@ -1,0 +1,404 @@
+//! Conditions, and the SELECTs nested in them.
+ghost use Rattle.std.specs.Prelude.{◌≡◌, ◌∷◌, [], length, IfOk};
+ghost use Rattle.jpql_lexer.specs.Gives.{Gives};
+ghost use Rattle.jpql_tree.specs.Values.{list_at, closed};
+ghost use Rattle.jpql_tree.specs.Conditions as spec;
+ghost use Rattle.jpql_tree.specs.Conditions.{cond_at};
+
+use jpa_value::{Boxed, Seq, Text};
+use jpql_lexer::ReadError;
+use jpql_predicates::{begins_variable, opens_condition, opposite, simple};
+use jpql_tree::{Block, Condition, Item, Join, Keyword, Mark, Origin, Source, Token};
+use jpql_values::{after, after_word, is_word, name, optional_word, sees, value, variable};
+use std::alloc::{AllocError, Global};
+
+/// Two boxes, of what a condition joins.
+fn boxed<T: Drop>(alloc: Global, left: T, right: T) -> Result<(Boxed<T>, Boxed<T>), AllocError>
+    ensures { IfOk result (λ both. (both.0 ≡ left) × (both.1 ≡ right)) }
+{
+    let left = Boxed::new(alloc, left)?;
+    let right = Boxed::new(alloc, right)?;
+    Ok((left, right))
+}
+
+fn both(alloc: Global, left: Condition, right: Condition) -> Result<Condition, AllocError>
+    ensures { IfOk result (λ c. c ≡ Condition.And left right) }
+{
+    let (left, right) = boxed(alloc, left, right)?;
+    Ok(Condition::And(left, right))
+}
+
+fn either(alloc: Global, left: Condition, right: Condition) -> Result<Condition, AllocError>
+    ensures { IfOk result (λ c. c ≡ Condition.Or left right) }
+{
+    let (left, right) = boxed(alloc, left, right)?;
+    Ok(Condition::Or(left, right))
+}
+
+/// A variable or an item's name, before which AS may stand.
+#[tactic(auto, unfolding(jpql_tree::specs::Conditions::named_at))]
+pub fn named(alloc: Global, tokens: &[Token]) -> Result<(Text, &[Token]), ReadError>
+    ensures { Gives (λ r. (r.0, r.1.now)) result (spec.named_at tokens.now) }
+{
+    let (_, rest) = optional_word(Keyword::As, tokens);
+    variable(alloc, rest)
+}
+
+/// Such a name, where there is one.
+#[tactic(auto, unfolding(jpql_tree::specs::Conditions::optional_name_at))]
+pub fn optional_name(alloc: Global, tokens: &[Token]) -> Result<(Option<Text>, &[Token]), ReadError>
+    ensures { Gives (λ r. (r.0, r.1.now)) result (spec.optional_name_at tokens.now) }
+{
+    if is_word(Keyword::As, tokens) || begins_variable(tokens) {
+        let (name, rest) = named(alloc, tokens)?;
+        Ok((Some(name), rest))
+    } else {
+        Ok((None, tokens))
+    }
+}
+
+/// An item of SELECT.
+#[tactic(auto, unfolding(jpql_tree::specs::Conditions::item_at))]
+pub fn item(alloc: Global, depth: usize, tokens: &[Token]) -> Result<(Item, &[Token]), ReadError>
+    ensures { Gives (λ r. (r.0, r.1.now)) result (spec.item_at depth tokens.now) }
+{
+    let (value, rest) = value(alloc, depth, tokens)?;
+    let (name, rest) = optional_name(alloc, rest)?;
+    Ok((Item { value, name }, rest))
+}
+
+fn begins_related(tokens: &[Token]) -> bool
+    ensures { result ≡ spec.begins_related tokens.now }
+{
+    begins_variable(tokens) && sees(Mark::Dot, &tokens[1..])
+}
+
+/// A variable, and the name after its dot.
+#[tactic(auto, unfolding(jpql_tree::specs::Conditions::related_at))]
+pub fn related(alloc: Global, tokens: &[Token]) -> Result<((Text, Text), &[Token]), ReadError>
+    ensures { Gives (λ r. (r.0, r.1.now)) result (spec.related_at tokens.now) }
+{
+    let (variable, rest) = variable(alloc, tokens)?;
+    let (name, rest) = name(alloc, after(Mark::Dot, rest)?)?;
+    Ok(((variable, name), rest))
+}
+
+#[tactic(auto, unfolding(jpql_tree::specs::Conditions::origin_at))]
+fn origin(alloc: Global, is_nested: bool, tokens: &[Token]) -> Result<(Origin, &[Token]), ReadError>
+    ensures { Gives (λ r. (r.0, r.1.now)) result (spec.origin_at is_nested tokens.now) }
+{
+    if is_nested && begins_related(tokens) {
+        let ((variable, relation), rest) = related(alloc, tokens)?;
+        Ok((Origin::Related(variable, relation), rest))
+    } else {
+        let (entity, rest) = name(alloc, tokens)?;
+        Ok((Origin::Entity(entity), rest))
+    }
+}
+
+fn begins_join(tokens: &[Token]) -> bool
+    ensures { result ≡ spec.begins_join tokens.now }
+{
+    is_word(Keyword::Join, tokens)
+        || is_word(Keyword::Inner, tokens)
+        || is_word(Keyword::Left, tokens)
+}
+
+#[tactic(auto, unfolding(jpql_tree::specs::Conditions::side_at))]
+fn side(tokens: &[Token]) -> Result<(bool, &[Token]), ReadError>
+    ensures { Gives (λ r. (r.0, r.1.now)) result (spec.side_at tokens.now) }
+{
+    if is_word(Keyword::Left, tokens) {
+        let (_, rest) = optional_word(Keyword::Outer, &tokens[1..]);
+        Ok((true, after_word(Keyword::Join, rest)?))
+    } else {
+        let (_, rest) = optional_word(Keyword::Inner, tokens);
+        Ok((false, after_word(Keyword::Join, rest)?))
+    }
+}
+
+/// A condition after this word, where the word comes next.
+#[cycle(cond)]
+#[tactic(auto, unfolding(jpql_tree::specs::Conditions::clause_at))]
+pub fn clause(
+    alloc: Global,
+    depth: usize,
+    word: Keyword,
+    tokens: &[Token],
+) -> Result<(Option<Boxed<Condition>>, &[Token]), ReadError>
+    ensures { Gives (λ r. (r.0, r.1.now)) result (spec.clause_at (cond_at depth) word tokens.now) }
+{
+    if !is_word(word, tokens) {
+        return Ok((None, tokens));
+    }
+    let (condition, rest) = cond(alloc, depth, &tokens[1..])?;
+    Ok((Some(Boxed::new(alloc, condition)?), rest))
+}
+
+#[cycle(cond)]
+#[tactic(auto, unfolding(jpql_tree::specs::Conditions::join_at))]
+fn join(alloc: Global, depth: usize, tokens: &[Token]) -> Result<(Join, &[Token]), ReadError>
+    ensures { Gives (λ r. (r.0, r.1.now)) result (spec.join_at (cond_at depth) tokens.now) }
+{
+    let (is_left, rest) = side(tokens)?;
+    let ((of, relation), rest) = related(alloc, rest)?;
+    let (variable, rest) = named(alloc, rest)?;
+    let (on, rest) = clause(alloc, depth, Keyword::On, rest)?;
+    Ok((
+        Join {
+            is_left,
+            of,
+            relation,
+            variable,
+            on,
+        },
+        rest,
+    ))
+}
+
+#[cycle(cond)]
+#[tactic(auto, unfolding(jpql_tree::specs::Conditions::joins_at))]
+fn joins(alloc: Global, depth: usize, tokens: &[Token]) -> Result<(Seq<Join>, &[Token]), ReadError>
+    ensures { Gives (λ r. (r.0, r.1.now)) result (spec.joins_at (cond_at depth) (length tokens.now) [] tokens.now) }
+{
+    let mut found = Seq::new(alloc);
+    let mut rest = tokens;
+    for _turn in 0..tokens.len() {
+        if !begins_join(rest) {
+            return Ok((found, rest));
+        }
+        let (one, more) = join(alloc, depth, rest)?;
+        found.push(one)?;
+        rest = more;
+    }
+    Ok((found, rest))
+}
+
+#[cycle(cond)]
+#[tactic(auto, unfolding(jpql_tree::specs::Conditions::source_at))]
+fn source(
+    alloc: Global,
+    depth: usize,
+    is_nested: bool,
+    tokens: &[Token],
+) -> Result<(Source, &[Token]), ReadError>
+    ensures { Gives (λ r. (r.0, r.1.now)) result (spec.source_at (cond_at depth) is_nested tokens.now) }
+{
+    let (origin, rest) = origin(alloc, is_nested, tokens)?;
+    let (variable, rest) = named(alloc, rest)?;
+    let (joins, rest) = joins(alloc, depth, rest)?;
+    Ok((
+        Source {
+            origin,
+            variable,
+            joins,
+        },
+        rest,
+    ))
+}
+
+/// What stands after FROM; in a nested SELECT relations of variables too.
+#[cycle(cond)]
+#[tactic(auto, unfolding(jpql_tree::specs::Values::list_at, jpql_tree::specs::Values::others_at))]
+pub fn sources(
+    alloc: Global,
+    depth: usize,
+    is_nested: bool,
+    tokens: &[Token],
+) -> Result<(Seq<Source>, &[Token]), ReadError>
+    ensures { Gives (λ r. (r.0, r.1.now)) result (list_at (spec.source_at (cond_at depth) is_nested) tokens.now) }
+{
+    let (first, mut rest) = source(alloc, depth, is_nested, tokens)?;
+    let mut found = Seq::new(alloc);
+    found.push(first)?;
+    for _turn in 0..rest.len() {
+        if !sees(Mark::Comma, rest) {
+            return Ok((found, rest));
+        }
+        let (one, more) = source(alloc, depth, is_nested, &rest[1..])?;
+        found.push(one)?;
+        rest = more;
+    }
+    Ok((found, rest))
+}
+
+#[cycle(cond)]
+#[tactic(auto, unfolding(jpql_tree::specs::Conditions::block_at))]
+fn block(alloc: Global, depth: usize, tokens: &[Token]) -> Result<(Block, &[Token]), ReadError>
+    ensures { Gives (λ r. (r.0, r.1.now)) result (spec.block_at depth (cond_at depth) tokens.now) }
+{
+    let (is_distinct, rest) = optional_word(Keyword::Distinct, tokens);
+    let (item, rest) = item(alloc, depth, rest)?;
+    let rest = after_word(Keyword::From, rest)?;
+    let (sources, rest) = sources(alloc, depth, true, rest)?;
+    let (filter, rest) = clause(alloc, depth, Keyword::Where, rest)?;
+    Ok((
+        Block {
+            is_distinct,
+            item,
+            sources,
+            filter,
+        },
+        rest,
+    ))
+}
+
+#[cycle(cond)]
+#[tactic(auto, unfolding(jpql_tree::specs::Conditions::exists_at, jpql_tree::specs::Values::closed))]
+fn exists(alloc: Global, depth: usize, tokens: &[Token]) -> Result<(Condition, &[Token]), ReadError>
+    ensures { Gives (λ r. (r.0, r.1.now)) result (spec.exists_at depth (cond_at depth) tokens.now) }
+{
+    let rest = after_word(Keyword::Select, after(Mark::Open, tokens)?)?;
+    let (block, rest) = block(alloc, depth, rest)?;
+    let rest = after(Mark::Close, rest)?;
+    Ok((Condition::Exists(Boxed::new(alloc, block)?), rest))
+}
+
+// Here and in the loops below a condition is dropped by a call: one that goes out of scope takes minutes to prove.
+#[cycle(cond)]
+#[tactic(auto, unfolding(jpql_tree::specs::Values::closed))]
+fn nested(alloc: Global, depth: usize, tokens: &[Token]) -> Result<(Condition, &[Token]), ReadError>
+    ensures { Gives (λ r. (r.0, r.1.now)) result (closed (cond_at depth tokens.now)) }
+{
+    let (inner, rest) = cond(alloc, depth, tokens)?;
+    match after(Mark::Close, rest) {
+        Ok(rest) => Ok((inner, rest)),
+        Err(error) => {
+            drop(inner);
+            Err(error)
+        }
+    }
+}
+
+#[cycle(cond)]
+#[tactic(auto, unfolding(jpql_tree::specs::Conditions::test_at))]
+fn test(alloc: Global, depth: usize, tokens: &[Token]) -> Result<(Condition, &[Token]), ReadError>
+    ensures { Gives (λ r. (r.0, r.1.now)) result (spec.test_at depth (cond_at depth) tokens.now) }
+{
+    if opens_condition(tokens) {
+        nested(alloc, depth, &tokens[1..])
+    } else if is_word(Keyword::Exists, tokens) {
+        exists(alloc, depth, &tokens[1..])
+    } else {
+        simple(alloc, depth, tokens)
+    }
+}
+
+#[cycle(cond)]
+#[tactic(auto, unfolding(jpql_tree::specs::Conditions::not_at))]
+fn negation(
+    alloc: Global,
+    depth: usize,
+    tokens: &[Token],
+) -> Result<(Condition, &[Token]), ReadError>
+    ensures { Gives (λ r. (r.0, r.1.now)) result (spec.not_at depth (cond_at depth) tokens.now) }
+{
+    if is_word(Keyword::Not, tokens) {
+        let (inner, rest) = test(alloc, depth, &tokens[1..])?;
+        Ok((opposite(alloc, inner)?, rest))
+    } else {
+        test(alloc, depth, tokens)
+    }
+}
+
+#[cycle(cond)]
+#[tactic(auto, unfolding(jpql_tree::specs::Conditions::ands_at))]
+fn ands(
+    alloc: Global,
+    depth: usize,
+    first: Condition,
+    tokens: &[Token],
+) -> Result<(Condition, &[Token]), ReadError>
+    ensures { Gives (λ r. (r.0, r.1.now)) result (spec.ands_at depth (cond_at depth) (length tokens.now) first tokens.now) }
+{
+    let mut found = first;
+    let mut rest = tokens;
+    for _turn in 0..tokens.len() {
+        if !is_word(Keyword::And, rest) {
+            return Ok((found, rest));
+        }
+        match negation(alloc, depth, &rest[1..]) {
+            Ok((operand, more)) => {
+                found = both(alloc, found, operand)?;
+                rest = more;
+            }
+            Err(error) => {
+                drop(found);
+                return Err(error);
+            }
+        }
+    }
+    Ok((found, rest))
+}
+
+#[cycle(cond)]
+#[tactic(auto, unfolding(jpql_tree::specs::Conditions::and_at))]
+fn conjunction(
+    alloc: Global,
+    depth: usize,
+    tokens: &[Token],
+) -> Result<(Condition, &[Token]), ReadError>
+    ensures { Gives (λ r. (r.0, r.1.now)) result (spec.and_at depth (cond_at depth) tokens.now) }
+{
+    let (first, rest) = negation(alloc, depth, tokens)?;
+    ands(alloc, depth, first, rest)
+}
+
+#[cycle(cond)]
+#[tactic(auto, unfolding(jpql_tree::specs::Conditions::ors_at))]
+fn ors(
+    alloc: Global,
+    depth: usize,
+    first: Condition,
+    tokens: &[Token],
+) -> Result<(Condition, &[Token]), ReadError>
+    ensures { Gives (λ r. (r.0, r.1.now)) result (spec.ors_at depth (cond_at depth) (length tokens.now) first tokens.now) }
+{
+    let mut found = first;
+    let mut rest = tokens;
+    for _turn in 0..tokens.len() {
+        if !is_word(Keyword::Or, rest) {
+            return Ok((found, rest));
+        }
+        match conjunction(alloc, depth, &rest[1..]) {
+            Ok((operand, more)) => {
+                found = either(alloc, found, operand)?;
+                rest = more;
+            }
+            Err(error) => {
+                drop(found);
+                return Err(error);
+            }
+        }
+    }
+    Ok((found, rest))
+}
+
+#[cycle(cond)]
+#[tactic(auto, unfolding(jpql_tree::specs::Conditions::cond_level_at))]
+fn disjunction(
+    alloc: Global,
+    depth: usize,
+    tokens: &[Token],
+) -> Result<(Condition, &[Token]), ReadError>
+    ensures { Gives (λ r. (r.0, r.1.now)) result (spec.cond_level_at depth (cond_at depth) tokens.now) }
+{
+    let (first, rest) = conjunction(alloc, depth, tokens)?;
+    ors(alloc, depth, first, rest)
+}
+
+/// A condition, with fewer than `depth` conditions inside one another.
+#[cycle(cond)]
+#[tactic(auto, unfolding(jpql_tree::specs::Conditions::cond_at))]
+pub fn cond(
+    alloc: Global,
+    depth: usize,
+    tokens: &[Token],
+) -> Result<(Condition, &[Token]), ReadError>
+    ensures { Gives (λ r. (r.0, r.1.now)) result (cond_at depth tokens.now) }
+{
+    if depth == 0 {
+        return Err(ReadError::Syntax);
+    }
+    disjunction(alloc, depth - 1, tokens)
+}

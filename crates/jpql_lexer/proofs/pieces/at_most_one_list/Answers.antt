@@ -1,0 +1,5 @@
+use Rattle.jpql_tree.proofs.Queries.{one_list}
+use Rattle.jpql_lexer.proofs.pieces.at_most_one_list.Goals as goal
+
+pub returns : goal.returns
+returns c = one_list

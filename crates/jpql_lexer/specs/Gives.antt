@@ -1,0 +1,12 @@
+-- What a reader answers, beside what reading gives: the same, unless memory ran out.
+use Rattle.std.specs.Prelude.{◌≡◌, Option, Some, None, Result, Ok, Err}
+use Rattle.jpql_lexer.specs.declared.error.ReadError.{ReadError}
+use Rattle.jpql_lexer.specs.declared.error.ReadError.TheVariants.{Memory, Syntax}
+
+abbrev pub Fails : {Y : Type 0} → ReadError → Option Y → Type 0
+Fails Memory read = Unit {0}
+Fails Syntax read = read ≡ None
+
+abbrev pub Gives : {X Y : Type 0} → (X → Y) → Result X ReadError → Option Y → Type 0
+Gives view (Ok x) read = read ≡ Some (view x)
+Gives view (Err e) read = Fails e read

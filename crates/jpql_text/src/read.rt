@@ -1,0 +1,63 @@
+//! Reads a whole text.
+ghost use Rattle.std.specs.Prelude.{◌≡◌, ◌⊎◌, IfOk, IfErr, Ok, Err, Some, false};
+ghost use Rattle.jpa_value.specs.declared.refusal.Cause.TheVariants as cause;
+ghost use Rattle.jpql_tree.specs.declared.Query.{Query};
+ghost use Rattle.jpql_tree.specs.Grammar.{Text};
+ghost use Rattle.jpql_tree.specs.Limits as limits;
+ghost use Rattle.jpql_tree.specs.Queries.{IsQuery};
+ghost use Rattle.jpql_lexer.specs.Gives.{Gives};
+ghost use Rattle.jpql_text.specs.Answers.{IsRead, IsRefused};
+
+use crate::limits::{MOST_OPEN, nests_over};
+use crate::statements::statement;
+use crate::variables::declared;
+use jpa_value::{Argument, Cause};
+use jpql_lexer::{ReadError, tokens};
+use jpql_tree::Query;
+use std::alloc::Global;
+
+const MOST_BYTES: usize = 16_384;
+
+const MOST_VARIABLES: usize = 8;
+
+fn whole(alloc: Global, text: &str) -> Result<Query, ReadError>
+    requires { limits.nests_over 32 false 0 text.now ≡ false }
+    ensures found { IfOk result (λ query. IsQuery text.now query) }
+    ensures only { (query : Query) → IsQuery text.now query → Gives (λ query. query) result (Some query) }
+{
+    let tokens = tokens(alloc, text)?;
+    statement(alloc, MOST_OPEN + 2, tokens.as_slice())
+}
+
+/// The tree of a query's text. The text is one of the grammar of Jakarta Persistence 3.1, chapter 4, in the profile of
+/// `jpql_tree`'s `specs/Grammar`; keywords ignore ASCII case, and parentheses leave no node.
+///
+/// `Limit` for a text over 16,384 bytes, for one in which more than 32 parentheses are open at some place outside
+/// quotes, and for a text of the grammar that declares more than 8 variables; `IllegalArgument(Syntax)` for each other
+/// text outside the grammar; `OutOfMemory` where a growth was refused.
+pub fn read_query(alloc: Global, text: &str) -> Result<Query, Cause>
+    ensures read { IfOk result (IsRead text.now) }
+    ensures refused { IfErr result (IsRefused text.now) }
+    ensures only { (query : Query) → IsRead text.now query → (result ≡ Ok query) ⊎ (result ≡ Err cause.OutOfMemory) }
+{
+    if text.len() > MOST_BYTES || nests_over(text.as_bytes()) {
+        return Err(Cause::Limit);
+    }
+    match whole(alloc, text) {
+        Err(ReadError::Memory) => Err(Cause::OutOfMemory),
+        Err(ReadError::Syntax) => Err(Cause::IllegalArgument(Argument::Syntax)),
+        Ok(query) => {
+            if declared(&query) > MOST_VARIABLES {
+                drop(query);
+                Err(Cause::Limit)
+            } else {
+                Ok(query)
+            }
+        }
+    }
+}
+
+/// A text has at most one tree.
+pub fn at_most_one_tree()
+    ensures { (text : Text) (one other : Query) → IsQuery text one → IsQuery text other → one ≡ other }
+{}

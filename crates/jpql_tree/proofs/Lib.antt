@@ -1,0 +1,15 @@
+pub mod Skips
+pub mod Scan
+pub mod Tools
+pub mod ValuesComplete
+pub mod ValuesSound
+pub mod TestsSound
+pub mod CondSound
+pub mod StatementsSound
+pub mod TestsComplete
+pub mod CondComplete
+pub mod StatementsComplete
+pub mod One
+pub mod LexingLaws
+pub mod NestingLaws
+pub mod Queries

@@ -1,0 +1,13 @@
+-- Whether two marks, or two words of the grammar, are one.
+use Rattle.std.specs.Prelude.{Bool}
+use denote.Enum.Bare.{sameb}
+use Rattle.jpql_tree.specs.contracts.token.Mark as mark
+use Rattle.jpql_tree.specs.contracts.token.Keyword as keyword
+use Rattle.jpql_tree.specs.declared.token.Mark.{Mark}
+use Rattle.jpql_tree.specs.declared.token.Keyword.{Keyword}
+
+abbrev pub same_mark : Mark → Mark → Bool
+same_mark = sameb mark.the_type
+
+abbrev pub same_keyword : Keyword → Keyword → Bool
+same_keyword = sameb keyword.the_type

@@ -1,0 +1,201 @@
+//! Queries of the Jakarta Persistence Query Language as they are written (Jakarta Persistence 3.1, chapter 4): their
+//! trees, their tokens, and the grammar that joins them.
+//!
+//! A tree has a node for each line of the grammar that joins others; parentheses leave none. Contracts see it as plain
+//! data: a `Boxed` as what it holds, a `Seq` as a list, a `Text` as its bytes.
+//!
+//! The grammar stands in `specs/` apart from any reader. `Grammar` has derivations: what each writes, and its tree.
+//! `Text` says which tokens a text has, `Queries` which text is which query, `Limits` and `Variables` what is counted.
+//! `Values`, `Conditions`, `Statements` and `Lexing` are reading as functions on lists, and `proofs/` has the laws that
+//! these are the grammar, both ways, and that a text has at most one tree. The crate stands on `jpa_value`.
+#![tactic(auto)]
+
+#[cfg(test)]
+mod tests;
+mod token;
+
+use jpa_value::{Boxed, Seq, Text};
+pub use token::{Callee, Keyword, Mark, Token};
+
+/// A comparison (chapter 4.6.7).
+#[derive(Clone, Copy)]
+pub enum Comparison {
+    Equal,
+    Different,
+    Less,
+    AtMost,
+    Greater,
+    AtLeast,
+}
+
+/// A function over values (chapters 4.7.2, 4.7.3 and 4.7.4).
+#[derive(Clone, Copy)]
+pub enum Function {
+    Length,
+    Concat,
+    Substring,
+    Locate,
+    Abs,
+    Mod,
+    Coalesce,
+    NullIf,
+}
+
+/// An aggregate: a function over the tuples of a group (chapter 4.8.5).
+#[derive(Clone, Copy)]
+pub enum Aggregate {
+    Count,
+    Sum,
+    Min,
+    Max,
+}
+
+/// A sign.
+#[derive(Clone, Copy)]
+pub enum Sign {
+    Plus,
+    Minus,
+}
+
+/// How two numbers are joined (chapter 4.7.1).
+#[derive(Clone, Copy)]
+pub enum Arithmetic {
+    Plus,
+    Minus,
+    Times,
+}
+
+/// A path expression: an identification variable and the names after its dots (chapter 4.4.4).
+#[derive(Drop)]
+pub struct Path {
+    pub variable: Text,
+    pub names: Seq<Text>,
+}
+
+/// A value: a scalar expression, or a path to an entity (chapter 4.7).
+#[derive(Drop)]
+pub enum Value {
+    Integer(i64),
+    Text(Text),
+    Parameter(Text),
+    Path(Path),
+    Signed(Sign, Boxed<Value>),
+    Arithmetic(Arithmetic, Boxed<Value>, Boxed<Value>),
+    Call(Function, Seq<Value>),
+    Size(Path),
+    /// The aggregate, whether DISTINCT is written, and what it is of.
+    Aggregate(Aggregate, bool, Boxed<Value>),
+}
+
+/// A SELECT item, with its result variable if it has one (chapter 4.8).
+#[derive(Drop)]
+pub struct Item {
+    pub value: Value,
+    pub name: Option<Text>,
+}
+
+/// Where a variable comes from: an entity, or a relation of a variable.
+#[derive(Drop)]
+pub enum Origin {
+    Entity(Text),
+    Related(Text, Text),
+}
+
+/// A conditional expression (chapter 4.6). A NOT inside a test is a NOT of it.
+#[cycle(condition)]
+#[derive(Drop)]
+pub enum Condition {
+    Or(Boxed<Condition>, Boxed<Condition>),
+    And(Boxed<Condition>, Boxed<Condition>),
+    Not(Boxed<Condition>),
+    Compare(Comparison, Value, Value),
+    Between(Value, Value, Value),
+    In(Value, Seq<Value>),
+    Like(Value, Value, Option<Text>),
+    IsNull(Value),
+    IsEmpty(Path),
+    Member(Value, Path),
+    Exists(Boxed<Block>),
+    Type(Text, Seq<Text>),
+}
+
+/// An identification variable of FROM, with the joins from it (chapter 4.4).
+#[cycle(condition)]
+#[derive(Drop)]
+pub struct Source {
+    pub origin: Origin,
+    pub variable: Text,
+    pub joins: Seq<Join>,
+}
+
+/// A join along a relation, with its ON condition (chapter 4.4.5).
+#[cycle(condition)]
+#[derive(Drop)]
+pub struct Join {
+    pub is_left: bool,
+    pub of: Text,
+    pub relation: Text,
+    pub variable: Text,
+    pub on: Option<Boxed<Condition>>,
+}
+
+/// A subquery, which stands in EXISTS (chapter 4.6.16).
+#[cycle(condition)]
+#[derive(Drop)]
+pub struct Block {
+    pub is_distinct: bool,
+    pub item: Item,
+    pub sources: Seq<Source>,
+    pub filter: Option<Boxed<Condition>>,
+}
+
+/// What ORDER BY sorts by: a result variable, or a path.
+#[derive(Drop)]
+pub enum Sorted {
+    Name(Text),
+    Path(Path),
+}
+
+/// A key of ORDER BY (chapter 4.9).
+#[derive(Drop)]
+pub struct SortKey {
+    pub by: Sorted,
+    pub is_descending: bool,
+}
+
+/// A SELECT statement (chapter 4.2.1).
+#[derive(Drop)]
+pub struct Select {
+    pub is_distinct: bool,
+    pub items: Seq<Item>,
+    pub sources: Seq<Source>,
+    pub filter: Option<Boxed<Condition>>,
+    pub groups: Seq<Path>,
+    pub having: Option<Boxed<Condition>>,
+    pub order: Seq<SortKey>,
+}
+
+/// What an UPDATE sets: a name of the variable, to a value or to null (chapter 4.10).
+#[derive(Drop)]
+pub struct Assignment {
+    pub variable: Text,
+    pub name: Text,
+    pub value: Option<Value>,
+}
+
+/// A statement (chapter 4.2).
+#[derive(Drop)]
+pub enum Query {
+    Select(Select),
+    Update {
+        entity: Text,
+        variable: Text,
+        assignments: Seq<Assignment>,
+        filter: Option<Boxed<Condition>>,
+    },
+    Delete {
+        entity: Text,
+        variable: Option<Text>,
+        filter: Option<Boxed<Condition>>,
+    },
+}

@@ -1,0 +1,23 @@
+use Rattle.std.proofs.Common.{rules, arith}
+use Rattle.std.proofs.lemmas.Grind.{common_steps}
+use Rattle.jpql_tree.specs.Values.{times_at, sums_at, others_at, value_at}
+use Rattle.jpql_values.proofs.Turns.{one_more}
+use Rattle.jpql_values.proofs.values.+value.Goals as goal
+
+pub times-loop-turn-preserved : goal.times-loop-turn-preserved
+unfolding times_at
+times-loop-turn-preserved t c =
+    let e = one_more (λ n. times_at (value_at c.args.depth) n c.loop-turn.found c.loop-turn.rest.now) _ c.loop-turn._turn c.loop-turn-test.true c.loop-turn.invariant in
+    first_of (search rules, grind (arith, common_steps))
+
+pub sums-loop-turn-preserved : goal.sums-loop-turn-preserved
+unfolding sums_at
+sums-loop-turn-preserved t c =
+    let e = one_more (λ n. sums_at (value_at c.args.depth) n c.loop-turn.found c.loop-turn.rest.now) _ c.loop-turn._turn c.loop-turn-test.true c.loop-turn.invariant in
+    first_of (search rules, grind (arith, common_steps))
+
+pub others-loop-turn-preserved : goal.others-loop-turn-preserved
+unfolding others_at
+others-loop-turn-preserved t c =
+    let e = one_more (λ n. others_at (value_at c.args.depth) n c.loop-turn.found c.loop-turn.rest.now) _ c.loop-turn._turn c.loop-turn-test.true c.loop-turn.invariant in
+    first_of (search rules, grind (arith, common_steps))

@@ -1,0 +1,265 @@
+//! Values.
+ghost use Rattle.std.specs.Prelude.{◌≡◌, ◌∷◌, [], length};
+ghost use Rattle.jpql_lexer.specs.Gives.{Gives};
+ghost use Rattle.jpql_tree.specs.Values as spec;
+ghost use Rattle.jpql_tree.specs.Values.{value_at};
+
+use crate::steps::{after, copied, optional_word, path, sees};
+use jpa_value::{Boxed, Seq};
+use jpql_lexer::ReadError;
+use jpql_tree::{Aggregate, Arithmetic, Callee, Function, Keyword, Mark, Path, Sign, Token, Value};
+use std::alloc::Global;
+
+fn callee_of(keyword: Keyword) -> Callee
+    ensures { result ≡ spec.callee_of keyword }
+{
+    match keyword {
+        Keyword::Length => Callee::Function(Function::Length),
+        Keyword::Concat => Callee::Function(Function::Concat),
+        Keyword::Substring => Callee::Function(Function::Substring),
+        Keyword::Locate => Callee::Function(Function::Locate),
+        Keyword::Abs => Callee::Function(Function::Abs),
+        Keyword::Mod => Callee::Function(Function::Mod),
+        Keyword::Size => Callee::Size,
+        Keyword::Coalesce => Callee::Function(Function::Coalesce),
+        Keyword::NullIf => Callee::Function(Function::NullIf),
+        Keyword::Count => Callee::Aggregate(Aggregate::Count),
+        Keyword::Sum => Callee::Aggregate(Aggregate::Sum),
+        Keyword::Min => Callee::Aggregate(Aggregate::Min),
+        Keyword::Max => Callee::Aggregate(Aggregate::Max),
+        _ => Callee::Other,
+    }
+}
+
+fn takes(function: Function, count: usize) -> bool
+    ensures { result ≡ spec.takes function count }
+{
+    match function {
+        Function::Length | Function::Abs => count == 1,
+        Function::Mod | Function::NullIf => count == 2,
+        Function::Substring | Function::Locate => count == 2 || count == 3,
+        Function::Concat | Function::Coalesce => 2 <= count,
+    }
+}
+
+#[cycle(value)]
+#[tactic(auto, unfolding(jpql_tree::specs::Values::unary_at))]
+fn unary(alloc: Global, depth: usize, tokens: &[Token]) -> Result<(Value, &[Token]), ReadError>
+    ensures { Gives (λ r. (r.0, r.1.now)) result (spec.unary_at (value_at depth) tokens.now) }
+{
+    if sees(Mark::Plus, tokens) {
+        let (operand, rest) = atom(alloc, depth, &tokens[1..])?;
+        Ok((Value::Signed(Sign::Plus, Boxed::new(alloc, operand)?), rest))
+    } else if sees(Mark::Minus, tokens) {
+        let (operand, rest) = atom(alloc, depth, &tokens[1..])?;
+        Ok((
+            Value::Signed(Sign::Minus, Boxed::new(alloc, operand)?),
+            rest,
+        ))
+    } else {
+        atom(alloc, depth, tokens)
+    }
+}
+
+#[cycle(value)]
+#[tactic(auto, unfolding(jpql_tree::specs::Values::atom_at, jpql_tree::specs::Values::word_at))]
+fn atom(alloc: Global, depth: usize, tokens: &[Token]) -> Result<(Value, &[Token]), ReadError>
+    ensures { Gives (λ r. (r.0, r.1.now)) result (spec.atom_at (value_at depth) tokens.now) }
+{
+    match tokens {
+        [Token::Number(number), rest @ ..] => Ok((Value::Integer(*number), rest)),
+        [Token::Quoted(text), rest @ ..] => Ok((Value::Text(copied(alloc, text)?), rest)),
+        [Token::Parameter(name), rest @ ..] => Ok((Value::Parameter(copied(alloc, name)?), rest)),
+        [Token::Word(_), ..] => {
+            let (path, rest) = path(alloc, tokens)?;
+            Ok((Value::Path(path), rest))
+        }
+        [Token::Mark(Mark::Open), rest @ ..] => nested(alloc, depth, rest),
+        [Token::Key(keyword, _), rest @ ..] => call(
+            alloc,
+            depth,
+            callee_of(*keyword),
+            after(Mark::Open, rest)?,
+        ),
+        _ => Err(ReadError::Syntax),
+    }
+}
+
+#[cycle(value)]
+#[tactic(auto, unfolding(jpql_tree::specs::Values::others_at))]
+fn others(
+    alloc: Global,
+    depth: usize,
+    first: Value,
+    tokens: &[Token],
+) -> Result<(Seq<Value>, &[Token]), ReadError>
+    ensures { Gives (λ r. (r.0, r.1.now)) result (spec.others_at (value_at depth) (length tokens.now) (first ∷ []) tokens.now) }
+{
+    let mut found = Seq::new(alloc);
+    found.push(first)?;
+    let mut rest = tokens;
+    for _turn in 0..tokens.len() {
+        if !sees(Mark::Comma, rest) {
+            return Ok((found, rest));
+        }
+        let (one, more) = value(alloc, depth, &rest[1..])?;
+        found.push(one)?;
+        rest = more;
+    }
+    Ok((found, rest))
+}
+
+/// The values of a list, and the parenthesis that closes it.
+#[cycle(value)]
+#[tactic(auto, unfolding(jpql_tree::specs::Values::list_at, jpql_tree::specs::Values::closed))]
+pub fn value_list(
+    alloc: Global,
+    depth: usize,
+    tokens: &[Token],
+) -> Result<(Seq<Value>, &[Token]), ReadError>
+    ensures { Gives (λ r. (r.0, r.1.now)) result (spec.closed (spec.list_at (value_at depth) tokens.now)) }
+{
+    let (first, rest) = value(alloc, depth, tokens)?;
+    let (all, rest) = others(alloc, depth, first, rest)?;
+    Ok((all, after(Mark::Close, rest)?))
+}
+
+#[cycle(value)]
+#[tactic(auto, unfolding(jpql_tree::specs::Values::closed))]
+fn nested(alloc: Global, depth: usize, tokens: &[Token]) -> Result<(Value, &[Token]), ReadError>
+    ensures { Gives (λ r. (r.0, r.1.now)) result (spec.closed (value_at depth tokens.now)) }
+{
+    let (inner, rest) = value(alloc, depth, tokens)?;
+    Ok((inner, after(Mark::Close, rest)?))
+}
+
+#[tactic(auto, unfolding(jpql_tree::specs::Values::closed))]
+fn closed_path(alloc: Global, tokens: &[Token]) -> Result<(Path, &[Token]), ReadError>
+    ensures { Gives (λ r. (r.0, r.1.now)) result (spec.closed (spec.path_at tokens.now)) }
+{
+    let (path, rest) = path(alloc, tokens)?;
+    Ok((path, after(Mark::Close, rest)?))
+}
+
+#[cycle(value)]
+#[tactic(auto, unfolding(jpql_tree::specs::Values::call_at))]
+fn call(
+    alloc: Global,
+    depth: usize,
+    callee: Callee,
+    tokens: &[Token],
+) -> Result<(Value, &[Token]), ReadError>
+    ensures { Gives (λ r. (r.0, r.1.now)) result (spec.call_at (value_at depth) callee tokens.now) }
+{
+    match callee {
+        Callee::Function(function) => {
+            let (all, rest) = value_list(alloc, depth, tokens)?;
+            if takes(function, all.len()) {
+                Ok((Value::Call(function, all), rest))
+            } else {
+                Err(ReadError::Syntax)
+            }
+        }
+        Callee::Size => {
+            let (path, rest) = closed_path(alloc, tokens)?;
+            Ok((Value::Size(path), rest))
+        }
+        Callee::Aggregate(aggregate) => {
+            let (is_distinct, rest) = optional_word(Keyword::Distinct, tokens);
+            let (operand, rest) = nested(alloc, depth, rest)?;
+            Ok((
+                Value::Aggregate(aggregate, is_distinct, Boxed::new(alloc, operand)?),
+                rest,
+            ))
+        }
+        Callee::Other => Err(ReadError::Syntax),
+    }
+}
+
+#[cycle(value)]
+#[tactic(auto, unfolding(jpql_tree::specs::Values::times_at))]
+fn times(
+    alloc: Global,
+    depth: usize,
+    first: Value,
+    tokens: &[Token],
+) -> Result<(Value, &[Token]), ReadError>
+    ensures { Gives (λ r. (r.0, r.1.now)) result (spec.times_at (value_at depth) (length tokens.now) first tokens.now) }
+{
+    let mut found = first;
+    let mut rest = tokens;
+    for _turn in 0..tokens.len() {
+        if !sees(Mark::Star, rest) {
+            return Ok((found, rest));
+        }
+        let (operand, more) = unary(alloc, depth, &rest[1..])?;
+        found = Value::Arithmetic(
+            Arithmetic::Times,
+            Boxed::new(alloc, found)?,
+            Boxed::new(alloc, operand)?,
+        );
+        rest = more;
+    }
+    Ok((found, rest))
+}
+
+#[cycle(value)]
+#[tactic(auto, unfolding(jpql_tree::specs::Values::product_at))]
+fn product(alloc: Global, depth: usize, tokens: &[Token]) -> Result<(Value, &[Token]), ReadError>
+    ensures { Gives (λ r. (r.0, r.1.now)) result (spec.product_at (value_at depth) tokens.now) }
+{
+    let (first, rest) = unary(alloc, depth, tokens)?;
+    times(alloc, depth, first, rest)
+}
+
+#[cycle(value)]
+#[tactic(auto, unfolding(jpql_tree::specs::Values::level_at))]
+fn level(alloc: Global, depth: usize, tokens: &[Token]) -> Result<(Value, &[Token]), ReadError>
+    ensures { Gives (λ r. (r.0, r.1.now)) result (spec.level_at (value_at depth) tokens.now) }
+{
+    let (first, rest) = product(alloc, depth, tokens)?;
+    sums(alloc, depth, first, rest)
+}
+
+#[cycle(value)]
+#[tactic(auto, unfolding(jpql_tree::specs::Values::sums_at))]
+fn sums(
+    alloc: Global,
+    depth: usize,
+    first: Value,
+    tokens: &[Token],
+) -> Result<(Value, &[Token]), ReadError>
+    ensures { Gives (λ r. (r.0, r.1.now)) result (spec.sums_at (value_at depth) (length tokens.now) first tokens.now) }
+{
+    let mut found = first;
+    let mut rest = tokens;
+    for _turn in 0..tokens.len() {
+        let operation = if sees(Mark::Plus, rest) {
+            Arithmetic::Plus
+        } else if sees(Mark::Minus, rest) {
+            Arithmetic::Minus
+        } else {
+            return Ok((found, rest));
+        };
+        let (operand, more) = product(alloc, depth, &rest[1..])?;
+        found = Value::Arithmetic(
+            operation,
+            Boxed::new(alloc, found)?,
+            Boxed::new(alloc, operand)?,
+        );
+        rest = more;
+    }
+    Ok((found, rest))
+}
+
+/// A value, with fewer than `depth` parentheses inside one another.
+#[cycle(value)]
+#[tactic(auto, unfolding(jpql_tree::specs::Values::value_at))]
+pub fn value(alloc: Global, depth: usize, tokens: &[Token]) -> Result<(Value, &[Token]), ReadError>
+    ensures { Gives (λ r. (r.0, r.1.now)) result (value_at depth tokens.now) }
+{
+    if depth == 0 {
+        return Err(ReadError::Syntax);
+    }
+    level(alloc, depth - 1, tokens)
+}
