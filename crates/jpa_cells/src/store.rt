@@ -2,6 +2,8 @@
 
 ghost use Rattle.std.specs.Prelude.{◌≡◌, ◌≢◌, ◌⊎◌, ◌+◌, ◌<◌, false, [], length, sum_by, IfOk, IfErr, OnOk, OnErr};
 ghost use Rattle.std.specs.Result.{IsOk};
+ghost use Rattle.sqlite.specs.Held.{state};
+ghost use Rattle.jpa_cells_meaning.specs.Schema.{no_schema};
 ghost use Rattle.jpa_cells_meaning.specs.Tables.{cells_at, tables_after, statements_of, AreRows, HandsOn, HandsSome};
 ghost use Rattle.jpa_cells_meaning.specs.Store.{up_to_greatest, Counts, Tells, TellsOf, faults_after, new_store, IsClean, IsOpen, tables_in, HoldsTable, IsOrderedIfFound, IsReady, Keeps, Becomes, Opens, Endures, HasFault};
 
@@ -67,7 +69,7 @@ impl<S: Alter + Drop> CellStore<S> {
     /// Takes the table `cell` where it stands in the database, and makes it where the database is empty. Refused, it
     /// hands the connection back, whose database is as it was: `StoreFault` where the database holds anything else,
     /// where the connection is in a transaction, and where the store refuses the statement for another cause than
-    /// memory.
+    /// memory; `OutOfMemory` only where it set out to make the table.
     pub fn open(
         alloc: Global,
         mut conn: Connection<S>,
@@ -77,6 +79,7 @@ impl<S: Alter + Drop> CellStore<S> {
         ensures crash { IfOk result (λ store. Endures S.Store conn store.conn (λ tables. tables ≡ (λ t. []))) }
         ensures refused { IfErr result (λ e. (e.0 ≡ Cause.OutOfMemory) ⊎ (e.0 ≡ Cause.StoreFault)) }
         ensures takes { conn.in_transaction ≡ false → HoldsTable S.Store conn → IsOk result }
+        ensures memory { IfErr result (λ e. e.0 ≡ Cause.OutOfMemory → (conn.in_transaction ≡ false) × ((state S.Store conn).now.schema ≡ no_schema)) }
         ensures kept { IfErr result (λ e. Keeps S.Store conn e.1) }
         ensures again { IfErr result (λ e. IsOrderedIfFound S.Store e.1) }
         ensures crash_err { IfErr result (λ e. Endures S.Store conn e.1 (λ tables. tables ≡ (λ t. []))) }

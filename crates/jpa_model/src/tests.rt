@@ -1,11 +1,11 @@
 //! Descriptions of worked examples, at the limits and past them.
 use crate::draft::{
-    Cascade, Draft, DraftAttribute, DraftColumn, DraftEntity, DraftOrigin, DraftRelation,
-    DraftRoot, DraftSide, DraftVersion, RelationKind,
+    Cascade, Draft, DraftAttribute, DraftColumn, DraftEntity, DraftListener, DraftOrigin,
+    DraftRelation, DraftRoot, DraftSide, DraftVersion, RelationKind,
 };
 use crate::metamodel::check;
 use crate::unit::{Member, Part, Side};
-use jpa_value::{Cause, Kind, MappingFault, Seq, Text};
+use jpa_value::{Cause, Kind, LifecycleEvent, MappingFault, Seq, Text};
 use std::alloc::Global;
 use std::test::Fail;
 
@@ -199,13 +199,29 @@ fn persons(alloc: Global) -> Result<Draft, Cause> {
     Ok(persons)
 }
 
+fn listener(alloc: Global, name: &str, events: &[&str]) -> Result<DraftListener, Cause> {
+    let mut heard = Seq::new(alloc);
+    for event in events {
+        heard.push(text(alloc, event)?)?;
+    }
+    Ok(DraftListener {
+        name: text(alloc, name)?,
+        events: heard,
+    })
+}
+
 fn animal(alloc: Global) -> Result<DraftEntity, Cause> {
     let mut animal = entity(
         alloc,
         text(alloc, "Animal")?,
         DraftOrigin::Root(root(alloc, 7, 2)?),
     );
-    animal.attributes.push(attribute(text(alloc, "name")?, 1))?;
+    let mut name = attribute(text(alloc, "name")?, 1);
+    name.converter = Some(text(alloc, "capitals")?);
+    animal.attributes.push(name)?;
+    animal
+        .listeners
+        .push(listener(alloc, "vet", &["PostLoad", "PrePersist"])?)?;
     animal.relations.push(relation(
         alloc,
         "mother",
@@ -232,12 +248,18 @@ fn dog(alloc: Global) -> Result<DraftEntity, Cause> {
     )?)?;
     let friends = DraftSide::MappedBy(text(alloc, "friends")?);
     dog.relations.push(relation(alloc, "admirers", RelationKind::ManyToMany, "Dog", friends)?)?;
+    dog.discriminator = Some(text(alloc, "hund")?);
+    dog.callbacks
+        .push(listener(alloc, "bark", &["PreUpdate"])?)?;
     Ok(dog)
 }
 
-/// A subclass, and its root of two key parts.
+/// A subclass, and its root of two key parts, with listeners at each place that has them.
 fn animals(alloc: Global) -> Result<Draft, Cause> {
     let mut animals = draft(alloc);
+    animals
+        .listeners
+        .push(listener(alloc, "audit", &["PostRemove"])?)?;
     animals.entities.push(dog(alloc)?)?;
     animals.entities.push(animal(alloc)?)?;
     Ok(animals)
@@ -260,11 +282,6 @@ fn persons_are_found(rt: HostRuntime) -> Result<(), Fail> {
     assert!(rt; matches!(model.class_of("Order"), Some(1)));
     assert!(rt; model.class_of("order").is_none());
     assert_eq!(rt; model.unit().entities.len(), 2);
-    assert!(rt; matches!(model.member_of(0, "id"), Some(Member::KeyPart(0))));
-    assert!(rt; matches!(model.member_of(0, "version"), Some(Member::Version)));
-    assert!(rt; matches!(model.member_of(0, "name"), Some(Member::Attribute(0))));
-    assert!(rt; matches!(model.member_of(0, "orders"), Some(Member::Relation(0))));
-    assert!(rt; model.member_of(1, "orders").is_none());
     assert!(rt; model.is_versioned(0));
     assert!(rt; !model.is_versioned(1));
     assert_eq!(rt; model.entity(1).name.as_str(), "Order");
@@ -277,6 +294,19 @@ fn persons_are_found(rt: HostRuntime) -> Result<(), Fail> {
         orders.side.owner().is_some() && orders.side.column().is_none() && !orders.side.is_to_one()
     );
     assert!(rt; orders.cascade.persist && orders.cascade.detach && orders.orphan_removal);
+    Ok(())
+}
+
+#[test]
+fn members_are_found(rt: HostRuntime) -> Result<(), Fail> {
+    let alloc = rt.alloc();
+    let model = check(alloc, &persons(alloc)?)?;
+    assert_eq!(rt; model.entities().len(), 2);
+    assert!(rt; matches!(model.member_of(0, "id"), Some(Member::KeyPart(0))));
+    assert!(rt; matches!(model.member_of(0, "version"), Some(Member::Version)));
+    assert!(rt; matches!(model.member_of(0, "name"), Some(Member::Attribute(0))));
+    assert!(rt; matches!(model.member_of(0, "orders"), Some(Member::Relation(0))));
+    assert!(rt; model.member_of(1, "orders").is_none());
     Ok(())
 }
 
@@ -294,9 +324,49 @@ fn subclasses_have_what_their_superclass_has(rt: HostRuntime) -> Result<(), Fail
     assert!(rt; model.member_of(1, "breed").is_none());
     assert!(rt; matches!(model.member_of(0, "admirers"), Some(Member::Relation(2))));
     assert_eq!(rt; model.attributes_of(0).len(), 2);
+    Ok(())
+}
+
+#[test]
+fn relations_have_their_declarers(rt: HostRuntime) -> Result<(), Fail> {
+    let alloc = rt.alloc();
+    let model = check(alloc, &animals(alloc)?)?;
+    assert_eq!(rt; model.entities().len(), 2);
     assert_eq!(rt; model.declarers_of(0), [1, 0, 0].as_slice());
     assert_eq!(rt; model.relations_of(0).len(), 3);
+    assert_eq!(rt; (model.declarer_of(0, 0), model.declarer_of(0, 2)), (1, 0));
     assert!(rt; model.is_held_by(0, 0, 1) && !model.is_held_by(0, 1, 1));
     assert!(rt; matches!(model.relation_at(0, 2).side, Side::ManyToManyInverse(1)));
+    let mother = model.relation_at(0, 0).side;
+    assert!(rt; mother.is_to_one() && mother.owner().is_none());
+    assert!(rt; matches!(mother.column(), Some(found) if found.column == 2));
+    Ok(())
+}
+
+#[test]
+fn listeners_are_found(rt: HostRuntime) -> Result<(), Fail> {
+    let alloc = rt.alloc();
+    let model = check(alloc, &animals(alloc)?)?;
+    assert_eq!(rt; model.entities().len(), 2);
+    match model.listeners() {
+        [audit] => {
+            assert_eq!(rt; audit.name.as_str(), "audit");
+            assert!(rt; matches!(audit.events.as_slice(), [LifecycleEvent::PostRemove]));
+        }
+        _ => return Err(Fail::from("not one default listener")),
+    }
+    let dog = model.entity(0);
+    assert_eq!(rt; dog.discriminator.as_str(), "hund");
+    assert!(rt; dog.listeners.is_empty());
+    assert_eq!(rt; dog.callbacks.len(), 1);
+    match model.entity(1).listeners.as_slice() {
+        [vet] => assert!(rt;
+            matches!(
+                vet.events.as_slice(),
+                [LifecycleEvent::PostLoad, LifecycleEvent::PrePersist]
+            )
+        ),
+        _ => return Err(Fail::from("not one listener")),
+    }
     Ok(())
 }

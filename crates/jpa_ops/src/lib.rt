@@ -7,8 +7,6 @@
 mod context;
 mod finding;
 mod persisting;
-mod setting;
 
 pub use finding::find;
 pub use persisting::persist;
-pub use setting::set;

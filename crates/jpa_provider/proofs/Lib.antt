@@ -30,3 +30,4 @@ pub mod SetOf
 pub mod ServedUnits
 pub mod Commits
 pub mod SetCall
+pub mod Begun

@@ -209,3 +209,12 @@ writes_of_unit m ns k w one live entries =
     all_flat (λ (p : ℕ × Action). IsOfUnitAt m w p.0) (IsOfUnit m) (λ a. paired (identity_at m w a.0) (written m w a.0 a.1)) (λ a h. paired_unit m w a.0 a.1 (identity_at m w a.0) h.0 h.1) (actions m w)
     (all_flat (IsEntry m w.objects ns k) (λ (p : ℕ × Action). IsOfUnitAt m w p.0) (λ e. planned m w e (action_of m w e))
     (λ e h. planned_unit m w e (action_of m w e) (entry_unit m ns k w e one live h)) w.context (recursion_from_All (IsEntry m w.objects ns k) w.context entries))
+
+-- ---- the first number
+
+first_fits : (generated : Bool) → ((if generated then nat_lt 0 1 && is_i64 (pos 1) else 1 == 1) && true) ≡ true
+first_fits true = refl
+first_fits false = refl
+
+pub first_number : (m : PersistenceUnit) → is_served m ≡ true → are_numbers m (1 ∷ []) ≡ true
+first_number m h = from_lone (λ u. are_numbers u (1 ∷ []) ≡ true) m h (λ e root s. first_fits root.generated)

@@ -31,6 +31,22 @@ pub(crate) const CONVERTED_NAME: &str = r#"{"revision":1,"entities":[
  {"name":"Order","table":2,"key":[{"name":"number","type":"int"}],
   "attributes":[{"name":"amount","type":"int","column":1}]}],"functions":[{"name":"codes","make":"table","pairs":[["Ada",1]]}]}"#;
 
+/// A converter that no function is, which this layer doesn't ask.
+pub(crate) const MISSING_FUNCTION: &str = r#"{"revision":1,"entities":[
+ {"name":"Person","table":1,"key":[{"name":"id","type":"int"}],"generated":true,"version":{"name":"version","column":1},
+  "attributes":[{"name":"name","type":"text","column":2,"converter":"nope"}]},
+ {"name":"Order","table":2,"key":[{"name":"number","type":"int"}],
+  "attributes":[{"name":"amount","type":"int","column":1}]}]}"#;
+
+/// A function of an unknown make, which this layer doesn't ask either.
+pub(crate) const UNKNOWN_MAKE: &str = r#"{"revision":1,"entities":[
+ {"name":"Person","table":1,"key":[{"name":"id","type":"int"}],"generated":true,"version":{"name":"version","column":1},
+  "attributes":[{"name":"name","type":"text","column":2}],
+  "relations":[{"name":"orders","kind":"oneToMany","target":"Order","mappedBy":"person","cascade":["ALL"],"orphanRemoval":true}]},
+ {"name":"Order","table":2,"key":[{"name":"number","type":"int"}],
+  "attributes":[{"name":"amount","type":"int","column":1}],
+  "relations":[{"name":"person","kind":"manyToOne","target":"Person","column":2}]}],"functions":[{"name":"x","make":"nope"}]}"#;
+
 /// An owning relation without an inverse side.
 pub(crate) const ONE_WAY: &str = r#"{"revision":1,"entities":[
  {"name":"Person","table":1,"key":[{"name":"id","type":"int"}],"generated":true,"version":{"name":"version","column":1},

@@ -67,54 +67,79 @@ fn of_discriminator(alloc: Global, bytes: usize) -> Result<Draft, Cause> {
 }
 
 #[test]
-fn limits_are_kept(rt: HostRuntime) -> Result<(), Fail> {
+fn entities_are_1_to_64(rt: HostRuntime) -> Result<(), Fail> {
     let alloc = rt.alloc();
     for (count, want) in [(0, false), (1, true), (64, true), (65, false)] {
-        assert_eq!(rt;
-            is_accepted(alloc, &of_many(alloc, count)?)?,
-            want,
-            "{count} entities"
-        );
+        let many = of_many(alloc, count)?;
+        assert_eq!(rt; is_accepted(alloc, &many)?, want, "{count} entities");
     }
+    Ok(())
+}
+
+#[test]
+fn attributes_and_relations_of_a_chain_are_at_most_64(rt: HostRuntime) -> Result<(), Fail> {
+    let alloc = rt.alloc();
     for (above, below, want) in [
         (31, 32, true),
         (32, 32, false),
         (63, 0, true),
         (64, 0, false),
     ] {
+        let two = of_members(alloc, above, below)?;
         assert_eq!(rt;
-            is_accepted(alloc, &of_members(alloc, above, below)?)?,
+            is_accepted(alloc, &two)?,
             want,
             "{above} and {below} attributes"
         );
     }
+    Ok(())
+}
+
+fn of_parts(alloc: Global, parts: usize) -> Result<Draft, Cause> {
+    of_root(alloc, root(alloc, 1, parts)?, text(alloc, "E")?)
+}
+
+#[test]
+fn key_parts_are_1_to_4(rt: HostRuntime) -> Result<(), Fail> {
+    let alloc = rt.alloc();
     for (parts, want) in [(0, false), (1, true), (4, true), (5, false)] {
-        assert_eq!(rt;
-            is_accepted(
-                alloc,
-                &of_root(alloc, root(alloc, 1, parts)?, text(alloc, "E")?)?
-            )?,
-            want,
-            "{parts} parts"
-        );
+        let one = of_parts(alloc, parts)?;
+        assert_eq!(rt; is_accepted(alloc, &one)?, want, "{parts} parts");
     }
+    Ok(())
+}
+
+fn of_letters(alloc: Global, letters: usize) -> Result<Draft, Cause> {
+    of_root(alloc, root(alloc, 1, 1)?, long(alloc, letters)?)
+}
+
+#[test]
+fn names_have_1_to_64_bytes(rt: HostRuntime) -> Result<(), Fail> {
+    let alloc = rt.alloc();
     for (letters, want) in [(0, false), (1, true), (64, true), (65, false)] {
-        assert_eq!(rt;
-            is_accepted(
-                alloc,
-                &of_root(alloc, root(alloc, 1, 1)?, long(alloc, letters)?)?
-            )?,
-            want,
-            "{letters} letters"
-        );
+        let one = of_letters(alloc, letters)?;
+        assert_eq!(rt; is_accepted(alloc, &one)?, want, "{letters} letters");
     }
+    Ok(())
+}
+
+#[test]
+fn discriminators_have_at_most_65_535_bytes(rt: HostRuntime) -> Result<(), Fail> {
+    let alloc = rt.alloc();
     for (bytes, want) in [(0, true), (65_535, true), (65_536, false)] {
-        assert_eq!(rt;
-            is_accepted(alloc, &of_discriminator(alloc, bytes)?)?,
-            want,
-            "{bytes} bytes"
-        );
+        let one = of_discriminator(alloc, bytes)?;
+        assert_eq!(rt; is_accepted(alloc, &one)?, want, "{bytes} bytes");
     }
+    Ok(())
+}
+
+fn of_table(alloc: Global, number: i64) -> Result<Draft, Cause> {
+    of_root(alloc, root(alloc, number, 1)?, text(alloc, "E")?)
+}
+
+#[test]
+fn tables_and_columns_are_1_to_1_000_000(rt: HostRuntime) -> Result<(), Fail> {
+    let alloc = rt.alloc();
     for (number, want) in [
         (-1, false),
         (0, false),
@@ -122,19 +147,10 @@ fn limits_are_kept(rt: HostRuntime) -> Result<(), Fail> {
         (1_000_000, true),
         (1_000_001, false),
     ] {
-        assert_eq!(rt;
-            is_accepted(
-                alloc,
-                &of_root(alloc, root(alloc, number, 1)?, text(alloc, "E")?)?
-            )?,
-            want,
-            "table {number}"
-        );
-        assert_eq!(rt;
-            is_accepted(alloc, &of_column(alloc, number)?)?,
-            want,
-            "column {number}"
-        );
+        let table = of_table(alloc, number)?;
+        assert_eq!(rt; is_accepted(alloc, &table)?, want, "table {number}");
+        let column = of_column(alloc, number)?;
+        assert_eq!(rt; is_accepted(alloc, &column)?, want, "column {number}");
     }
     Ok(())
 }

@@ -1,0 +1,3 @@
+pub mod Ending
+pub mod Persons
+pub mod Run

@@ -1,0 +1,235 @@
+//! Input that ends anywhere, reads and writes that fail, and memory that is refused.
+use super::examples::{FIRST_CALLS, FIRST_CELLS, FIRST_REPLIES};
+use super::{cells_in, joined, opened, ran, run_over};
+use jpa_lines::{RunFault, read_call, write_reply};
+use jpa_protocol::{Call, PersistenceProvider, Reply};
+use jpa_value::{Cause, Refusal};
+use std::alloc::{AllocError, Global};
+use std::io;
+use std::io::{Read, Write};
+use std::test::Fail;
+
+const BAD_LINE: &str = "{\"error\":{\"name\":\"BadLine\",\"no\":3},\"events\":[]}";
+
+const NEVER: u64 = u64::MAX;
+
+// ---- a reader and a writer that fail
+
+/// Gives so many bytes a read, and fails at a given read.
+#[derive(Drop)]
+struct Reads<'a> {
+    left: &'a [u8],
+    most: usize,
+    reads: u64,
+    fails_at: u64,
+}
+
+impl Read for Reads<'_> {
+    fn read(&mut self, buf: &mut [u8]) -> io::Result<usize> {
+        if self.reads == self.fails_at {
+            return Err(io::Error::from(io::ErrorKind::Other));
+        }
+        self.reads = self.reads.saturating_add(1);
+        let most = buf.len().min(self.most);
+        self.left.read(&mut buf[..most])
+    }
+}
+
+/// Takes at most three bytes a write, and fails at a given write or flush.
+#[derive(Drop)]
+struct Writes {
+    taken: Vec<u8>,
+    writes: u64,
+    fails_at: u64,
+}
+
+impl Writes {
+    fn step(&mut self) -> io::Result<()> {
+        if self.writes == self.fails_at {
+            return Err(io::Error::from(io::ErrorKind::Other));
+        }
+        self.writes = self.writes.saturating_add(1);
+        Ok(())
+    }
+}
+
+impl Write for Writes {
+    fn write(&mut self, buf: &[u8]) -> io::Result<usize> {
+        self.step()?;
+        let most = buf.len().min(3);
+        self.taken.extend_from_slice(&buf[..most])?;
+        Ok(most)
+    }
+
+    fn flush(&mut self) -> io::Result<()> {
+        self.step()
+    }
+}
+
+/// How a run ended, what it wrote, and the cells that it left; an error where memory was refused.
+fn ran_with(
+    alloc: Global,
+    input: &[u8],
+    most: usize,
+    fails_at: (u64, u64),
+) -> Result<(Result<(), RunFault>, Vec<u8>, String), Fail> {
+    let mut reader = Reads {
+        left: input,
+        most,
+        reads: 0,
+        fails_at: fails_at.0,
+    };
+    let mut writer = Writes {
+        taken: Vec::with_capacity(alloc, 4096)?,
+        writes: 0,
+        fails_at: fails_at.1,
+    };
+    let (ended, cells) = run_over(alloc, &mut reader, &mut writer)?;
+    if ended == Err(RunFault::Memory) {
+        ended?;
+    }
+    Ok((ended, writer.taken, cells))
+}
+
+/// The cells after the first so many calls were answered.
+fn cells_after(alloc: Global, calls: usize) -> Result<String, AllocError> {
+    if calls < 6 {
+        return Ok(String::new(alloc));
+    }
+    joined(alloc, &FIRST_CELLS)
+}
+
+// ---- the tests
+
+// The text of the first run cut after each byte: its whole lines are answered, and what is left of a line is no call.
+#[test]
+fn cut_anywhere(rt: HostRuntime) -> Result<(), Fail> {
+    let a = rt.alloc();
+    let mut input = Vec::new(a);
+    for (number, line) in FIRST_CALLS.iter().enumerate() {
+        for (i, byte) in line.as_bytes().iter().enumerate() {
+            input.push(*byte)?;
+            let is_whole = i + 1 == line.len();
+            let answered = if is_whole { number + 1 } else { number };
+            let mut want = joined(a, &FIRST_REPLIES[..answered])?;
+            if !is_whole {
+                want.push_str(BAD_LINE)?;
+                want.push('\n')?;
+            }
+            let (written, cells) = ran(a, input.as_slice())?;
+            assert_eq!(rt; written.as_slice(), want.as_bytes());
+            assert_eq!(rt; cells, cells_after(a, answered)?);
+        }
+        input.push(b'\n')?;
+    }
+    Ok(())
+}
+
+// Byte by byte, the replies and the cells are the same.
+#[test]
+fn one_byte_at_a_time(rt: HostRuntime) -> Result<(), Fail> {
+    let a = rt.alloc();
+    let text = joined(a, &FIRST_CALLS)?;
+    let (ended, written, cells) = ran_with(a, text.as_bytes(), 1, (NEVER, NEVER))?;
+    assert_eq!(rt; ended, Ok(()));
+    assert_eq!(rt; written.as_slice(), joined(a, &FIRST_REPLIES)?.as_bytes());
+    assert_eq!(rt; cells, joined(a, &FIRST_CELLS)?);
+    Ok(())
+}
+
+// Each read fails in turn: the lines that were read are answered, and what was committed stands.
+#[test]
+fn reads_fail(rt: HostRuntime) -> Result<(), Fail> {
+    let a = rt.alloc();
+    let text = joined(a, &FIRST_CALLS)?;
+    for (read, answered) in [0, 1, 1, 2, 3, 4, 5, 6, 6, 7].into_iter().enumerate() {
+        let (ended, written, cells) = ran_with(a, text.as_bytes(), 31, (read as u64, NEVER))?;
+        assert_eq!(rt; ended, Err(RunFault::Read));
+        let want = joined(a, &FIRST_REPLIES[..answered])?;
+        assert_eq!(rt; written.as_slice(), want.as_bytes(), "at read {read}");
+        assert_eq!(rt; cells, cells_after(a, answered)?);
+    }
+    Ok(())
+}
+
+// Each write fails in turn: a front of the replies is written, and the cells are those of a front of the calls.
+#[test]
+fn writes_fail(rt: HostRuntime) -> Result<(), Fail> {
+    let a = rt.alloc();
+    let text = joined(a, &FIRST_CALLS)?;
+    let all = joined(a, &FIRST_REPLIES)?;
+    let before_commit = joined(a, &FIRST_REPLIES[..5])?.len();
+    for write in 0..82 {
+        let (ended, written, cells) = ran_with(a, text.as_bytes(), 31, (NEVER, write))?;
+        assert_eq!(rt; ended, Err(RunFault::Write), "at write {write}");
+        assert!(rt;
+            all.as_bytes().starts_with(written.as_slice()),
+            "at write {write}"
+        );
+        let committed = cells == cells_after(a, 6)?;
+        assert!(rt; committed || cells.is_empty(), "at write {write}");
+        assert!(rt;
+            committed || written.len() <= before_commit,
+            "at write {write}"
+        );
+        assert!(rt;
+            !committed || written.len() >= before_commit,
+            "at write {write}"
+        );
+    }
+    Ok(())
+}
+
+// ---- memory that is refused
+
+/// The call on a line; it is read again where memory was refused.
+fn read_again(alloc: Global, line: &str) -> Result<Call, Cause> {
+    match read_call(alloc, line.as_bytes()) {
+        Err(Cause::OutOfMemory) => read_call(alloc, line.as_bytes()),
+        read => read,
+    }
+}
+
+/// Whether nothing but want of memory is told.
+fn is_refused_growth(reply: &Reply) -> bool {
+    reply.events.is_empty() && matches!(reply.answer, Err(Refusal::Because(Cause::OutOfMemory)))
+}
+
+/// The reply to the call on a line; the call is made again where memory was refused.
+fn served_again<P: PersistenceProvider>(
+    alloc: Global,
+    provider: &mut P,
+    line: &str,
+) -> Result<Vec<u8>, Cause> {
+    let mut reply = provider.call(read_again(alloc, line)?);
+    if is_refused_growth(&reply) {
+        reply = provider.call(read_again(alloc, line)?);
+    }
+    write_reply(alloc, &reply)
+}
+
+/// The replies to the calls of the first run, each made again where memory was refused.
+fn first_replies<P: PersistenceProvider>(
+    alloc: Global,
+    provider: &mut P,
+) -> Result<Vec<u8>, Cause> {
+    let mut replies = Vec::new(alloc);
+    for line in FIRST_CALLS {
+        let reply = served_again(alloc, provider, line)?;
+        replies.extend_from_slice(reply.as_slice())?;
+    }
+    Ok(replies)
+}
+
+// A call for which memory was refused changes nothing: made again, it is answered as if it were the first.
+#[test]
+fn calls_made_again(rt: HostRuntime) -> Result<(), Fail> {
+    let a = rt.alloc();
+    let mut provider = opened(a)?;
+    let replies = first_replies(a, &mut provider);
+    let cells = cells_in(a, provider.into_store().into_connection())?;
+    let want = joined(a, &FIRST_REPLIES)?;
+    assert_eq!(rt; replies?.as_slice(), want.as_bytes());
+    assert_eq!(rt; cells, joined(a, &FIRST_CELLS)?);
+    Ok(())
+}
