@@ -71,7 +71,7 @@ fn run_over<R: Read, W: Write>(
 /// What a run over the whole input writes, and the cells that it leaves.
 fn ran(alloc: Global, input: &[u8]) -> Result<(Vec<u8>, String), Fail> {
     let mut reader = input;
-    let mut writer = Vec::new(alloc);
+    let mut writer = Vec::with_capacity(alloc, 4096)?;
     let (ended, cells) = run_over(alloc, &mut reader, &mut writer)?;
     ended?;
     Ok((writer, cells))

@@ -190,6 +190,14 @@ fn read_again(alloc: Global, line: &str) -> Result<Call, Cause> {
     }
 }
 
+/// The reply's text; it is written again where memory was refused.
+fn written_again(alloc: Global, reply: &Reply) -> Result<Vec<u8>, Cause> {
+    match write_reply(alloc, reply) {
+        Err(Cause::OutOfMemory) => write_reply(alloc, reply),
+        written => written,
+    }
+}
+
 /// Whether nothing but want of memory is told.
 fn is_refused_growth(reply: &Reply) -> bool {
     reply.events.is_empty() && matches!(reply.answer, Err(Refusal::Because(Cause::OutOfMemory)))
@@ -205,7 +213,7 @@ fn served_again<P: PersistenceProvider>(
     if is_refused_growth(&reply) {
         reply = provider.call(read_again(alloc, line)?);
     }
-    write_reply(alloc, &reply)
+    written_again(alloc, &reply)
 }
 
 /// The replies to the calls of the first run, each made again where memory was refused.

@@ -15,8 +15,9 @@ fn found_objects_are_refused(rt: HostRuntime) -> Result<(), Fail> {
     let a = rt.alloc();
     let metamodel = first_unit(a)?;
     let text = joined(a, &FIRST_CALLS)?;
+    let mut writer = Vec::with_capacity(a, 4096)?;
     let mut provider = opened(a)?;
-    let ended = run(a, &mut text.as_bytes(), &mut Vec::new(a), &mut provider);
+    let ended = run(a, &mut text.as_bytes(), &mut writer, &mut provider);
     let found = provider.into_store().into_connection();
     let (cause, conn) = match open(a, found, metamodel) {
         Ok(provider) => {
