@@ -1,0 +1,12 @@
+pub mod Facts
+pub mod Maps
+pub mod Slots
+pub mod Elements
+pub mod Lists
+-- ---- entries read off rows
+pub mod Entries
+pub mod OneRow
+pub mod Each
+pub mod Parts
+-- ---- changes over rows
+pub mod Overlay

@@ -1,0 +1,45 @@
+-- ---- keys and spellings
+pub mod Orders
+pub mod Keys
+pub mod Spelling
+-- ---- an object read off its row
+pub mod Values
+pub mod Columns
+pub mod Reading
+-- ---- the set that rows stand for, and one main row
+pub mod SetLaws
+pub mod Others
+pub mod MainRow
+-- ---- pairs, whole objects, sets
+pub mod Joins
+pub mod Relations
+pub mod Owned
+pub mod Whole
+pub mod Numbers
+pub mod Rounds
+pub mod Kept
+pub mod Inverse
+-- ---- cells
+pub mod FlatRow
+pub mod Fresh
+pub mod FlatObject
+pub mod FlatNumbers
+pub mod FlatSet
+pub mod OneRows
+pub mod Normal
+pub mod Stands
+pub mod NumbersRead
+-- ---- rows that are exactly those of a set
+pub mod Undone
+pub mod Exact
+pub mod ExactNumbers
+-- ---- every metamodel is unambiguous
+pub mod Classes
+pub mod Tables
+pub mod Climb
+pub mod Distinct
+pub mod Mapped
+pub mod MappedClasses
+pub mod DescribedNumbers
+pub mod Described
+mod Examples
