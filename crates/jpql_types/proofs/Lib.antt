@@ -1,0 +1,7 @@
+mod Shop
+mod Texts
+mod Samples
+mod StatementSamples
+mod CheckSamples
+mod SameName
+mod Calls

@@ -1,0 +1,101 @@
+-- The names that stand in a statement: its variables, those of its items, its parameters.
+use Rattle.std.specs.Prelude.{List, [], ◌∷◌, ◌++◌, Option, Some, None}
+use Rattle.std.specs.List.{flat_map}
+use Rattle.jpql_tree.specs.declared.Value.{Value, Value-F, fold-Value}
+use Rattle.jpql_tree.specs.declared.Value.TheOpen as part
+use Rattle.jpql_tree.specs.declared.Item.{Item}
+use Rattle.jpql_tree.specs.declared.Assignment.{Assignment}
+use Rattle.jpql_tree.specs.declared.Condition.{Condition, Condition-F, fold-Condition}
+use Rattle.jpql_tree.specs.declared.Condition.TheOpen as test
+use Rattle.jpql_tree.specs.declared.Condition.TheOpen.{Block-F, Join-F, Source-F}
+use Rattle.jpql_tree.specs.declared.Source.{Source, fold-Source}
+use Rattle.jpql_tree.specs.declared.Query.{Query}
+use Rattle.jpql_tree.specs.Grammar.{Text}
+use Rattle.jpql_types.specs.declared.names.Names.{Names}
+
+abbrev pub or_nothing : Option (List Text) → List Text
+or_nothing None = []
+or_nothing (Some names) = names
+
+abbrev pub joined_lists : List (List Text) → List Text
+joined_lists = flat_map (λ names. names)
+
+abbrev pub parameters_step : Value-F (List Text) → List Text
+parameters_step (part.Integer n) = []
+parameters_step (part.Text t) = []
+parameters_step (part.Parameter name) = name ∷ []
+parameters_step (part.Path p) = []
+parameters_step (part.Signed s a) = a
+parameters_step (part.Arithmetic op a b) = a ++ b
+parameters_step (part.Call f all) = joined_lists all
+parameters_step (part.Size p) = []
+parameters_step (part.Aggregate g distinct a) = a
+
+abbrev pub in_value : Names → Value → List Text
+in_value Names.Parameters value = fold-Value (List Text) parameters_step value
+in_value _ value = []
+
+abbrev pub of_variable : Names → Text → List Text
+of_variable Names.Variables x = x ∷ []
+of_variable _ x = []
+
+abbrev pub of_name : Names → Option Text → List Text
+of_name Names.Items (Some name) = name ∷ []
+of_name _ _ = []
+
+abbrev pub in_item : Names → Item → List Text
+in_item which i = in_value which i.value ++ of_name which i.name
+
+-- ---- conditions and blocks
+
+module _ (which : Names) where
+  abbrev pub condition_step : Condition-F (List Text) (List Text) (List Text) (List Text) → List Text
+  condition_step (test.Or a b) = a ++ b
+  condition_step (test.And a b) = a ++ b
+  condition_step (test.Not a) = a
+  condition_step (test.Compare op a b) = in_value which a ++ in_value which b
+  condition_step (test.Between a b c) = in_value which a ++ in_value which b ++ in_value which c
+  condition_step (test.In a all) = in_value which a ++ flat_map (in_value which) all
+  condition_step (test.Like a b escape) = in_value which a ++ in_value which b
+  condition_step (test.IsNull a) = in_value which a
+  condition_step (test.IsEmpty p) = []
+  condition_step (test.Member a p) = in_value which a
+  condition_step (test.Exists b) = b
+  condition_step (test.«Type» x names) = []
+
+  abbrev pub block_step : Block-F (List Text) (List Text) (List Text) (List Text) → List Text
+  block_step b = in_item which b.item ++ joined_lists b.sources ++ or_nothing b.filter
+
+  abbrev pub join_step : Join-F (List Text) (List Text) (List Text) (List Text) → List Text
+  join_step j = of_variable which j.variable ++ or_nothing j.on
+
+  abbrev pub source_step : Source-F (List Text) (List Text) (List Text) (List Text) → List Text
+  source_step s = of_variable which s.variable ++ joined_lists s.joins
+
+  abbrev pub in_condition : Condition → List Text
+  in_condition = fold-Condition (List Text) (List Text) (List Text) (List Text) condition_step block_step join_step source_step
+
+  abbrev pub in_source : Source → List Text
+  in_source = fold-Source (List Text) (List Text) (List Text) (List Text) condition_step block_step join_step source_step
+
+  abbrev pub in_filter : Option Condition → List Text
+  in_filter None = []
+  in_filter (Some c) = in_condition c
+
+  -- ---- statements
+
+  abbrev pub in_assignment : Assignment → List Text
+  in_assignment a = of a.value
+    where
+      of : Option Value → List Text
+      of None = []
+      of (Some value) = in_value which value
+
+  abbrev pub in_variable : Option Text → List Text
+  in_variable None = []
+  in_variable (Some x) = of_variable which x
+
+  abbrev pub names_in : Query → List Text
+  names_in (Query.Select s) = flat_map (in_item which) s.items ++ flat_map in_source s.sources ++ in_filter s.filter ++ in_filter s.having
+  names_in (Query.Update entity x assignments filter) = of_variable which x ++ flat_map in_assignment assignments ++ in_filter filter
+  names_in (Query.Delete entity x filter) = in_variable x ++ in_filter filter

@@ -1,0 +1,113 @@
+-- What values are of, and which go together (chapters 4.6 to 4.8).
+use Rattle.std.specs.Prelude.{ℕ, ◌-◌, ◌==◌, length, Bool, true, false, ◌&&◌, List, [], ◌∷◌, slice_get, Option, Some, None, option_map, if◌then◌else◌}
+use Rattle.std.specs.List.{list_all}
+use Rattle.jpa_value.specs.declared.value.Kind.{Kind}
+use Rattle.jpa_model.specs.Chains.{root_of, root_class, attributes_of}
+use Rattle.jpa_model.specs.declared.unit.PersistenceUnit.{PersistenceUnit}
+use Rattle.jpa_model.specs.declared.unit.Member.{Member}
+use Rattle.jpql_tree.specs.declared.Function.{Function}
+use Rattle.jpql_tree.specs.declared.Aggregate.{Aggregate}
+use Rattle.jpql_tree.specs.declared.Comparison.{Comparison}
+use Rattle.jpql_tree.specs.Values.{◌>>=◌}
+use Rattle.jpql_types.specs.declared.scope.Step.{Step}
+use Rattle.jpql_types.specs.declared.scope.TypedPath.{TypedPath}
+use Rattle.jpql_types.specs.declared.sort.Sort.{Sort}
+use Rattle.jpql_types.specs.Scope.{when, target_of_one, target_of_many}
+
+abbrev pub integer : Sort
+integer = Sort.Basic Kind.Int
+
+abbrev pub text : Sort
+text = Sort.Basic Kind.Text
+
+abbrev pub same_kind : Kind → Kind → Bool
+same_kind Kind.Int Kind.Int = true
+same_kind Kind.Text Kind.Text = true
+same_kind Kind.Bytes Kind.Bytes = true
+same_kind _ _ = false
+
+abbrev pub goes_with : Sort → Sort → Bool
+goes_with Sort.Null b = true
+goes_with a Sort.Null = true
+goes_with (Sort.Basic a) (Sort.Basic b) = same_kind a b
+goes_with (Sort.Entity a) (Sort.Entity b) = a == b
+goes_with _ _ = false
+
+-- integers, texts and bytes, which have an order
+abbrev pub is_basic : Sort → Bool
+is_basic (Sort.Entity c) = false
+is_basic _ = true
+
+-- of two that go together, the one that is known
+abbrev pub known_of : Sort → Sort → Sort
+known_of Sort.Null b = b
+known_of a b = a
+
+-- the one sort of all of them, after some that are of this one
+abbrev pub joined_with : Sort → List Sort → Option Sort
+joined_with s [] = Some s
+joined_with s (b ∷ all) = if goes_with s b then joined_with (known_of s b) all else None
+
+abbrev pub joined : List Sort → Option Sort
+joined = joined_with Sort.Null
+
+-- COALESCE, NULLIF and BETWEEN join no entities
+abbrev pub joined_basic : List Sort → Option Sort
+joined_basic all = joined all >>= λ s. when (is_basic s) s
+
+-- arguments of these sorts, the last of which may be left out
+abbrev pub fit : List Sort → List Sort → Bool
+fit asked [] = true
+fit [] (s ∷ all) = false
+fit (a ∷ asked) (s ∷ all) = goes_with a s && fit asked all
+
+-- what a function gives of arguments of these sorts
+abbrev pub call_sort : Function → List Sort → Option Sort
+call_sort Function.Length all = when (fit (text ∷ []) all) integer
+call_sort Function.Concat all = when (list_all (goes_with text) all) text
+call_sort Function.Substring all = when (fit (text ∷ integer ∷ integer ∷ []) all) text
+call_sort Function.Locate all = when (fit (text ∷ text ∷ integer ∷ []) all) integer
+call_sort Function.Abs all = when (fit (integer ∷ []) all) integer
+call_sort Function.Mod all = when (fit (integer ∷ integer ∷ []) all) integer
+call_sort Function.Coalesce all = joined_basic all
+call_sort Function.NullIf all = joined_basic all
+
+abbrev pub aggregate_sort : Aggregate → Sort → Option Sort
+aggregate_sort Aggregate.Count s = Some integer
+aggregate_sort Aggregate.Sum s = when (goes_with integer s) integer
+aggregate_sort Aggregate.Min s = when (is_basic s) s
+aggregate_sort Aggregate.Max s = when (is_basic s) s
+
+-- arithmetic is of integers
+abbrev pub arithmetic_sort : List Sort → Option Sort
+arithmetic_sort all = when (list_all (goes_with integer) all) integer
+
+-- = and <> compare one sort, the others one with an order
+abbrev pub are_comparable : Comparison → Sort → Sort → Bool
+are_comparable Comparison.Equal a b = goes_with a b
+are_comparable Comparison.Different a b = goes_with a b
+are_comparable _ a b = goes_with a b && is_basic a && is_basic b
+
+-- what a step leads to, other than a collection
+abbrev pub step_sort : PersistenceUnit → Step → Option Sort
+step_sort m s = of s.member
+  where
+    of : Member → Option Sort
+    of (Member.KeyPart i) = option_map (λ part. Sort.Basic part.kind) (slice_get (root_of m s.class).key i)
+    of Member.Version = Some integer
+    of (Member.Attribute i) = option_map (λ a. Sort.Basic a.kind) (slice_get (attributes_of m s.class) i)
+    of (Member.Relation r) = option_map (λ c. Sort.Entity (root_class m c)) (target_of_one m s)
+
+abbrev pub last : List Step → Option Step
+last steps = slice_get steps (length steps - 1)
+
+abbrev pub path_sort : PersistenceUnit → TypedPath → Option Sort
+path_sort m p = at_end (last p.steps)
+  where
+    at_end : Option Step → Option Sort
+    at_end None = Some (Sort.Entity (root_class m p.class))
+    at_end (Some s) = step_sort m s
+
+-- the class of the collection that a path leads to
+abbrev pub collection_class : PersistenceUnit → TypedPath → Option ℕ
+collection_class m p = last p.steps >>= target_of_many m

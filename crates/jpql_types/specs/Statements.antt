@@ -1,0 +1,171 @@
+-- Which statements are well typed, and what a check answers (chapters 4.2 and 4.8 to 4.10).
+use Rattle.std.specs.Prelude.{◌==◌, Bool, true, false, not, ◌&&◌, ◌||◌, List, [], ◌∷◌, map, length, find, is_some, Option, if◌then◌else◌, Result, Ok, Err}
+use Rattle.std.specs.List.{list_any, list_all}
+use Rattle.jpa_value.specs.declared.refusal.Argument.{Argument}
+use Rattle.jpa_value.specs.declared.refusal.Cause.{Cause}
+use Rattle.jpa_model.specs.Chains.{same_name, class_of, column_of}
+use Rattle.jpa_model.specs.WellFormed.{is_some_that, if_some}
+use Rattle.jpa_model.specs.declared.unit.PersistenceUnit.{PersistenceUnit}
+use Rattle.jpa_model.specs.declared.unit.Member.{Member}
+use Rattle.jpql_tree.specs.declared.Path.{Path}
+use Rattle.jpql_tree.specs.declared.Value.{Value, Value-F, fold-Value}
+use Rattle.jpql_tree.specs.declared.Value.TheOpen as part
+use Rattle.jpql_tree.specs.declared.Item.{Item}
+use Rattle.jpql_tree.specs.declared.Condition.{Condition}
+use Rattle.jpql_tree.specs.declared.Sorted.{Sorted}
+use Rattle.jpql_tree.specs.declared.SortKey.{SortKey}
+use Rattle.jpql_tree.specs.declared.Select.{Select}
+use Rattle.jpql_tree.specs.declared.Assignment.{Assignment}
+use Rattle.jpql_tree.specs.declared.Query.{Query}
+use Rattle.jpql_tree.specs.Grammar.{Text}
+use Rattle.jpql_tree.specs.Values.{◌>>=◌}
+use Rattle.jpql_types.specs.declared.names.Names.{Names}
+use Rattle.jpql_types.specs.declared.scope.Clause.{Clause}
+use Rattle.jpql_types.specs.declared.scope.Step.{Step}
+use Rattle.jpql_types.specs.declared.sort.Sort.{Sort}
+use Rattle.jpql_types.specs.declared.typed.Typed.{Typed}
+use Rattle.jpql_types.specs.Scope.{Scope, same_variable, step_from, relation_of, path_of, same_path}
+use Rattle.jpql_types.specs.Sorts.{goes_with, is_basic, step_sort}
+use Rattle.jpql_types.specs.Names.{names_in}
+use Rattle.jpql_types.specs.Typing.{pass_both, sort_of_path, with_variable, scope_of, in_turn, value_sort, is_condition_typed, source_scope}
+use Rattle.jpql_types.specs.Trees.{is_named, typed_statement}
+
+-- ---- names: no variable is declared twice, no item named twice or as a variable
+
+abbrev pub are_distinct : (Text → Text → Bool) → List Text → Bool
+are_distinct same [] = true
+are_distinct same (x ∷ xs) = not (list_any (same x) xs) && are_distinct same xs
+
+abbrev pub has_distinct_names : Query → Bool
+has_distinct_names q =
+    let variables = names_in Names.Variables q in
+    let items = names_in Names.Items q in
+    are_distinct same_variable variables && are_distinct same_name items && list_all (λ name. not (list_any (same_variable name) variables)) items
+
+-- ---- groups
+
+abbrev pub has_aggregate_step : Value-F Bool → Bool
+has_aggregate_step (part.Integer n) = false
+has_aggregate_step (part.Text t) = false
+has_aggregate_step (part.Parameter name) = false
+has_aggregate_step (part.Path p) = false
+has_aggregate_step (part.Signed s a) = a
+has_aggregate_step (part.Arithmetic op a b) = a || b
+has_aggregate_step (part.Call f all) = list_any (λ a. a) all
+has_aggregate_step (part.Size p) = false
+has_aggregate_step (part.Aggregate g distinct a) = true
+
+abbrev pub has_aggregate : Value → Bool
+has_aggregate = fold-Value Bool has_aggregate_step
+
+abbrev pub is_any : {A : Type 0} → List A → Bool
+is_any [] = false
+is_any (x ∷ xs) = true
+
+abbrev pub is_grouping : Select → Bool
+is_grouping q = is_any q.groups || is_some q.having || list_any (λ i. has_aggregate i.value) q.items
+
+-- the clause of the items, and of ORDER BY
+abbrev pub select_clause : Select → Clause
+select_clause q = if is_grouping q then Clause.Grouped else Clause.Select
+
+module _ (m : PersistenceUnit) (parameters : List (Text × Sort)) where
+  -- ---- SELECT
+
+  abbrev pub item_sort : Select → Scope → Item → Option Sort
+  item_sort q scope i = value_sort m parameters q.groups scope (select_clause q) i.value
+
+  abbrev pub sorted_sort : Select → Scope → Sorted → Option Sort
+  sorted_sort q scope (Sorted.Name name) = find (is_named name) q.items >>= λ i. item_sort q scope i
+  sorted_sort q scope (Sorted.Path p) = sort_of_path m q.groups scope (select_clause q) p
+
+  -- one step from the variable that a path is
+  abbrev pub is_step_from : Scope → Path → Path → Bool
+  is_step_from scope x p = same_path x (record p { names = [] }) && is_some_that (λ path. length path.steps == 1) (path_of m scope p)
+
+  -- a path that DISTINCT keeps: an item, or a step from one
+  abbrev pub is_kept_by : Scope → Path → Value → Bool
+  is_kept_by scope p (Value.Path x) = same_path x p || is_step_from scope x p
+  is_kept_by scope p _ = false
+
+  abbrev pub is_kept : Select → Scope → Sorted → Bool
+  is_kept q scope (Sorted.Name name) = true
+  is_kept q scope (Sorted.Path p) = list_any (λ i. is_kept_by scope p i.value) q.items
+
+  abbrev pub is_key_typed : Select → Scope → SortKey → Bool
+  is_key_typed q scope key = is_some_that is_basic (sorted_sort q scope key.by) && (not q.is_distinct || is_kept q scope key.by)
+
+  abbrev pub is_group_typed : Select → Scope → Path → Bool
+  is_group_typed q scope p = is_some (sort_of_path m q.groups scope Clause.Where p)
+
+  abbrev pub is_filter_typed : List Path → Scope → Clause → Option Condition → Bool
+  is_filter_typed groups scope clause filter = if_some (is_condition_typed m parameters groups scope clause) filter
+
+  abbrev pub is_select_typed_in : Select → Scope → Bool
+  is_select_typed_in q scope =
+      list_all (λ i. is_some (item_sort q scope i)) q.items && is_filter_typed q.groups scope Clause.Where q.filter
+      && list_all (is_group_typed q scope) q.groups && is_filter_typed q.groups scope Clause.Having q.having
+      && list_all (is_key_typed q scope) q.order
+
+  abbrev pub is_select_typed : Select → Bool
+  is_select_typed q = is_some_that (is_select_typed_in q) (in_turn (map (source_scope m parameters q.groups) q.sources) [])
+
+  -- ---- SET
+
+  -- attributes, the version and owned relations to one object
+  abbrev pub is_settable : Step → Bool
+  is_settable s = may_set s.member
+    where
+      may_set : Member → Bool
+      may_set (Member.KeyPart i) = false
+      may_set Member.Version = true
+      may_set (Member.Attribute i) = true
+      may_set (Member.Relation r) = is_some_that (λ relation. is_some (column_of relation.side)) (relation_of m s)
+
+  abbrev pub is_parameter : Value → Bool
+  is_parameter (Value.Parameter name) = true
+  is_parameter _ = false
+
+  -- a version isn't set to NULL; an entity is a parameter
+  abbrev pub allows_value : Member → Option Value → Bool
+  allows_value Member.Version value = is_some value
+  allows_value (Member.Relation r) value = if_some is_parameter value
+  allows_value _ value = true
+
+  abbrev pub is_value_of : Scope → Option Sort → Value → Bool
+  is_value_of scope sort value = pass_both goes_with sort (value_sort m parameters [] scope Clause.Where value)
+
+  -- a step, and what it is set to
+  abbrev pub is_set_typed : Scope → Option Value → Step → Bool
+  is_set_typed scope value s = is_settable s && allows_value s.member value && if_some (is_value_of scope (step_sort m s)) value
+
+  abbrev pub is_assignment_typed : Scope → Assignment → Bool
+  is_assignment_typed scope a = is_some_that (λ s. is_set_typed scope a.value s.1) (step_from m scope a.variable a.name)
+
+  abbrev pub is_update_typed : List Assignment → Option Condition → Scope → Bool
+  is_update_typed assignments filter scope =
+      list_all (is_assignment_typed scope) assignments && are_distinct same_name (map (λ a. a.name) assignments)
+      && is_filter_typed [] scope Clause.Where filter
+
+  -- ---- statements
+
+  abbrev pub is_statement_typed : Query → Bool
+  is_statement_typed (Query.Select q) = is_select_typed q
+  is_statement_typed (Query.Update entity x assignments filter) = is_some_that (λ class. is_update_typed assignments filter (with_variable [] x class)) (class_of m entity)
+  is_statement_typed (Query.Delete entity x filter) = is_some_that (λ class. is_filter_typed [] (scope_of x class) Clause.Where filter) (class_of m entity)
+
+  abbrev pub is_typed : Query → Bool
+  is_typed q = has_distinct_names q && is_statement_typed q
+
+-- every parameter of the statement is given, and no other
+abbrev pub are_given : List (Text × Sort) → Query → Bool
+are_given parameters q =
+    let used = names_in Names.Parameters q in
+    list_all (λ name. list_any (λ p. same_name p.0 name) parameters) used && list_all (λ p. list_any (same_name p.0) used) parameters
+
+-- what a check answers where there is memory
+abbrev pub checked : PersistenceUnit → Query → List (Text × Sort) → Result Typed Cause
+checked m q parameters =
+    if not (is_typed m parameters q) then Err (Cause.IllegalArgument Argument.Typing)
+    else if not (are_given parameters q) then Err (Cause.IllegalArgument Argument.Parameter)
+    else Ok (typed_statement m parameters q)

@@ -1,0 +1,159 @@
+-- Which values, conditions and nested SELECTs are well typed: by folds over their trees (chapters 4.4 to 4.8).
+use Rattle.std.specs.Prelude.{ℕ, ◌==◌, Bool, true, false, not, ◌&&◌, List, [], ◌∷◌, ◌++◌, map, length, filter, find, is_some, Option, Some, None, if◌then◌else◌, nat_le, nat_lt}
+use Rattle.std.specs.List.{list_all}
+use Rattle.jpa_model.specs.Chains.{same_name, class_of, root_class}
+use Rattle.jpa_model.specs.WellFormed.{is_some_that, if_some}
+use Rattle.jpa_model.specs.declared.unit.PersistenceUnit.{PersistenceUnit}
+use Rattle.jpql_tree.specs.declared.Path.{Path}
+use Rattle.jpql_tree.specs.declared.Origin.{Origin}
+use Rattle.jpql_tree.specs.declared.Value.{Value, Value-F, fold-Value}
+use Rattle.jpql_tree.specs.declared.Value.TheOpen as part
+use Rattle.jpql_tree.specs.declared.Condition.{Condition, Condition-F, fold-Condition}
+use Rattle.jpql_tree.specs.declared.Condition.TheOpen as test
+use Rattle.jpql_tree.specs.declared.Condition.TheOpen.{Block-F, Join-F, Source-F}
+use Rattle.jpql_tree.specs.declared.Source.{Source, fold-Source}
+use Rattle.jpql_tree.specs.Grammar.{Text}
+use Rattle.jpql_tree.specs.Values.{◌>>=◌}
+use Rattle.jpql_types.specs.declared.scope.Clause.{Clause}
+use Rattle.jpql_types.specs.declared.scope.TypedPath.{TypedPath}
+use Rattle.jpql_types.specs.declared.sort.Sort.{Sort}
+use Rattle.jpql_types.specs.Scope.{Scope, when, step_from, target, resolved}
+use Rattle.jpql_types.specs.Sorts.{integer, text, goes_with, joined, joined_basic, call_sort, aggregate_sort, arithmetic_sort, are_comparable, path_sort, collection_class}
+
+abbrev pub all_some : {A : Type 0} → List (Option A) → Option (List A)
+all_some [] = Some []
+all_some (None ∷ all) = None
+all_some (Some a ∷ all) = all_some all >>= λ more. Some (a ∷ more)
+
+abbrev pub pass_both : {A B : Type 0} → (A → B → Bool) → Option A → Option B → Bool
+pass_both test a b = is_some_that (λ x. is_some_that (test x) b) a
+
+-- ---- parameters
+
+-- a parameter that is missing is of all sorts
+abbrev pub parameter_sort : List (Text × Sort) → Text → Sort
+parameter_sort parameters name = of (find (λ p. same_name p.0 name) parameters)
+  where
+    of : Option (Text × Sort) → Sort
+    of None = Sort.Null
+    of (Some p) = p.1
+
+-- ---- paths in a clause
+
+module _ (m : PersistenceUnit) (groups : List Path) (scope : Scope) (clause : Clause) where
+  abbrev pub sort_of_path : Path → Option Sort
+  sort_of_path p = resolved m groups scope clause p >>= λ path. path_sort m path
+
+  -- the class of the collection that a path leads to
+  abbrev pub collection : Path → Option ℕ
+  collection p = resolved m groups scope clause p >>= λ path. collection_class m path
+
+-- ---- what a clause allows
+
+abbrev pub allows_aggregates : Clause → Bool
+allows_aggregates Clause.On = false
+allows_aggregates Clause.Where = false
+allows_aggregates _ = true
+
+abbrev pub allows_exists : Clause → Bool
+allows_exists Clause.Having = false
+allows_exists _ = true
+
+-- ---- tests
+
+-- a character begins with a byte that doesn't continue one
+abbrev pub continues : ℕ → Bool
+continues b = nat_le 128 b && nat_lt b 192
+
+abbrev pub is_one_character : Text → Bool
+is_one_character t = length (filter (λ b. not (continues b)) t) == 1
+
+abbrev pub is_of_hierarchy : PersistenceUnit → ℕ → Text → Bool
+is_of_hierarchy m class name = is_some_that (λ c. root_class m c == root_class m class) (class_of m name)
+
+abbrev pub variable_path : Text → Path
+variable_path x = record { variable = x; names = [] }
+
+-- ---- FROM
+
+abbrev pub with_variable : Scope → Text → ℕ → Scope
+with_variable scope x class = scope ++ record { name = x; class = class } ∷ []
+
+-- the scope of a DELETE, which may leave its variable out
+abbrev pub scope_of : Option Text → ℕ → Scope
+scope_of None class = []
+scope_of (Some x) class = with_variable [] x class
+
+-- one element of FROM after the other
+abbrev pub in_turn : List (Scope → Option Scope) → Scope → Option Scope
+in_turn [] scope = Some scope
+in_turn (adds ∷ more) scope = adds scope >>= λ wider. in_turn more wider
+
+-- the class that a relation of a variable leads to
+abbrev pub related_class : PersistenceUnit → Scope → Text → Text → Option ℕ
+related_class m scope x name = step_from m scope x name >>= λ s. target m s.1
+
+abbrev pub origin_class : PersistenceUnit → Scope → Origin → Option ℕ
+origin_class m scope (Origin.Entity name) = class_of m name
+origin_class m scope (Origin.Related x name) = related_class m scope x name
+
+-- ---- well typed, in a persistence unit, with parameters of these sorts and these grouping paths
+
+module _ (m : PersistenceUnit) (parameters : List (Text × Sort)) (groups : List Path) where
+  abbrev pub sort_step : Scope → Value-F (Clause → Option Sort) → Clause → Option Sort
+  sort_step scope (part.Integer n) clause = Some integer
+  sort_step scope (part.Text t) clause = Some text
+  sort_step scope (part.Parameter name) clause = Some (parameter_sort parameters name)
+  sort_step scope (part.Path p) clause = sort_of_path m groups scope clause p
+  sort_step scope (part.Signed s a) clause = all_some (a clause ∷ []) >>= λ all. arithmetic_sort all
+  sort_step scope (part.Arithmetic op a b) clause = all_some (a clause ∷ b clause ∷ []) >>= λ all. arithmetic_sort all
+  sort_step scope (part.Call f all) clause = all_some (map (λ a. a clause) all) >>= λ sorts. call_sort f sorts
+  sort_step scope (part.Size p) clause = collection m groups scope clause p >>= λ class. Some integer
+  sort_step scope (part.Aggregate g distinct a) clause = if allows_aggregates clause then (a Clause.Where >>= λ s. aggregate_sort g s) else None
+
+  -- what a value is of, where it is well typed
+  abbrev pub value_sort : Scope → Clause → Value → Option Sort
+  value_sort scope clause value = fold-Value (Clause → Option Sort) (sort_step scope) value clause
+
+  abbrev pub sorts_of : Scope → Clause → List Value → Option (List Sort)
+  sorts_of scope clause values = all_some (map (value_sort scope clause) values)
+
+  -- an entity of the collection's hierarchy
+  abbrev pub is_member_typed : Option ℕ → Option Sort → Bool
+  is_member_typed = pass_both (λ class s. goes_with (Sort.Entity (root_class m class)) s)
+
+  abbrev pub Judges : Type 0
+  Judges = Scope → Clause → Bool
+
+  abbrev pub Adds : Type 0
+  Adds = Scope → Option Scope
+
+  abbrev pub condition_step : Condition-F Judges (Scope → Bool) Adds Adds → Judges
+  condition_step (test.Or a b) scope clause = a scope clause && b scope clause
+  condition_step (test.And a b) scope clause = a scope clause && b scope clause
+  condition_step (test.Not a) scope clause = a scope clause
+  condition_step (test.Compare op a b) scope clause = pass_both (are_comparable op) (value_sort scope clause a) (value_sort scope clause b)
+  condition_step (test.Between a b c) scope clause = is_some (sorts_of scope clause (a ∷ b ∷ c ∷ []) >>= λ all. joined_basic all)
+  condition_step (test.In a all) scope clause = is_some (sorts_of scope clause (a ∷ all) >>= λ sorts. joined sorts)
+  condition_step (test.Like a b escape) scope clause = is_some_that (list_all (goes_with text)) (sorts_of scope clause (a ∷ b ∷ [])) && if_some is_one_character escape
+  condition_step (test.IsNull a) scope clause = is_some (value_sort scope clause a)
+  condition_step (test.IsEmpty p) scope clause = is_some (collection m groups scope clause p)
+  condition_step (test.Member a p) scope clause = is_member_typed (collection m groups scope clause p) (value_sort scope clause a)
+  condition_step (test.Exists b) scope clause = allows_exists clause && b scope
+  condition_step (test.«Type» x names) scope clause = is_some_that (λ (path : TypedPath). list_all (is_of_hierarchy m path.class) names) (resolved m groups scope clause (variable_path x))
+
+  -- a nested SELECT
+  abbrev pub block_step : Block-F Judges (Scope → Bool) Adds Adds → Scope → Bool
+  block_step b outer = is_some_that (λ scope. is_some (value_sort scope Clause.Where (b.item).value) && if_some (λ c. c scope Clause.Where) b.filter) (in_turn b.sources outer)
+
+  abbrev pub join_step : Join-F Judges (Scope → Bool) Adds Adds → Adds
+  join_step j scope = related_class m scope j.of j.relation >>= λ class. let wider = with_variable scope j.variable class in when (if_some (λ c. c wider Clause.On) j.on) wider
+
+  abbrev pub source_step : Source-F Judges (Scope → Bool) Adds Adds → Adds
+  source_step s scope = origin_class m scope s.origin >>= λ class. in_turn s.joins (with_variable scope s.variable class)
+
+  abbrev pub is_condition_typed : Scope → Clause → Condition → Bool
+  is_condition_typed scope clause c = fold-Condition Judges (Scope → Bool) Adds Adds condition_step block_step join_step source_step c scope clause
+
+  abbrev pub source_scope : Source → Scope → Option Scope
+  source_scope = fold-Source Judges (Scope → Bool) Adds Adds condition_step block_step join_step source_step

@@ -1,0 +1,25 @@
+//! Well-typed queries of the Jakarta Persistence Query Language (Jakarta Persistence 3.1, chapter 4).
+//!
+//! The rules stand in `specs/`: in `Scope` what paths mean from the variables in scope, in `Sorts` what values are of
+//! and which go together, in `Typing` which values, conditions and nested SELECTs are well typed, in `Statements` which
+//! statements are, and what a check of one answers; in `Names` the names that a statement has, in `Trees` its typed tree.
+//! The crate stands on those of values, of the metamodel and of the trees that are written.
+#![tactic(auto)]
+
+mod context;
+mod ends;
+mod error;
+mod names;
+mod nodes;
+mod paths;
+mod scope;
+mod sort;
+mod typed;
+mod values;
+
+pub use scope::{Step, TypedPath};
+pub use sort::{ParamType, Sort};
+pub use typed::{
+    Typed, TypedAssignment, TypedBlock, TypedCondition, TypedJoin, TypedKey, TypedOrigin,
+    TypedSelect, TypedSorted, TypedSource, TypedValue,
+};

@@ -1,0 +1,65 @@
+//! Values made of typed values.
+ghost use Rattle.std.specs.Prelude.{◌≡◌, [], ◌∷◌, IfOk};
+ghost use Rattle.jpql_types.specs.Gives.{Gives};
+ghost use Rattle.jpql_types.specs.Sorts as sorts;
+
+use crate::error::TypingError;
+use crate::sort::{Sort, aggregate_sort, arithmetic_sort, call_sort};
+use crate::typed::TypedValue;
+use jpa_value::{Boxed, Seq};
+use jpql_tree::{Aggregate, Arithmetic, Function, Sign};
+use std::alloc::Global;
+
+pub(crate) fn signed(
+    alloc: Global,
+    sign: Sign,
+    operand: (TypedValue, Sort),
+) -> Result<(TypedValue, Sort), TypingError>
+    ensures sort { Gives (λ found. found.1) result (sorts.arithmetic_sort (operand.1 ∷ [])) }
+    ensures tree { IfOk result (λ found. found.0 ≡ TypedValue.Signed sign operand.0) }
+{
+    let sort = arithmetic_sort(&[operand.1]).ok_or(TypingError::Typing)?;
+    let operand = Boxed::new(alloc, operand.0)?;
+    Ok((TypedValue::Signed(sign, operand), sort))
+}
+
+pub(crate) fn arithmetic(
+    alloc: Global,
+    operation: Arithmetic,
+    left: (TypedValue, Sort),
+    right: (TypedValue, Sort),
+) -> Result<(TypedValue, Sort), TypingError>
+    ensures sort { Gives (λ found. found.1) result (sorts.arithmetic_sort (left.1 ∷ right.1 ∷ [])) }
+    ensures tree { IfOk result (λ found. found.0 ≡ TypedValue.Arithmetic operation left.0 right.0) }
+{
+    let sort = arithmetic_sort(&[left.1, right.1]).ok_or(TypingError::Typing)?;
+    let left = Boxed::new(alloc, left.0)?;
+    let right = Boxed::new(alloc, right.0)?;
+    Ok((TypedValue::Arithmetic(operation, left, right), sort))
+}
+
+pub(crate) fn call(
+    function: Function,
+    arguments: Seq<TypedValue>,
+    all: Seq<Sort>,
+) -> Result<(TypedValue, Sort), TypingError>
+    ensures sort { Gives (λ found. found.1) result (sorts.call_sort function all) }
+    ensures tree { IfOk result (λ found. found.0 ≡ TypedValue.Call function arguments) }
+{
+    let sort = call_sort(function, all.as_slice()).ok_or(TypingError::Typing)?;
+    Ok((TypedValue::Call(function, arguments), sort))
+}
+
+pub(crate) fn aggregate(
+    alloc: Global,
+    aggregate: Aggregate,
+    is_distinct: bool,
+    operand: (TypedValue, Sort),
+) -> Result<(TypedValue, Sort), TypingError>
+    ensures sort { Gives (λ found. found.1) result (sorts.aggregate_sort aggregate operand.1) }
+    ensures tree { IfOk result (λ found. found.0 ≡ TypedValue.Aggregate aggregate is_distinct operand.0) }
+{
+    let sort = aggregate_sort(aggregate, operand.1).ok_or(TypingError::Typing)?;
+    let operand = Boxed::new(alloc, operand.0)?;
+    Ok((TypedValue::Aggregate(aggregate, is_distinct, operand), sort))
+}

@@ -1,0 +1,169 @@
+//! Which values are well typed, what they are of, and their trees.
+ghost use Rattle.std.specs.Prelude.{◌≡◌, map, IfOk};
+ghost use Rattle.jpql_types.specs.Gives.{Gives};
+ghost use Rattle.jpql_types.specs.Typing as typing;
+ghost use Rattle.jpql_types.specs.Trees as trees;
+ghost use Rattle.jpql_types.specs.Within.{IsClass, IsScope};
+
+use crate::context::Context;
+use crate::ends::{collection_class, path_sort};
+use crate::error::TypingError;
+use crate::nodes;
+use crate::paths::{is_same_name, resolved};
+use crate::scope::{Clause, TypedPath, Variable};
+use crate::sort::{INTEGER, Sort, TEXT};
+use crate::typed::TypedValue;
+use jpa_value::{Seq, Text};
+use jpql_tree::{Path, Value};
+use std::alloc::Global;
+
+fn parameter_sort(parameters: &[(Text, Sort)], name: &Text) -> Sort
+    ensures { result ≡ typing.parameter_sort parameters.now name.now }
+{
+    for (given, sort) in parameters {
+        if is_same_name(given, name) {
+            return *sort;
+        }
+    }
+    Sort::Null
+}
+
+fn allows_aggregates(clause: Clause) -> bool
+    ensures { result ≡ typing.allows_aggregates clause }
+{
+    !matches!(clause, Clause::On | Clause::Where)
+}
+
+/// What a path means, and what it leads to.
+fn typed_path(
+    alloc: Global,
+    context: &Context<'_>,
+    scope: &[Variable],
+    clause: Clause,
+    path: &Path,
+) -> Result<(TypedPath, Sort), TypingError>
+    requires { IsScope context.now.metamodel.now scope.now }
+    ensures sort { Gives (λ found. found.1) result (typing.sort_of_path context.now.metamodel.now context.now.groups.now scope.now clause path.now) }
+    ensures tree { IfOk result (λ found. found.0 ≡ trees.typed_path context.now.metamodel.now context.now.parameters.now scope.now path.now) }
+{
+    let path = resolved(alloc, context, scope, clause, path)?;
+    let sort = path_sort(context.metamodel, &path).ok_or(TypingError::Typing)?;
+    Ok((path, sort))
+}
+
+/// What a path means, and the class of the collection that it leads to.
+pub(crate) fn typed_collection(
+    alloc: Global,
+    context: &Context<'_>,
+    scope: &[Variable],
+    clause: Clause,
+    path: &Path,
+) -> Result<(TypedPath, usize), TypingError>
+    requires { IsScope context.now.metamodel.now scope.now }
+    ensures class { Gives (λ found. found.1) result (typing.collection context.now.metamodel.now context.now.groups.now scope.now clause path.now) }
+    ensures tree { IfOk result (λ found. found.0 ≡ trees.typed_path context.now.metamodel.now context.now.parameters.now scope.now path.now) }
+    ensures within { IfOk result (λ found. IsClass context.now.metamodel.now found.1) }
+{
+    let path = resolved(alloc, context, scope, clause, path)?;
+    let class = collection_class(context.metamodel, &path).ok_or(TypingError::Typing)?;
+    Ok((path, class))
+}
+
+fn place_of_parameter(parameters: &[(Text, Sort)], name: &Text) -> usize
+    ensures { result ≡ trees.place_of_parameter parameters.now name.now }
+{
+    for (place, (given, _)) in parameters.iter().enumerate() {
+        if is_same_name(given, name) {
+            return place;
+        }
+    }
+    0
+}
+
+fn typed_parameter(context: &Context<'_>, name: &Text) -> (TypedValue, Sort)
+    ensures sort { result.1 ≡ typing.parameter_sort context.now.parameters.now name.now }
+    ensures tree { result.0 ≡ TypedValue.Parameter (trees.place_of_parameter context.now.parameters.now name.now) }
+{
+    let place = place_of_parameter(context.parameters, name);
+    (
+        TypedValue::Parameter(place),
+        parameter_sort(context.parameters, name),
+    )
+}
+
+/// A value, and what it is of, where it is well typed in a clause.
+#[cycle(typed_value)]
+pub(crate) fn typed_value(
+    alloc: Global,
+    context: &Context<'_>,
+    scope: &[Variable],
+    clause: Clause,
+    value: &Value,
+) -> Result<(TypedValue, Sort), TypingError>
+    requires { IsScope context.now.metamodel.now scope.now }
+    ensures sort { Gives (λ found. found.1) result (typing.value_sort context.now.metamodel.now context.now.parameters.now context.now.groups.now scope.now clause value.now) }
+    ensures tree { IfOk result (λ found. found.0 ≡ trees.typed_value context.now.metamodel.now context.now.parameters.now scope.now value.now) }
+{
+    match value {
+        Value::Integer(number) => Ok((TypedValue::Integer(*number), INTEGER)),
+        Value::Text(text) => Ok((TypedValue::Text(Text::of(alloc, text.as_str())?), TEXT)),
+        Value::Parameter(name) => Ok(typed_parameter(context, name)),
+        Value::Path(path) => {
+            let (path, sort) = typed_path(alloc, context, scope, clause, path)?;
+            Ok((TypedValue::Path(path), sort))
+        }
+        Value::Signed(sign, operand) => {
+            let operand = typed_value(alloc, context, scope, clause, operand.get())?;
+            nodes::signed(alloc, *sign, operand)
+        }
+        Value::Arithmetic(operation, left, right) => {
+            let left = typed_value(alloc, context, scope, clause, left.get())?;
+            let right = typed_value(alloc, context, scope, clause, right.get())?;
+            nodes::arithmetic(alloc, *operation, left, right)
+        }
+        Value::Call(function, arguments) => {
+            let (arguments, sorts) = typed_values(
+                alloc,
+                context,
+                scope,
+                clause,
+                arguments.as_slice(),
+            )?;
+            nodes::call(*function, arguments, sorts)
+        }
+        Value::Size(path) => {
+            let (path, _) = typed_collection(alloc, context, scope, clause, path)?;
+            Ok((TypedValue::Size(path), INTEGER))
+        }
+        Value::Aggregate(aggregate, is_distinct, operand) => {
+            if !allows_aggregates(clause) {
+                return Err(TypingError::Typing);
+            }
+            let operand = typed_value(alloc, context, scope, Clause::Where, operand.get())?;
+            nodes::aggregate(alloc, *aggregate, *is_distinct, operand)
+        }
+    }
+}
+
+/// Values, and what they are of, where all are well typed in a clause.
+#[cycle(typed_value)]
+pub(crate) fn typed_values(
+    alloc: Global,
+    context: &Context<'_>,
+    scope: &[Variable],
+    clause: Clause,
+    values: &[Value],
+) -> Result<(Seq<TypedValue>, Seq<Sort>), TypingError>
+    requires { IsScope context.now.metamodel.now scope.now }
+    ensures sorts { Gives (λ found. found.1) result (typing.sorts_of context.now.metamodel.now context.now.parameters.now context.now.groups.now scope.now clause values.now) }
+    ensures trees { IfOk result (λ found. found.0 ≡ map (trees.typed_value context.now.metamodel.now context.now.parameters.now scope.now) values.now) }
+{
+    let mut found = Seq::new(alloc);
+    let mut sorts = Seq::new(alloc);
+    for value in values {
+        let (value, sort) = typed_value(alloc, context, scope, clause, value)?;
+        found.push(value)?;
+        sorts.push(sort)?;
+    }
+    Ok((found, sorts))
+}
