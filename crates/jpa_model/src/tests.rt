@@ -1,27 +1,18 @@
 //! Descriptions of worked examples, at the limits and past them.
-use crate::draft::{
-    Cascade, Draft, DraftAttribute, DraftColumn, DraftEntity, DraftListener, DraftOrigin,
-    DraftRelation, DraftRoot, DraftSide, DraftVersion, RelationKind,
-};
-use crate::metamodel::check;
-use crate::unit::{Member, Part, Side};
+use crate::draft::{Draft, DraftAttribute, DraftEntity, DraftOrigin, DraftRoot};
+use crate::metamodel::{Metamodel, check};
+use crate::unit::{Entity, Listener, Member, Part, Relation, Side};
 use jpa_value::{Cause, Kind, LifecycleEvent, MappingFault, Seq, Text};
+use samples::{of_animals, of_persons};
 use std::alloc::Global;
+use std::process::Abort;
 use std::test::Fail;
 
 mod limits;
+mod samples;
 
 fn text(alloc: Global, words: &str) -> Result<Text, Cause> {
     Ok(Text::of(alloc, words)?)
-}
-
-/// A name of this many letters.
-fn long(alloc: Global, letters: usize) -> Result<Text, Cause> {
-    let mut name = String::new(alloc);
-    for _ in 0..letters {
-        name.push_str("a")?;
-    }
-    Ok(Text::from_string(name))
 }
 
 fn numbered(alloc: Global, word: &str, number: usize) -> Result<Text, Cause> {
@@ -63,38 +54,6 @@ fn attribute(name: Text, column: i64) -> DraftAttribute {
     }
 }
 
-fn attributes(
-    alloc: Global,
-    word: &str,
-    count: usize,
-    first: i64,
-) -> Result<Seq<DraftAttribute>, Cause> {
-    let mut found = Seq::new(alloc);
-    let mut column = first;
-    for at in 0..count {
-        found.push(attribute(numbered(alloc, word, at)?, column))?;
-        column = column.wrapping_add(1);
-    }
-    Ok(found)
-}
-
-fn relation(
-    alloc: Global,
-    name: &str,
-    kind: RelationKind,
-    target: &str,
-    side: DraftSide,
-) -> Result<DraftRelation, Cause> {
-    Ok(DraftRelation {
-        name: text(alloc, name)?,
-        kind,
-        target: text(alloc, target)?,
-        side,
-        cascade: Seq::new(alloc),
-        orphan_removal: false,
-    })
-}
-
 fn entity(alloc: Global, name: Text, origin: DraftOrigin) -> DraftEntity {
     DraftEntity {
         name,
@@ -117,154 +76,6 @@ fn draft(alloc: Global) -> Draft {
     }
 }
 
-fn column(number: i64) -> DraftSide {
-    DraftSide::Column(DraftColumn {
-        column: number,
-        required: false,
-    })
-}
-
-fn one_part(alloc: Global, name: &str) -> Result<Seq<Part>, Cause> {
-    let mut key = Seq::new(alloc);
-    key.push(Part {
-        name: text(alloc, name)?,
-        kind: Kind::Int,
-    })?;
-    Ok(key)
-}
-
-fn person_root(alloc: Global) -> Result<DraftRoot, Cause> {
-    let key = one_part(alloc, "id")?;
-    let name = text(alloc, "version")?;
-    Ok(DraftRoot {
-        table: 1,
-        key,
-        embedded: None,
-        generated: true,
-        version: Some(DraftVersion { name, column: 1 }),
-    })
-}
-
-fn orders(alloc: Global) -> Result<DraftRelation, Cause> {
-    let person = DraftSide::MappedBy(text(alloc, "person")?);
-    let mut orders = relation(alloc, "orders", RelationKind::OneToMany, "Order", person)?;
-    orders.cascade.push(Cascade::All)?;
-    orders.orphan_removal = true;
-    Ok(orders)
-}
-
-/// Persons, with orders that are removed as orphans and along all cascades.
-fn person(alloc: Global) -> Result<DraftEntity, Cause> {
-    let mut person = entity(
-        alloc,
-        text(alloc, "Person")?,
-        DraftOrigin::Root(person_root(alloc)?),
-    );
-    person.attributes.push(attribute(text(alloc, "name")?, 2))?;
-    person.relations.push(orders(alloc)?)?;
-    Ok(person)
-}
-
-fn order_root(alloc: Global) -> Result<DraftRoot, Cause> {
-    Ok(DraftRoot {
-        table: 2,
-        key: one_part(alloc, "number")?,
-        embedded: None,
-        generated: false,
-        version: None,
-    })
-}
-
-fn order(alloc: Global) -> Result<DraftEntity, Cause> {
-    let mut order = entity(
-        alloc,
-        text(alloc, "Order")?,
-        DraftOrigin::Root(order_root(alloc)?),
-    );
-    order.attributes.push(attribute(text(alloc, "amount")?, 1))?;
-    order.relations.push(relation(
-        alloc,
-        "person",
-        RelationKind::ManyToOne,
-        "Person",
-        column(2),
-    )?)?;
-    Ok(order)
-}
-
-fn persons(alloc: Global) -> Result<Draft, Cause> {
-    let mut persons = draft(alloc);
-    persons.entities.push(person(alloc)?)?;
-    persons.entities.push(order(alloc)?)?;
-    Ok(persons)
-}
-
-fn listener(alloc: Global, name: &str, events: &[&str]) -> Result<DraftListener, Cause> {
-    let mut heard = Seq::new(alloc);
-    for event in events {
-        heard.push(text(alloc, event)?)?;
-    }
-    Ok(DraftListener {
-        name: text(alloc, name)?,
-        events: heard,
-    })
-}
-
-fn animal(alloc: Global) -> Result<DraftEntity, Cause> {
-    let mut animal = entity(
-        alloc,
-        text(alloc, "Animal")?,
-        DraftOrigin::Root(root(alloc, 7, 2)?),
-    );
-    let mut name = attribute(text(alloc, "name")?, 1);
-    name.converter = Some(text(alloc, "capitals")?);
-    animal.attributes.push(name)?;
-    animal
-        .listeners
-        .push(listener(alloc, "vet", &["PostLoad", "PrePersist"])?)?;
-    animal.relations.push(relation(
-        alloc,
-        "mother",
-        RelationKind::ManyToOne,
-        "Animal",
-        column(2),
-    )?)?;
-    Ok(animal)
-}
-
-fn dog(alloc: Global) -> Result<DraftEntity, Cause> {
-    let mut dog = entity(
-        alloc,
-        text(alloc, "Dog")?,
-        DraftOrigin::Extends(text(alloc, "Animal")?),
-    );
-    dog.attributes.push(attribute(text(alloc, "breed")?, 3))?;
-    dog.relations.push(relation(
-        alloc,
-        "friends",
-        RelationKind::ManyToMany,
-        "Dog",
-        DraftSide::JoinTable(8),
-    )?)?;
-    let friends = DraftSide::MappedBy(text(alloc, "friends")?);
-    dog.relations.push(relation(alloc, "admirers", RelationKind::ManyToMany, "Dog", friends)?)?;
-    dog.discriminator = Some(text(alloc, "hund")?);
-    dog.callbacks
-        .push(listener(alloc, "bark", &["PreUpdate"])?)?;
-    Ok(dog)
-}
-
-/// A subclass, and its root of two key parts, with listeners at each place that has them.
-fn animals(alloc: Global) -> Result<Draft, Cause> {
-    let mut animals = draft(alloc);
-    animals
-        .listeners
-        .push(listener(alloc, "audit", &["PostRemove"])?)?;
-    animals.entities.push(dog(alloc)?)?;
-    animals.entities.push(animal(alloc)?)?;
-    Ok(animals)
-}
-
 fn is_accepted(alloc: Global, draft: &Draft) -> Result<bool, Cause> {
     match check(alloc, draft) {
         Ok(_) => Ok(true),
@@ -273,100 +84,155 @@ fn is_accepted(alloc: Global, draft: &Draft) -> Result<bool, Cause> {
     }
 }
 
-#[test]
-fn persons_are_found(rt: HostRuntime) -> Result<(), Fail> {
-    let alloc = rt.alloc();
-    let model = check(alloc, &persons(alloc)?)?;
-    assert_eq!(rt; model.entities().len(), 2);
-    assert_eq!(rt; model.listeners().len(), 0);
+fn is_member(found: Option<Member>, want: Option<Member>) -> bool {
+    match (found, want) {
+        (Some(Member::KeyPart(found)), Some(Member::KeyPart(want))) => found == want,
+        (Some(Member::Version), Some(Member::Version)) => true,
+        (Some(Member::Attribute(found)), Some(Member::Attribute(want))) => found == want,
+        (Some(Member::Relation(found)), Some(Member::Relation(want))) => found == want,
+        (None, None) => true,
+        _ => false,
+    }
+}
+
+/// Whether there is one listener, of this name, that hears these events.
+fn is_one(listeners: &[Listener], name: &str, events: &[LifecycleEvent]) -> bool {
+    match listeners {
+        [one] => one.name.as_str() == name && are_events(one.events.as_slice(), events),
+        _ => false,
+    }
+}
+
+fn are_events(found: &[LifecycleEvent], want: &[LifecycleEvent]) -> bool {
+    found.len() == want.len() && found.iter().zip(want).all(|(a, b)| a.name() == b.name())
+}
+
+/// Whether a name means this for an object of a class.
+fn is_meant(model: &Metamodel, class: usize, name: &str, want: Option<Member>) -> bool {
+    class < model.entities().len() && is_member(model.member_of(class, name), want)
+}
+
+fn see_persons(rt: &impl Abort, model: &Metamodel) {
+    assert!(rt; model.entities().len() == 2);
+    assert!(rt; model.listeners().is_empty());
     assert!(rt; matches!(model.class_of("Order"), Some(1)));
     assert!(rt; model.class_of("order").is_none());
-    assert_eq!(rt; model.unit().entities.len(), 2);
+    assert!(rt; model.unit().entities.len() == 2);
+}
+
+fn see_roots(rt: &impl Abort, model: &Metamodel) {
+    assert!(rt; model.entities().len() == 2);
     assert!(rt; model.is_versioned(0));
     assert!(rt; !model.is_versioned(1));
-    assert_eq!(rt; model.entity(1).name.as_str(), "Order");
-    assert_eq!(rt; model.root_of(1).table, 2);
-    let orders = model.relations_of(0);
-    assert_eq!(rt; orders.len(), 1);
-    let orders = &orders[0];
-    assert!(rt; matches!(orders.side, Side::OneToMany(0)));
-    assert!(rt;
-        orders.side.owner().is_some() && orders.side.column().is_none() && !orders.side.is_to_one()
-    );
+    assert!(rt; model.entity(1).name.as_str() == "Order");
+    assert!(rt; model.root_of(1).table == 2);
+}
+
+fn see_members(rt: &impl Abort, model: &Metamodel) {
+    assert!(rt; is_meant(model, 0, "id", Some(Member::KeyPart(0))));
+    assert!(rt; is_meant(model, 0, "version", Some(Member::Version)));
+    assert!(rt; is_meant(model, 0, "name", Some(Member::Attribute(0))));
+    assert!(rt; is_meant(model, 0, "orders", Some(Member::Relation(0))));
+    assert!(rt; is_meant(model, 1, "orders", None));
+}
+
+fn see_orders(rt: &impl Abort, orders: &Relation) {
+    let side = orders.side;
+    assert!(rt; matches!(side, Side::OneToMany(0)));
+    assert!(rt; side.owner().is_some() && side.column().is_none() && !side.is_to_one());
     assert!(rt; orders.cascade.persist && orders.cascade.detach && orders.orphan_removal);
-    Ok(())
+}
+
+fn see_relations_of_persons(rt: &impl Abort, model: &Metamodel) {
+    assert!(rt; model.entities().len() == 2);
+    let orders = model.relations_of(0);
+    assert!(rt; orders.len() == 1);
+    see_orders(rt, &orders[0]);
 }
 
 #[test]
-fn members_are_found(rt: HostRuntime) -> Result<(), Fail> {
-    let alloc = rt.alloc();
-    let model = check(alloc, &persons(alloc)?)?;
-    assert_eq!(rt; model.entities().len(), 2);
-    assert!(rt; matches!(model.member_of(0, "id"), Some(Member::KeyPart(0))));
-    assert!(rt; matches!(model.member_of(0, "version"), Some(Member::Version)));
-    assert!(rt; matches!(model.member_of(0, "name"), Some(Member::Attribute(0))));
-    assert!(rt; matches!(model.member_of(0, "orders"), Some(Member::Relation(0))));
-    assert!(rt; model.member_of(1, "orders").is_none());
+fn persons_are_found(rt: HostRuntime) -> Result<(), Fail> {
+    let model = of_persons(rt.alloc())?;
+    see_persons(&rt, &model);
+    see_roots(&rt, &model);
+    see_members(&rt, &model);
+    see_relations_of_persons(&rt, &model);
     Ok(())
+}
+
+fn see_chains(rt: &impl Abort, model: &Metamodel) {
+    assert!(rt; model.entities().len() == 2);
+    assert!(rt; matches!(model.chain(0), [1, 0]));
+    assert!(rt; model.root_class(0) == 1);
+    assert!(rt; model.is_kind_of(0, 1) && model.is_kind_of(0, 0) && !model.is_kind_of(1, 0));
+    assert!(rt; model.attributes_of(0).len() == 2);
+}
+
+fn see_inherited(rt: &impl Abort, model: &Metamodel) {
+    assert!(rt; is_meant(model, 0, "key.id1", Some(Member::KeyPart(1))));
+    assert!(rt; is_meant(model, 0, "id1", None));
+    assert!(rt; is_meant(model, 0, "breed", Some(Member::Attribute(1))));
+    assert!(rt; is_meant(model, 1, "breed", None));
+    assert!(rt; is_meant(model, 0, "admirers", Some(Member::Relation(2))));
 }
 
 #[test]
 fn subclasses_have_what_their_superclass_has(rt: HostRuntime) -> Result<(), Fail> {
-    let alloc = rt.alloc();
-    let model = check(alloc, &animals(alloc)?)?;
-    assert_eq!(rt; model.entities().len(), 2);
-    assert_eq!(rt; model.chain(0), [1, 0].as_slice());
-    assert_eq!(rt; model.root_class(0), 1);
-    assert!(rt; model.is_kind_of(0, 1) && model.is_kind_of(0, 0) && !model.is_kind_of(1, 0));
-    assert!(rt; matches!(model.member_of(0, "key.id1"), Some(Member::KeyPart(1))));
-    assert!(rt; model.member_of(0, "id1").is_none());
-    assert!(rt; matches!(model.member_of(0, "breed"), Some(Member::Attribute(1))));
-    assert!(rt; model.member_of(1, "breed").is_none());
-    assert!(rt; matches!(model.member_of(0, "admirers"), Some(Member::Relation(2))));
-    assert_eq!(rt; model.attributes_of(0).len(), 2);
+    let model = of_animals(rt.alloc())?;
+    see_chains(&rt, &model);
+    see_inherited(&rt, &model);
     Ok(())
 }
 
-#[test]
-fn relations_have_their_declarers(rt: HostRuntime) -> Result<(), Fail> {
-    let alloc = rt.alloc();
-    let model = check(alloc, &animals(alloc)?)?;
-    assert_eq!(rt; model.entities().len(), 2);
-    assert_eq!(rt; model.declarers_of(0), [1, 0, 0].as_slice());
-    assert_eq!(rt; model.relations_of(0).len(), 3);
-    assert_eq!(rt; (model.declarer_of(0, 0), model.declarer_of(0, 2)), (1, 0));
+fn see_declarers(rt: &impl Abort, model: &Metamodel) {
+    assert!(rt; model.entities().len() == 2);
+    assert!(rt; matches!(model.declarers_of(0), [1, 0, 0]));
+    assert!(rt; model.relations_of(0).len() == 3);
+    assert!(rt; model.declarer_of(0, 0) == 1 && model.declarer_of(0, 2) == 0);
     assert!(rt; model.is_held_by(0, 0, 1) && !model.is_held_by(0, 1, 1));
+}
+
+fn see_sides(rt: &impl Abort, model: &Metamodel) {
+    assert!(rt; model.entities().len() == 2);
+    assert!(rt; model.relations_of(0).len() == 3);
     assert!(rt; matches!(model.relation_at(0, 2).side, Side::ManyToManyInverse(1)));
     let mother = model.relation_at(0, 0).side;
     assert!(rt; mother.is_to_one() && mother.owner().is_none());
     assert!(rt; matches!(mother.column(), Some(found) if found.column == 2));
+}
+
+#[test]
+fn relations_have_their_declarers(rt: HostRuntime) -> Result<(), Fail> {
+    let model = of_animals(rt.alloc())?;
+    see_declarers(&rt, &model);
+    see_sides(&rt, &model);
     Ok(())
+}
+
+fn see_dog(rt: &impl Abort, dog: &Entity) {
+    assert!(rt; dog.discriminator.as_str() == "hund");
+    assert!(rt; dog.listeners.is_empty());
+    assert!(rt;
+        is_one(
+            dog.callbacks.as_slice(),
+            "bark",
+            &[LifecycleEvent::PreUpdate]
+        )
+    );
+}
+
+fn see_listeners(rt: &impl Abort, model: &Metamodel) {
+    assert!(rt; is_one(model.listeners(), "audit", &[LifecycleEvent::PostRemove]));
+    assert!(rt; model.entities().len() == 2);
+    see_dog(rt, model.entity(0));
+    let vet = model.entity(1).listeners.as_slice();
+    let heard = [LifecycleEvent::PostLoad, LifecycleEvent::PrePersist];
+    assert!(rt; is_one(vet, "vet", &heard));
 }
 
 #[test]
 fn listeners_are_found(rt: HostRuntime) -> Result<(), Fail> {
-    let alloc = rt.alloc();
-    let model = check(alloc, &animals(alloc)?)?;
-    assert_eq!(rt; model.entities().len(), 2);
-    match model.listeners() {
-        [audit] => {
-            assert_eq!(rt; audit.name.as_str(), "audit");
-            assert!(rt; matches!(audit.events.as_slice(), [LifecycleEvent::PostRemove]));
-        }
-        _ => return Err(Fail::from("not one default listener")),
-    }
-    let dog = model.entity(0);
-    assert_eq!(rt; dog.discriminator.as_str(), "hund");
-    assert!(rt; dog.listeners.is_empty());
-    assert_eq!(rt; dog.callbacks.len(), 1);
-    match model.entity(1).listeners.as_slice() {
-        [vet] => assert!(rt;
-            matches!(
-                vet.events.as_slice(),
-                [LifecycleEvent::PostLoad, LifecycleEvent::PrePersist]
-            )
-        ),
-        _ => return Err(Fail::from("not one listener")),
-    }
+    let model = of_animals(rt.alloc())?;
+    see_listeners(&rt, &model);
     Ok(())
 }

@@ -1,5 +1,31 @@
 //! Each limit at its greatest value and past it.
+use super::samples::{Kept, Members, Related, beginning, extending, relations};
 use super::*;
+use crate::draft::RelationKind;
+
+/// A name of this many letters.
+fn long(alloc: Global, letters: usize) -> Result<Text, Cause> {
+    let mut name = String::new(alloc);
+    for _ in 0..letters {
+        name.push_str("a")?;
+    }
+    Ok(Text::from_string(name))
+}
+
+fn attributes(
+    alloc: Global,
+    word: &str,
+    count: usize,
+    first: i64,
+) -> Result<Seq<DraftAttribute>, Cause> {
+    let mut found = Seq::new(alloc);
+    let mut column = first;
+    for at in 0..count {
+        found.push(attribute(numbered(alloc, word, at)?, column))?;
+        column = column.wrapping_add(1);
+    }
+    Ok(found)
+}
 
 fn of_one(alloc: Global, entity: DraftEntity) -> Result<Draft, Cause> {
     let mut one = draft(alloc);
@@ -7,63 +33,23 @@ fn of_one(alloc: Global, entity: DraftEntity) -> Result<Draft, Cause> {
     Ok(one)
 }
 
-fn of_many(alloc: Global, count: usize) -> Result<Draft, Cause> {
-    let mut many = draft(alloc);
-    let mut table = 1i64;
-    for at in 0..count {
-        many.entities.push(entity(
-            alloc,
-            numbered(alloc, "E", at)?,
-            DraftOrigin::Root(root(alloc, table, 1)?),
-        ))?;
-        table = table.wrapping_add(1);
-    }
-    Ok(many)
-}
-
-/// A root with attributes, and a subclass with more and one relation.
-fn of_members(alloc: Global, above: usize, below: usize) -> Result<Draft, Cause> {
-    let mut first = entity(
-        alloc,
-        text(alloc, "First")?,
-        DraftOrigin::Root(root(alloc, 1, 1)?),
-    );
-    first.attributes = attributes(alloc, "a", above, 10)?;
-    let mut second = entity(
-        alloc,
-        text(alloc, "Second")?,
-        DraftOrigin::Extends(text(alloc, "First")?),
-    );
-    second.attributes = attributes(alloc, "b", below, 100)?;
-    second.relations.push(relation(alloc, "first", RelationKind::ManyToOne, "First", column(1))?)?;
-    let mut two = draft(alloc);
-    two.entities.push(first)?;
-    two.entities.push(second)?;
-    Ok(two)
-}
-
 fn of_root(alloc: Global, origin: DraftRoot, name: Text) -> Result<Draft, Cause> {
     of_one(alloc, entity(alloc, name, DraftOrigin::Root(origin)))
 }
 
-fn of_column(alloc: Global, number: i64) -> Result<Draft, Cause> {
-    let mut one = entity(
-        alloc,
-        text(alloc, "E")?,
-        DraftOrigin::Root(root(alloc, 1, 1)?),
-    );
-    one.attributes.push(attribute(text(alloc, "a")?, number))?;
-    of_one(alloc, one)
+fn class(alloc: Global, at: usize, table: i64) -> Result<DraftEntity, Cause> {
+    let origin = DraftOrigin::Root(root(alloc, table, 1)?);
+    Ok(entity(alloc, numbered(alloc, "E", at)?, origin))
 }
 
-fn of_discriminator(alloc: Global, bytes: usize) -> Result<Draft, Cause> {
-    let mut one = entity(
-        alloc,
-        text(alloc, "E")?,
-        DraftOrigin::Root(root(alloc, 1, 1)?),
-    );
-    one.discriminator = Some(long(alloc, bytes)?);
-    of_one(alloc, one)
+fn of_many(alloc: Global, count: usize) -> Result<Draft, Cause> {
+    let mut many = draft(alloc);
+    let mut table = 1i64;
+    for at in 0..count {
+        many.entities.push(class(alloc, at, table)?)?;
+        table = table.wrapping_add(1);
+    }
+    Ok(many)
 }
 
 #[test]
@@ -71,9 +57,46 @@ fn entities_are_1_to_64(rt: HostRuntime) -> Result<(), Fail> {
     let alloc = rt.alloc();
     for (count, want) in [(0, false), (1, true), (64, true), (65, false)] {
         let many = of_many(alloc, count)?;
-        assert_eq!(rt; is_accepted(alloc, &many)?, want, "{count} entities");
+        assert!(rt; is_accepted(alloc, &many)? == want, "{count} entities");
     }
     Ok(())
+}
+
+fn many(alloc: Global, name: &str, count: usize, column: i64) -> Result<Members, Cause> {
+    let name = text(alloc, name)?;
+    Ok(Members {
+        attributes: attributes(alloc, name.as_str(), count, column)?,
+        name,
+        relations: Seq::new(alloc),
+    })
+}
+
+fn first(alloc: Global, count: usize) -> Result<DraftEntity, Cause> {
+    let members = many(alloc, "First", count, 10)?;
+    Ok(beginning(alloc, root(alloc, 1, 1)?, members))
+}
+
+fn second(alloc: Global, count: usize) -> Result<DraftEntity, Cause> {
+    let to_first = Related {
+        name: "first",
+        kind: RelationKind::ManyToOne,
+        target: "First",
+        kept: Kept::Column(1),
+        is_whole: false,
+    };
+    let relations = relations(alloc, &[to_first])?;
+    let members = many(alloc, "Second", count, 100)?;
+    let mut second = extending(alloc, "First", members)?;
+    second.relations = relations;
+    Ok(second)
+}
+
+/// A root with attributes, and a subclass with more and one relation.
+fn of_members(alloc: Global, above: usize, below: usize) -> Result<Draft, Cause> {
+    let mut two = draft(alloc);
+    two.entities.push(first(alloc, above)?)?;
+    two.entities.push(second(alloc, below)?)?;
+    Ok(two)
 }
 
 #[test]
@@ -86,9 +109,8 @@ fn attributes_and_relations_of_a_chain_are_at_most_64(rt: HostRuntime) -> Result
         (64, 0, false),
     ] {
         let two = of_members(alloc, above, below)?;
-        assert_eq!(rt;
-            is_accepted(alloc, &two)?,
-            want,
+        assert!(rt;
+            is_accepted(alloc, &two)? == want,
             "{above} and {below} attributes"
         );
     }
@@ -104,7 +126,7 @@ fn key_parts_are_1_to_4(rt: HostRuntime) -> Result<(), Fail> {
     let alloc = rt.alloc();
     for (parts, want) in [(0, false), (1, true), (4, true), (5, false)] {
         let one = of_parts(alloc, parts)?;
-        assert_eq!(rt; is_accepted(alloc, &one)?, want, "{parts} parts");
+        assert!(rt; is_accepted(alloc, &one)? == want, "{parts} parts");
     }
     Ok(())
 }
@@ -118,9 +140,16 @@ fn names_have_1_to_64_bytes(rt: HostRuntime) -> Result<(), Fail> {
     let alloc = rt.alloc();
     for (letters, want) in [(0, false), (1, true), (64, true), (65, false)] {
         let one = of_letters(alloc, letters)?;
-        assert_eq!(rt; is_accepted(alloc, &one)?, want, "{letters} letters");
+        assert!(rt; is_accepted(alloc, &one)? == want, "{letters} letters");
     }
     Ok(())
+}
+
+fn of_discriminator(alloc: Global, bytes: usize) -> Result<Draft, Cause> {
+    let discriminator = long(alloc, bytes)?;
+    let mut one = class(alloc, 0, 1)?;
+    one.discriminator = Some(discriminator);
+    of_one(alloc, one)
 }
 
 #[test]
@@ -128,40 +157,56 @@ fn discriminators_have_at_most_65_535_bytes(rt: HostRuntime) -> Result<(), Fail>
     let alloc = rt.alloc();
     for (bytes, want) in [(0, true), (65_535, true), (65_536, false)] {
         let one = of_discriminator(alloc, bytes)?;
-        assert_eq!(rt; is_accepted(alloc, &one)?, want, "{bytes} bytes");
+        assert!(rt; is_accepted(alloc, &one)? == want, "{bytes} bytes");
     }
     Ok(())
 }
 
+/// The numbers of tables and columns, and whether they may be.
+const NUMBERS: [(i64, bool); 5] = [
+    (-1, false),
+    (0, false),
+    (1, true),
+    (1_000_000, true),
+    (1_000_001, false),
+];
+
 fn of_table(alloc: Global, number: i64) -> Result<Draft, Cause> {
-    of_root(alloc, root(alloc, number, 1)?, text(alloc, "E")?)
+    of_one(alloc, class(alloc, 0, number)?)
 }
 
 #[test]
-fn tables_and_columns_are_1_to_1_000_000(rt: HostRuntime) -> Result<(), Fail> {
+fn tables_are_1_to_1_000_000(rt: HostRuntime) -> Result<(), Fail> {
     let alloc = rt.alloc();
-    for (number, want) in [
-        (-1, false),
-        (0, false),
-        (1, true),
-        (1_000_000, true),
-        (1_000_001, false),
-    ] {
-        let table = of_table(alloc, number)?;
-        assert_eq!(rt; is_accepted(alloc, &table)?, want, "table {number}");
-        let column = of_column(alloc, number)?;
-        assert_eq!(rt; is_accepted(alloc, &column)?, want, "column {number}");
+    for (number, want) in NUMBERS {
+        let one = of_table(alloc, number)?;
+        assert!(rt; is_accepted(alloc, &one)? == want, "table {number}");
+    }
+    Ok(())
+}
+
+fn of_column(alloc: Global, number: i64) -> Result<Draft, Cause> {
+    let attributes = attributes(alloc, "a", 1, number)?;
+    let mut one = class(alloc, 0, 1)?;
+    one.attributes = attributes;
+    of_one(alloc, one)
+}
+
+#[test]
+fn columns_are_1_to_1_000_000(rt: HostRuntime) -> Result<(), Fail> {
+    let alloc = rt.alloc();
+    for (number, want) in NUMBERS {
+        let one = of_column(alloc, number)?;
+        assert!(rt; is_accepted(alloc, &one)? == want, "column {number}");
     }
     Ok(())
 }
 
 fn of_class(alloc: Global, at: usize, first: i64) -> Result<DraftEntity, Cause> {
-    let mut class = entity(
-        alloc,
-        numbered(alloc, "C", at)?,
-        DraftOrigin::Extends(text(alloc, "Root")?),
-    );
-    class.attributes = attributes(alloc, "attribute_of_a_class_", 64, first)?;
+    let attributes = attributes(alloc, "attribute_of_a_class_", 64, first)?;
+    let origin = DraftOrigin::Extends(text(alloc, "Root")?);
+    let mut class = entity(alloc, numbered(alloc, "C", at)?, origin);
+    class.attributes = attributes;
     Ok(class)
 }
 
@@ -180,13 +225,9 @@ fn largest(alloc: Global) -> Result<Draft, Cause> {
 fn the_largest_hierarchy_is_read(rt: HostRuntime) -> Result<(), Fail> {
     let alloc = rt.alloc();
     let model = check(alloc, &largest(alloc)?)?;
-    assert_eq!(rt; model.entities().len(), 64);
-    assert_eq!(rt; model.attributes_of(63).len(), 64);
-    assert!(rt;
-        matches!(
-            model.member_of(63, "attribute_of_a_class_63"),
-            Some(Member::Attribute(63))
-        )
-    );
+    assert!(rt; model.entities().len() == 64);
+    assert!(rt; model.attributes_of(63).len() == 64);
+    let last = model.member_of(63, "attribute_of_a_class_63");
+    assert!(rt; matches!(last, Some(Member::Attribute(63))));
     Ok(())
 }
