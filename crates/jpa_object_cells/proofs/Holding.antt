@@ -16,13 +16,14 @@ use Rattle.jpa_rows.specs.Cells.{AreRows}
 use Rattle.jpa_cells_meaning.specs.declared.CellChange.{CellChange}
 use Rattle.jpa_cells_meaning.specs.declared.CellRow.{CellRow}
 use Rattle.jpa_cells_meaning.specs.Tables.{Tables, tables_after}
-use Rattle.jpa_cells_meaning.specs.Store.{IsClean, IsOpen, tables_in, Keeps, Becomes, Endures, Tells, TellsOf}
+use Rattle.jpa_cells_meaning.specs.Store as Store
+use Rattle.jpa_cells_meaning.specs.Store.{IsClean, IsOpen, tables_in, Keeps, Becomes, Endures, Opens, Tells, TellsOf}
 use Rattle.jpa_mapper.specs.Rows.{HoldsFlat, commit_changes, cells_in}
 use Rattle.jpa_mapper.proofs.FlatAfter.{holds_after, holds_nothing}
 use Rattle.jpa_mapper.proofs.FlatRows.{flat_are_rows}
 use Rattle.jpa_object_store.specs.Served.{AreOfUnit, put_all, is_served, is_next_number}
 use Rattle.jpa_object_cells.specs.Units.{unit_of, world_of, AreNamedWell}
-use Rattle.jpa_object_cells.specs.Objects.{HoldsObjects, CellsStand}
+use Rattle.jpa_object_cells.specs.Objects.{HoldsObjects, CellsStand, KeepsOrMakes, HaveRow}
 use Rattle.jpa_object_cells.proofs.Flat.{unit_is, flat_is, root_served, number_above}
 use Rattle.jpa_object_cells.proofs.Named.{named, kinds_of, moves, well_put_all, same_put_all}
 
@@ -113,6 +114,22 @@ module _ {S : Type 0} (g : Ghosts S) where
       let at : PersistenceUnit → Type 0 = λ n. AreOfUnit n set → HoldsFlat (without_functions n) (root_of n 0) set next (tables_in g conn) → AreRows (without_functions n) (cells_in n (tables_in g conn)) set (next ∷ []) in
       subst at (sym is) (λ v flat. stands_for e (subst (λ n. is_served n ≡ true) is h) set next (tables_in g conn) v held.named flat) u (held.rows clean open_)
 
+  -- ---- the opening
+
+  pub kept_twice : (old mid new : Held S) → Keeps g old mid → Keeps g mid new → (IsClean g new → IsClean g mid) → Keeps g old new
+  kept_twice old mid new k l before clean open_ =
+      let second = l clean open_ in
+      let first = k (before clean) second.0 in (first.0, second.1 ∙ first.1)
+
+  pub opened : (old : Held S) (store : Store.Stored S) → Opens g old store → KeepsOrMakes g old store.conn
+  opened old store (inl h) = inl (λ clean open_. (subst (IsOpen g) (ap (λ s. s.conn) h.0) open_, ap (λ s. tables_in g s.conn) h.0))
+  opened old store (inr h) = inr (h.1, λ clean open_. (h.2 clean).2)
+
+  pub kept_then : (old mid new : Held S) → KeepsOrMakes g old mid → Keeps g mid new → (IsClean g new → IsClean g mid) → KeepsOrMakes g old new
+  kept_then old mid new (inl h) k before = inl (kept_twice old mid new h k before)
+  kept_then old mid new (inr h) k before =
+      inr (h.0, λ clean open_. let second = k clean open_ in second.1 ∙ h.1 (before clean) second.0)
+
   -- both tables were read empty
   pub both_empty : (first mid last : Held S) (Commits : Tables → Type 0) (numbers objects : List CellRow) (t : ℤ) → (IsClean g mid → numbers ≡ tables_in g first (pos 0)) → numbers ≡ []
       → Keeps g first mid → (IsClean g last → objects ≡ tables_in g mid t) → objects ≡ [] → Keeps g mid last → Endures g mid last Commits
@@ -124,3 +141,11 @@ module _ {S : Type 0} (g : Ghosts S) where
         ap (λ ts. ts (pos 0)) (second.1 ∙ one.1) ∙ sym (n before) ∙ none,
         ap (λ ts. ts t) second.1 ∙ sym (o clean) ∙ none_,
       )
+
+  -- the first table was read, and has a row
+  pub first_has : (first mid : Held S) (numbers : List CellRow) (t : ℤ) → (IsClean g mid → numbers ≡ tables_in g first (pos 0)) → (numbers ≡ [] → ⊥) → Keeps g first mid → HaveRow g t mid
+  first_has first mid numbers t n some k clean open_ empty = some (n clean ∙ sym (ap (λ ts. ts (pos 0)) (k clean open_).1) ∙ empty.0)
+
+  -- the second was read, and has one
+  pub second_has : (mid last : Held S) (objects : List CellRow) (t : ℤ) → (IsClean g last → objects ≡ tables_in g mid t) → (objects ≡ [] → ⊥) → Keeps g mid last → HaveRow g t last
+  second_has mid last objects t o some k clean open_ empty = some (o clean ∙ sym (ap (λ ts. ts t) (k clean open_).1) ∙ empty.1)

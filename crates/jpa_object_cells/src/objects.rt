@@ -1,10 +1,10 @@
 //! The store of the objects of one entity, as cells.
-ghost use Rattle.std.specs.Prelude.{◌≡◌, ◌⊎◌, ◌+◌, ◌<◌, ◌^◌, [], pos, true, IfOk, IfErr, OnOk, OnErr};
+ghost use Rattle.std.specs.Prelude.{◌≡◌, ◌⊎◌, ◌+◌, ◌<◌, ◌^◌, [], pos, true, false, IfOk, IfErr, OnOk, OnErr};
 ghost use Rattle.jpa_value.specs.declared.refusal.Cause.{Cause};
 ghost use Rattle.jpa_cells_meaning.specs.Store.{up_to_greatest, IsClean, IsOpen, IsOrderedIfFound, tables_in, Keeps, Endures};
 ghost use Rattle.jpa_model.specs.Chains as chains;
 ghost use Rattle.jpa_object_store.specs.Served.{is_served};
-ghost use Rattle.jpa_object_cells.specs.Objects.{HoldsObjects, CellsStand, IsOpenCause};
+ghost use Rattle.jpa_object_cells.specs.Objects.{HoldsObjects, CellsStand, IsOpenCause, AreEmpty, HaveRow, KeepsOrMakes};
 
 use crate::commit::commit_changes;
 use crate::entity::copy_entity;
@@ -68,7 +68,10 @@ impl<S: Alter> ObjectStore for ObjectCells<S> {
 /// Whether table 0 and this one have no row, by two SELECTs at most.
 fn are_empty<S: Alter>(store: &mut CellStore<S>, table: u64) -> Result<bool, Cause>
     requires table { table < 2 ^ 63 }
-    ensures empty { IsClean S.Store store.new.conn → IsOpen S.Store store.new.conn → result ≡ Ok true → (tables_in S.Store store.new.conn (pos 0) ≡ []) × (tables_in S.Store store.new.conn (pos table) ≡ []) }
+    ensures empty { IsClean S.Store store.new.conn → IsOpen S.Store store.new.conn → result ≡ Ok true → AreEmpty S.Store (pos table) store.new.conn }
+    ensures rows { result ≡ Ok false → HaveRow S.Store (pos table) store.new.conn }
+    ensures kept { Keeps S.Store store.old.conn store.new.conn }
+    ensures clean { IsClean S.Store store.new.conn → IsClean S.Store store.old.conn }
     ensures cause { IfErr result (λ cause. (cause ≡ Cause.OutOfMemory) ⊎ (cause ≡ Cause.StoreFault)) }
 {
     let numbers = store.table(0)?;
@@ -87,8 +90,11 @@ fn open_empty<S: Alter + Drop>(
 ) -> Result<CellStore<S>, (Cause, Connection<S>)>
     requires table { table < 2 ^ 63 }
     requires ordered { IsOrderedIfFound S.Store conn }
-    ensures empty { IfOk result (λ s. IsClean S.Store s.conn → IsOpen S.Store s.conn → (tables_in S.Store s.conn (pos 0) ≡ []) × (tables_in S.Store s.conn (pos table) ≡ [])) }
+    ensures empty { IfOk result (λ s. IsClean S.Store s.conn → IsOpen S.Store s.conn → AreEmpty S.Store (pos table) s.conn) }
+    ensures opens { IfOk result (λ s. KeepsOrMakes S.Store conn s.conn) }
     ensures refused { IfErr result (λ e. IsOpenCause e.0) }
+    ensures damaged { IfErr result (λ e. e.0 ≡ Cause.Damaged 0 [] → HaveRow S.Store (pos table) e.1) }
+    ensures kept { IfErr result (λ e. KeepsOrMakes S.Store conn e.1) }
     ensures again { IfErr result (λ e. IsOrderedIfFound S.Store e.1) }
 {
     let mut store = match CellStore::open(alloc, conn) {
@@ -132,7 +138,10 @@ impl<S: Alter + Drop> ObjectCells<S> {
         requires ordered { IsOrderedIfFound S.Store conn }
         ensures unit { IfOk result (λ objects. objects.unit ≡ metamodel.now) }
         ensures holds { IfOk result (λ objects. HoldsObjects S.Store objects.unit objects.store.conn [] 1) }
+        ensures opens { IfOk result (λ objects. KeepsOrMakes S.Store conn objects.store.conn) }
         ensures refused { IfErr result (λ e. IsOpenCause e.0) }
+        ensures damaged { IfErr result (λ e. e.0 ≡ Cause.Damaged 0 [] → HaveRow S.Store (pos (chains.root_of metamodel.now 0).table) e.1) }
+        ensures kept { IfErr result (λ e. KeepsOrMakes S.Store conn e.1) }
         ensures again { IfErr result (λ e. IsOrderedIfFound S.Store e.1) }
     {
         let (entity, root) = match copies(alloc, metamodel) {

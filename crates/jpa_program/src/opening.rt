@@ -1,10 +1,11 @@
 //! The opening of a provider.
-ghost use Rattle.std.specs.Prelude.{◌≡◌, [], ◌∷◌, true, false, Err, IfOk, IfErr};
+ghost use Rattle.std.specs.Prelude.{◌≡◌, [], ◌∷◌, pos, true, false, Err, IfOk, IfErr};
 ghost use Rattle.jpa_value.specs.declared.refusal.Cause.{Cause};
 ghost use Rattle.jpa_value.specs.declared.refusal.MappingFault.{MappingFault};
 ghost use Rattle.jpa_cells_meaning.specs.Store.{IsOrderedIfFound};
+ghost use Rattle.jpa_model.specs.Chains.{root_of};
 ghost use Rattle.jpa_object_store.specs.Served.{is_served};
-ghost use Rattle.jpa_object_cells.specs.Objects.{IsOpenCause};
+ghost use Rattle.jpa_object_cells.specs.Objects.{HaveRow, IsOpenCause, KeepsOrMakes};
 ghost use Rattle.jpa_provider.specs.Machine.{opened};
 
 use jpa_model::Metamodel;
@@ -28,8 +29,11 @@ pub fn open<S: Alter + Drop>(
     requires ordered { IsOrderedIfFound S.Store conn }
     ensures unit { IfOk result (λ provider. provider.unit ≡ metamodel) }
     ensures machine { IfOk result (λ provider. provider.machine ≡ opened [] (1 ∷ [])) }
+    ensures opens { IfOk result (λ provider. KeepsOrMakes S.Store conn provider.store.store.conn) }
     ensures unserved { is_served metamodel ≡ false → result ≡ Err (Cause.Mapping MappingFault.Model, conn) }
     ensures refused { IfErr result (λ e. is_served metamodel ≡ true → IsOpenCause e.0) }
+    ensures damaged { IfErr result (λ e. e.0 ≡ Cause.Damaged 0 [] → HaveRow S.Store (pos (root_of metamodel 0).table) e.1) }
+    ensures kept { IfErr result (λ e. is_served metamodel ≡ true → KeepsOrMakes S.Store conn e.1) }
     ensures again { IfErr result (λ e. IsOrderedIfFound S.Store e.1) }
 {
     if !is_served(metamodel.unit()) {
