@@ -1,1 +1,5 @@
+pub mod Facts
+pub mod Counted
+pub mod Names
 pub mod Regular
+pub mod Samples

@@ -1,11 +1,20 @@
-//! Stored functions: what a listener or a converter is shown, and what it answers.
+//! Stored functions: what a listener or a converter is shown, what it answers, and the registry that finds it by name.
 //!
-//! Their model is one record, the `World` of `specs/Behaviour.antt`: the entities, what each listener answers to each
-//! image, and both directions of each converter. Every definition of an operation takes a world. The crate stands on
-//! the metamodel.
+//! `Behaviour` says what the functions of a program mean, and a `Registry` answers by what was added under a name.
+//! Contracts see a registry as two lists of names with what stands under them (`specs/Registered.antt`). With the
+//! entities it makes one record, the `World` of `specs/Behaviour.antt`: what each listener answers to each image, and
+//! both directions of each converter. Every definition of an operation takes a world. The crate stands on the
+//! metamodel, and on `indexmap` for the look-ups.
 #![tactic(auto)]
 
+mod behaviour;
+mod by_name;
+mod converted;
+mod registry;
+
+pub use behaviour::Behaviour;
 use jpa_value::{LifecycleEvent, Seq, Text, Value};
+pub use registry::Registry;
 
 /// What a listener or callback sees of an object (Jakarta Persistence 3.1, chapter 3.5): its entity's name, what
 /// happens to it, and its values in the order of the chain: key parts, version, attributes.
@@ -31,3 +40,6 @@ pub enum Heard {
     /// It threw, with this text.
     Throw(Text),
 }
+
+#[cfg(test)]
+mod tests;
