@@ -1,4 +1,27 @@
-//! The cells that stand for a set of stored objects and the next numbers of the generators.
+//! Rows: what names one, what its columns hold, and how both are spelled as cells.
 //!
-//! The definitions stand in `specs/Cells.antt`. The crate stands on stored sets, the bytes of keys and converters.
+//! A row stands under its table and a key: that of an object for its main row, the owner's and then the target's for a pair of
+//! a relation with a join table, the table of a hierarchy for the row of its next number in table 0. Its columns hold values and
+//! references. `specs/Rows` says how rows are spelled, `specs/Tables` which tables and columns a unit has, and `specs/Cells` which
+//! cells stand for a set of stored objects. The crate stands on stored sets, the bytes of keys and converters.
 #![tactic(auto)]
+
+mod copy;
+mod read;
+mod row;
+mod schema;
+mod source;
+mod spell;
+mod tables;
+mod tag;
+mod whole;
+
+pub use read::{read_content, read_id, read_row};
+pub use row::{Content, Field, Row, RowChange, RowId};
+pub use schema::{ColumnRule, Holds, Schema, TableRule};
+pub use source::RowSource;
+pub use spell::{spell_content, spell_row};
+pub use whole::{is_key, is_row_of};
+
+#[cfg(test)]
+mod tests;

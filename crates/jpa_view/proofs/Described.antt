@@ -223,3 +223,7 @@ module _ (d : Draft) (well : well_formed.is_well_formed d ≡ true) where
 -- every metamodel is unambiguous
 pub unambiguous : (m : PersistenceUnit) → IsDescribed m → IsUnambiguous m
 unambiguous m described = subst IsUnambiguous (sym (described.1).1) (unambiguous_mapped (unit_of described.0) (mapped described.0 (described.1).0))
+
+-- and what is numbered in a hierarchy is numbered once
+pub described_mapped : (m : PersistenceUnit) → IsDescribed m → IsMapped m
+described_mapped m described = subst IsMapped (sym (described.1).1) (mapped described.0 (described.1).0)

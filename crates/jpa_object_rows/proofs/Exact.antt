@@ -1,0 +1,241 @@
+-- The rows of a set and of next numbers: they stand for these alone, and what changes make of them are the rows of the set that
+-- is changed likewise.
+use Rattle.std.specs.Prelude.{◌≡◌, ℕ, zero, suc, pos, true, false, cond, ◌==◌, ◌&&◌, not, nat_lt, T, List, [], ◌∷◌, length, slice_set, slice_index_or, Some, None}
+use Rattle.std.proofs.Common.{refl, sym, ap, subst, ◌∙◌, inl}
+use Rattle.std.specs.List.{flat_map, zip, list_any, AllByRecursion}
+use Rattle.std.specs.FinMap.{put, is_sorted}
+use Rattle.jpa_value.specs.declared.value.Identity.{Identity}
+use Rattle.jpa_value.specs.Value.{identity_cmp, same_identity, is_i64}
+use Rattle.jpa_model.specs.declared.unit.Entity.{Entity}
+use Rattle.jpa_model.specs.declared.unit.Origin.{Origin}
+use Rattle.jpa_model.specs.declared.unit.PersistenceUnit.{PersistenceUnit}
+use Rattle.jpa_model.specs.declared.unit.Root.{Root}
+use Rattle.jpa_model.specs.Chains.{entity_at, no_entity, relations_of}
+use Rattle.jpa_behaviour.specs.Behaviour.{World, IsRegular}
+use Rattle.jpa_stored.specs.declared.stored.Stored.{Stored}
+use Rattle.jpa_stored.specs.Sets.{StoredSet, stored_at, with_stored, without, each_fits}
+use Rattle.jpa_rows.specs.Cells.{is_next, are_numbers, root_tables, join_tables}
+use Rattle.jpa_rows.specs.declared.schema.Schema.{Schema}
+use Rattle.jpa_rows.specs.Rows.{RowId, Rows, cells_of, table_of}
+use Rattle.jpa_rows.specs.Tables.{schema_of}
+use Rattle.jpa_row_laws.proofs.Facts.{and_first, and_second, and_both}
+use Rattle.jpa_row_laws.proofs.Each.{each_put}
+use Rattle.jpa_row_laws.proofs.Elements.{Has, append_has, into_flat_map, found_has}
+use Rattle.jpa_row_laws.proofs.Lists.{all_each, all_from, all_where}
+use Rattle.jpa_view.specs.Rows as by_bytes
+use Rattle.jpa_view.specs.Rows.{row_cmp, row_of}
+use Rattle.jpa_view.specs.Written as written
+use Rattle.jpa_view.specs.View.{set_of, is_storable, AreStorable, numbers_of}
+use Rattle.jpa_view.specs.Unambiguous.{IsUnambiguous, is_class, joins_of}
+use Rattle.jpa_view.proofs.Orders.{identities}
+use Rattle.jpa_view.proofs.Mapped.{IsMapped}
+use Rattle.jpa_view.proofs.MappedClasses.{unambiguous_mapped}
+use Rattle.jpa_view.proofs.Reading.{storable}
+use Rattle.jpa_view.proofs.Owned.{owned_of}
+use Rattle.jpa_view.proofs.Tables.{own_tables}
+use Rattle.jpa_view.proofs.FlatNumbers.{small_each}
+use Rattle.jpa_view.proofs.Classes.{has_entity}
+use Rattle.jpa_view.proofs.Rounds.{set_read}
+use Rattle.jpa_view.proofs.NumbersRead.{numbers_read}
+use Rattle.jpa_view.proofs.Exact.{rows_put, rows_dropped, rows_replaced}
+use Rattle.jpa_view.proofs.ExactNumbers.{rows_numbered}
+use Rattle.jpa_object_rows.specs.Raw.{raw, AreNamed, AreWhole, IsRowBy}
+use Rattle.jpa_object_rows.specs.Objects.{is_discriminator, number_id, number_row, with_object, without_pairs, without_object}
+use Rattle.jpa_object_rows.specs.Sets.{set_in, numbers_in, AreOnes, AreUnitRows, with_number, with_next, with_numbers, with_set, rows_of}
+use Rattle.jpa_object_rows.proofs.Raw.{raw_put}
+use Rattle.jpa_object_rows.proofs.Over.{object_over_spelled, pairs_left_spelled, object_left_spelled}
+use Rattle.jpa_object_rows.proofs.Named.{object_named, pairs_named, number_named}
+use Rattle.jpa_object_rows.proofs.Targets.{same_id}
+use Rattle.jpa_object_rows.proofs.Read.{same_by_table}
+use Rattle.jpa_object_rows.proofs.Numbers.{numbers_same}
+use Rattle.jpa_object_rows.proofs.Kept.{unit_put, unit_left, unit_dropped, unit_numbered}
+
+-- ---- rows with the same bytes are one
+
+first_row : (a b : by_bytes.Row) (x y : by_bytes.Rows) → a ∷ x ≡ b ∷ y → (a ≡ b) × (x ≡ y)
+first_row a b x y e = (cc, cc)
+
+pub same_raw : (schema : Schema) (a b : Rows) → AreNamed schema a → AreNamed schema b → AreWhole schema a → AreWhole schema b → raw a ≡ raw b → a ≡ b
+same_raw schema [] [] g h v w e = refl
+same_raw schema [] (f ∷ b) g h v w e = cc
+same_raw schema (d ∷ a) [] g h v w e = cc
+same_raw schema (d ∷ a) (f ∷ b) g h v w e =
+    let parts = first_row (row_of d.0, cells_of d.1) (row_of f.0, cells_of f.1) (raw a) (raw b) e in
+    let ids : d.0 ≡ f.0 = same_id schema d.0 f.0 g.0 h.0 (ap (λ (r : by_bytes.Row). r.0) parts.0) in
+    let rows : d.1 ≡ f.1 = same_by_table (table_of schema (d.0).table) d.1 f.1 v.0 (subst (λ (id : RowId). IsRowBy (table_of schema id.table) f.1) (sym ids) w.0) (ap (λ (r : by_bytes.Row). r.1) parts.0) in
+    let rest = same_raw schema a b g.1 h.1 v.1 w.1 parts.1 in
+    λ i. (ids i, rows i) ∷ rest i
+
+pub unit_same : (m : PersistenceUnit) (a b : Rows) → AreUnitRows m a → AreUnitRows m b → raw a ≡ raw b → a ≡ b
+unit_same m a b g h e = same_raw (schema_of m) a b (g.named).named (h.named).named g.whole h.whole e
+
+-- ---- next numbers
+
+-- tables and numbers that are integers of 64 bits
+abbrev IsSmallRoot : Entity → Type 0
+IsSmallRoot e = (table : ℕ) → Has (root_tables e.origin) table → is_i64 (pos table) ≡ true
+
+-- rows of the unit with these bytes
+record IsSpelledAs (m : PersistenceUnit) (rows : Rows) (bytes : by_bytes.Rows) : Type 0 where
+  unit : AreUnitRows m rows
+  same : raw rows ≡ bytes
+
+module _ (m : PersistenceUnit) (clear : IsUnambiguous m) where
+  numbered_spelled : (table k : ℕ) → is_i64 (pos table) ≡ true → is_i64 (pos k) ≡ true → (rows : Rows) (bytes : by_bytes.Rows) → IsSpelledAs m rows bytes
+      → IsSpelledAs m (put identity_cmp (number_id table) (number_row k) rows) (put row_cmp (written.number_row table) (written.number_columns k) bytes)
+  numbered_spelled table k small_table small rows bytes h = record {
+    unit = unit_numbered m clear table k small_table small rows h.unit;
+    same = raw_put (schema_of m) (number_id table) (number_named m table small_table) (number_row k) rows ((h.unit).named).named
+        ∙ ap (put row_cmp (written.number_row table) (written.number_columns k)) h.same;
+  }
+
+  number_spelled : (table k : ℕ) → is_i64 (pos table) ≡ true → is_i64 (pos k) ≡ true → (rows : Rows) (bytes : by_bytes.Rows) → IsSpelledAs m rows bytes
+      → IsSpelledAs m (with_number table k rows) (written.with_number table k bytes)
+  number_spelled table k small_table small rows bytes h =
+      elim (k == 1) as (λ b. IsSpelledAs m (cond b rows (put identity_cmp (number_id table) (number_row k) rows)) (cond b bytes (put row_cmp (written.number_row table) (written.number_columns k) bytes))) [
+        | true ↦ h
+        | false ↦ numbered_spelled table k small_table small rows bytes h
+      ]
+
+  next_spelled : (origin : Origin) (k : ℕ) → ((table : ℕ) → Has (root_tables origin) table → is_i64 (pos table) ≡ true) → is_next origin k ≡ true → (rows : Rows) (bytes : by_bytes.Rows) → IsSpelledAs m rows bytes
+      → IsSpelledAs m (with_next origin k rows) (written.with_next origin k bytes)
+  next_spelled (Origin.Extends parent) k small is rows bytes h = h
+  next_spelled (Origin.Root root) k small is rows bytes h =
+      elim root.generated as (λ b. cond b (nat_lt 0 k && is_i64 (pos k)) (k == 1) ≡ true → IsSpelledAs m (cond b (with_number root.table k rows) rows) (cond b (written.with_number root.table k bytes) bytes)) [
+        | true ↦ λ g. number_spelled root.table k (small root.table (inl refl)) (and_second (nat_lt 0 k) _ g) rows bytes h
+        | false ↦ λ g. h
+      ] is
+
+  nothing_spelled : IsSpelledAs m [] []
+  nothing_spelled = record {
+    unit = record { named = record { rising = tt; named = tt }; whole = tt; filled = tt; ones = λ class is. all_from (λ join. AreOnes join []) (joins_of (relations_of m class)) (λ join k. tt) };
+    same = refl;
+  }
+
+  numbers_spelled : (entities : List Entity) (numbers : List ℕ) → AllByRecursion IsSmallRoot entities → each_fits (λ e k. is_next e.origin k) entities numbers ≡ true
+      → IsSpelledAs m (with_numbers (zip entities numbers) []) (written.with_numbers (zip entities numbers) [])
+  numbers_spelled [] numbers small h = nothing_spelled
+  numbers_spelled (e ∷ entities) [] small h = nothing_spelled
+  numbers_spelled (e ∷ entities) (k ∷ numbers) small h =
+      next_spelled e.origin k small.0 (and_first (is_next e.origin k) _ h) (with_numbers (zip entities numbers) []) (written.with_numbers (zip entities numbers) [])
+      (numbers_spelled entities numbers small.1 (and_second (is_next e.origin k) _ h))
+
+  small_roots : AllByRecursion IsSmallRoot m.entities
+  small_roots =
+      all_from IsSmallRoot m.entities
+      (λ e k table h. small_each (flat_map own_tables m.entities) clear.small.1 table
+      (into_flat_map own_tables m.entities e table k (append_has (root_tables e.origin) (flat_map (λ r. join_tables r.side) e.relations) table (inl h))))
+
+  -- one number more
+  numbers_with : (entities : List Entity) (numbers : List ℕ) (i k : ℕ) → each_fits (λ e k. is_next e.origin k) entities numbers ≡ true → is_next (slice_index_or entities i no_entity).origin k ≡ true
+      → each_fits (λ e k. is_next e.origin k) entities (slice_set numbers i k) ≡ true
+  numbers_with [] [] i k h is = refl
+  numbers_with [] (n ∷ numbers) i k h is = absurd (subst T (sym h) tt)
+  numbers_with (e ∷ entities) [] i k h is = absurd (subst T (sym h) tt)
+  numbers_with (e ∷ entities) (n ∷ numbers) zero k h is = and_both (is_next e.origin k) _ is (and_second (is_next e.origin n) _ h)
+  numbers_with (e ∷ entities) (n ∷ numbers) (suc i) k h is = and_both (is_next e.origin n) _ (and_first (is_next e.origin n) _ h) (numbers_with entities numbers i k (and_second (is_next e.origin n) _ h) is)
+
+-- ---- objects
+
+module _ (world : World) (mapped : IsMapped world.model) (regular : IsRegular world) (named : (class : ℕ) → is_class world.model class ≡ true → is_discriminator (entity_at world.model class) ≡ true) where
+  clear : IsUnambiguous world.model
+  clear = unambiguous_mapped world.model mapped
+
+  module _ (id : Identity) (x : Stored) (h : is_storable world id x ≡ true) (rows : Rows) (bytes : by_bytes.Rows) (s : IsSpelledAs world.model rows bytes) where
+    object_spelled : IsSpelledAs world.model (with_object world id x rows) (written.with_object world id x bytes)
+    object_spelled = record {
+      unit = unit_put world mapped regular id x h (named x.class (storable world id x h).class) rows s.unit;
+      same = object_over_spelled (schema_of world.model) world id x (object_named world clear id x h) (pairs_named world clear id x h) rows (s.unit).named ∙ ap (written.with_object world id x) s.same;
+    }
+
+    pairs_spelled : IsSpelledAs world.model (without_pairs world id x rows) (written.without_joins id (owned_of world x) bytes)
+    pairs_spelled = record {
+      unit = unit_left world clear id x h rows s.unit;
+      same = pairs_left_spelled (schema_of world.model) world id x (object_named world clear id x h) (pairs_named world clear id x h) rows (s.unit).named ∙ ap (written.without_joins id (owned_of world x)) s.same;
+    }
+
+    left_spelled : IsSpelledAs world.model (without_object world id x rows) (written.without_object world id x bytes)
+    left_spelled = record {
+      unit = unit_dropped world clear id x h rows s.unit;
+      same = object_left_spelled (schema_of world.model) world id x (object_named world clear id x h) (pairs_named world clear id x h) rows (s.unit).named ∙ ap (written.without_object world id x) s.same;
+    }
+
+  set_spelled : (set : StoredSet) → AreStorable world set → (rows : Rows) (bytes : by_bytes.Rows) → IsSpelledAs world.model rows bytes → IsSpelledAs world.model (with_set world set rows) (written.with_set world set bytes)
+  set_spelled [] h rows bytes s = s
+  set_spelled (e ∷ set) h rows bytes s = object_spelled e.0 e.1 h.0 (with_set world set rows) (written.with_set world set bytes) (set_spelled set h.1 rows bytes s)
+
+  module _ (numbers : List ℕ) (are : are_numbers world.model numbers ≡ true) where
+    all_spelled : (set : StoredSet) → AreStorable world set → IsSpelledAs world.model (rows_of world set numbers) (written.rows_of world set numbers)
+    all_spelled set h =
+        let ps = zip (world.model).entities numbers in
+        set_spelled set h (with_numbers ps []) (written.with_numbers ps []) (numbers_spelled world.model clear (world.model).entities numbers (small_roots world.model clear) are)
+
+    pub rows_of_unit : (set : StoredSet) → AreStorable world set → AreUnitRows world.model (rows_of world set numbers)
+    rows_of_unit set h = (all_spelled set h).unit
+
+    pub rows_of_spelled : (set : StoredSet) → AreStorable world set → raw (rows_of world set numbers) ≡ written.rows_of world set numbers
+    rows_of_spelled set h = (all_spelled set h).same
+
+    -- the set and the next numbers are read again
+    pub set_read_in : (set : StoredSet) → T (is_sorted identity_cmp set) → AreStorable world set → set_in world (rows_of world set numbers) ≡ set
+    set_read_in set up h = ap (set_of world) (all_spelled set h).same ∙ set_read world clear regular set numbers up h
+
+    pub numbers_read_in : (set : StoredSet) → AreStorable world set → numbers_in world.model (rows_of world set numbers) ≡ numbers
+    numbers_read_in set h =
+        let unit = rows_of_unit set h in
+        sym (numbers_same world.model (rows_of world set numbers) unit.named unit.whole clear)
+        ∙ ap (numbers_of world.model) (all_spelled set h).same ∙ numbers_read world clear set numbers h are
+
+    module _ (set : StoredSet) (up : T (is_sorted identity_cmp set)) (h : AreStorable world set) where
+      spelled : IsSpelledAs world.model (rows_of world set numbers) (written.rows_of world set numbers)
+      spelled = all_spelled set h
+
+      put_storable : (id : Identity) (x : Stored) → is_storable world id x ≡ true → AreStorable world (with_stored id x set)
+      put_storable id x g = each_put identities (λ id x. is_storable world id x ≡ true) id x set g h
+
+      reached : (rows : Rows) (bytes : by_bytes.Rows) (news : StoredSet) → IsSpelledAs world.model rows bytes → AreStorable world news → bytes ≡ written.rows_of world news numbers → rows ≡ rows_of world news numbers
+      reached rows bytes news s g e =
+          let other = all_spelled news g in
+          unit_same world.model rows (rows_of world news numbers) s.unit other.unit (s.same ∙ e ∙ sym other.same)
+
+      -- a new object
+      pub rows_put_in : (id : Identity) (x : Stored) → is_storable world id x ≡ true → stored_at set id ≡ None → with_object world id x (rows_of world set numbers) ≡ rows_of world (with_stored id x set) numbers
+      rows_put_in id x g none =
+          reached (with_object world id x (rows_of world set numbers)) (written.with_object world id x (written.rows_of world set numbers)) (with_stored id x set)
+          (object_spelled id x g (rows_of world set numbers) (written.rows_of world set numbers) spelled) (put_storable id x g) (rows_put world clear set numbers up h id x g none)
+
+      module _ (id : Identity) (old : Stored) (at : stored_at set id ≡ Some old) where
+        old_storable : is_storable world id old ≡ true
+        old_storable = all_each (λ (e : Identity × Stored). is_storable world e.0 e.1 ≡ true) set h (id, old) (found_has identities id old set at)
+
+        -- an object in the place of the old one, of any class
+        pub rows_replaced_in : (x : Stored) → is_storable world id x ≡ true
+            → with_object world id x (without_pairs world id old (rows_of world set numbers)) ≡ rows_of world (with_stored id x set) numbers
+        rows_replaced_in x g =
+            let bytes = written.rows_of world set numbers in
+            reached (with_object world id x (without_pairs world id old (rows_of world set numbers))) (written.with_object world id x (written.without_joins id (owned_of world old) bytes)) (with_stored id x set)
+            (object_spelled id x g (without_pairs world id old (rows_of world set numbers)) (written.without_joins id (owned_of world old) bytes) (pairs_spelled id old old_storable (rows_of world set numbers) bytes spelled))
+            (put_storable id x g) (rows_replaced world clear set numbers up h id old at x g)
+
+        pub rows_dropped_in : without_object world id old (rows_of world set numbers) ≡ rows_of world (without (id ∷ []) set) numbers
+        rows_dropped_in =
+            reached (without_object world id old (rows_of world set numbers)) (written.without_object world id old (written.rows_of world set numbers)) (without (id ∷ []) set)
+            (left_spelled id old old_storable (rows_of world set numbers) (written.rows_of world set numbers) spelled)
+            (all_where (λ (e : Identity × Stored). is_storable world e.0 e.1 ≡ true) (λ (e : Identity × Stored). not (list_any (same_identity e.0) (id ∷ []))) set h)
+            (rows_dropped world clear set numbers up h id old at)
+
+  -- the next number of a root with generated keys, which is not 1 any more
+  pub rows_numbered_in : (set : StoredSet) → AreStorable world set → (numbers : List ℕ) → are_numbers world.model numbers ≡ true → (class k : ℕ) (root : Root) → is_class world.model class ≡ true
+      → nat_lt class (length numbers) ≡ true → (entity_at world.model class).origin ≡ Origin.Root root → root.generated ≡ true → k == 1 ≡ false → nat_lt 0 k ≡ true → is_i64 (pos k) ≡ true
+      → put identity_cmp (number_id root.table) (number_row k) (rows_of world set numbers) ≡ rows_of world set (slice_set numbers class k)
+  rows_numbered_in set h numbers are class k root within long is generated more positive small =
+      let m = world.model in
+      let next = ap (λ o. is_next o k) is ∙ ap (λ b. cond b (nat_lt 0 k && is_i64 (pos k)) (k == 1)) generated ∙ and_both (nat_lt 0 k) _ positive small in
+      let still = numbers_with m clear m.entities numbers class k are next in
+      let before = all_spelled numbers are set h in
+      let after = all_spelled (slice_set numbers class k) still set h in
+      let e = entity_at m class in
+      let own = all_each IsSmallRoot m.entities (small_roots m clear) e (has_entity m class within) root.table (subst (λ o. Has (root_tables o) root.table) (sym is) (inl refl)) in
+      let put_one = numbered_spelled m clear root.table k own small (rows_of world set numbers) (written.rows_of world set numbers) before in
+      unit_same m (put identity_cmp (number_id root.table) (number_row k) (rows_of world set numbers)) (rows_of world set (slice_set numbers class k)) put_one.unit after.unit
+      (put_one.same ∙ rows_numbered world clear set h numbers class k root within long is generated more ∙ sym after.same)

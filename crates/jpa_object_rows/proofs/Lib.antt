@@ -1,0 +1,28 @@
+-- ---- rows by their bytes
+pub mod Renamed
+pub mod Raw
+-- ---- the rows of an object
+pub mod Objects
+pub mod Over
+pub mod Changes
+pub mod Places
+-- ---- a unit's tables
+pub mod Tables
+pub mod Named
+pub mod Columns
+pub mod Whole
+-- ---- the set that rows stand for
+pub mod Sets
+pub mod Targets
+pub mod Stored
+pub mod Contents
+pub mod Read
+pub mod Numbers
+pub mod Kept
+pub mod Exact
+pub mod Scans
+pub mod Standing
+pub mod Cells
+pub mod Covered
+pub mod Clean
+mod Examples

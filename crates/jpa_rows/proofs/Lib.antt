@@ -1,0 +1,7 @@
+pub mod Classes
+pub mod Contents
+pub mod Fields
+pub mod Found
+pub mod Judged
+pub mod Narrow
+mod Samples

@@ -1,0 +1,47 @@
+//! Where committed rows stand: what changes over rows ask of their store.
+ghost use Rattle.std.specs.Prelude.{◌≡◌, ◌⊎◌, OnOk, OnErr, IfOk, IfErr};
+ghost use Rattle.std.specs.FinMap.{find};
+ghost use Rattle.jpa_value.specs.Value.{identity_cmp};
+ghost use Rattle.jpa_value.specs.declared.refusal.Cause.{Cause};
+ghost use Rattle.jpa_rows.specs.declared.schema.Schema.{Schema};
+ghost use Rattle.jpa_rows.specs.Rows.{Rows, table_rows, rows_after, AreChanges};
+
+use crate::row::{Row, RowChange, RowId};
+use jpa_value::{Cause, Seq};
+
+/// A store of the rows of one schema.
+pub trait RowSource {
+    /// The tables and columns of its rows.
+    ghost schema: { Self → Schema };
+
+    /// It holds these rows and no others.
+    ghost holds: { Self → Rows → Type 0 };
+
+    /// What it stands on has given back what was written to it so far.
+    ghost clean: { Self → Type 0 };
+
+    /// The row under an id. While the store holds rows, it refuses with `OutOfMemory` and `StoreFault` alone.
+    fn get(&mut self, id: &RowId) -> Result<Option<Row>, Cause>
+        ensures ok { clean self.new → IfOk result (λ row. (rows : Rows) → holds self.old rows → row ≡ find identity_cmp id.now rows) }
+        ensures err { clean self.new → IfErr result (λ cause. (rows : Rows) → holds self.old rows → (cause ≡ Cause.OutOfMemory) ⊎ (cause ≡ Cause.StoreFault)) }
+        ensures kept { (rows : Rows) → holds self.old rows → holds self.new rows }
+        ensures was_clean { clean self.new → clean self.old }
+        ensures schema { schema self.new ≡ schema self.old };
+
+    /// The rows of a table, in the order of their ids. It refuses as `get` does.
+    fn scan(&mut self, table: u64) -> Result<Seq<(RowId, Row)>, Cause>
+        ensures ok { clean self.new → IfOk result (λ found. (rows : Rows) → holds self.old rows → found ≡ table_rows table rows) }
+        ensures err { clean self.new → IfErr result (λ cause. (rows : Rows) → holds self.old rows → (cause ≡ Cause.OutOfMemory) ⊎ (cause ≡ Cause.StoreFault)) }
+        ensures kept { (rows : Rows) → holds self.old rows → holds self.new rows }
+        ensures was_clean { clean self.new → clean self.old }
+        ensures schema { schema self.new ≡ schema self.old };
+
+    /// Makes these changes in their order, all or none.
+    fn commit(&mut self, changes: &[RowChange]) -> Result<(), Cause>
+        requires { AreChanges (schema self.old) changes.now }
+        ensures ok { OnOk result ((rows : Rows) → holds self.old rows → holds self.new (rows_after changes.now rows)) }
+        ensures err { OnErr result ((rows : Rows) → holds self.old rows → holds self.new rows) }
+        ensures cause { IfErr result (λ cause. (cause ≡ Cause.OutOfMemory) ⊎ (cause ≡ Cause.StoreFault)) }
+        ensures was_clean { clean self.new → clean self.old }
+        ensures schema { schema self.new ≡ schema self.old };
+}

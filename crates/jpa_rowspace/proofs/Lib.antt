@@ -1,0 +1,10 @@
+pub mod Pairs
+pub mod Keys
+pub mod Ids
+pub mod Readings
+pub mod After
+pub mod Holding
+pub mod Answers
+pub mod Counts
+pub mod Samples
+pub mod Whole

@@ -1,0 +1,28 @@
+-- The definitions at a sample.
+use Rattle.std.proofs.Common.{◌≡◌, refl, pos, [], ◌∷◌}
+use Rattle.std.proofs.lemmas.List.Elements.{All-cons, All-nil}
+use Rattle.jpa_rows.specs.declared.row.RowChange.{RowChange}
+use Rattle.jpa_rows.specs.Rows.{table_of, IsChangeBy, AreChanges}
+use Rattle.jpa_rowspace.specs.Stored.{stored_row, stored_rows, cell_change, statements_of}
+use Rattle.jpa_rowspace.specs.Samples.{numbers, first, seven, adds_seven}
+
+row_is : stored_row (first, seven) ≡ record { row = 1 ∷ 128 ∷ 0 ∷ 0 ∷ 0 ∷ 0 ∷ 0 ∷ 0 ∷ 1 ∷ []; cells = record { column = pos 0; value = 1 ∷ 128 ∷ 0 ∷ 0 ∷ 0 ∷ 0 ∷ 0 ∷ 0 ∷ 7 ∷ [] } ∷ [] }
+row_is = refl
+
+change_is : cell_change adds_seven
+    ≡ record { table = pos 1; row = 1 ∷ 128 ∷ 0 ∷ 0 ∷ 0 ∷ 0 ∷ 0 ∷ 0 ∷ 1 ∷ []; cells = record { column = pos 0; value = 1 ∷ 128 ∷ 0 ∷ 0 ∷ 0 ∷ 0 ∷ 0 ∷ 0 ∷ 7 ∷ [] } ∷ [] }
+change_is = refl
+
+two_statements : statements_of adds_seven ≡ 2
+two_statements = refl
+
+rows_are : stored_rows 1 ((first, seven) ∷ (record { table = 2; key = [] }, seven) ∷ []) ≡ stored_row (first, seven) ∷ []
+rows_are = refl
+
+pub is_change : AreChanges numbers (adds_seven ∷ [])
+is_change = record {
+  rising = tt;
+  each = All-cons (λ (change : RowChange). IsChangeBy (table_of numbers (change.id).table) change) adds_seven []
+      (record { named = refl; whole = record { rising = tt; each = refl }; filled = λ e. cc })
+      (All-nil (λ (change : RowChange). IsChangeBy (table_of numbers (change.id).table) change));
+}

@@ -1,0 +1,4 @@
+pub mod Stored
+pub mod Reading
+pub mod Space
+pub mod Samples

@@ -1,0 +1,173 @@
+//! The rows of a schema.
+ghost use Rattle.std.specs.Prelude.{◌≡◌, ◌≢◌, ◌⊎◌, ◌+◌, ◌<◌, [], pos, length, List, ℕ, Ok, Err, None, Some, IsSome, IfSome, IfOk, IfErr, OnOk, OnErr, sum_by};
+ghost use Rattle.jpa_value.specs.declared.refusal.Cause.{Cause};
+ghost use Rattle.jpa_key.specs.Keys.{key_bytes};
+ghost use Rattle.jpa_rows.specs.Rows.{Rows, AreRising, AreChanges, rows_after, table_of};
+ghost use Rattle.jpa_cells_meaning.specs.Tables.{AreRows, cells_at, tables_after};
+ghost use Rattle.jpa_cells_meaning.specs.Store.{up_to_greatest, Counts, Tells, faults_after, IsClean, IsOpen, tables_in, Keeps, Becomes, Endures, HasFault};
+ghost use Rattle.jpa_rowspace.specs.Stored as stored;
+ghost use Rattle.jpa_rowspace.specs.Reading.{IsFound, IsIllFormed, AreRead};
+ghost use Rattle.jpa_rowspace.specs.Space.{HoldsRows, IsStoreCause};
+
+use crate::id::names_row;
+use crate::select::{row_under, rows_under};
+use crate::spell::cell_changes;
+use jpa_cells::CellStore;
+use jpa_rows::{Row, RowChange, RowId, RowSource, Schema};
+use jpa_value::{Bytes, Cause, Seq};
+use sqlite::Alter;
+use std::alloc::Global;
+use std::marker::Model;
+
+/// The rows of a schema in a store of cells. Seen by contracts as the schema and the store.
+#[derive(Drop)]
+pub struct RowSpace<S: Alter> {
+    /// The store of the rows' cells.
+    pub store: CellStore<S>,
+    schema: Schema,
+    alloc: Global,
+}
+
+impl<S: Alter> Model for RowSpace<S> {
+    ghost use Rattle.jpa_rowspace.specs.Space.{Space, space_code};
+
+    ghost Value = { Space S };
+
+    ghost coded = { space_code S.code };
+
+    ghost view = { λ s. record { schema = s.schema; store = s.store } };
+}
+
+impl<S: Alter> RowSpace<S> {
+    /// The rows of this schema in this store. Takes no memory.
+    pub fn new(alloc: Global, store: CellStore<S>, schema: Schema) -> RowSpace<S>
+        ensures { result ≡ record { schema = schema; store = store } }
+    {
+        RowSpace {
+            store,
+            schema,
+            alloc,
+        }
+    }
+
+    /// The tables and columns of its rows. Takes no memory.
+    pub fn schema(&self) -> &Schema
+        ensures { result.now ≡ self.now.schema }
+    {
+        &self.schema
+    }
+
+    /// The row under an id, by one SELECT; none where there is no such row, and without a SELECT where the id names none of
+    /// the schema's rows. Cells that spell no row of the table are `Damaged`.
+    pub fn get(&mut self, id: &RowId) -> Result<Option<Row>, Cause>
+        ensures found { IsClean S.Store self.new.store.conn → IfOk result (λ found. IfSome (stored.table_for self.old.schema id.now) (λ table. IsFound table (cells_at (key_bytes id.now.key) (tables_in S.Store self.old.store.conn (pos id.now.table))) found)) }
+        ensures unknown { stored.table_for self.old.schema id.now ≡ None → (result ≡ Ok None) × (self.new ≡ self.old) }
+        ensures refused { IfErr result (λ cause. IsStoreCause cause ⊎ ((cause ≡ Cause.Damaged id.now.table (key_bytes id.now.key)) × (IsClean S.Store self.new.store.conn → IfSome (stored.table_for self.old.schema id.now) (λ table. IsOpen S.Store self.old.store.conn × IsOpen S.Store self.new.store.conn × IsIllFormed table (cells_at (key_bytes id.now.key) (tables_in S.Store self.old.store.conn (pos id.now.table))))))) }
+        ensures open { IsClean S.Store self.new.store.conn → IsSome (stored.table_for self.old.schema id.now) → OnOk result (IsOpen S.Store self.old.store.conn × IsOpen S.Store self.new.store.conn) }
+        ensures kept { Keeps S.Store self.old.store.conn self.new.store.conn }
+        ensures counted { IsSome (stored.table_for self.old.schema id.now) → OnOk result (self.new.store.row_selects ≡ up_to_greatest (self.old.store.row_selects + 1)) }
+        ensures at_most_one { (self.new.store.row_selects ≡ self.old.store.row_selects) ⊎ (self.new.store.row_selects ≡ up_to_greatest (self.old.store.row_selects + 1)) }
+        ensures told { self.new.store.faults ≡ faults_after result self.old.store.faults }
+        ensures cause { IsClean S.Store self.new.store.conn → result ≡ Err Cause.StoreFault → HasFault S.Store self.old.store.conn self.new.store.conn }
+        ensures others { self.new ≡ record self.old { store = record self.old.store { conn = self.new.store.conn; row_selects = self.new.store.row_selects; faults = self.new.store.faults } } }
+        ensures crash { Endures S.Store self.old.store.conn self.new.store.conn (λ _. ⊥) }
+    {
+        match self.schema.table(id.table) {
+            Some(table) => {
+                if names_row(table, id.key.as_slice()) {
+                    row_under(self.alloc, &mut self.store, table, &id.key)
+                } else {
+                    Ok(None)
+                }
+            }
+            None => Ok(None),
+        }
+    }
+
+    /// The rows of a table in the order of their ids, up to the first that is damaged, and the bytes of that one, by one
+    /// SELECT; none, and without a SELECT, where the table is none of the schema's.
+    pub fn read_table(&mut self, table: u64) -> Result<(Seq<(RowId, Row)>, Option<Bytes>), Cause>
+        ensures read { IsClean S.Store self.new.store.conn → IfOk result (λ read. IfSome (table_of self.old.schema table) (λ rule. AreRead rule (tables_in S.Store self.old.store.conn (pos table)) read.0 read.1)) }
+        ensures rise { IsClean S.Store self.new.store.conn → OnOk result (IsSome (table_of self.old.schema table) → AreRows (tables_in S.Store self.old.store.conn (pos table))) }
+        ensures rising { IsClean S.Store self.new.store.conn → IfOk result (λ read. AreRising read.0) }
+        ensures unknown { table_of self.old.schema table ≡ None → (result ≡ Ok ([], None)) × (self.new ≡ self.old) }
+        ensures refused { IfErr result IsStoreCause }
+        ensures open { IsClean S.Store self.new.store.conn → IsSome (table_of self.old.schema table) → OnOk result (IsOpen S.Store self.old.store.conn × IsOpen S.Store self.new.store.conn) }
+        ensures kept { Keeps S.Store self.old.store.conn self.new.store.conn }
+        ensures counted { IsSome (table_of self.old.schema table) → self.new.store.table_selects ≡ up_to_greatest (self.old.store.table_selects + 1) }
+        ensures told { Tells result self.old.store.faults self.new.store.faults }
+        ensures cause { IsClean S.Store self.new.store.conn → result ≡ Err Cause.StoreFault → HasFault S.Store self.old.store.conn self.new.store.conn }
+        ensures others { self.new ≡ record self.old { store = record self.old.store { conn = self.new.store.conn; table_selects = self.new.store.table_selects; faults = self.new.store.faults } } }
+        ensures crash { Endures S.Store self.old.store.conn self.new.store.conn (λ _. ⊥) }
+    {
+        match self.schema.table(table) {
+            Some(rule) => rows_under(self.alloc, &mut self.store, rule),
+            None => Ok((Seq::new(self.alloc), None)),
+        }
+    }
+
+    /// The rows of a table in the order of their ids, by one SELECT; none, and without a SELECT, where the table is none of
+    /// the schema's. The lowest row that is damaged is told by its bytes.
+    pub fn scan(&mut self, table: u64) -> Result<Seq<(RowId, Row)>, Cause>
+        ensures rows { IsClean S.Store self.new.store.conn → IfOk result (λ rows. IfSome (table_of self.old.schema table) (λ rule. AreRead rule (tables_in S.Store self.old.store.conn (pos table)) rows None)) }
+        ensures rise { IsClean S.Store self.new.store.conn → OnOk result (IsSome (table_of self.old.schema table) → AreRows (tables_in S.Store self.old.store.conn (pos table))) }
+        ensures rising { IsClean S.Store self.new.store.conn → IfOk result (λ rows. AreRising rows) }
+        ensures unknown { table_of self.old.schema table ≡ None → (result ≡ Ok []) × (self.new ≡ self.old) }
+        ensures refused { IfErr result (λ cause. IsStoreCause cause ⊎ ((bytes : List ℕ) × (cause ≡ Cause.Damaged table bytes) × (IsClean S.Store self.new.store.conn → IfSome (table_of self.old.schema table) (λ rule. IsOpen S.Store self.old.store.conn × IsOpen S.Store self.new.store.conn × (before : Rows) × AreRead rule (tables_in S.Store self.old.store.conn (pos table)) before (Some bytes))))) }
+        ensures open { IsClean S.Store self.new.store.conn → IsSome (table_of self.old.schema table) → OnOk result (IsOpen S.Store self.old.store.conn × IsOpen S.Store self.new.store.conn) }
+        ensures kept { Keeps S.Store self.old.store.conn self.new.store.conn }
+        ensures counted { IsSome (table_of self.old.schema table) → self.new.store.table_selects ≡ up_to_greatest (self.old.store.table_selects + 1) }
+        ensures told { self.new.store.faults ≡ faults_after result self.old.store.faults }
+        ensures cause { IsClean S.Store self.new.store.conn → result ≡ Err Cause.StoreFault → HasFault S.Store self.old.store.conn self.new.store.conn }
+        ensures others { self.new ≡ record self.old { store = record self.old.store { conn = self.new.store.conn; table_selects = self.new.store.table_selects; faults = self.new.store.faults } } }
+        ensures crash { Endures S.Store self.old.store.conn self.new.store.conn (λ _. ⊥) }
+    {
+        let (rows, damaged) = self.read_table(table)?;
+        match damaged {
+            None => Ok(rows),
+            Some(bytes) => Err(Cause::Damaged(table, bytes)),
+        }
+    }
+
+    /// Makes these changes, all in one transaction or none: one DELETE for each change, and one INSERT for each column of its
+    /// new row. An empty list runs no statement.
+    pub fn commit(&mut self, changes: &[RowChange]) -> Result<(), Cause>
+        requires { AreChanges self.old.schema changes.now }
+        ensures applied { 0 < length changes.now → OnOk result (Becomes S.Store self.old.store.conn self.new.store.conn (tables_after (stored.cell_changes changes.now))) }
+        ensures holds { OnOk result ((rows : Rows) → HoldsRows S.Store self.old.schema self.old.store.conn rows → HoldsRows S.Store self.old.schema self.new.store.conn (rows_after changes.now rows)) }
+        ensures nothing { length changes.now ≡ 0 → (result ≡ Ok tt) × (self.new ≡ self.old) }
+        ensures kept { OnErr result (Keeps S.Store self.old.store.conn self.new.store.conn) }
+        ensures counted { Counts result self.old.store.writes self.new.store.writes (sum_by stored.statements_of changes.now) }
+        ensures told { Tells result self.old.store.faults self.new.store.faults }
+        ensures others { self.new ≡ record self.old { store = record self.old.store { conn = self.new.store.conn; writes = self.new.store.writes; faults = self.new.store.faults } } }
+        ensures crash { Endures S.Store self.old.store.conn self.new.store.conn (λ tables. tables ≡ tables_after (stored.cell_changes changes.now) (tables_in S.Store self.old.store.conn)) }
+        ensures crash_rows { (rows : Rows) → HoldsRows S.Store self.old.schema self.old.store.conn rows → IsOpen S.Store self.old.store.conn → Endures S.Store self.old.store.conn self.new.store.conn (λ tables. stored.AreStored self.old.schema tables (rows_after changes.now rows)) }
+    {
+        let _writes = self.store.writes();
+        let made = cell_changes(self.alloc, &self.schema, changes)?;
+        self.store.apply(made.as_slice())
+    }
+}
+
+impl<S: Alter> RowSource for RowSpace<S> {
+    ghost use Rattle.jpa_cells_meaning.specs.Store.{IsClean};
+    ghost use Rattle.jpa_rowspace.specs.Space.{HoldsRows};
+
+    ghost schema = { λ space. space.schema };
+
+    ghost holds = { λ space rows. HoldsRows S.Store space.schema space.store.conn rows };
+
+    ghost clean = { λ space. IsClean S.Store space.store.conn };
+
+    fn get(&mut self, id: &RowId) -> Result<Option<Row>, Cause> {
+        RowSpace::get(self, id)
+    }
+
+    fn scan(&mut self, table: u64) -> Result<Seq<(RowId, Row)>, Cause> {
+        RowSpace::scan(self, table)
+    }
+
+    fn commit(&mut self, changes: &[RowChange]) -> Result<(), Cause> {
+        RowSpace::commit(self, changes)
+    }
+}
