@@ -5,3 +5,7 @@ mod StatementSamples
 mod CheckSamples
 mod SameName
 mod Calls
+mod Blocks
+mod Joined
+mod Items
+mod Judged

@@ -130,6 +130,10 @@ distinct_by_item : typed "SELECT DISTINCT p.name FROM Person p ORDER BY P.name" 
 unfolding query
 distinct_by_item = search evaluated
 
+distinct_by_longer_item : typed "SELECT DISTINCT o.person.name FROM Order o ORDER BY o.person.name" ≡ Some true
+unfolding query
+distinct_by_longer_item = search evaluated
+
 distinct_by_other : typed "SELECT DISTINCT p.name FROM Person p ORDER BY p.id" ≡ Some false
 unfolding query
 distinct_by_other = search evaluated

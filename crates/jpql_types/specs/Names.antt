@@ -8,6 +8,8 @@ use Rattle.jpql_tree.specs.declared.Assignment.{Assignment}
 use Rattle.jpql_tree.specs.declared.Condition.{Condition, Condition-F, fold-Condition}
 use Rattle.jpql_tree.specs.declared.Condition.TheOpen as test
 use Rattle.jpql_tree.specs.declared.Condition.TheOpen.{Block-F, Join-F, Source-F}
+use Rattle.jpql_tree.specs.declared.Block.{Block, fold-Block}
+use Rattle.jpql_tree.specs.declared.Join.{Join, fold-Join}
 use Rattle.jpql_tree.specs.declared.Source.{Source, fold-Source}
 use Rattle.jpql_tree.specs.declared.Query.{Query}
 use Rattle.jpql_tree.specs.Grammar.{Text}
@@ -74,6 +76,12 @@ module _ (which : Names) where
 
   abbrev pub in_condition : Condition → List Text
   in_condition = fold-Condition (List Text) (List Text) (List Text) (List Text) condition_step block_step join_step source_step
+
+  abbrev pub in_block : Block → List Text
+  in_block = fold-Block (List Text) (List Text) (List Text) (List Text) condition_step block_step join_step source_step
+
+  abbrev pub in_join : Join → List Text
+  in_join = fold-Join (List Text) (List Text) (List Text) (List Text) condition_step block_step join_step source_step
 
   abbrev pub in_source : Source → List Text
   in_source = fold-Source (List Text) (List Text) (List Text) (List Text) condition_step block_step join_step source_step

@@ -1,5 +1,5 @@
 -- Which statements are well typed, and what a check answers (chapters 4.2 and 4.8 to 4.10).
-use Rattle.std.specs.Prelude.{◌==◌, Bool, true, false, not, ◌&&◌, ◌||◌, List, [], ◌∷◌, map, length, find, is_some, Option, if◌then◌else◌, Result, Ok, Err}
+use Rattle.std.specs.Prelude.{ℕ, ◌==◌, Bool, true, false, not, ◌&&◌, ◌||◌, List, [], ◌∷◌, map, length, find, is_some, Option, if◌then◌else◌, Result, Ok, Err}
 use Rattle.std.specs.List.{list_any, list_all}
 use Rattle.jpa_value.specs.declared.refusal.Argument.{Argument}
 use Rattle.jpa_value.specs.declared.refusal.Cause.{Cause}
@@ -69,6 +69,43 @@ is_grouping q = is_any q.groups || is_some q.having || list_any (λ i. has_aggre
 abbrev pub select_clause : Select → Clause
 select_clause q = if is_grouping q then Clause.Grouped else Clause.Select
 
+-- ---- ORDER BY (chapter 4.9)
+
+-- what the item of a name is of
+abbrev pub sort_named : (Item → Option Sort) → List Item → Text → Option Sort
+sort_named sort items name = find (is_named name) items >>= sort
+
+-- a path that begins at the variable that another one is
+abbrev pub is_from : Path → Path → Bool
+is_from x p = same_path x (record p { names = [] })
+
+-- a path, of so many steps, that is a value or one step from it
+abbrev pub is_kept_by : Path → ℕ → Value → Bool
+is_kept_by p steps (Value.Path x) = same_path x p || is_from x p && steps == 1
+is_kept_by p steps _ = false
+
+-- ---- what SET may set (chapter 4.10)
+
+-- attributes, the version and owned relations to one object
+abbrev pub is_settable : PersistenceUnit → Step → Bool
+is_settable m s = may_set s.member
+  where
+    may_set : Member → Bool
+    may_set (Member.KeyPart i) = false
+    may_set Member.Version = true
+    may_set (Member.Attribute i) = true
+    may_set (Member.Relation r) = is_some_that (λ relation. is_some (column_of relation.side)) (relation_of m s)
+
+abbrev pub is_parameter : Value → Bool
+is_parameter (Value.Parameter name) = true
+is_parameter _ = false
+
+-- a version isn't set to NULL; an entity is a parameter
+abbrev pub allows_value : Member → Option Value → Bool
+allows_value Member.Version value = is_some value
+allows_value (Member.Relation r) value = if_some is_parameter value
+allows_value _ value = true
+
 module _ (m : PersistenceUnit) (parameters : List (Text × Sort)) where
   -- ---- SELECT
 
@@ -76,21 +113,13 @@ module _ (m : PersistenceUnit) (parameters : List (Text × Sort)) where
   item_sort q scope i = value_sort m parameters q.groups scope (select_clause q) i.value
 
   abbrev pub sorted_sort : Select → Scope → Sorted → Option Sort
-  sorted_sort q scope (Sorted.Name name) = find (is_named name) q.items >>= λ i. item_sort q scope i
+  sorted_sort q scope (Sorted.Name name) = sort_named (item_sort q scope) q.items name
   sorted_sort q scope (Sorted.Path p) = sort_of_path m q.groups scope (select_clause q) p
 
-  -- one step from the variable that a path is
-  abbrev pub is_step_from : Scope → Path → Path → Bool
-  is_step_from scope x p = same_path x (record p { names = [] }) && is_some_that (λ path. length path.steps == 1) (path_of m scope p)
-
-  -- a path that DISTINCT keeps: an item, or a step from one
-  abbrev pub is_kept_by : Scope → Path → Value → Bool
-  is_kept_by scope p (Value.Path x) = same_path x p || is_step_from scope x p
-  is_kept_by scope p _ = false
-
+  -- DISTINCT keeps the items, and what is one step from a variable that is an item
   abbrev pub is_kept : Select → Scope → Sorted → Bool
   is_kept q scope (Sorted.Name name) = true
-  is_kept q scope (Sorted.Path p) = list_any (λ i. is_kept_by scope p i.value) q.items
+  is_kept q scope (Sorted.Path p) = is_some_that (λ path. list_any (λ i. is_kept_by p (length path.steps) i.value) q.items) (path_of m scope p)
 
   abbrev pub is_key_typed : Select → Scope → SortKey → Bool
   is_key_typed q scope key = is_some_that is_basic (sorted_sort q scope key.by) && (not q.is_distinct || is_kept q scope key.by)
@@ -112,32 +141,12 @@ module _ (m : PersistenceUnit) (parameters : List (Text × Sort)) where
 
   -- ---- SET
 
-  -- attributes, the version and owned relations to one object
-  abbrev pub is_settable : Step → Bool
-  is_settable s = may_set s.member
-    where
-      may_set : Member → Bool
-      may_set (Member.KeyPart i) = false
-      may_set Member.Version = true
-      may_set (Member.Attribute i) = true
-      may_set (Member.Relation r) = is_some_that (λ relation. is_some (column_of relation.side)) (relation_of m s)
-
-  abbrev pub is_parameter : Value → Bool
-  is_parameter (Value.Parameter name) = true
-  is_parameter _ = false
-
-  -- a version isn't set to NULL; an entity is a parameter
-  abbrev pub allows_value : Member → Option Value → Bool
-  allows_value Member.Version value = is_some value
-  allows_value (Member.Relation r) value = if_some is_parameter value
-  allows_value _ value = true
-
   abbrev pub is_value_of : Scope → Option Sort → Value → Bool
   is_value_of scope sort value = pass_both goes_with sort (value_sort m parameters [] scope Clause.Where value)
 
   -- a step, and what it is set to
   abbrev pub is_set_typed : Scope → Option Value → Step → Bool
-  is_set_typed scope value s = is_settable s && allows_value s.member value && if_some (is_value_of scope (step_sort m s)) value
+  is_set_typed scope value s = is_settable m s && allows_value s.member value && if_some (is_value_of scope (step_sort m s)) value
 
   abbrev pub is_assignment_typed : Scope → Assignment → Bool
   is_assignment_typed scope a = is_some_that (λ s. is_set_typed scope a.value s.1) (step_from m scope a.variable a.name)

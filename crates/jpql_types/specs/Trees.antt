@@ -14,6 +14,8 @@ use Rattle.jpql_tree.specs.declared.Item.{Item}
 use Rattle.jpql_tree.specs.declared.Condition.{Condition, Condition-F, fold-Condition}
 use Rattle.jpql_tree.specs.declared.Condition.TheOpen as test
 use Rattle.jpql_tree.specs.declared.Condition.TheOpen.{Block-F, Join-F, Source-F}
+use Rattle.jpql_tree.specs.declared.Block.{Block, fold-Block}
+use Rattle.jpql_tree.specs.declared.Join.{Join, fold-Join}
 use Rattle.jpql_tree.specs.declared.Source.{Source, fold-Source}
 use Rattle.jpql_tree.specs.declared.Sorted.{Sorted}
 use Rattle.jpql_tree.specs.declared.SortKey.{SortKey}
@@ -139,6 +141,12 @@ module _ (m : PersistenceUnit) (parameters : List (Text × Sort)) where
   abbrev pub typed_source : Source → Source-in
   typed_source = fold-Source Condition-in Block-in Join-in Source-in test_step block_step join_step source_step
 
+  abbrev pub typed_block : Block → Block-in
+  typed_block = fold-Block Condition-in Block-in Join-in Source-in test_step block_step join_step source_step
+
+  abbrev pub typed_join : Join → Join-in
+  typed_join = fold-Join Condition-in Block-in Join-in Source-in test_step block_step join_step source_step
+
   abbrev pub typed_filter : Scope → Option Condition → Option TypedCondition
   typed_filter scope filter = option_map (λ c. typed_condition c scope) filter
 
@@ -151,18 +159,20 @@ module _ (m : PersistenceUnit) (parameters : List (Text × Sort)) where
       by (Sorted.Name name) = TypedSorted.Item (place (position_from (is_named name) 0 items))
       by (Sorted.Path p) = TypedSorted.Path (typed_path scope p)
 
+  -- a SELECT in the scope that its FROM makes
+  abbrev pub typed_select_in : Select → Scope → List TypedSource → TypedSelect
+  typed_select_in q scope sources = record {
+    is_distinct = q.is_distinct;
+    items = map (λ i. typed_value scope i.value) q.items;
+    sources = sources;
+    filter = typed_filter scope q.filter;
+    groups = map (typed_path scope) q.groups;
+    having = typed_filter scope q.having;
+    order = map (typed_key scope q.items) q.order;
+  }
+
   abbrev pub typed_select : Select → TypedSelect
-  typed_select q =
-      let from = in_scope (map typed_source q.sources) [] in
-      record {
-        is_distinct = q.is_distinct;
-        items = map (λ i. typed_value from.1 i.value) q.items;
-        sources = from.0;
-        filter = typed_filter from.1 q.filter;
-        groups = map (typed_path from.1) q.groups;
-        having = typed_filter from.1 q.having;
-        order = map (typed_key from.1 q.items) q.order;
-      }
+  typed_select q = let from = in_scope (map typed_source q.sources) [] in typed_select_in q from.1 from.0
 
   abbrev pub typed_assignment : Scope → Assignment → TypedAssignment
   typed_assignment scope a = record { member = (typed_step scope a.variable a.name).1.member; value = option_map (typed_value scope) a.value }

@@ -11,6 +11,8 @@ use Rattle.jpql_tree.specs.declared.Value.TheOpen as part
 use Rattle.jpql_tree.specs.declared.Condition.{Condition, Condition-F, fold-Condition}
 use Rattle.jpql_tree.specs.declared.Condition.TheOpen as test
 use Rattle.jpql_tree.specs.declared.Condition.TheOpen.{Block-F, Join-F, Source-F}
+use Rattle.jpql_tree.specs.declared.Block.{Block, fold-Block}
+use Rattle.jpql_tree.specs.declared.Join.{Join, fold-Join}
 use Rattle.jpql_tree.specs.declared.Source.{Source, fold-Source}
 use Rattle.jpql_tree.specs.Grammar.{Text}
 use Rattle.jpql_tree.specs.Values.{◌>>=◌}
@@ -157,3 +159,9 @@ module _ (m : PersistenceUnit) (parameters : List (Text × Sort)) (groups : List
 
   abbrev pub source_scope : Source → Scope → Option Scope
   source_scope = fold-Source Judges (Scope → Bool) Adds Adds condition_step block_step join_step source_step
+
+  abbrev pub is_block_typed : Block → Scope → Bool
+  is_block_typed = fold-Block Judges (Scope → Bool) Adds Adds condition_step block_step join_step source_step
+
+  abbrev pub join_scope : Join → Scope → Option Scope
+  join_scope = fold-Join Judges (Scope → Bool) Adds Adds condition_step block_step join_step source_step

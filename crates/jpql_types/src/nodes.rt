@@ -1,11 +1,11 @@
-//! Values made of typed values.
-ghost use Rattle.std.specs.Prelude.{◌≡◌, [], ◌∷◌, IfOk};
-ghost use Rattle.jpql_types.specs.Gives.{Gives};
+//! Values and conditions made of typed ones.
+ghost use Rattle.std.specs.Prelude.{◌≡◌, true, [], ◌∷◌, IfOk};
+ghost use Rattle.jpql_types.specs.Gives.{Gives, IsJudged};
 ghost use Rattle.jpql_types.specs.Sorts as sorts;
 
 use crate::error::TypingError;
 use crate::sort::{Sort, aggregate_sort, arithmetic_sort, call_sort};
-use crate::typed::TypedValue;
+use crate::typed::{TypedBlock, TypedCondition, TypedValue};
 use jpa_value::{Boxed, Seq};
 use jpql_tree::{Aggregate, Arithmetic, Function, Sign};
 use std::alloc::Global;
@@ -62,4 +62,35 @@ pub(crate) fn aggregate(
     let sort = aggregate_sort(aggregate, operand.1).ok_or(TypingError::Typing)?;
     let operand = Boxed::new(alloc, operand.0)?;
     Ok((TypedValue::Aggregate(aggregate, is_distinct, operand), sort))
+}
+
+pub(crate) fn boxed(
+    alloc: Global,
+    left: TypedCondition,
+    right: TypedCondition,
+) -> Result<(Boxed<TypedCondition>, Boxed<TypedCondition>), TypingError>
+    ensures memory { IsJudged result true }
+    ensures left { IfOk result (λ found. found.0 ≡ left) }
+    ensures right { IfOk result (λ found. found.1 ≡ right) }
+{
+    let left = Boxed::new(alloc, left)?;
+    let right = Boxed::new(alloc, right)?;
+    Ok((left, right))
+}
+
+pub(crate) fn opposite(
+    alloc: Global,
+    condition: TypedCondition,
+) -> Result<TypedCondition, TypingError>
+    ensures memory { IsJudged result true }
+    ensures tree { IfOk result (λ found. found ≡ TypedCondition.Not condition) }
+{
+    Ok(TypedCondition::Not(Boxed::new(alloc, condition)?))
+}
+
+pub(crate) fn exists(alloc: Global, block: TypedBlock) -> Result<TypedCondition, TypingError>
+    ensures memory { IsJudged result true }
+    ensures tree { IfOk result (λ found. found ≡ TypedCondition.Exists block) }
+{
+    Ok(TypedCondition::Exists(Boxed::new(alloc, block)?))
 }

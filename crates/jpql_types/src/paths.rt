@@ -44,7 +44,8 @@ pub(crate) fn place_of(scope: &[Variable], name: &Text) -> Option<usize>
     None
 }
 
-fn relation_of<'a>(metamodel: &'a Metamodel, step: Step) -> Option<&'a Relation>
+/// The relation that a step goes along.
+pub(crate) fn relation_of<'a>(metamodel: &'a Metamodel, step: Step) -> Option<&'a Relation>
     requires { IsClass metamodel.now step.class }
     ensures relation { option_copied result ≡ scopes.relation_of metamodel.now step }
     ensures within { IfSome result (λ r. IsClass metamodel.now r.now.target) }

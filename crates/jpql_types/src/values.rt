@@ -1,6 +1,7 @@
 //! Which values are well typed, what they are of, and their trees.
-ghost use Rattle.std.specs.Prelude.{◌≡◌, map, IfOk};
+ghost use Rattle.std.specs.Prelude.{◌≡◌, map, Some, IfOk};
 ghost use Rattle.jpql_types.specs.Gives.{Gives};
+ghost use Rattle.jpql_types.specs.Scope.{path_of};
 ghost use Rattle.jpql_types.specs.Typing as typing;
 ghost use Rattle.jpql_types.specs.Trees as trees;
 ghost use Rattle.jpql_types.specs.Within.{IsClass, IsScope};
@@ -35,7 +36,7 @@ fn allows_aggregates(clause: Clause) -> bool
 }
 
 /// What a path means, and what it leads to.
-fn typed_path(
+pub(crate) fn typed_path(
     alloc: Global,
     context: &Context<'_>,
     scope: &[Variable],
@@ -45,6 +46,7 @@ fn typed_path(
     requires { IsScope context.now.metamodel.now scope.now }
     ensures sort { Gives (λ found. found.1) result (typing.sort_of_path context.now.metamodel.now context.now.groups.now scope.now clause path.now) }
     ensures tree { IfOk result (λ found. found.0 ≡ trees.typed_path context.now.metamodel.now context.now.parameters.now scope.now path.now) }
+    ensures meaning { IfOk result (λ found. path_of context.now.metamodel.now scope.now path.now ≡ Some found.0) }
 {
     let path = resolved(alloc, context, scope, clause, path)?;
     let sort = path_sort(context.metamodel, &path).ok_or(TypingError::Typing)?;

@@ -1,0 +1,278 @@
+//! Which conditions over values and names are well typed, and their trees.
+ghost use Rattle.std.specs.Prelude.{◌≡◌, true, not, length, filter, is_some, map, IfSome, IfOk};
+ghost use Rattle.std.specs.List.{list_all};
+ghost use Rattle.jpa_model.specs.WellFormed.{if_some};
+ghost use Rattle.jpql_tree.specs.declared.Condition.TheOpen as test;
+ghost use Rattle.jpql_types.specs.Gives.{Gives, IsJudged};
+ghost use Rattle.jpql_types.specs.Scope as scopes;
+ghost use Rattle.jpql_types.specs.Typing as typing;
+ghost use Rattle.jpql_types.specs.Trees as trees;
+ghost use Rattle.jpql_types.specs.Within.{IsClass, IsScope};
+
+use crate::context::Context;
+use crate::error::TypingError;
+use crate::paths::resolved;
+use crate::scope::{Clause, TypedPath, Variable};
+use crate::sort::{Sort, TEXT, all_go_with, are_comparable, joined_basic, joined_with};
+use crate::typed::TypedCondition;
+use crate::values::{typed_collection, typed_value, typed_values};
+use jpa_value::{Seq, Text};
+use jpql_tree::{Comparison, Path, Value};
+use std::alloc::Global;
+
+/// A comparison (chapter 4.6.7).
+pub(crate) fn compare(
+    alloc: Global,
+    context: &Context<'_>,
+    scope: &[Variable],
+    clause: Clause,
+    comparison: Comparison,
+    left: &Value,
+    right: &Value,
+) -> Result<TypedCondition, TypingError>
+    requires { IsScope context.now.metamodel.now scope.now }
+    ensures typed { IsJudged result (typing.condition_step context.now.metamodel.now context.now.parameters.now context.now.groups.now (test.Compare comparison left.now right.now) scope.now clause) }
+    ensures tree { IfOk result (λ found. found ≡ trees.test_step context.now.metamodel.now context.now.parameters.now (test.Compare comparison left.now right.now) scope.now) }
+{
+    let (left, left_sort) = typed_value(alloc, context, scope, clause, left)?;
+    let (right, right_sort) = typed_value(alloc, context, scope, clause, right)?;
+    if are_comparable(comparison, left_sort, right_sort) {
+        Ok(TypedCondition::Compare(comparison, left, right))
+    } else {
+        Err(TypingError::Typing)
+    }
+}
+
+/// BETWEEN (chapter 4.6.8).
+pub(crate) fn between(
+    alloc: Global,
+    context: &Context<'_>,
+    scope: &[Variable],
+    clause: Clause,
+    value: &Value,
+    low: &Value,
+    high: &Value,
+) -> Result<TypedCondition, TypingError>
+    requires { IsScope context.now.metamodel.now scope.now }
+    ensures typed { IsJudged result (typing.condition_step context.now.metamodel.now context.now.parameters.now context.now.groups.now (test.Between value.now low.now high.now) scope.now clause) }
+    ensures tree { IfOk result (λ found. found ≡ trees.test_step context.now.metamodel.now context.now.parameters.now (test.Between value.now low.now high.now) scope.now) }
+{
+    let (value, sort) = typed_value(alloc, context, scope, clause, value)?;
+    let (low, low_sort) = typed_value(alloc, context, scope, clause, low)?;
+    let (high, high_sort) = typed_value(alloc, context, scope, clause, high)?;
+    match joined_basic(&[sort, low_sort, high_sort]) {
+        None => Err(TypingError::Typing),
+        Some(_) => Ok(TypedCondition::Between(value, low, high)),
+    }
+}
+
+/// IN (chapter 4.6.9).
+pub(crate) fn among(
+    alloc: Global,
+    context: &Context<'_>,
+    scope: &[Variable],
+    clause: Clause,
+    value: &Value,
+    all: &[Value],
+) -> Result<TypedCondition, TypingError>
+    requires { IsScope context.now.metamodel.now scope.now }
+    ensures typed { IsJudged result (typing.condition_step context.now.metamodel.now context.now.parameters.now context.now.groups.now (test.In value.now all.now) scope.now clause) }
+    ensures tree { IfOk result (λ found. found ≡ trees.test_step context.now.metamodel.now context.now.parameters.now (test.In value.now all.now) scope.now) }
+{
+    let (value, sort) = typed_value(alloc, context, scope, clause, value)?;
+    let (all, others) = typed_values(alloc, context, scope, clause, all)?;
+    match joined_with(sort, others.as_slice()) {
+        None => Err(TypingError::Typing),
+        Some(_) => Ok(TypedCondition::In(value, all)),
+    }
+}
+
+/// Whether a byte of a text goes on with a character that began before it.
+fn continues(byte: u8) -> bool
+    ensures { result ≡ typing.continues byte }
+{
+    (128..192).contains(&byte)
+}
+
+fn count_characters(bytes: &[u8]) -> usize
+    ensures { result ≡ length (filter (λ b. not (typing.continues b)) bytes.now) }
+{
+    bytes.iter().filter(|byte| !continues(**byte)).count()
+}
+
+/// Whether a text is one character, as the one that follows ESCAPE (chapter 4.6.10).
+fn is_one_character(text: &Text) -> bool
+    ensures { result ≡ typing.is_one_character text.now }
+{
+    count_characters(text.as_bytes()) == 1
+}
+
+fn allows_escape(escape: &Option<Text>) -> bool
+    ensures { result ≡ if_some typing.is_one_character escape.now }
+{
+    match escape {
+        None => true,
+        Some(text) => is_one_character(text),
+    }
+}
+
+fn copied(alloc: Global, text: &Option<Text>) -> Result<Option<Text>, TypingError>
+    ensures typed { IsJudged result true }
+    ensures copy { IfOk result (λ found. found ≡ text.now) }
+{
+    match text {
+        None => Ok(None),
+        Some(text) => Ok(Some(Text::of(alloc, text.as_str())?)),
+    }
+}
+
+/// LIKE (chapter 4.6.10).
+pub(crate) fn like(
+    alloc: Global,
+    context: &Context<'_>,
+    scope: &[Variable],
+    clause: Clause,
+    value: &Value,
+    pattern: &Value,
+    escape: &Option<Text>,
+) -> Result<TypedCondition, TypingError>
+    requires { IsScope context.now.metamodel.now scope.now }
+    ensures typed { IsJudged result (typing.condition_step context.now.metamodel.now context.now.parameters.now context.now.groups.now (test.Like value.now pattern.now escape.now) scope.now clause) }
+    ensures tree { IfOk result (λ found. found ≡ trees.test_step context.now.metamodel.now context.now.parameters.now (test.Like value.now pattern.now escape.now) scope.now) }
+{
+    let (value, sort) = typed_value(alloc, context, scope, clause, value)?;
+    let (pattern, pattern_sort) = typed_value(alloc, context, scope, clause, pattern)?;
+    let are_texts = all_go_with(TEXT, &[sort, pattern_sort]);
+    if are_texts && allows_escape(escape) {
+        let escape = copied(alloc, escape)?;
+        Ok(TypedCondition::Like(value, pattern, escape))
+    } else {
+        Err(TypingError::Typing)
+    }
+}
+
+/// IS NULL (chapter 4.6.11).
+pub(crate) fn is_null(
+    alloc: Global,
+    context: &Context<'_>,
+    scope: &[Variable],
+    clause: Clause,
+    value: &Value,
+) -> Result<TypedCondition, TypingError>
+    requires { IsScope context.now.metamodel.now scope.now }
+    ensures typed { IsJudged result (typing.condition_step context.now.metamodel.now context.now.parameters.now context.now.groups.now (test.IsNull value.now) scope.now clause) }
+    ensures tree { IfOk result (λ found. found ≡ trees.test_step context.now.metamodel.now context.now.parameters.now (test.IsNull value.now) scope.now) }
+{
+    let (value, _) = typed_value(alloc, context, scope, clause, value)?;
+    Ok(TypedCondition::IsNull(value))
+}
+
+/// IS EMPTY (chapter 4.6.12).
+pub(crate) fn is_empty(
+    alloc: Global,
+    context: &Context<'_>,
+    scope: &[Variable],
+    clause: Clause,
+    path: &Path,
+) -> Result<TypedCondition, TypingError>
+    requires { IsScope context.now.metamodel.now scope.now }
+    ensures typed { IsJudged result (typing.condition_step context.now.metamodel.now context.now.parameters.now context.now.groups.now (test.IsEmpty path.now) scope.now clause) }
+    ensures tree { IfOk result (λ found. found ≡ trees.test_step context.now.metamodel.now context.now.parameters.now (test.IsEmpty path.now) scope.now) }
+{
+    let (path, _) = typed_collection(alloc, context, scope, clause, path)?;
+    Ok(TypedCondition::IsEmpty(path))
+}
+
+/// MEMBER OF (chapter 4.6.13).
+pub(crate) fn member(
+    alloc: Global,
+    context: &Context<'_>,
+    scope: &[Variable],
+    clause: Clause,
+    value: &Value,
+    path: &Path,
+) -> Result<TypedCondition, TypingError>
+    requires { IsScope context.now.metamodel.now scope.now }
+    ensures typed { IsJudged result (typing.condition_step context.now.metamodel.now context.now.parameters.now context.now.groups.now (test.Member value.now path.now) scope.now clause) }
+    ensures tree { IfOk result (λ found. found ≡ trees.test_step context.now.metamodel.now context.now.parameters.now (test.Member value.now path.now) scope.now) }
+{
+    let (value, sort) = typed_value(alloc, context, scope, clause, value)?;
+    let (path, class) = typed_collection(alloc, context, scope, clause, path)?;
+    let root = context.metamodel.root_class(class);
+    if Sort::Entity(root).goes_with(sort) {
+        Ok(TypedCondition::Member(value, path))
+    } else {
+        Err(TypingError::Typing)
+    }
+}
+
+/// The class of this name in the hierarchy of another.
+fn class_of_hierarchy(context: &Context<'_>, class: usize, name: &Text) -> Option<usize>
+    requires { IsClass context.now.metamodel.now class }
+    ensures typed { is_some result ≡ typing.is_of_hierarchy context.now.metamodel.now class name.now }
+    ensures class { IfSome result (λ found. found ≡ trees.class_named context.now.metamodel.now context.now.parameters.now name.now) }
+{
+    let found = context.metamodel.class_of(name.as_str())?;
+    if context.metamodel.root_class(found) == context.metamodel.root_class(class) {
+        Some(found)
+    } else {
+        None
+    }
+}
+
+/// The classes of these names, all in the hierarchy of another.
+fn classes_of_hierarchy(
+    alloc: Global,
+    context: &Context<'_>,
+    class: usize,
+    names: &[Text],
+) -> Result<Seq<usize>, TypingError>
+    requires { IsClass context.now.metamodel.now class }
+    ensures typed { IsJudged result (list_all (typing.is_of_hierarchy context.now.metamodel.now class) names.now) }
+    ensures classes { IfOk result (λ found. found ≡ map (trees.class_named context.now.metamodel.now context.now.parameters.now) names.now) }
+{
+    let mut classes = Seq::new(alloc);
+    for name in names {
+        let found = class_of_hierarchy(context, class, name).ok_or(TypingError::Typing)?;
+        classes.push(found)?;
+    }
+    Ok(classes)
+}
+
+/// What a variable means where the clause allows it.
+fn resolved_variable(
+    alloc: Global,
+    context: &Context<'_>,
+    scope: &[Variable],
+    clause: Clause,
+    variable: &Text,
+) -> Result<TypedPath, TypingError>
+    requires { IsScope context.now.metamodel.now scope.now }
+    ensures path { Gives (λ found. found) result (scopes.resolved context.now.metamodel.now context.now.groups.now scope.now clause (typing.variable_path variable.now)) }
+    ensures place { IfOk result (λ p. p.variable ≡ trees.place (scopes.place_of scope.now variable.now)) }
+    ensures within { IfOk result (λ p. IsClass context.now.metamodel.now p.class) }
+{
+    let path = Path {
+        variable: Text::of(alloc, variable.as_str())?,
+        names: Seq::new(alloc),
+    };
+    resolved(alloc, context, scope, clause, &path)
+}
+
+/// TYPE (chapter 4.7.5).
+pub(crate) fn type_of(
+    alloc: Global,
+    context: &Context<'_>,
+    scope: &[Variable],
+    clause: Clause,
+    variable: &Text,
+    names: &[Text],
+) -> Result<TypedCondition, TypingError>
+    requires { IsScope context.now.metamodel.now scope.now }
+    ensures typed { IsJudged result (typing.condition_step context.now.metamodel.now context.now.parameters.now context.now.groups.now (test.«Type» variable.now names.now) scope.now clause) }
+    ensures tree { IfOk result (λ found. found ≡ trees.test_step context.now.metamodel.now context.now.parameters.now (test.«Type» variable.now names.now) scope.now) }
+{
+    let path = resolved_variable(alloc, context, scope, clause, variable)?;
+    let classes = classes_of_hierarchy(alloc, context, path.class, names)?;
+    Ok(TypedCondition::Type(path.variable, classes))
+}
