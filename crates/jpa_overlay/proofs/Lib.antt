@@ -1,0 +1,6 @@
+pub mod Changes
+pub mod Splits
+pub mod Merged
+pub mod SameRows
+pub mod Difference
+pub mod Samples

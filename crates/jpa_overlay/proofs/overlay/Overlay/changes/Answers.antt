@@ -1,0 +1,67 @@
+use Rattle.std.specs.Prelude.{◌≡◌, Option, Some, T, All}
+use Rattle.std.proofs.Common.{sym, ap, subst, ◌∙◌, get_or}
+use Rattle.std.proofs.lemmas.List.{take_all}
+use Rattle.std.proofs.lemmas.List.Elements.{All-push}
+use Rattle.std.specs.FinMap.{find, is_sorted}
+use Rattle.jpa_value.specs.Value.{identity_cmp}
+use Rattle.jpa_rows.specs.declared.row.RowChange.{RowChange}
+use Rattle.jpa_rows.specs.Rows.{RowId, Row, entry_of}
+use Rattle.jpa_row_laws.specs.Changes.{AreDifference}
+use Rattle.jpa_overlay.specs.Overlay.{Changes, rows_under}
+use Rattle.jpa_overlay.specs.Same.{same_row}
+use Rattle.jpa_overlay.proofs.Difference.{differing, turned_more, turned_same, stands, are_difference, same_seen}
+use Rattle.jpa_overlay.proofs.overlay.Overlay.changes.Goals as goal
+use Rattle.jpa_overlay.proofs.overlay.Overlay.changes.Goals.{then-not-is_same+in_ok-try_copy+in_ok-copied+in_ok-push, else-not-is_same}
+
+pub loop-entry-preserved : goal.loop-entry-preserved
+loop-entry-preserved g c =
+    let items = c.as_slice-entry-items.result.now in
+    let cs_is = c.as_slice-entry-items.ensures.value ∙ c.self.view_is in
+    let sorted = subst (λ es. T (is_sorted identity_cmp es)) (sym c.as_slice-entry-items.ensures.value) c.self.invariant in
+    let Among : RowChange → Type 0 = λ change. find identity_cmp change.id c.args.self.now ≡ Some change.row in
+    let FoundIn : Changes → RowId × Option Row → Type 0 = λ cs z. find identity_cmp z.0 cs ≡ Some z.1 in
+    let i = c.loop-entry.entry-index in
+    let entry : RowId × Option Row = c.entry-item.result in
+    let e_is : c.get.result.now ≡ entry = c.get.ensures in
+    record {
+      kept = λ rows holds. c.get-in-loop-entry.ensures.kept rows (c.loop-entry.invariant.kept rows holds);
+      schema = c.get-in-loop-entry.ensures.schema ∙ c.loop-entry.invariant.schema;
+      was_clean = λ clean. c.loop-entry.invariant.was_clean (c.get-in-loop-entry.ensures.was_clean clean);
+      real = λ clean rows holds.
+          let so_far = c.loop-entry.invariant.real (c.get-in-loop-entry.ensures.was_clean clean) rows holds in
+          let below = c.in_ok-there.ensures.ok clean rows (c.loop-entry.invariant.kept rows holds) in
+          let test : c.is_same.result ≡ same_row entry.1 (find identity_cmp entry.0 rows) =
+          c.is_same.ensures ∙ ap (same_row c.get.result.now.1) below ∙ ap (λ (z : RowId × Option Row). same_row z.1 (find identity_cmp z.0 rows)) e_is in
+          elim c.if-not-is_same.branch [
+            | then-not-is_same+in_ok-try_copy+in_ok-copied+in_ok-push w ↦
+                let change : RowChange = record { id = w.in_ok-try_copy.field-0; row = w.in_ok-copied.field-0 } in
+                let change_is : entry_of change ≡ entry = (λ j. (w.in_ok-try_copy.ensures.equal j, w.in_ok-copied.ensures.equal j)) ∙ e_is in
+                turned_more rows items i entry c.loop-entry-test.true c.entry-item.is c.loop-entry.changes _ c.is_same.result test so_far
+                w.if-not-is_same.true change change_is (w.changes-is ∙ w.in_ok-push.ensures.ok)
+            | else-not-is_same w ↦ turned_same rows items i entry c.loop-entry-test.true c.entry-item.is c.loop-entry.changes _ c.is_same.result test so_far w.if-not-is_same.false w.changes-is
+          ];
+      among =
+          elim c.if-not-is_same.branch [
+            | then-not-is_same+in_ok-try_copy+in_ok-copied+in_ok-push w ↦
+                let change : RowChange = record { id = w.in_ok-try_copy.field-0; row = w.in_ok-copied.field-0 } in
+                let change_is : entry_of change ≡ entry = (λ j. (w.in_ok-try_copy.ensures.equal j, w.in_ok-copied.ensures.equal j)) ∙ e_is in
+                let placed : get_or items i entry ≡ entry_of change = sym (change_is ∙ c.entry-item.is) in
+                let found = subst (λ cs. FoundIn cs (entry_of change)) cs_is (subst (FoundIn items) placed (stands items i entry sorted c.loop-entry-test.true)) in
+                subst (All Among) (sym (w.changes-is ∙ w.in_ok-push.ensures.ok)) (All-push Among c.loop-entry.changes change c.loop-entry.invariant.among found)
+            | else-not-is_same w ↦ subst (All Among) (sym w.changes-is) c.loop-entry.invariant.among
+          ];
+    }
+
+pub returns-clause-difference : goal.returns-clause-difference
+returns-clause-difference g c = λ clean rows holds.
+    let items = c.as_slice-entry-items.result.now in
+    let sorted = subst (λ es. T (is_sorted identity_cmp es)) (sym c.as_slice-entry-items.ensures.value) c.self.invariant in
+    let all = c.loop-entry.invariant.real clean rows holds ∙ ap (differing rows) (take_all c.loop-entry.entry-index items c.loop-entry-test.false) in
+    subst (AreDifference identity_cmp rows) (sym all) (are_difference rows items sorted)
+
+pub returns-clause-seen : goal.returns-clause-seen
+returns-clause-seen g c = λ clean rows rise holds.
+    let items = c.as_slice-entry-items.result.now in
+    let sorted = subst (λ es. T (is_sorted identity_cmp es)) (sym c.as_slice-entry-items.ensures.value) c.self.invariant in
+    let all = c.loop-entry.invariant.real clean rows holds ∙ ap (differing rows) (take_all c.loop-entry.entry-index items c.loop-entry-test.false) in
+    ap (λ cs. rows_under cs rows) all ∙ same_seen rows items rise sorted ∙ ap (λ cs. rows_under cs rows) (c.as_slice-entry-items.ensures.value ∙ c.self.view_is)

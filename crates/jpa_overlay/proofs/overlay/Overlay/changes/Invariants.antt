@@ -1,0 +1,15 @@
+use Rattle.std.proofs.Common.{◌≡◌, map, take, Some, All}
+use Rattle.std.specs.FinMap.{find}
+use Rattle.jpa_value.specs.Value.{identity_cmp}
+use Rattle.jpa_rows.specs.Rows.{Rows, entry_of}
+use Rattle.jpa_overlay.proofs.Difference.{differing}
+use Rattle.jpa_overlay.proofs.overlay.Overlay.changes.Given as goal
+
+abbrev pub invariant-loop-entry : goal.invariant-loop-entry
+invariant-loop-entry g l = record {
+  kept : (rows : Rows) → g.R.RowSource.holds l.fn.source rows → g.R.RowSource.holds l.source rows;
+  schema : g.R.RowSource.schema l.source ≡ g.R.RowSource.schema l.fn.source;
+  was_clean : g.R.RowSource.clean l.source → g.R.RowSource.clean l.fn.source;
+  real : g.R.RowSource.clean l.source → (rows : Rows) → g.R.RowSource.holds l.fn.source rows → map entry_of l.changes ≡ differing rows (take l.entry-index l.entry-items);
+  among : All (λ change. find identity_cmp change.id l.self ≡ Some change.row) l.changes;
+}

@@ -1,0 +1,36 @@
+-- Changes over rows, as an overlay has them.
+use Rattle.std.specs.Prelude.{Bool, false, List, [], ◌∷◌, Option, Some, None}
+use Rattle.std.specs.List.{flat_map}
+use Rattle.std.specs.FinMap.{put}
+use Rattle.jpa_value.specs.Value.{identity_cmp, same_identity}
+use Rattle.jpa_rows.specs.Rows.{RowId, Row, Rows}
+use Rattle.jpa_row_laws.specs.Changes.{changed, seen}
+
+-- a finite map from row ids to the rows that are to stand there, or to none, as entries in rising order
+abbrev pub Changes : Type 0
+Changes = List (RowId × Option Row)
+
+abbrev pub with_change : RowId → Option Row → Changes → Changes
+with_change id row changes = put identity_cmp id row changes
+
+-- the rows as they are under the changes
+abbrev pub rows_under : Changes → Rows → Rows
+rows_under changes rows = seen identity_cmp rows changes
+
+-- the rows with this one, or none, under the id
+abbrev pub with_row : RowId → Option Row → Rows → Rows
+with_row id row rows = changed identity_cmp id row rows
+
+-- ---- the changes alone
+
+abbrev pub row_if : RowId → Option Row → Rows
+row_if id None = []
+row_if id (Some row) = (id, row) ∷ []
+
+-- the rows that the changes put
+abbrev pub rows_put : Changes → Rows
+rows_put = flat_map (λ c. row_if c.0 c.1)
+
+abbrev pub stands_first : RowId → Changes → Bool
+stands_first id [] = false
+stands_first id (c ∷ cs) = same_identity c.0 id

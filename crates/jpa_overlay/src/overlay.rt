@@ -1,0 +1,223 @@
+//! Changes over committed rows.
+ghost use Rattle.std.specs.Prelude.{◌≡◌, ◌⊎◌, ◌↔◌, ◌==◌, T, [], All, map, IsSome, IsTrue, OnOk, OnErr, IfOk, IfErr};
+ghost use Rattle.std.specs.FinMap.{find, is_sorted};
+ghost use Rattle.std.specs.FinMap.Entries.{where_key};
+ghost use Rattle.jpa_value.specs.declared.refusal.Cause.{Cause};
+ghost use Rattle.jpa_value.specs.Value.{identity_cmp};
+ghost use Rattle.jpa_stored.specs.Places.{IsAt, IsGap};
+ghost use Rattle.jpa_rows.specs.Rows.{Rows, AreRising, table_rows, entry_of, rows_after};
+ghost use Rattle.jpa_row_laws.specs.Changes.{AreDifference};
+ghost use Rattle.jpa_overlay.specs.Overlay.{rows_under, with_change, with_row};
+
+use crate::merge::merge;
+use crate::same::is_same;
+use jpa_rows::{Row, RowChange, RowId, RowSource};
+use jpa_value::{Boxed, Cause, Seq, TryCopy, order_identities};
+use std::alloc::Global;
+use std::cmp::Ordering;
+use std::marker::Model;
+
+/// A change of a row: its id, and the row that is to stand there, or none.
+pub type Change = Boxed<(RowId, Option<Row>)>;
+
+/// Changes over committed rows, seen by contracts as a finite map from row ids to the row that is to stand there, or to
+/// none where the row is dropped: its entries in rising order of the ids.
+///
+/// As with the store's own reads, what `get`, `scan` and `changes` answer is sure if the store is clean when they return:
+/// if what it stands on has given back what was written to it so far. Then it was clean before the call too.
+///
+/// With n changes a look-up takes O(log n) comparisons. A change takes as many, and moves at most n pointers.
+#[derive(Drop)]
+pub struct Overlay {
+    entries: Vec<Change>,
+}
+
+impl Model for Overlay {
+    ghost use Rattle.std.specs.Prelude.{T};
+    ghost use Rattle.std.specs.FinMap.Entries.{is_sorted};
+    ghost use Rattle.jpa_value.specs.Value.{identity_cmp};
+    ghost use Rattle.jpa_overlay.specs.Overlay.{Changes};
+
+    ghost Value = { Changes };
+
+    ghost view = { λ o. o.entries.items };
+
+    ghost invariant = { λ o. T (is_sorted identity_cmp o.entries.items) };
+}
+
+impl Overlay {
+    /// No changes. Takes no memory.
+    pub fn new(alloc: Global) -> Overlay
+        ensures { result ≡ [] }
+    {
+        Overlay {
+            entries: Vec::new(alloc),
+        }
+    }
+
+    /// Whether there is no change.
+    pub fn is_empty(&self) -> bool
+        ensures { IsTrue result ↔ (self.now ≡ []) }
+    {
+        self.entries.is_empty()
+    }
+
+    /// The row under an id, as it is under the changes. A row that is changed here is answered without a look at the
+    /// store. It refuses with `OutOfMemory`, and as the store does where it looks there.
+    pub fn get<R: RowSource>(&self, source: &mut R, id: &RowId) -> Result<Option<Row>, Cause>
+        ensures ok { R.clean source.new → IfOk result (λ row. (rows : Rows) → R.holds source.old rows → row ≡ find identity_cmp id.now (rows_under self.now rows)) }
+        ensures err { R.clean source.new → IfErr result (λ cause. (rows : Rows) → R.holds source.old rows → (cause ≡ Cause.OutOfMemory) ⊎ (cause ≡ Cause.StoreFault)) }
+        ensures changed { IsSome (find identity_cmp id.now self.now) → IfOk result (λ row. find identity_cmp id.now self.now ≡ Some row) }
+        ensures own { IsSome (find identity_cmp id.now self.now) → (source.new ≡ source.old) × IfErr result (λ cause. cause ≡ Cause.OutOfMemory) }
+        ensures kept { (rows : Rows) → R.holds source.old rows → R.holds source.new rows }
+        ensures was_clean { R.clean source.new → R.clean source.old }
+        ensures schema { R.schema source.new ≡ R.schema source.old }
+    {
+        match self.search(id) {
+            Ok(at) => copied(&self.entries[at].get().1),
+            Err(_) => source.get(id),
+        }
+    }
+
+    /// The rows of a table as they are under the changes, in the order of their ids. It looks through the table's rows in
+    /// the store once, and refuses with `OutOfMemory`, and as the store does.
+    pub fn scan<R: RowSource>(&self, source: &mut R, table: u64) -> Result<Seq<(RowId, Row)>, Cause>
+        ensures ok { R.clean source.new → IfOk result (λ found. (rows : Rows) → AreRising rows → R.holds source.old rows → found ≡ table_rows table (rows_under self.now rows)) }
+        ensures err { R.clean source.new → IfErr result (λ cause. (rows : Rows) → R.holds source.old rows → (cause ≡ Cause.OutOfMemory) ⊎ (cause ≡ Cause.StoreFault)) }
+        ensures kept { (rows : Rows) → R.holds source.old rows → R.holds source.new rows }
+        ensures was_clean { R.clean source.new → R.clean source.old }
+        ensures schema { R.schema source.new ≡ R.schema source.old }
+    {
+        let rows = source.scan(table)?;
+        merge(self.allocator(), rows, self.of_table(table))
+    }
+
+    /// The difference from the store: the changes in the order of their ids, without those that leave a row as it is there.
+    /// Made in the store, they give the rows that are seen here. It reads each changed row of the store once, and refuses with
+    /// `OutOfMemory`, and as the store does.
+    pub fn changes<R: RowSource>(&self, source: &mut R) -> Result<Seq<RowChange>, Cause>
+        ensures difference { R.clean source.new → IfOk result (λ changes. (rows : Rows) → R.holds source.old rows → AreDifference identity_cmp rows (map entry_of changes)) }
+        ensures seen { R.clean source.new → IfOk result (λ changes. (rows : Rows) → AreRising rows → R.holds source.old rows → rows_after changes rows ≡ rows_under self.now rows) }
+        ensures among { IfOk result (λ changes. All (λ change. find identity_cmp change.id self.now ≡ Some change.row) changes) }
+        ensures err { R.clean source.new → IfErr result (λ cause. (rows : Rows) → R.holds source.old rows → (cause ≡ Cause.OutOfMemory) ⊎ (cause ≡ Cause.StoreFault)) }
+        ensures kept { (rows : Rows) → R.holds source.old rows → R.holds source.new rows }
+        ensures was_clean { R.clean source.new → R.clean source.old }
+        ensures schema { R.schema source.new ≡ R.schema source.old }
+    {
+        let mut changes = Seq::new(self.allocator());
+        for entry in self.entries.as_slice() {
+            let (id, row) = entry.get();
+            let there = source.get(id)?;
+            if !is_same(row, &there) {
+                let change = RowChange {
+                    id: id.try_copy()?,
+                    row: copied(row)?,
+                };
+                changes.push(change)?;
+            }
+        }
+        Ok(changes)
+    }
+
+    /// Puts a row under an id. For want of memory, which is `OutOfMemory` and the only refusal, the overlay stays as it
+    /// was.
+    pub fn put(&mut self, id: RowId, row: Row) -> Result<(), Cause>
+        ensures ok { OnOk result (self.new ≡ with_change id (Some row) self.old) }
+        ensures seen { OnOk result ((base : Rows) → AreRising base → rows_under self.new base ≡ with_row id (Some row) (rows_under self.old base)) }
+        ensures err { OnErr result (self.new ≡ self.old) }
+        ensures refused { IfErr result (λ cause. cause ≡ Cause.OutOfMemory) }
+    {
+        self.change(id, Some(row))
+    }
+
+    /// Drops the row under an id, whether or not one stands there. For want of memory, which is `OutOfMemory` and the
+    /// only refusal, the overlay stays as it was.
+    pub fn drop_row(&mut self, id: RowId) -> Result<(), Cause>
+        ensures ok { OnOk result (self.new ≡ with_change id None self.old) }
+        ensures seen { OnOk result ((base : Rows) → AreRising base → rows_under self.new base ≡ with_row id None (rows_under self.old base)) }
+        ensures err { OnErr result (self.new ≡ self.old) }
+        ensures refused { IfErr result (λ cause. cause ≡ Cause.OutOfMemory) }
+    {
+        self.change(id, None)
+    }
+
+    /// Forgets all changes: the rows are seen as they were committed. Takes no memory.
+    pub fn discard(&mut self)
+        ensures empty { self.new ≡ [] }
+        ensures seen { (base : Rows) → rows_under self.new base ≡ base }
+    {
+        self.entries.clear();
+    }
+
+    /// One change more, in place of that of its row, if there is one.
+    fn change(&mut self, id: RowId, row: Option<Row>) -> Result<(), Cause>
+        ensures ok { OnOk result (self.new ≡ with_change id row self.old) }
+        ensures err { OnErr result (self.new ≡ self.old) }
+        ensures refused { IfErr result (λ cause. cause ≡ Cause.OutOfMemory) }
+    {
+        let place = self.search(&id);
+        let entry = Boxed::new(self.allocator(), (id, row))?;
+        match place {
+            Ok(at) => self.entries[at] = entry,
+            Err(at) => self.entries.insert(at, entry)?,
+        }
+        Ok(())
+    }
+
+    /// The allocator that it grows by.
+    fn allocator(&self) -> Global {
+        *self.entries.allocator()
+    }
+
+    /// The changes of the rows of a table.
+    fn of_table(&self, table: u64) -> &[Change]
+        ensures table { result.now ≡ where_key identity_cmp (λ id. id.table == table) self.now }
+        ensures rising { T (is_sorted identity_cmp result.now) }
+    {
+        let all = self.entries.as_slice();
+        let before = all.partition_point(|change| change.get().0.table < table);
+        let from = &all[before..];
+        let within = from.partition_point(|change| change.get().0.table <= table);
+        &from[..within]
+    }
+
+    /// Where the change of a row stands, or where it would stand.
+    fn search(&self, id: &RowId) -> Result<usize, usize>
+        ensures found { IfOk result (IsAt identity_cmp self.now id.now) }
+        ensures absent { IfErr result (IsGap identity_cmp self.now id.now) }
+    {
+        self.entries
+            .as_slice()
+            .binary_search_by(|entry| order_entry(entry, id))
+    }
+}
+
+/// The order of the id of a change and another.
+fn order_entry(entry: &Change, id: &RowId) -> Ordering
+    ensures { result ≡ identity_cmp entry.now.0 id.now }
+{
+    order_identities(&entry.get().0, id)
+}
+
+/// A copy of what a change gives.
+fn copied(row: &Option<Row>) -> Result<Option<Row>, Cause>
+    ensures equal { IfOk result (λ copy. copy ≡ row.now) }
+    ensures refused { IfErr result (λ cause. cause ≡ Cause.OutOfMemory) }
+{
+    match row {
+        None => Ok(None),
+        Some(row) => Ok(Some(row.try_copy()?)),
+    }
+}
+
+impl TryCopy for Overlay {
+    fn try_copy(&self) -> Result<Overlay, Cause> {
+        let mut entries = Vec::new(self.allocator());
+        for entry in self.entries.as_slice() {
+            let (id, row) = entry.get();
+            let copy = (id.try_copy()?, copied(row)?);
+            entries.push(Boxed::new(self.allocator(), copy)?)?;
+        }
+        Ok(Overlay { entries })
+    }
+}
