@@ -130,10 +130,11 @@ fn scanned<R: RowSource>(alloc: Global, source: &mut R, table: u64) -> Result<St
 }
 
 /// The bytes that are told of a damaged row of table 1.
-fn told<T: Drop>(answer: Result<T, Cause>) -> Option<Bytes> {
+fn told<T: Drop>(answer: Result<T, Cause>) -> Result<Option<Bytes>, Cause> {
     match answer {
-        Err(Cause::Damaged(1, bytes)) => Some(bytes),
-        _ => None,
+        Ok(_) => Ok(None),
+        Err(Cause::Damaged(1, bytes)) => Ok(Some(bytes)),
+        Err(cause) => Err(cause),
     }
 }
 
@@ -201,10 +202,10 @@ fn the_lowest_damaged_row_is_told(rt: HostRuntime) -> Result<(), Fail> {
     let (rows, damaged) = space.read_table(1)?;
     assert_eq!(rt; lines(alloc, rows.as_slice())?.as_str(), "1: 0=7;");
     assert!(rt; is_row(&damaged, TWO));
-    assert!(rt; is_row(&told(space.scan(1)), TWO));
+    assert!(rt; is_row(&told(space.scan(1))?, TWO));
     let first = id(alloc, 1, 1)?;
-    assert!(rt; told(space.get(&first)).is_none());
+    assert!(rt; told(space.get(&first))?.is_none());
     let second = id(alloc, 1, 2)?;
-    assert!(rt; is_row(&told(space.get(&second)), TWO));
+    assert!(rt; is_row(&told(space.get(&second))?, TWO));
     Ok(())
 }
