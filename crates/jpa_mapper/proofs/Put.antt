@@ -1,66 +1,67 @@
--- An object put into a set is its row put into the rows of the set: the bytes of keys are in the order of the keys.
-use Rattle.std.proofs.Common.{◌≡◌, ◌∙◌, refl, sym, ap, subst, ℕ, Bool, true, false, T, List, [], ◌∷◌, map, Ordering, Less, Equal, Greater}
+-- What a binary search finds among fields whose columns rise, and what a change at that place makes of them.
+use Rattle.std.specs.Prelude.{◌≡◌, ℕ, zero, suc, ◌<◌, ◌≤◌, T, List, [], ◌∷◌, ◌++◌, map, length, Result, Ok, Err, IfOk, IfErr}
+use Rattle.std.proofs.Common.{refl, sym, ap, subst, ◌∙◌, get_or, set, take, drop}
+use Rattle.std.proofs.lemmas.List.{length-map, map-set, map-append, take-map, drop-map}
 use Rattle.std.specs.Cmp.{nat_cmp_total}
-use Rattle.std.specs.Ordering.{nat_cmp, ordering_then, ordering_reverse, match_ordering}
-use Rattle.std.specs.List.{AllByRecursion}
-use Rattle.std.specs.FinMap.Entries.{by_order, put}
-use Rattle.jpa_value.specs.declared.value.Identity.{Identity}
-use Rattle.jpa_value.specs.declared.value.Kind.{Kind}
-use Rattle.jpa_value.specs.Value.{identity_cmp}
-use Rattle.jpa_value.specs.Value as values
-use Rattle.jpa_value.proofs.Orders.{identity_total, identity_exact}
-use Rattle.jpa_behaviour.specs.Behaviour.{World}
-use Rattle.jpa_stored.specs.declared.stored.Stored.{Stored}
-use Rattle.jpa_stored.specs.Sets.{StoredSet}
-use Rattle.jpa_key.specs.Keys.{key_bytes, is_key_of, Spells}
-use Rattle.jpa_key.proofs.Orders.{spelled_order}
-use Rattle.jpa_cells_meaning.specs.Tables.{key_cmp, with_row}
-use Rattle.jpa_mapper.specs.Rows.{IsNamed, object_row, object_rows}
+use Rattle.std.specs.List.{insert}
+use Rattle.std.specs.List.Sorted.{IsSearchInRange, IsBinarySearchResult, IsNonDecreasingBy}
+use Rattle.std.specs.FinMap.{put, is_sorted, nat_cmp-IsAntisymmetric}
+use Rattle.std.specs.Ordering.{nat_cmp, ordering_index}
+use Rattle.jpa_rows.specs.declared.row.Content.{Content}
+use Rattle.jpa_rows.specs.declared.row.Field.{Field}
+use Rattle.jpa_stored.specs.Places.{IsAt, IsGap}
+use Rattle.jpa_stored.proofs.Entries.{put_at, put_gap}
+use Rattle.jpa_stored.proofs.Found.{searched}
+use Rattle.jpa_object_rows.specs.Objects.{field_of}
+use Rattle.jpa_object_rows.specs.Sets.{placed}
 
-spelled : (kinds : List Kind) (id : Identity) → is_key_of kinds id.key ≡ true → Spells kinds (key_bytes id.key) id.key
-spelled kinds id h = record { whole = h; same = refl }
+abbrev entry_of : Field → ℕ × Content
+entry_of f = (f.column, f.content)
 
-pub reversed_self : (o : Ordering) → o ≡ ordering_reverse o → o ≡ Equal
-reversed_self Less h = absurd (subst (λ o. T (is_less o)) h tt)
-  where
-    is_less : Ordering → Bool
-    is_less Less = true
-    is_less Equal = false
-    is_less Greater = false
-reversed_self Equal h = refl
-reversed_self Greater h = absurd (subst (λ o. T (is_greater o)) h tt)
-  where
-    is_greater : Ordering → Bool
-    is_greater Less = false
-    is_greater Equal = false
-    is_greater Greater = true
+-- fields and entries say the same
+pub placed_at : (fs : List Field) (i : ℕ) (d : ℕ × Content) → get_or (placed fs) i d ≡ entry_of (get_or fs i (field_of d))
+placed_at [] i d = refl
+placed_at (f ∷ fs) zero d = refl
+placed_at (f ∷ fs) (suc i) d = placed_at fs i d
 
-nat_cmp_self : (n : ℕ) → nat_cmp n n ≡ Equal
-nat_cmp_self n = reversed_self (nat_cmp n n) (nat_cmp_total.antisymm n n)
+pub fields_of_placed : (fs : List Field) → fs ≡ map field_of (placed fs)
+fields_of_placed [] = refl
+fields_of_placed (f ∷ fs) = ap (λ r. f ∷ r) (fields_of_placed fs)
 
-same_table : (table : ℕ) (a b : Identity) → a.table ≡ table → b.table ≡ table → nat_cmp a.table b.table ≡ Equal
-same_table table a b h g = ap (λ n. nat_cmp n b.table) (h ∙ sym g) ∙ nat_cmp_self b.table
+count : (fs : List Field) → length (placed fs) ≡ length fs
+count fs = length-map fs entry_of
 
-pub bytes_order : (table : ℕ) (kinds : List Kind) (a b : Identity) → IsNamed table kinds a → IsNamed table kinds b → key_cmp (key_bytes a.key) (key_bytes b.key) ≡ identity_cmp a b
-bytes_order table kinds a b h g =
-    spelled_order kinds (key_bytes a.key) (key_bytes b.key) a.key b.key (spelled kinds a h.whole) (spelled kinds b g.whole)
-    ∙ ap (λ o. ordering_then o (values.key_cmp a.key b.key)) (sym (same_table table a b h.stands g.stands))
+module _ (fs : List Field) (k : ℕ) where
+  -- the answer among fields is one among entries
+  found_among : (r : Result ℕ ℕ) → IsBinarySearchResult (λ f. nat_cmp f.column k) fs r → IsBinarySearchResult (λ e. nat_cmp e.0 k) (placed fs) r
+  found_among (Ok at) h = λ d. ap (λ e. nat_cmp e.0 k) (placed_at fs at d) ∙ h (field_of d)
+  found_among (Err at) h = λ rises.
+      let parted = h (λ i j d l m.
+      subst (λ e. ordering_index (nat_cmp e.0 k) ≤ ordering_index (nat_cmp (get_or fs j d).column k)) (placed_at fs i (entry_of d))
+      (subst (λ e. ordering_index (nat_cmp (get_or (placed fs) i (entry_of d)).0 k) ≤ ordering_index (nat_cmp e.0 k)) (placed_at fs j (entry_of d))
+      (rises i j (entry_of d) l (subst (λ n. j < n) (sym (count fs)) m)))) in (
+        λ j d l m. ap (λ e. nat_cmp e.0 k) (placed_at fs j d) ∙ parted.0 j (field_of d) l m,
+        λ j d l m. ap (λ e. nat_cmp e.0 k) (placed_at fs j d) ∙ parted.1 j (field_of d) l (subst (λ n. j < n) (count fs) m),
+      )
 
-put_one : (world : World) (id : Identity) (x : Stored) (e : Identity × Stored) (es : StoredSet) (o : Ordering)
-    → identity_cmp id e.0 ≡ o
-    → map (object_row world) (put identity_cmp id x es) ≡ with_row (object_row world (id, x)) (map (object_row world) es)
-    → map (object_row world) (by_order o ((id, x) ∷ e ∷ es) ((e.0, x) ∷ es) (e ∷ put identity_cmp id x es))
-    ≡ match_ordering (ordering_reverse o) (object_row world e ∷ with_row (object_row world (id, x)) (map (object_row world) es)) (object_row world (id, x) ∷ map (object_row world) es) (object_row world (id, x) ∷ object_row world e ∷ map (object_row world) es)
-put_one world id x e es Less h rest = refl
-put_one world id x e es Equal h rest = ap (λ i. object_row world (i, x) ∷ map (object_row world) es) (sym (identity_exact id e.0 h))
-put_one world id x e es Greater h rest = ap (λ rows. object_row world e ∷ rows) rest
+  in_range : (r : Result ℕ ℕ) → IsSearchInRange r (length fs) → IsSearchInRange r (length (placed fs))
+  in_range r h = subst (IsSearchInRange r) (sym (count fs)) h
 
-pub put_rows : (world : World) (table : ℕ) (kinds : List Kind) (id : Identity) (x : Stored) (set : StoredSet)
-    → IsNamed table kinds id → AllByRecursion (λ e. IsNamed table kinds e.0) set
-    → object_rows world (put identity_cmp id x set) ≡ with_row (object_row world (id, x)) (object_rows world set)
-put_rows world table kinds id x [] h all = refl
-put_rows world table kinds id x (e ∷ es) h all =
-    let turned : key_cmp (key_bytes (e.0).key) (key_bytes id.key) ≡ ordering_reverse (identity_cmp id e.0) =
-    bytes_order table kinds e.0 id all.0 h ∙ identity_total.antisymm e.0 id in
-    put_one world id x e es (identity_cmp id e.0) refl (put_rows world table kinds id x es h all.1)
-    ∙ ap (λ o. match_ordering o (object_row world e ∷ with_row (object_row world (id, x)) (map (object_row world) es)) (object_row world (id, x) ∷ map (object_row world) es) (object_row world (id, x) ∷ object_row world e ∷ map (object_row world) es)) (sym turned)
+  module _ (content : Content) (rising : T (is_sorted nat_cmp (placed fs))) where
+    pub replaced : (at : ℕ) (f : Field) → f ≡ record { column = k; content = content } → IsSearchInRange (Ok at) (length fs) → IsBinarySearchResult (λ f. nat_cmp f.column k) fs (Ok at)
+        → placed (set fs at f) ≡ put nat_cmp k content (placed fs)
+    replaced at f is within h =
+        let r : Result ℕ ℕ = Ok at in
+        let there = (searched nat_cmp_total (placed fs) rising k r (in_range r within) (found_among r h)).found in
+        map-set entry_of fs at f ∙ ap (λ g. set (placed fs) at (entry_of g)) is ∙ sym (put_at nat_cmp_total nat_cmp-IsAntisymmetric (placed fs) k content at rising there)
+
+    pub inserted : (at : ℕ) (f : Field) → f ≡ record { column = k; content = content } → IsSearchInRange (Err at) (length fs) → IsBinarySearchResult (λ f. nat_cmp f.column k) fs (Err at)
+        → placed (insert fs at f) ≡ put nat_cmp k content (placed fs)
+    inserted at f is within h =
+        let r : Result ℕ ℕ = Err at in
+        let gap = (searched nat_cmp_total (placed fs) rising k r (in_range r within) (found_among r h)).absent in
+        map-append entry_of (take at fs) (f ∷ drop at fs)
+        ∙ ap (λ front. front ++ entry_of f ∷ placed (drop at fs)) (sym (take-map entry_of at fs))
+        ∙ ap (λ back. take at (placed fs) ++ entry_of f ∷ back) (sym (drop-map entry_of at fs))
+        ∙ ap (λ g. insert (placed fs) at (entry_of g)) is
+        ∙ sym (put_gap nat_cmp_total (placed fs) k content at gap)

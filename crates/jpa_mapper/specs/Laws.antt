@@ -1,46 +1,45 @@
--- What the changes of a commit make of the rows of the store, for a unit of one entity.
-use Rattle.std.specs.Prelude.{◌≡◌, ◌<◌, ℕ, pos, Bool, true, false, ◌==◌, List, [], ◌∷◌, None}
-use Rattle.std.specs.List.{AllByRecursion}
+-- The laws of objects and their rows.
+use Rattle.std.specs.Prelude.{◌≡◌, ℕ, true, List, Some}
+use Rattle.std.specs.FinMap.{find}
 use Rattle.jpa_value.specs.declared.value.Identity.{Identity}
-use Rattle.jpa_value.specs.declared.value.Kind.{Kind}
-use Rattle.jpa_model.specs.declared.unit.Attribute.{Attribute}
-use Rattle.jpa_model.specs.declared.unit.Root.{Root}
+use Rattle.jpa_value.specs.Value.{identity_cmp}
 use Rattle.jpa_model.specs.Chains.{entity_at}
-use Rattle.jpa_behaviour.specs.Behaviour.{World}
+use Rattle.jpa_model.specs.Kept.{IsDescribed}
+use Rattle.jpa_behaviour.specs.Behaviour.{World, IsRegular}
 use Rattle.jpa_stored.specs.declared.stored.Stored.{Stored}
 use Rattle.jpa_stored.specs.Sets.{StoredSet}
-use Rattle.jpa_rows.specs.Cells.{AreRows}
-use Rattle.jpa_cells_meaning.specs.Tables.{Tables, tables_after}
-use Rattle.jpa_mapper.specs.Rows.{IsNamed, HoldsFlat, flat_unit, cells_of, row_cells, put_all, commit_changes, cells_in}
+use Rattle.jpa_rows.specs.Cells.{Cell, StandFor}
+use Rattle.jpa_rows.specs.Rows.{Row, Rows}
+use Rattle.jpa_rows.specs.Tables.{schema_of}
+use Rattle.jpa_view.specs.Unambiguous.{is_class}
+use Rattle.jpa_view.specs.View.{is_storable, Pairs}
+use Rattle.jpa_object_rows.specs.Raw.{AreRowsOf}
+use Rattle.jpa_object_rows.specs.Objects.{main_row, is_discriminator, object_rows}
+use Rattle.jpa_object_rows.specs.Sets.{targets_in}
+use Rattle.jpa_mapper.specs.Mapped.{IsReadAs}
 
--- the objects of a set stand in this table, under keys of these kinds
-abbrev pub AreNamed : ℕ → List Kind → StoredSet → Type 0
-AreNamed table kinds = AllByRecursion (λ e. IsNamed table kinds e.0)
+-- an object is read off these rows: they are rows of the unit, its main row stands among them, and its pairs are those that
+-- it owns
+pub record StandsWhole (world : World) (id : Identity) (x : Stored) (own : Rows) : Type 0 where
+  pub rows : AreRowsOf (schema_of world.model) own
+  pub main : find identity_cmp id own ≡ Some (main_row world x)
+  pub read : IsReadAs world id (main_row world x) (targets_in world.model own id) x
 
--- the cells that are written for an object are those that its class says
-abbrev pub WritesItsCells : Type 0
-WritesItsCells =
-    (world : World) (name : List ℕ) (root : Root) (discriminator : List ℕ) (attributes : List Attribute) (d s : Bool) (id : Identity) (x : Stored) →
-    world.model ≡ flat_unit name root discriminator attributes d s → x.class ≡ 0 →
-    AllByRecursion (λ (a : Attribute). a.converter ≡ None) attributes →
-    row_cells (entity_at world.model 0) root attributes x ≡ cells_of world id x
+-- what is written for an object is read as the object
+abbrev pub ReadsWhatIsWritten : Type 0
+ReadsWhatIsWritten =
+    (world : World) (id : Identity) (x : Stored) → IsDescribed world.model → IsRegular world → is_discriminator (entity_at world.model x.class) ≡ true →
+    is_storable world id x ≡ true → StandsWhole world id x (object_rows world id x)
 
--- the changes of a commit leave the tables holding the set with what was written, and the next number
-abbrev pub HoldsAfterCommit : Type 0
-HoldsAfterCommit =
-    (world : World) (root : Root) (kinds : List Kind) (written : List (Identity × Stored)) (set : StoredSet) (before next : ℕ) (tables : Tables) →
-    0 < root.table → ((before == next) ≡ false → root.generated ≡ true) →
-    AreNamed root.table kinds written → AreNamed root.table kinds set → HoldsFlat world root set before tables →
-    HoldsFlat world root (put_all written set) next (tables_after (commit_changes world root.table written before next) tables)
+-- and as no other
+abbrev pub ReadsOne : Type 0
+ReadsOne =
+    (world : World) (id : Identity) (row : Row) (pairs : Pairs) (x y : Stored) → IsDescribed world.model → IsRegular world →
+    IsReadAs world id row pairs x → IsReadAs world id row pairs y → x ≡ y
 
--- and the cells of tables that hold a set and a next number are exactly those of the set and the number
-abbrev pub StandsForIt : Type 0
-StandsForIt =
-    (world : World) (name : List ℕ) (root : Root) (discriminator : List ℕ) (attributes : List Attribute) (d s : Bool) (kinds : List Kind)
-    (set : StoredSet) (next : ℕ) (tables : Tables) →
-    world.model ≡ flat_unit name root discriminator attributes d s → AreNamed root.table kinds set → HoldsFlat world root set next tables →
-    AreRows world (cells_in world.model tables) set (next ∷ [])
-
--- an empty store holds the empty set
-abbrev pub HoldsNothing : Type 0
-HoldsNothing = (world : World) (root : Root) (tables : Tables) → tables (pos root.table) ≡ [] → tables (pos 0) ≡ [] → HoldsFlat world root [] 1 tables
+-- a store's cells stand for at most one set and next numbers
+abbrev pub StandForOne : Type 0
+StandForOne =
+    (world : World) (cells : List Cell) (set set' : StoredSet) (numbers numbers' : List ℕ) → IsDescribed world.model → IsRegular world →
+    ((class : ℕ) → is_class world.model class ≡ true → is_discriminator (entity_at world.model class) ≡ true) →
+    StandFor world cells set numbers → StandFor world cells set' numbers' → (set ≡ set') × (numbers ≡ numbers')

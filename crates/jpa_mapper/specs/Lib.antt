@@ -1,2 +1,6 @@
+pub mod Mapped
+pub mod Narrow
+pub mod Guess
+pub mod SameRow
+pub mod Pairs
 pub mod Laws
-pub mod Rows

@@ -1,13 +1,35 @@
-//! The laws of the rows of a unit of one entity.
-ghost use Rattle.jpa_mapper.specs.Laws.{WritesItsCells, HoldsAfterCommit, StandsForIt, HoldsNothing};
+//! The laws of objects and their rows.
+ghost use Rattle.std.specs.Prelude.{◌≡◌, ℕ, true};
+ghost use Rattle.std.specs.Str.{is_utf8};
+ghost use Rattle.jpa_model.specs.Chains.{entity_at};
+ghost use Rattle.jpa_view.specs.Unambiguous.{is_class};
+ghost use Rattle.jpa_object_rows.specs.Objects.{is_discriminator};
+ghost use Rattle.jpa_mapper.specs.Laws.{ReadsWhatIsWritten, ReadsOne, StandForOne};
 
-/// The laws of the rows of a persistence unit of one entity without relations, converters, listeners and callbacks,
-/// for contracts to cite; it does nothing. `object_change` writes the cells that the class says; after the changes of
-/// a commit the tables hold the set with what was written and the next number; the cells of tables that hold a set
-/// and a next number are exactly those of the two; and an empty store holds the empty set.
-pub fn row_laws()
-    ensures cells { WritesItsCells }
-    ensures commit { HoldsAfterCommit }
-    ensures stands { StandsForIt }
-    ensures nothing { HoldsNothing }
+use jpa_model::Metamodel;
+use jpa_value::Text;
+
+/// The laws of objects and their rows, for contracts to cite; it does nothing. What is written for an object is read as the
+/// object and as no other, and a store's cells stand for at most one set and next numbers.
+pub fn mapper_laws()
+    ensures read { ReadsWhatIsWritten }
+    ensures one { ReadsOne }
+    ensures cells { StandForOne }
 {}
+
+/// The law of discriminators, for contracts to cite: a column may hold each of them. It takes no memory.
+pub fn discriminator_law(metamodel: &Metamodel)
+    ensures { (class : ℕ) → is_class metamodel.now class ≡ true → is_discriminator (entity_at metamodel.now class) ≡ true }
+{
+    let _unit = metamodel.unit();
+    for entity in metamodel.entities() {
+        text_law(&entity.discriminator);
+    }
+}
+
+/// Each text is in UTF-8.
+fn text_law(text: &Text)
+    ensures { is_utf8 text.now ≡ true }
+{
+    let _text = text.as_str();
+}

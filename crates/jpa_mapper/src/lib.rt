@@ -1,15 +1,26 @@
-//! Objects as rows of the store (chapter 2.10, the form of the rows is this provider's own).
+//! Objects as rows of the store, and back (Jakarta Persistence 3.1, chapters 2.10 relations, 2.12 hierarchies, 3.8 converters).
 //!
-//! An object's row stands in the table of its hierarchy's root under the bytes of its key; its cells are the
-//! discriminator, the version and the attributes. Today classes without relations and converters are mapped.
-//! `specs/Rows` has the rows and the changes that make them, and what it is for tables to hold a set of objects.
+//! `to_rows` makes the rows of an object: its main row, through its converters, and a row of a join table for each pair that
+//! it owns; `from_rows` reads an object off its rows. `specs/Mapped.antt` says what it is for an object to be read off rows,
+//! and `mapper_laws` that what is read off the rows of an object is that object. The crate stands on the rows of `jpa_rows`,
+//! the registry of converters, and the laws of `jpa_object_rows`.
 #![tactic(auto)]
 
-mod cells;
-mod change;
+mod converted;
+mod guess;
 mod laws;
-#[cfg(test)]
-mod tests;
+mod main_object;
+mod main_row;
+mod narrow;
+mod pair_rows;
+mod places;
+mod reading;
+mod representable;
+mod same_row;
+mod shape;
+mod targets;
+mod writing;
 
-pub use change::{number_change, object_change};
-pub use laws::row_laws;
+pub use laws::{discriminator_law, mapper_laws};
+pub use reading::from_rows;
+pub use writing::{number_row, to_rows};

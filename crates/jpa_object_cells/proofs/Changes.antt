@@ -10,8 +10,8 @@ use Rattle.jpa_stored.specs.declared.stored.Stored.{Stored}
 use Rattle.jpa_stored.specs.Sets.{is_identity_of, is_key_of}
 use Rattle.jpa_object_store.specs.Served.{is_served}
 use Rattle.jpa_cells_meaning.specs.declared.CellChange.{CellChange}
-use Rattle.jpa_mapper.specs.Rows.{object_change, number_change, number_changes, row_cells}
-use Rattle.jpa_mapper.proofs.Written.{writes_its_cells}
+use Rattle.jpa_flat_rows.specs.Rows.{object_change, number_change, number_changes, row_cells}
+use Rattle.jpa_flat_rows.proofs.Written.{writes_its_cells}
 use Rattle.jpa_object_cells.specs.Units.{unit_of, world_of}
 use Rattle.jpa_object_cells.proofs.Flat.{and_left, flat_is, root_served, number_fits, no_converters, attributes_served}
 

@@ -12,7 +12,7 @@ use Rattle.jpa_model.specs.declared.unit.Root.{Root}
 use Rattle.jpa_model.specs.declared.unit.VersionColumn.{VersionColumn}
 use Rattle.jpa_model.specs.Chains.{root_of, root_in, entity_at, no_entity}
 use Rattle.jpa_object_store.specs.Served.{is_none, is_number, is_served, is_entity_served, is_root_served, is_version_served, is_attribute_served, is_converterless, is_one_integer}
-use Rattle.jpa_mapper.specs.Rows.{flat_unit}
+use Rattle.jpa_flat_rows.specs.Rows.{flat_unit}
 use Rattle.jpa_object_cells.specs.Units.{unit_of}
 
 pub and_left : (a b : Bool) → (a && b) ≡ true → a ≡ true

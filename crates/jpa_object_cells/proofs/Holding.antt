@@ -18,9 +18,9 @@ use Rattle.jpa_cells_meaning.specs.declared.CellRow.{CellRow}
 use Rattle.jpa_cells_meaning.specs.Tables.{Tables, tables_after}
 use Rattle.jpa_cells_meaning.specs.Store as Store
 use Rattle.jpa_cells_meaning.specs.Store.{IsClean, IsOpen, tables_in, Keeps, Becomes, Endures, Opens, Tells, TellsOf}
-use Rattle.jpa_mapper.specs.Rows.{HoldsFlat, commit_changes, cells_in}
-use Rattle.jpa_mapper.proofs.FlatAfter.{holds_after, holds_nothing}
-use Rattle.jpa_mapper.proofs.FlatRows.{flat_are_rows}
+use Rattle.jpa_flat_rows.specs.Rows.{HoldsFlat, commit_changes, cells_in}
+use Rattle.jpa_flat_rows.proofs.FlatAfter.{holds_after, holds_nothing}
+use Rattle.jpa_flat_rows.proofs.FlatRows.{flat_are_rows}
 use Rattle.jpa_object_store.specs.Served.{AreOfUnit, put_all, is_served, is_next_number}
 use Rattle.jpa_object_cells.specs.Units.{unit_of, world_of, AreNamedWell}
 use Rattle.jpa_object_cells.specs.Objects.{HoldsObjects, CellsStand, KeepsOrMakes, HaveRow}

@@ -17,8 +17,8 @@ use Rattle.jpa_stored.specs.declared.stored.Stored.{Stored}
 use Rattle.jpa_stored.specs.Sets.{StoredSet, with_stored, each_fits, is_identity_of, is_key_of as is_key_of_root}
 use Rattle.jpa_rows.specs.Cells.{names_representable}
 use Rattle.jpa_object_store.specs.Served.{AreOfUnit, put_all, is_next_number}
-use Rattle.jpa_mapper.specs.Rows.{IsNamed, object_change, changes_of, put_all as put_rows}
-use Rattle.jpa_mapper.specs.Laws.{AreNamed}
+use Rattle.jpa_flat_rows.specs.Rows.{IsNamed, object_change, changes_of, put_all as put_rows}
+use Rattle.jpa_flat_rows.specs.Laws.{AreNamed}
 use Rattle.jpa_object_cells.specs.Units.{AreNamedWell}
 use Rattle.jpa_object_cells.proofs.Flat.{and_left, and_right, le_from}
 

@@ -12,7 +12,7 @@ use Rattle.jpa_stored.specs.Sets.{StoredSet}
 use Rattle.jpa_rows.specs.Cells.{AreRows}
 use Rattle.jpa_cells_meaning.specs.Schema.{no_schema}
 use Rattle.jpa_cells_meaning.specs.Store.{Stored, stored_code, IsClean, IsOpen, Keeps, tables_in}
-use Rattle.jpa_mapper.specs.Rows.{HoldsFlat, cells_in}
+use Rattle.jpa_flat_rows.specs.Rows.{HoldsFlat, cells_in}
 use Rattle.jpa_object_store.specs.Served.{AreOfUnit, is_served}
 use Rattle.jpa_object_cells.specs.Units.{AreNamedWell}
 

@@ -3,11 +3,11 @@ ghost use Rattle.std.specs.Prelude.{◌≡◌, true, IfOk, IfErr, OnOk};
 ghost use Rattle.jpa_value.specs.declared.refusal.Cause.{Cause};
 ghost use Rattle.jpa_model.specs.Chains.{root_of};
 ghost use Rattle.jpa_object_store.specs.Served.{AreOfUnit, is_next_number, is_served};
-ghost use Rattle.jpa_mapper.specs.Rows as rows;
+ghost use Rattle.jpa_flat_rows.specs.Rows as rows;
 ghost use Rattle.jpa_object_cells.specs.Units.{unit_of, world_of, AreNamedWell};
 
 use jpa_cells_meaning::CellChange;
-use jpa_mapper::{number_change, object_change};
+use jpa_flat_rows::{number_change, object_change};
 use jpa_model::{Entity, Root};
 use jpa_stored::Stored;
 use jpa_value::{Cause, Identity, Seq};

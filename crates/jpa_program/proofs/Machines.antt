@@ -6,7 +6,7 @@ use Rattle.jpa_behaviour.specs.Behaviour.{without_functions}
 use Rattle.jpa_stored.specs.Sets.{StoredSet}
 use Rattle.jpa_rows.specs.Cells.{AreRows}
 use Rattle.jpa_cells_meaning.specs.Store.{IsClean, IsOpen, tables_in}
-use Rattle.jpa_mapper.specs.Rows.{cells_in}
+use Rattle.jpa_flat_rows.specs.Rows.{cells_in}
 use Rattle.jpa_protocol.specs.declared.call.Call.{Call}
 use Rattle.jpa_protocol.specs.declared.reply.Reply.{Reply}
 use Rattle.jpa_lines.specs.declared.run.RunFault.{RunFault}

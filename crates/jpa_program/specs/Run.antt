@@ -3,7 +3,7 @@ use Rattle.sqlite_trees.specs.declared.store.Store.{Ghosts}
 use Rattle.jpa_behaviour.specs.Behaviour.{without_functions}
 use Rattle.jpa_rows.specs.Cells.{AreRows}
 use Rattle.jpa_cells_meaning.specs.Store.{IsClean, IsOpen, tables_in}
-use Rattle.jpa_mapper.specs.Rows.{cells_in}
+use Rattle.jpa_flat_rows.specs.Rows.{cells_in}
 use Rattle.jpa_object_cells.specs.Objects.{Objects}
 use Rattle.jpa_provider.specs.Provided.{Provided}
 

@@ -1,6 +1,6 @@
 use Rattle.std.proofs.Common.{◌∙◌, ◌++◌, ◌∷◌, [], sym, ap}
 use Rattle.std.proofs.lemmas.List.{append-nil}
-use Rattle.jpa_mapper.specs.Rows.{changes_of, number_change}
+use Rattle.jpa_flat_rows.specs.Rows.{changes_of, number_change}
 use Rattle.jpa_object_cells.specs.Units.{world_of}
 use Rattle.jpa_object_cells.proofs.Changes.{moved, stayed, root_fits}
 use Rattle.jpa_object_cells.proofs.Named.{next_fits}

@@ -4,7 +4,7 @@ use Rattle.std.specs.List.{AllByRecursion}
 use Rattle.jpa_model.specs.declared.unit.Attribute.{Attribute}
 use Rattle.jpa_model.specs.declared.unit.VersionColumn.{VersionColumn}
 use Rattle.jpa_object_store.specs.Served.{AreOfUnit}
-use Rattle.jpa_mapper.specs.Rows.{changes_of}
+use Rattle.jpa_flat_rows.specs.Rows.{changes_of}
 use Rattle.jpa_object_cells.specs.Units.{unit_of, world_of, AreNamedWell}
 use Rattle.jpa_object_cells.proofs.Flat.{columns_fit, attributes_served, version_fits, root_served}
 use Rattle.jpa_object_cells.proofs.Named.{rest_of, changes_rest}

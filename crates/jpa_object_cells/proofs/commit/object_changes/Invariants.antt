@@ -1,6 +1,6 @@
 use Rattle.std.proofs.Common.{◌≡◌, ◌++◌, drop}
 use Rattle.jpa_object_store.specs.Served.{AreOfUnit}
-use Rattle.jpa_mapper.specs.Rows.{changes_of}
+use Rattle.jpa_flat_rows.specs.Rows.{changes_of}
 use Rattle.jpa_object_cells.specs.Units.{unit_of, world_of, AreNamedWell}
 use Rattle.jpa_object_cells.proofs.commit.object_changes.Given as goal
 

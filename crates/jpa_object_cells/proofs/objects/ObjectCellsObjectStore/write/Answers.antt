@@ -5,7 +5,7 @@ use Rattle.jpa_model.specs.Chains.{root_of}
 use Rattle.jpa_stored.specs.Sets.{StoredSet}
 use Rattle.jpa_cells_meaning.specs.Tables.{tables_after}
 use Rattle.jpa_cells_meaning.specs.Store.{Stored, tables_in}
-use Rattle.jpa_mapper.specs.Rows.{commit_changes}
+use Rattle.jpa_flat_rows.specs.Rows.{commit_changes}
 use Rattle.jpa_object_store.specs.Served.{AreOfUnit, put_all, is_next_number}
 use Rattle.jpa_object_cells.specs.Units.{unit_of, world_of}
 use Rattle.jpa_object_cells.specs.Objects.{Objects, HoldsObjects}

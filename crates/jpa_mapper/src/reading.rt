@@ -1,0 +1,102 @@
+//! An object read off its rows.
+ghost use Rattle.std.specs.Prelude.{◌≡◌, ◌<◌, ◌⊎◌, length, IfOk, IfErr};
+ghost use Rattle.jpa_value.specs.declared.refusal.Cause.{Cause};
+ghost use Rattle.jpa_model.specs.Chains.{relations_of};
+ghost use Rattle.jpa_behaviour.specs.Registered.{world_of};
+ghost use Rattle.jpa_key.specs.Keys.{key_bytes};
+ghost use Rattle.jpa_rows.specs.Rows.{AreRising};
+ghost use Rattle.jpa_rows.specs.Tables.{schema_of};
+ghost use Rattle.jpa_object_rows.specs.Raw.{AreRowsOf};
+ghost use Rattle.jpa_object_rows.specs.Sets.{targets_in};
+ghost use Rattle.jpa_mapper.specs.Mapped.{IsReadAs, IsMainRow};
+ghost use Rattle.jpa_mapper.specs.Pairs as spec;
+
+use crate::main_object::main_object;
+use crate::targets::targets;
+use jpa_behaviour::{Behaviour, Registry};
+use jpa_key::encode_key;
+use jpa_model::{Metamodel, Side};
+use jpa_rows::{Row, RowId};
+use jpa_stored::Stored;
+use jpa_value::{Cause, Identity, Seq};
+use std::alloc::Global;
+
+/// The object of this identity and main row, with its pairs among these rows, which are in rising order and may be those
+/// of other owners and other join tables too. With n rows each relation takes O(log n + k) comparisons for its k pairs.
+///
+/// Where no object has that main row it is `Damaged` with the table and the bytes of the key; `OutOfMemory` where a growth
+/// was refused.
+pub fn from_rows<B: Behaviour>(
+    alloc: Global,
+    metamodel: &Metamodel,
+    registry: &Registry<B>,
+    id: &Identity,
+    row: &Row,
+    pairs: &[(RowId, Row)],
+) -> Result<Stored, Cause>
+    requires pairs { AreRowsOf (schema_of metamodel.now) pairs.now }
+    ensures ok { IfOk result (IsReadAs (world_of B.meaning metamodel.now registry.now) id.now row.now (targets_in metamodel.now pairs.now id.now)) }
+    ensures err { IfErr result (λ cause. (cause ≡ Cause.OutOfMemory) ⊎ ((cause ≡ Cause.Damaged id.now.table (key_bytes id.now.key)) × (IsMainRow (world_of B.meaning metamodel.now registry.now) id.now row.now → ⊥))) }
+{
+    let _unit = metamodel.unit();
+    match main_object(alloc, metamodel, registry, id, row)? {
+        Some(object) => with_pairs(alloc, metamodel, id, pairs, object),
+        None => {
+            let key = encode_key(alloc, &id.key)?;
+            Err(Cause::Damaged(id.table, key))
+        }
+    }
+}
+
+/// The object with its pairs among these rows.
+fn with_pairs(
+    alloc: Global,
+    metamodel: &Metamodel,
+    id: &Identity,
+    pairs: &[(RowId, Row)],
+    object: Stored,
+) -> Result<Stored, Cause>
+    requires class { object.class < length metamodel.now.entities }
+    requires owned { length object.owned ≡ length (relations_of metamodel.now object.class) }
+    requires rising { AreRising pairs.now }
+    ensures ok { IfOk result (λ x. x ≡ spec.with_pairs metamodel.now (targets_in metamodel.now pairs.now id.now) object) }
+    ensures refused { IfErr result (λ cause. cause ≡ Cause.OutOfMemory) }
+{
+    let Stored {
+        class,
+        version,
+        values,
+        owned,
+    } = object;
+    let owned = owned_with(alloc, metamodel, class, id, pairs, owned)?;
+    Ok(Stored {
+        class,
+        version,
+        values,
+        owned,
+    })
+}
+
+/// What is owned along the relations of a class, with the pairs among these rows for those that have join tables.
+fn owned_with(
+    alloc: Global,
+    metamodel: &Metamodel,
+    class: usize,
+    id: &Identity,
+    pairs: &[(RowId, Row)],
+    mut owned: Seq<Seq<Identity>>,
+) -> Result<Seq<Seq<Identity>>, Cause>
+    requires class { class < length metamodel.now.entities }
+    requires owned { length owned ≡ length (relations_of metamodel.now class) }
+    requires rising { AreRising pairs.now }
+    ensures ok { IfOk result (λ all. all ≡ spec.owned_with (targets_in metamodel.now pairs.now id.now) (relations_of metamodel.now class) owned) }
+    ensures refused { IfErr result (λ cause. cause ≡ Cause.OutOfMemory) }
+{
+    for (at, relation) in metamodel.relations_of(class).iter().enumerate() {
+        if let Side::ManyToMany(join) = relation.side {
+            let found = targets(alloc, metamodel, pairs, id, join, relation.target)?;
+            owned.set(at, found);
+        }
+    }
+    Ok(owned)
+}

@@ -1,0 +1,79 @@
+//! What an object holds are values of the program: integers of 64 bits, texts in UTF-8 and bytes. For contracts to cite;
+//! these functions read and do nothing.
+ghost use Rattle.std.specs.Prelude.{◌≡◌, true, nat_lt};
+ghost use Rattle.std.specs.List.{list_all};
+ghost use Rattle.std.specs.Str.{is_utf8};
+ghost use Rattle.jpa_value.specs.Value.{is_representable};
+ghost use Rattle.jpa_rows.specs.Cells as cells;
+
+use jpa_stored::Stored;
+use jpa_value::{Identity, Seq, Value};
+
+fn text_is_representable(text: &str)
+    ensures { is_utf8 text.now ≡ true }
+{}
+
+fn bytes_are_representable(bytes: &[u8])
+    ensures { list_all (λ b. nat_lt b 256) bytes.now ≡ true }
+{}
+
+fn value_is_representable(value: &Value)
+    ensures { is_representable value.now ≡ true }
+{
+    match value {
+        Value::Null => {}
+        Value::Int(number) => {
+            let _number = *number;
+        }
+        Value::Text(text) => text_is_representable(text.as_str()),
+        Value::Bytes(bytes) => bytes_are_representable(bytes.as_slice()),
+    }
+}
+
+fn values_are_representable(values: &[Value])
+    ensures { list_all is_representable values.now ≡ true }
+{
+    for value in values {
+        value_is_representable(value);
+    }
+}
+
+fn version_is_representable(version: Option<i64>)
+    ensures { cells.version_representable version ≡ true }
+{
+    if let Some(number) = version {
+        let _number = number;
+    }
+}
+
+/// An identity names by values of the program.
+pub(crate) fn identity_is_representable(id: &Identity)
+    ensures { cells.names_representable id.now ≡ true }
+{
+    values_are_representable(id.key.as_slice());
+}
+
+fn identities_are_representable(ids: &[Identity])
+    ensures { list_all cells.names_representable ids.now ≡ true }
+{
+    for id in ids {
+        identity_is_representable(id);
+    }
+}
+
+fn owned_are_representable(owned: &[Seq<Identity>])
+    ensures { list_all (list_all cells.names_representable) owned.now ≡ true }
+{
+    for ids in owned {
+        identities_are_representable(ids.as_slice());
+    }
+}
+
+/// An object holds values of the program.
+pub(crate) fn object_is_representable(object: &Stored)
+    ensures { cells.holds_representable object.now ≡ true }
+{
+    version_is_representable(object.version);
+    values_are_representable(object.values.as_slice());
+    owned_are_representable(object.owned.as_slice());
+}
