@@ -35,6 +35,3 @@ pub use unit::{
     Attribute, Cascades, Column, Entity, Listener, Member, Origin, Part, PersistenceUnit, Relation,
     Root, Side, VersionColumn,
 };
-
-#[cfg(test)]
-mod tests;

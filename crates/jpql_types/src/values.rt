@@ -1,7 +1,9 @@
 //! Which values are well typed, what they are of, and their trees.
-ghost use Rattle.std.specs.Prelude.{◌≡◌, map, Some, IfOk};
-ghost use Rattle.jpql_types.specs.Gives.{Gives};
+ghost use Rattle.std.specs.Prelude.{◌≡◌, map, Some, true, IfOk};
+ghost use Rattle.jpql_tree.specs.declared.Value.TheOpen as part;
+ghost use Rattle.jpql_types.specs.Gives.{Gives, IsJudged};
 ghost use Rattle.jpql_types.specs.Scope.{path_of};
+ghost use Rattle.jpql_types.specs.Sorts as sorts;
 ghost use Rattle.jpql_types.specs.Typing as typing;
 ghost use Rattle.jpql_types.specs.Trees as trees;
 ghost use Rattle.jpql_types.specs.Within.{IsClass, IsScope};
@@ -15,7 +17,7 @@ use crate::scope::{Clause, TypedPath, Variable};
 use crate::sort::{INTEGER, Sort, TEXT};
 use crate::typed::TypedValue;
 use jpa_value::{Seq, Text};
-use jpql_tree::{Path, Value};
+use jpql_tree::{Aggregate, Function, Path, Sign, Value};
 use std::alloc::Global;
 
 fn parameter_sort(parameters: &[(Text, Sort)], name: &Text) -> Sort
@@ -93,6 +95,48 @@ fn typed_parameter(context: &Context<'_>, name: &Text) -> (TypedValue, Sort)
     )
 }
 
+#[inline(never)]
+fn typed_text(alloc: Global, text: &Text) -> Result<(TypedValue, Sort), TypingError>
+    ensures memory { IsJudged result true }
+    ensures value { IfOk result (λ found. found ≡ (TypedValue.Text text.now, sorts.text)) }
+{
+    Ok((TypedValue::Text(Text::of(alloc, text.as_str())?), TEXT))
+}
+
+#[inline(never)]
+fn path_value(
+    alloc: Global,
+    context: &Context<'_>,
+    scope: &[Variable],
+    clause: Clause,
+    path: &Path,
+) -> Result<(TypedValue, Sort), TypingError>
+    requires { IsScope context.now.metamodel.now scope.now }
+    ensures sort { Gives (λ found. found.1) result (typing.sort_of_path context.now.metamodel.now context.now.groups.now scope.now clause path.now) }
+    ensures tree { IfOk result (λ found. found.0 ≡ TypedValue.Path (trees.typed_path context.now.metamodel.now context.now.parameters.now scope.now path.now)) }
+{
+    let (path, sort) = typed_path(alloc, context, scope, clause, path)?;
+    Ok((TypedValue::Path(path), sort))
+}
+
+#[inline(never)]
+fn size_value(
+    alloc: Global,
+    context: &Context<'_>,
+    scope: &[Variable],
+    clause: Clause,
+    path: &Path,
+) -> Result<(TypedValue, Sort), TypingError>
+    requires { IsScope context.now.metamodel.now scope.now }
+    ensures sort { Gives (λ found. found.1) result (typing.sort_step context.now.metamodel.now context.now.parameters.now context.now.groups.now scope.now (part.Size path.now) clause) }
+    ensures tree { IfOk result (λ found. found.0 ≡ TypedValue.Size (trees.typed_path context.now.metamodel.now context.now.parameters.now scope.now path.now)) }
+{
+    let (path, _) = typed_collection(alloc, context, scope, clause, path)?;
+    Ok((TypedValue::Size(path), INTEGER))
+}
+
+// A chain of `+` may be as long as a text, and the stack then holds this function once for each operand. So its frame is
+// kept small: what other values need stands in functions of their own.
 /// A value, and what it is of, where it is well typed in a clause.
 #[cycle(typed_value)]
 pub(crate) fn typed_value(
@@ -108,15 +152,11 @@ pub(crate) fn typed_value(
 {
     match value {
         Value::Integer(number) => Ok((TypedValue::Integer(*number), INTEGER)),
-        Value::Text(text) => Ok((TypedValue::Text(Text::of(alloc, text.as_str())?), TEXT)),
+        Value::Text(text) => typed_text(alloc, text),
         Value::Parameter(name) => Ok(typed_parameter(context, name)),
-        Value::Path(path) => {
-            let (path, sort) = typed_path(alloc, context, scope, clause, path)?;
-            Ok((TypedValue::Path(path), sort))
-        }
+        Value::Path(path) => path_value(alloc, context, scope, clause, path),
         Value::Signed(sign, operand) => {
-            let operand = typed_value(alloc, context, scope, clause, operand.get())?;
-            nodes::signed(alloc, *sign, operand)
+            typed_sign(alloc, context, scope, clause, *sign, operand.get())
         }
         Value::Arithmetic(operation, left, right) => {
             let left = typed_value(alloc, context, scope, clause, left.get())?;
@@ -124,27 +164,84 @@ pub(crate) fn typed_value(
             nodes::arithmetic(alloc, *operation, left, right)
         }
         Value::Call(function, arguments) => {
-            let (arguments, sorts) = typed_values(
+            typed_call(
                 alloc,
                 context,
                 scope,
                 clause,
+                *function,
                 arguments.as_slice(),
-            )?;
-            nodes::call(*function, arguments, sorts)
+            )
         }
-        Value::Size(path) => {
-            let (path, _) = typed_collection(alloc, context, scope, clause, path)?;
-            Ok((TypedValue::Size(path), INTEGER))
-        }
-        Value::Aggregate(aggregate, is_distinct, operand) => {
-            if !allows_aggregates(clause) {
-                return Err(TypingError::Typing);
-            }
-            let operand = typed_value(alloc, context, scope, Clause::Where, operand.get())?;
-            nodes::aggregate(alloc, *aggregate, *is_distinct, operand)
-        }
+        Value::Size(path) => size_value(alloc, context, scope, clause, path),
+        Value::Aggregate(aggregate, is_distinct, operand) => typed_aggregate(
+            alloc,
+            context,
+            scope,
+            clause,
+            *aggregate,
+            *is_distinct,
+            operand.get(),
+        ),
     }
+}
+
+#[cycle(typed_value)]
+#[inline(never)]
+fn typed_sign(
+    alloc: Global,
+    context: &Context<'_>,
+    scope: &[Variable],
+    clause: Clause,
+    sign: Sign,
+    operand: &Value,
+) -> Result<(TypedValue, Sort), TypingError>
+    requires { IsScope context.now.metamodel.now scope.now }
+    ensures sort { Gives (λ found. found.1) result (typing.value_sort context.now.metamodel.now context.now.parameters.now context.now.groups.now scope.now clause (Value.Signed sign operand.now)) }
+    ensures tree { IfOk result (λ found. found.0 ≡ trees.typed_value context.now.metamodel.now context.now.parameters.now scope.now (Value.Signed sign operand.now)) }
+{
+    let operand = typed_value(alloc, context, scope, clause, operand)?;
+    nodes::signed(alloc, sign, operand)
+}
+
+#[cycle(typed_value)]
+#[inline(never)]
+fn typed_call(
+    alloc: Global,
+    context: &Context<'_>,
+    scope: &[Variable],
+    clause: Clause,
+    function: Function,
+    arguments: &[Value],
+) -> Result<(TypedValue, Sort), TypingError>
+    requires { IsScope context.now.metamodel.now scope.now }
+    ensures sort { Gives (λ found. found.1) result (typing.value_sort context.now.metamodel.now context.now.parameters.now context.now.groups.now scope.now clause (Value.Call function arguments.now)) }
+    ensures tree { IfOk result (λ found. found.0 ≡ trees.typed_value context.now.metamodel.now context.now.parameters.now scope.now (Value.Call function arguments.now)) }
+{
+    let (arguments, sorts) = typed_values(alloc, context, scope, clause, arguments)?;
+    nodes::call(function, arguments, sorts)
+}
+
+#[cycle(typed_value)]
+#[inline(never)]
+fn typed_aggregate(
+    alloc: Global,
+    context: &Context<'_>,
+    scope: &[Variable],
+    clause: Clause,
+    aggregate: Aggregate,
+    is_distinct: bool,
+    operand: &Value,
+) -> Result<(TypedValue, Sort), TypingError>
+    requires { IsScope context.now.metamodel.now scope.now }
+    ensures sort { Gives (λ found. found.1) result (typing.value_sort context.now.metamodel.now context.now.parameters.now context.now.groups.now scope.now clause (Value.Aggregate aggregate is_distinct operand.now)) }
+    ensures tree { IfOk result (λ found. found.0 ≡ trees.typed_value context.now.metamodel.now context.now.parameters.now scope.now (Value.Aggregate aggregate is_distinct operand.now)) }
+{
+    if !allows_aggregates(clause) {
+        return Err(TypingError::Typing);
+    }
+    let operand = typed_value(alloc, context, scope, Clause::Where, operand)?;
+    nodes::aggregate(alloc, aggregate, is_distinct, operand)
 }
 
 /// Values, and what they are of, where all are well typed in a clause.

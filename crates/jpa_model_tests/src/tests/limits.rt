@@ -1,7 +1,7 @@
 //! Each limit at its greatest value and past it.
 use super::samples::{Kept, Members, Related, beginning, extending, relations};
 use super::*;
-use crate::draft::RelationKind;
+use jpa_model::RelationKind;
 
 /// A name of this many letters.
 fn long(alloc: Global, letters: usize) -> Result<Text, Cause> {

@@ -1,11 +1,9 @@
 //! Persons and their orders; animals and dogs.
 use super::{attribute, draft, entity, root, text};
-use crate::draft::{
+use jpa_model::{
     Cascade, Draft, DraftAttribute, DraftColumn, DraftEntity, DraftListener, DraftOrigin,
-    DraftRelation, DraftRoot, DraftSide, DraftVersion, RelationKind,
+    DraftRelation, DraftRoot, DraftSide, DraftVersion, Metamodel, Part, RelationKind, check,
 };
-use crate::metamodel::{Metamodel, check};
-use crate::unit::Part;
 use jpa_value::{Cause, Kind, Seq, Text};
 use std::alloc::Global;
 

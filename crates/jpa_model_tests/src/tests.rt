@@ -1,7 +1,8 @@
 //! Descriptions of worked examples, at the limits and past them.
-use crate::draft::{Draft, DraftAttribute, DraftEntity, DraftOrigin, DraftRoot};
-use crate::metamodel::{Metamodel, check};
-use crate::unit::{Entity, Listener, Member, Part, Relation, Side};
+use jpa_model::{
+    Draft, DraftAttribute, DraftEntity, DraftOrigin, DraftRoot, Entity, Listener, Member,
+    Metamodel, Part, Relation, Side, check,
+};
 use jpa_value::{Cause, Kind, LifecycleEvent, MappingFault, Seq, Text};
 use samples::{of_animals, of_persons};
 use std::alloc::Global;

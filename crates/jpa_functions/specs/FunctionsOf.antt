@@ -1,0 +1,174 @@
+-- Which functions JSON data describes: each object has its name, its make, and the members of the make and no others.
+use Rattle.std.specs.Prelude.{ℕ, ℤ, ◌==◌, List, [], ◌∷◌, codes, bytes_eq, if◌then◌else◌, Option, Some, None, Result, Ok, Err}
+use Rattle.std.specs.Str.{is_utf8}
+use Rattle.hex.specs.Hex.{decode_of}
+use Rattle.hex.specs.declared.error.FromHexError.{FromHexError}
+use Rattle.jpa_value.specs.declared.value.Value.{Value}
+use Rattle.serde_json.specs.Data.{Data, null, boolean, number, string, array, object, Items, no_items, item}
+use Rattle.serde_json.specs.Events.{members_len}
+use Rattle.serde_json.specs.Find.{get, as_str, as_array, as_i64}
+use Rattle.jpa_functions.specs.declared.make.Function.{Function}
+use Rattle.jpa_functions.specs.declared.make.Make.{Make}
+use Rattle.jpa_functions.specs.declared.make.Listener.{Listener}
+use Rattle.jpa_functions.specs.declared.make.Converter.{Converter}
+use Rattle.jpa_functions.specs.declared.make.Pair.{Pair}
+use Rattle.jpa_functions.specs.declared.make.SetText.{SetText}
+use Rattle.jpa_functions.specs.declared.make.Table.{Table}
+use Rattle.jpa_functions.specs.Pairs.{are_apart}
+use Rattle.jpa_functions.specs.Sorts.{are_named_once}
+use Rattle.jpa_functions.specs.Outcome.{◌>>=◌, guard, proof_of}
+
+-- how many members an object has
+abbrev pub count_of : Data → ℕ
+count_of null = 0
+count_of (boolean b) = 0
+count_of (number n) = 0
+count_of (string s) = 0
+count_of (array ds) = 0
+count_of (object ms) = members_len ms
+
+abbrev pub text_at : List ℕ → Data → Option (List ℕ)
+text_at name d = get name d >>= as_str
+
+-- the meaning of each item
+abbrev pub each : {A : Type 0} → (Data → Option A) → Items → Option (List A)
+each meaning no_items = Some []
+each meaning (item d ds) = do
+  x ← meaning d
+  xs ← each meaning ds
+  Some (x ∷ xs)
+
+abbrev pub list_of : {A : Type 0} → (Data → Option A) → Data → Option (List A)
+list_of meaning d = as_array d >>= each meaning
+
+-- ---- values: an integer of 64 bits, a text, or an object of the one member `hex` with digits of either case
+
+abbrev pub decoded : Result (List ℕ) FromHexError → Option Value
+decoded (Ok bytes) = Some (Value.Bytes bytes)
+decoded (Err e) = None
+
+abbrev pub bytes_said : List ℕ → Option Value
+bytes_said digits = decoded (decode_of digits)
+
+unfoldable pub bytes_of : Data → Option Value
+bytes_of d = do
+  one ← guard (count_of d == 1)
+  digits ← text_at (codes "hex") d
+  bytes_said digits
+
+abbrev pub integer : Option ℤ → Option Value
+integer (Some n) = Some (Value.Int n)
+integer None = None
+
+abbrev pub value_of : Data → Option Value
+value_of null = None
+value_of (boolean b) = None
+value_of (number n) = integer (as_i64 n)
+value_of (string s) = Some (Value.Text s)
+value_of (array ds) = None
+value_of (object ms) = bytes_of (object ms)
+
+-- ---- tables
+
+-- a list of two values: the attribute's and the column's
+abbrev pub pair_in : Items → Option Pair
+pair_in (item a (item c no_items)) = do
+  attribute ← value_of a
+  column ← value_of c
+  Some (record { attribute = attribute; column = column })
+pair_in ds = None
+
+abbrev pub pair_of : Data → Option Pair
+pair_of d = as_array d >>= pair_in
+
+unfoldable pub table_with : List Pair → Option Table
+table_with pairs = do
+  apart ← proof_of (are_apart pairs)
+  Some (record { pairs = pairs; apart = apart })
+
+unfoldable pub table_of : Data → Option Converter
+table_of d = do
+  all ← guard (count_of d == 3)
+  member ← get (codes "pairs") d
+  pairs ← list_of pair_of member
+  table ← table_with pairs
+  Some (Converter.Table table)
+
+-- ---- listeners
+
+-- an attribute with its text, which JSON has in UTF-8
+unfoldable pub text_for : List ℕ → List ℕ → Option SetText
+text_for attribute value = do
+  is_text ← proof_of (is_utf8 value)
+  Some (record { attribute = attribute; value = value; is_text = is_text })
+
+unfoldable pub set_text_of : Data → Option Listener
+set_text_of d = do
+  all ← guard (count_of d == 4)
+  attribute ← text_at (codes "attribute") d
+  value ← text_at (codes "value") d
+  given ← text_for attribute value
+  Some (Listener.SetText given)
+
+unfoldable pub copy_of : Data → Option Listener
+copy_of d = do
+  all ← guard (count_of d == 4)
+  from ← text_at (codes "from") d
+  to ← text_at (codes "to") d
+  Some (Listener.Copy from to)
+
+unfoldable pub count_listener_of : Data → Option Listener
+count_listener_of d = do
+  all ← guard (count_of d == 3)
+  attribute ← text_at (codes "attribute") d
+  Some (Listener.Count attribute)
+
+unfoldable pub require_of : Data → Option Listener
+require_of d = do
+  all ← guard (count_of d == 3)
+  attribute ← text_at (codes "attribute") d
+  Some (Listener.Require attribute)
+
+-- ---- functions
+
+abbrev pub listener : Option Listener → Option Make
+listener l = l >>= λ m. Some (Make.Listener m)
+
+abbrev pub converter : Option Converter → Option Make
+converter c = c >>= λ m. Some (Make.Converter m)
+
+-- that has no members of its own
+abbrev pub bare : Make → Data → Option Make
+bare make d = guard (count_of d == 2) >>= λ all. Some make
+
+-- what d says of a function whose make is this word
+abbrev pub made_of : List ℕ → Data → Option Make
+made_of word d =
+    if bytes_eq word (codes "set_text") then listener (set_text_of d)
+    else if bytes_eq word (codes "copy") then listener (copy_of d)
+    else if bytes_eq word (codes "count") then listener (count_listener_of d)
+    else if bytes_eq word (codes "require") then listener (require_of d)
+    else if bytes_eq word (codes "note") then bare (Make.Listener Listener.Note) d
+    else if bytes_eq word (codes "flip") then bare (Make.Converter Converter.Flip) d
+    else if bytes_eq word (codes "table") then converter (table_of d)
+    else if bytes_eq word (codes "hextext") then bare (Make.Converter Converter.Hextext) d
+    else None
+
+unfoldable pub function_of : Data → Option Function
+function_of d = do
+  name ← text_at (codes "name") d
+  word ← text_at (codes "make") d
+  make ← made_of word d
+  Some (record { name = name; make = make })
+
+-- a list of functions in which no name of a sort stands twice
+unfoldable pub functions_of : Data → Option (List Function)
+functions_of d = do
+  functions ← list_of function_of d
+  once ← guard (are_named_once functions)
+  Some functions
+
+-- the member `functions`, which may be absent
+abbrev pub functions_if_there : Option Data → Option (List Function)
+functions_if_there (Some d) = functions_of d
+functions_if_there None = Some []

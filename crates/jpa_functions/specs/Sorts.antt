@@ -1,0 +1,51 @@
+-- Functions by sort and name.
+use Rattle.std.specs.Prelude.{ℕ, Bool, true, false, ◌&&◌, List, if◌then◌else◌, Option, Some, None, is_some, Result, Ok, Err}
+use Rattle.std.specs.List.{filter_map}
+use Rattle.jpa_value.specs.declared.refusal.Argument.{Argument}
+use Rattle.jpa_value.specs.declared.refusal.Cause.{Cause}
+use Rattle.jpa_model.specs.Chains.{same_name}
+use Rattle.jpa_behaviour.specs.Registered.{Known, Registered, known_as}
+use Rattle.jpa_functions.specs.Distinct.{none_meets}
+use Rattle.jpa_functions.specs.declared.make.Function.{Function}
+use Rattle.jpa_functions.specs.declared.make.Make.{Make}
+use Rattle.jpa_functions.specs.declared.make.Listener.{Listener}
+use Rattle.jpa_functions.specs.declared.make.Converter.{Converter}
+
+abbrev pub are_of_one_sort : Make → Make → Bool
+are_of_one_sort (Make.Listener l) (Make.Listener m) = true
+are_of_one_sort (Make.Converter c) (Make.Converter d) = true
+are_of_one_sort a b = false
+
+abbrev pub share_a_name : Function → Function → Bool
+share_a_name f g = are_of_one_sort f.make g.make && same_name f.name g.name
+
+-- no name of a sort stands twice
+abbrev pub are_named_once : List Function → Bool
+are_named_once = none_meets share_a_name
+
+-- ---- what is registered
+
+abbrev pub listener_so : List ℕ → Make → Option (Known Listener)
+listener_so name (Make.Listener l) = Some (record { name = name; what = l })
+listener_so name (Make.Converter c) = None
+
+abbrev pub converter_so : List ℕ → Make → Option (Known Converter)
+converter_so name (Make.Listener l) = None
+converter_so name (Make.Converter c) = Some (record { name = name; what = c })
+
+abbrev pub listeners_in : List Function → List (Known Listener)
+listeners_in = filter_map (λ f. listener_so f.name f.make)
+
+abbrev pub converters_in : List Function → List (Known Converter)
+converters_in = filter_map (λ f. converter_so f.name f.make)
+
+-- each function in its sort under its name, in the order of the list; a second name of a sort is refused
+abbrev pub registered : List Function → Result (Registered Listener Converter) Cause
+registered fs =
+    if are_named_once fs then Ok (record { listeners = listeners_in fs; converters = converters_in fs })
+    else Err (Cause.IllegalArgument Argument.Second)
+
+-- the name stands in its sort already
+abbrev pub stands : Registered Listener Converter → List ℕ → Make → Bool
+stands r name (Make.Listener l) = is_some (known_as name r.listeners)
+stands r name (Make.Converter c) = is_some (known_as name r.converters)

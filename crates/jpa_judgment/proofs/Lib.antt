@@ -1,0 +1,13 @@
+mod TableKinds
+mod Said
+mod Built
+mod Owned
+mod Together
+pub mod Parts
+pub mod Reading
+pub mod Lowest
+pub mod Standing
+pub mod Rising
+pub mod Keeping
+pub mod Steps
+pub mod Final

@@ -1,0 +1,42 @@
+-- Rows that an object, a pair or a next number may have.
+use Rattle.std.specs.Prelude.{◌≡◌, ◌⊎◌, ℕ, pos, Bool, true, nat_lt}
+use Rattle.std.specs.List.{list_any, AllByRecursion}
+use Rattle.jpa_value.specs.Value.{is_i64}
+use Rattle.jpa_model.specs.declared.unit.Root.{Root}
+use Rattle.jpa_model.specs.declared.unit.Origin.{Origin}
+use Rattle.jpa_model.specs.declared.unit.PersistenceUnit.{PersistenceUnit}
+use Rattle.jpa_model.specs.Chains.{entity_at}
+use Rattle.jpa_behaviour.specs.Behaviour.{World}
+use Rattle.jpa_rows.specs.Rows.{RowId, Row, Rows}
+use Rattle.jpa_view.specs.Identities.{classes, declares}
+use Rattle.jpa_view.specs.Unambiguous.{is_class}
+use Rattle.jpa_object_rows.specs.Objects.{pair_row, number_id, number_row}
+use Rattle.jpa_mapper.specs.Mapped.{IsMainRow}
+
+-- the next number, above 1, of a hierarchy with generated keys
+pub record IsNumberRow (m : PersistenceUnit) (id : RowId) (row : Row) : Type 0 where
+  pub class : ℕ
+  pub root : Root
+  pub next : ℕ
+  pub within : is_class m class ≡ true
+  pub origin : (entity_at m class).origin ≡ Origin.Root root
+  pub generated : root.generated ≡ true
+  pub under : id ≡ number_id root.table
+  pub says : row ≡ number_row next
+  pub more : nat_lt 1 next ≡ true
+  pub small : is_i64 (pos next) ≡ true
+
+-- the table is a join table
+abbrev pub is_join : PersistenceUnit → ℕ → Bool
+is_join m table = list_any (λ class. declares table (entity_at m class)) (classes m)
+
+-- a row of a join table
+pub record IsPairRow (m : PersistenceUnit) (id : RowId) (row : Row) : Type 0 where
+  pub join : is_join m id.table ≡ true
+  pub says : row ≡ pair_row
+
+abbrev pub IsSoundRow : World → RowId → Row → Type 0
+IsSoundRow world id row = IsNumberRow world.model id row ⊎ (IsPairRow world.model id row ⊎ IsMainRow world id row)
+
+abbrev pub AreSoundRows : World → Rows → Type 0
+AreSoundRows world = AllByRecursion (λ e. IsSoundRow world e.0 e.1)

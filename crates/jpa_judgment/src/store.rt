@@ -1,0 +1,114 @@
+//! A whole store, judged.
+ghost use Rattle.std.specs.Prelude.{◌≡◌, ◌⊎◌, ◌+◌, ℕ, [], List, length, Err, None, IfOk, IfErr, OnOk};
+ghost use Rattle.jpa_value.specs.declared.refusal.Cause.{Cause};
+ghost use Rattle.jpa_key.specs.Keys.{key_bytes};
+ghost use Rattle.jpa_behaviour.specs.Registered.{world_of};
+ghost use Rattle.jpa_rows.specs.Cells.{CanBeHeld, StandFor};
+ghost use Rattle.jpa_rows.specs.Tables.{schema_of};
+ghost use Rattle.jpa_object_rows.specs.Sets.{rows_of};
+ghost use Rattle.jpa_cells_meaning.specs.Store.{up_to_greatest, faults_after, IsClean, IsOpen, tables_in, Keeps, Endures, HasFault};
+ghost use Rattle.jpa_rowspace.specs.Stored.{AreRowsOf};
+ghost use Rattle.jpa_rowspace.specs.Space.{HoldsRows, IsStoreCause};
+ghost use Rattle.jpa_judgment.specs.Judged.{AreHeld};
+ghost use Rattle.jpa_judgment.specs.Reads.{IsTold};
+ghost use Rattle.jpa_judgment.specs.Damage.{cells_in, AreDamagedAt};
+
+use crate::entries::are_rows_of;
+use crate::judge::{Committed, Judged, judge};
+use crate::read::{read_tables, table_numbers};
+use jpa_behaviour::{Behaviour, Registry};
+use jpa_key::encode_key;
+use jpa_mapper::discriminator_law;
+use jpa_model::Metamodel;
+use jpa_rows::{Row, RowId, Schema};
+use jpa_rowspace::RowSpace;
+use jpa_value::{Bytes, Cause};
+use sqlite::Alter;
+use std::alloc::Global;
+
+/// The refusal that tells of a row, or `OutOfMemory`.
+fn damaged(alloc: Global, id: &RowId) -> Cause
+    ensures { (result ≡ Cause.OutOfMemory) ⊎ (result ≡ Cause.Damaged id.now.table (key_bytes id.now.key)) }
+{
+    match encode_key(alloc, &id.key) {
+        Ok(bytes) => Cause::Damaged(id.table, bytes),
+        Err(_) => Cause::OutOfMemory,
+    }
+}
+
+/// The refusal of rows none of which is at fault. Takes no memory.
+fn nothing_at_fault(alloc: Global) -> Cause
+    ensures { result ≡ Cause.Damaged 0 [] }
+{
+    Cause::Damaged(0, Bytes::of(Vec::new(alloc)))
+}
+
+/// What the rows of a schema stand for, which were read whole or up to an ill-formed row. Rows that are not the schema's, as a
+/// disk may answer that does not return what was written, are refused too.
+fn judge_read<B: Behaviour>(
+    alloc: Global,
+    metamodel: &Metamodel,
+    registry: &Registry<B>,
+    schema: &Schema,
+    rows: &[(RowId, Row)],
+    end: Option<(u64, Bytes)>,
+) -> Result<Committed, Cause>
+    requires { schema.now ≡ schema_of metamodel.now }
+    ensures whole { OnOk result (end ≡ None) }
+    ensures named { OnOk result (AreRowsOf schema.now rows.now) }
+    ensures held { IfOk result (λ c. AreHeld (world_of B.meaning metamodel.now registry.now) rows.now c) }
+    ensures err { IfErr result (λ cause. (cause ≡ Cause.OutOfMemory) ⊎ ((t : ℕ) × (bytes : List ℕ) × (cause ≡ Cause.Damaged t bytes) × (AreRowsOf schema.now rows.now → IsTold (world_of B.meaning metamodel.now registry.now) rows.now end t bytes))) }
+{
+    if !are_rows_of(schema, rows) {
+        return Err(nothing_at_fault(alloc));
+    }
+    match (judge(alloc, metamodel, registry, rows)?, end) {
+        (Judged::Damaged(place), _) => Err(damaged(alloc, &rows[place].0)),
+        (_, Some((table, bytes))) => Err(Cause::Damaged(table, bytes)),
+        (Judged::Held(committed), None) => Ok(committed),
+        (Judged::Unsound, None) => Err(nothing_at_fault(alloc)),
+    }
+}
+
+/// The set and the next numbers that the cells of a store stand for, read by one SELECT for each table of the metamodel. The
+/// space is one of the metamodel's schema. What is answered can always be held; that the cells stand for it is sure where the
+/// disk is clean.
+///
+/// Cells that stand for none are `Damaged`. Where a row of cells is one that no object, no pair and no next number has, it is
+/// told by its table and its bytes, and so is the lowest of several: an ill-formed one, of an unknown class, with a column
+/// that its class lacks, without a version, of a converter's throw. Else each row may be one, and yet they are those of no
+/// sound set with its next numbers, as where an owner is missing or a generated key is not below the next number: that is
+/// `Damaged(0, [])`. Otherwise it fails for want of memory, or with `StoreFault`.
+pub fn read_store<S: Alter, B: Behaviour>(
+    alloc: Global,
+    metamodel: &Metamodel,
+    registry: &Registry<B>,
+    space: &mut RowSpace<S>,
+) -> Result<Committed, Cause>
+    requires schema { space.old.schema ≡ schema_of metamodel.now }
+    ensures can_be_held { IfOk result (λ c. CanBeHeld (world_of B.meaning metamodel.now registry.now) c.set c.numbers) }
+    ensures holds { IsClean S.Store space.new.store.conn → IfOk result (λ c. CanBeHeld (world_of B.meaning metamodel.now registry.now) c.set c.numbers × HoldsRows S.Store (schema_of metamodel.now) space.new.store.conn (rows_of (world_of B.meaning metamodel.now registry.now) c.set c.numbers)) }
+    ensures stand { IsClean S.Store space.new.store.conn → IsOpen S.Store space.new.store.conn → IfOk result (λ c. StandFor (world_of B.meaning metamodel.now registry.now) (cells_in (world_of B.meaning metamodel.now registry.now) (tables_in S.Store space.new.store.conn)) c.set c.numbers) }
+    ensures refused { IfErr result (λ cause. IsStoreCause cause ⊎ ((t : ℕ) × (bytes : List ℕ) × (cause ≡ Cause.Damaged t bytes) × (IsClean S.Store space.new.store.conn → AreDamagedAt (world_of B.meaning metamodel.now registry.now) (tables_in S.Store space.new.store.conn) t bytes))) }
+    ensures open { IsClean S.Store space.new.store.conn → OnOk result (IsOpen S.Store space.old.store.conn × IsOpen S.Store space.new.store.conn) }
+    ensures kept { Keeps S.Store space.old.store.conn space.new.store.conn }
+    ensures counted { OnOk result (space.new.store.table_selects ≡ up_to_greatest (space.old.store.table_selects + length (schema_of metamodel.now).tables)) }
+    ensures told { space.new.store.faults ≡ faults_after result space.old.store.faults }
+    ensures cause { IsClean S.Store space.new.store.conn → result ≡ Err Cause.StoreFault → HasFault S.Store space.old.store.conn space.new.store.conn }
+    ensures others { space.new ≡ record space.old { store = record space.old.store { conn = space.new.store.conn; table_selects = space.new.store.table_selects; faults = space.new.store.faults } } }
+    ensures crash { Endures S.Store space.old.store.conn space.new.store.conn (λ _. ⊥) }
+{
+    let _unit = metamodel.unit();
+    registry.laws();
+    discriminator_law(metamodel);
+    let numbers = table_numbers(alloc, metamodel, space.schema())?;
+    let (rows, end) = read_tables(alloc, space, numbers.as_slice())?;
+    judge_read(
+        alloc,
+        metamodel,
+        registry,
+        space.schema(),
+        rows.as_slice(),
+        end,
+    )
+}
