@@ -40,6 +40,3 @@ pub enum Heard {
     /// It threw, with this text.
     Throw(Text),
 }
-
-#[cfg(test)]
-mod tests;

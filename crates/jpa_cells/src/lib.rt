@@ -17,6 +17,3 @@ mod write;
 pub use jpa_cells_meaning::{Cell, CellChange, CellRow};
 pub use sink::RowSink;
 pub use store::CellStore;
-
-#[cfg(test)]
-mod tests;

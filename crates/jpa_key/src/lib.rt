@@ -16,6 +16,3 @@ mod write;
 
 pub use read::{decode_front, decode_key, decode_pair, order_key_bytes};
 pub use write::{encode_key, encode_pair};
-
-#[cfg(test)]
-mod tests;

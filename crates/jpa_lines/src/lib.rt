@@ -14,6 +14,3 @@ pub mod writing;
 pub use reading::read_call;
 pub use run::RunFault;
 pub use writing::write_reply;
-
-#[cfg(test)]
-mod tests;

@@ -32,6 +32,3 @@ mod parts;
 mod reading;
 
 pub use reading::read_mapping;
-
-#[cfg(test)]
-mod tests;

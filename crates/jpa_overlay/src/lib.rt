@@ -15,6 +15,3 @@ mod overlay;
 mod same;
 
 pub use overlay::Overlay;
-
-#[cfg(test)]
-mod tests;

@@ -5,6 +5,7 @@ ghost use Rattle.std.specs.FinMap.Entries.{where_key};
 ghost use Rattle.jpa_value.specs.declared.refusal.Cause.{Cause};
 ghost use Rattle.jpa_value.specs.Value.{identity_cmp};
 ghost use Rattle.jpa_stored.specs.Places.{IsAt, IsGap};
+ghost use Rattle.jpa_rows.specs.Faults.{faults_after};
 ghost use Rattle.jpa_rows.specs.Rows.{Rows, AreRising, table_rows, entry_of, rows_after};
 ghost use Rattle.jpa_row_laws.specs.Changes.{AreDifference};
 ghost use Rattle.jpa_overlay.specs.Overlay.{rows_under, with_change, with_row};
@@ -70,6 +71,7 @@ impl Overlay {
         ensures changed { IsSome (find identity_cmp id.now self.now) → IfOk result (λ row. find identity_cmp id.now self.now ≡ Some row) }
         ensures own { IsSome (find identity_cmp id.now self.now) → (source.new ≡ source.old) × IfErr result (λ cause. cause ≡ Cause.OutOfMemory) }
         ensures kept { (rows : Rows) → R.holds source.old rows → R.holds source.new rows }
+        ensures told { R.faults source.new ≡ faults_after result (R.faults source.old) }
         ensures was_clean { R.clean source.new → R.clean source.old }
         ensures schema { R.schema source.new ≡ R.schema source.old }
     {
@@ -85,6 +87,7 @@ impl Overlay {
         ensures ok { R.clean source.new → IfOk result (λ found. (rows : Rows) → AreRising rows → R.holds source.old rows → found ≡ table_rows table (rows_under self.now rows)) }
         ensures err { R.clean source.new → IfErr result (λ cause. (rows : Rows) → R.holds source.old rows → (cause ≡ Cause.OutOfMemory) ⊎ (cause ≡ Cause.StoreFault)) }
         ensures kept { (rows : Rows) → R.holds source.old rows → R.holds source.new rows }
+        ensures told { R.faults source.new ≡ faults_after result (R.faults source.old) }
         ensures was_clean { R.clean source.new → R.clean source.old }
         ensures schema { R.schema source.new ≡ R.schema source.old }
     {
@@ -101,6 +104,7 @@ impl Overlay {
         ensures among { IfOk result (λ changes. All (λ change. find identity_cmp change.id self.now ≡ Some change.row) changes) }
         ensures err { R.clean source.new → IfErr result (λ cause. (rows : Rows) → R.holds source.old rows → (cause ≡ Cause.OutOfMemory) ⊎ (cause ≡ Cause.StoreFault)) }
         ensures kept { (rows : Rows) → R.holds source.old rows → R.holds source.new rows }
+        ensures told { R.faults source.new ≡ faults_after result (R.faults source.old) }
         ensures was_clean { R.clean source.new → R.clean source.old }
         ensures schema { R.schema source.new ≡ R.schema source.old }
     {

@@ -13,6 +13,3 @@ pub use opening::open;
 pub use running::run;
 pub use stop::{Stop, status};
 pub use unit::first_unit;
-
-#[cfg(test)]
-mod tests;

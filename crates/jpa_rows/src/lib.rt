@@ -22,6 +22,3 @@ pub use schema::{ColumnRule, Holds, Schema, TableRule};
 pub use source::RowSource;
 pub use spell::{spell_content, spell_row};
 pub use whole::{is_key, is_row_of};
-
-#[cfg(test)]
-mod tests;

@@ -1,9 +1,10 @@
 //! Where committed rows stand: what changes over rows ask of their store.
-ghost use Rattle.std.specs.Prelude.{◌≡◌, ◌⊎◌, OnOk, OnErr, IfOk, IfErr};
+ghost use Rattle.std.specs.Prelude.{◌≡◌, ◌⊎◌, ℕ, OnOk, OnErr, IfOk, IfErr};
 ghost use Rattle.std.specs.FinMap.{find};
 ghost use Rattle.jpa_value.specs.Value.{identity_cmp};
 ghost use Rattle.jpa_value.specs.declared.refusal.Cause.{Cause};
 ghost use Rattle.jpa_rows.specs.declared.schema.Schema.{Schema};
+ghost use Rattle.jpa_rows.specs.Faults.{faults_after};
 ghost use Rattle.jpa_rows.specs.Rows.{Rows, table_rows, rows_after, AreChanges};
 
 use crate::row::{Row, RowChange, RowId};
@@ -20,11 +21,16 @@ pub trait RowSource {
     /// What it stands on has given back what was written to it so far.
     ghost clean: { Self → Type 0 };
 
+    /// How often it has answered with a fault of its own, `StoreFault`, up to the greatest u64. So such an answer is always
+    /// one that it counts.
+    ghost faults: { Self → ℕ };
+
     /// The row under an id. While the store holds rows, it refuses with `OutOfMemory` and `StoreFault` alone.
     fn get(&mut self, id: &RowId) -> Result<Option<Row>, Cause>
         ensures ok { clean self.new → IfOk result (λ row. (rows : Rows) → holds self.old rows → row ≡ find identity_cmp id.now rows) }
         ensures err { clean self.new → IfErr result (λ cause. (rows : Rows) → holds self.old rows → (cause ≡ Cause.OutOfMemory) ⊎ (cause ≡ Cause.StoreFault)) }
         ensures kept { (rows : Rows) → holds self.old rows → holds self.new rows }
+        ensures told { faults self.new ≡ faults_after result (faults self.old) }
         ensures was_clean { clean self.new → clean self.old }
         ensures schema { schema self.new ≡ schema self.old };
 
@@ -33,6 +39,7 @@ pub trait RowSource {
         ensures ok { clean self.new → IfOk result (λ found. (rows : Rows) → holds self.old rows → found ≡ table_rows table rows) }
         ensures err { clean self.new → IfErr result (λ cause. (rows : Rows) → holds self.old rows → (cause ≡ Cause.OutOfMemory) ⊎ (cause ≡ Cause.StoreFault)) }
         ensures kept { (rows : Rows) → holds self.old rows → holds self.new rows }
+        ensures told { faults self.new ≡ faults_after result (faults self.old) }
         ensures was_clean { clean self.new → clean self.old }
         ensures schema { schema self.new ≡ schema self.old };
 
@@ -42,6 +49,7 @@ pub trait RowSource {
         ensures ok { OnOk result ((rows : Rows) → holds self.old rows → holds self.new (rows_after changes.now rows)) }
         ensures err { OnErr result ((rows : Rows) → holds self.old rows → holds self.new rows) }
         ensures cause { IfErr result (λ cause. (cause ≡ Cause.OutOfMemory) ⊎ (cause ≡ Cause.StoreFault)) }
+        ensures told { faults self.new ≡ faults_after result (faults self.old) }
         ensures was_clean { clean self.new → clean self.old }
         ensures schema { schema self.new ≡ schema self.old };
 }

@@ -8,3 +8,4 @@ pub mod Answers
 pub mod Counts
 pub mod Samples
 pub mod Whole
+pub mod Told

@@ -14,6 +14,3 @@ mod spell;
 
 pub use laws::reading_law;
 pub use space::RowSpace;
-
-#[cfg(test)]
-mod tests;

@@ -159,6 +159,8 @@ impl<S: Alter> RowSource for RowSpace<S> {
 
     ghost clean = { λ space. IsClean S.Store space.store.conn };
 
+    ghost faults = { λ space. space.store.faults };
+
     fn get(&mut self, id: &RowId) -> Result<Option<Row>, Cause> {
         RowSpace::get(self, id)
     }

@@ -21,6 +21,3 @@ pub use related::members;
 pub use set::StoredSet;
 pub use sound::integrity;
 pub use stored::Stored;
-
-#[cfg(test)]
-mod tests;

@@ -25,6 +25,3 @@ pub use order::{
 pub use refusal::{Argument, Cause, MappingFault, Persist, Refusal, State};
 pub use texts::refusal_text;
 pub use value::{Identity, Key, Kind, Value, fits};
-
-#[cfg(test)]
-mod tests;

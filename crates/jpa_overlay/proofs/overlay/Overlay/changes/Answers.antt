@@ -26,6 +26,7 @@ loop-entry-preserved g c =
     record {
       kept = λ rows holds. c.get-in-loop-entry.ensures.kept rows (c.loop-entry.invariant.kept rows holds);
       schema = c.get-in-loop-entry.ensures.schema ∙ c.loop-entry.invariant.schema;
+      told = c.in_ok-there.ensures.told ∙ c.loop-entry.invariant.told;
       was_clean = λ clean. c.loop-entry.invariant.was_clean (c.get-in-loop-entry.ensures.was_clean clean);
       real = λ clean rows holds.
           let so_far = c.loop-entry.invariant.real (c.get-in-loop-entry.ensures.was_clean clean) rows holds in

@@ -9,6 +9,7 @@ abbrev pub invariant-loop-entry : goal.invariant-loop-entry
 invariant-loop-entry g l = record {
   kept : (rows : Rows) → g.R.RowSource.holds l.fn.source rows → g.R.RowSource.holds l.source rows;
   schema : g.R.RowSource.schema l.source ≡ g.R.RowSource.schema l.fn.source;
+  told : g.R.RowSource.faults l.source ≡ g.R.RowSource.faults l.fn.source;
   was_clean : g.R.RowSource.clean l.source → g.R.RowSource.clean l.fn.source;
   real : g.R.RowSource.clean l.source → (rows : Rows) → g.R.RowSource.holds l.fn.source rows → map entry_of l.changes ≡ differing rows (take l.entry-index l.entry-items);
   among : All (λ change. find identity_cmp change.id l.self ≡ Some change.row) l.changes;

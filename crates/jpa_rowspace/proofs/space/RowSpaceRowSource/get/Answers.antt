@@ -2,6 +2,7 @@ use Rattle.std.proofs.Common.{◌≡◌, sym, ap, subst}
 use Rattle.jpa_rows.specs.declared.schema.Schema.{Schema}
 use Rattle.jpa_rowspace.specs.Space.{Space, HoldsRows}
 use Rattle.jpa_rowspace.proofs.Holding.{clean_before, keeps_rows, gets, gets_err}
+use Rattle.jpa_rowspace.proofs.Told.{counted}
 use Rattle.jpa_rowspace.proofs.space.RowSpaceRowSource.get.Goals as goal
 
 pub returns-clause-ok : goal.returns-clause-ok
@@ -24,3 +25,6 @@ returns-clause-kept g c rows held =
     let new = c.get.new.self.store.conn in
     let same : c.get.new.self.schema ≡ c.args.self.now.schema = ap (λ (s : Space g.row.S.Denot). s.schema) c.get.ensures.others in
     subst (λ (schema : Schema). HoldsRows g.S.Store schema new rows) (sym same) (keeps_rows g.S.Store c.args.self.now.schema old new (λ _. ⊥) c.get.ensures.kept c.get.ensures.crash rows held)
+
+pub returns-clause-told : goal.returns-clause-told
+returns-clause-told g c = counted c.args.self.now.store.faults c.get.new.self.store.faults c.get.result c.get.ensures.told

@@ -2,6 +2,7 @@ use Rattle.std.proofs.Common.{◌≡◌, sym, ap, subst}
 use Rattle.jpa_rows.specs.declared.schema.Schema.{Schema}
 use Rattle.jpa_rowspace.specs.Space.{Space, HoldsRows}
 use Rattle.jpa_rowspace.proofs.Holding.{clean_before, keeps_rows, scans, scans_err}
+use Rattle.jpa_rowspace.proofs.Told.{counted}
 use Rattle.jpa_rowspace.proofs.space.RowSpaceRowSource.scan.Goals as goal
 
 pub returns-clause-ok : goal.returns-clause-ok
@@ -24,3 +25,6 @@ returns-clause-kept g c rows held =
     let new = c.scan.new.self.store.conn in
     let same : c.scan.new.self.schema ≡ c.args.self.now.schema = ap (λ (s : Space g.row.S.Denot). s.schema) c.scan.ensures.others in
     subst (λ (schema : Schema). HoldsRows g.S.Store schema new rows) (sym same) (keeps_rows g.S.Store c.args.self.now.schema old new (λ _. ⊥) c.scan.ensures.kept c.scan.ensures.crash rows held)
+
+pub returns-clause-told : goal.returns-clause-told
+returns-clause-told g c = counted c.args.self.now.store.faults c.scan.new.self.store.faults c.scan.result c.scan.ensures.told

@@ -1,0 +1,366 @@
+ghost use Rattle.std.specs.Prelude.{IsTrue, IfOk};
+ghost use Rattle.sqlite_disk.specs.Memory.{memory_is_usable};
+
+use jpa_cells::{Cell, CellChange, CellRow, CellStore, RowSink};
+use jpa_value::{Bytes, Cause, Seq};
+use sqlite::{Alter, Connection, Error, ErrorCode, FileStore, Files, MemStore, Options};
+use sqlite_disk::{Disk, Fuse, Memory};
+use std::alloc::{AllocError, Global};
+use std::test::Fail;
+
+/// A cell as a line: table, row, column and bytes.
+type Line = (i64, &'static [u8], i64, &'static [u8]);
+
+const ONE: &[u8] = b"\x01\x80\x00\x00\x00\x00\x00\x00\x01";
+
+/// A person with the generated key 1 and the name Ada, and the next number of her hierarchy.
+const FIRST: &[Line] = &[
+    (0, ONE, 0, b"\x01\x80\x00\x00\x00\x00\x00\x00\x02"),
+    (1, ONE, 0, b"\x02Person"),
+    (1, ONE, 1, b"\x01\x80\x00\x00\x00\x00\x00\x00\x00"),
+    (1, ONE, 2, b"\x02Ada"),
+];
+
+/// She is dropped, the next number is 3, and another table has two rows.
+const SECOND: &[Line] = &[
+    (0, ONE, 0, b"\x01\x80\x00\x00\x00\x00\x00\x00\x03"),
+    (2, b"\x01", -9, b""),
+    (2, b"\x01\x80", 7, b"seven"),
+];
+
+// These have no clause, so that the proof of a test does not carry the state of each call.
+
+fn cell(alloc: Global, column: i64, value: &[u8]) -> Result<Cell, AllocError> {
+    Ok(Cell {
+        column,
+        value: Bytes::of(value.to_vec(alloc)?),
+    })
+}
+
+fn change(
+    alloc: Global,
+    table: i64,
+    row: &[u8],
+    cells: Vec<Cell>,
+) -> Result<CellChange, AllocError> {
+    Ok(CellChange {
+        table,
+        row: Bytes::of(row.to_vec(alloc)?),
+        cells: Seq::of(cells),
+    })
+}
+
+fn first_changes(alloc: Global) -> Result<Vec<CellChange>, AllocError> {
+    let next = vec![in alloc; cell(alloc, 0, b"\x01\x80\x00\x00\x00\x00\x00\x00\x02")?]?;
+    let person = vec![in alloc;
+        cell(alloc, 2, b"\x02Ada")?,
+        cell(alloc, 0, b"\x02Person")?,
+        cell(alloc, 1, b"\x01\x80\x00\x00\x00\x00\x00\x00\x00")?,
+    ]?;
+    Ok(vec![in alloc;
+        change(alloc, 1, ONE, person)?,
+        change(alloc, 0, ONE, next)?,
+    ]?)
+}
+
+fn second_changes(alloc: Global) -> Result<Vec<CellChange>, AllocError> {
+    let next = vec![in alloc; cell(alloc, 0, b"\x01\x80\x00\x00\x00\x00\x00\x00\x03")?]?;
+    let seven = vec![in alloc; cell(alloc, 7, b"seven")?]?;
+    let empty = vec![in alloc; cell(alloc, -9, b"")?]?;
+    Ok(vec![in alloc;
+        change(alloc, 2, b"\x01\x80", seven)?,
+        change(alloc, 1, ONE, Vec::new(alloc))?,
+        change(alloc, 2, b"\x01", empty)?,
+        change(alloc, 0, ONE, next)?,
+    ]?)
+}
+
+/// Whether the tables 0 to 2 have these cells in this order, and no others.
+fn shows<S: Alter>(store: &mut CellStore<S>, lines: &[Line]) -> Result<bool, Cause> {
+    let mut at = 0;
+    for table in 0..3 {
+        for row in store.table(table)?.as_slice() {
+            for cell in row.cells.as_slice() {
+                match lines.get(at) {
+                    Some(line)
+                        if line.0 == table
+                            && line.1 == row.row.as_slice()
+                            && line.2 == cell.column
+                            && line.3 == cell.value.as_slice() => at += 1,
+                    _ => return Ok(false),
+                }
+            }
+        }
+    }
+    Ok(at == lines.len())
+}
+
+fn in_memory(alloc: Global) -> Result<CellStore<MemStore>, Fail> {
+    match CellStore::open(alloc, Connection::open_in_memory(alloc)?) {
+        Ok(store) => Ok(store),
+        Err((cause, _)) => Err(Fail::from(cause)),
+    }
+}
+
+fn again<S: Alter + Drop>(alloc: Global, store: CellStore<S>) -> Result<CellStore<S>, Fail> {
+    match CellStore::open(alloc, store.into_connection()) {
+        Ok(store) => Ok(store),
+        Err((cause, _)) => Err(Fail::from(cause)),
+    }
+}
+
+/// Whether the changes meet a fault of the store. Another refusal is passed on.
+fn is_refused<S: Alter>(store: &mut CellStore<S>, changes: &[CellChange]) -> Result<bool, Fail> {
+    match store.apply(changes) {
+        Ok(()) => Ok(false),
+        Err(Cause::StoreFault) => Ok(true),
+        Err(cause) => Err(Fail::from(cause)),
+    }
+}
+
+#[test]
+fn cells_are_written_read_back_and_dropped(rt: HostRuntime) -> Result<(), Fail> {
+    let alloc = rt.alloc();
+    let mut store = in_memory(alloc)?;
+    assert!(rt; shows(&mut store, &[])?);
+    store.apply(first_changes(alloc)?.as_slice())?;
+    assert!(rt; shows(&mut store, FIRST)?);
+    let person = store.row(1, ONE)?;
+    assert_eq!(rt; person.len(), 3);
+    assert_eq!(rt; store.row(1, b"\x01")?.len(), 0);
+    assert_eq!(rt;
+        (store.writes(), store.selects(), store.statements()),
+        (6, 8, 15)
+    );
+    store.apply(&[])?;
+    assert_eq!(rt; store.statements(), 15);
+    store.apply(second_changes(alloc)?.as_slice())?;
+    assert!(rt; shows(&mut store, SECOND)?);
+    let mut store = again(alloc, store)?;
+    assert_eq!(rt; store.statements(), 0);
+    assert!(rt; shows(&mut store, SECOND)?);
+    Ok(())
+}
+
+#[test]
+fn a_column_named_twice_changes_nothing(rt: HostRuntime) -> Result<(), Fail> {
+    let alloc = rt.alloc();
+    let mut store = in_memory(alloc)?;
+    store.apply(first_changes(alloc)?.as_slice())?;
+    let twice = vec![in alloc; cell(alloc, 5, b"five")?, cell(alloc, 5, b"fifth")?]?;
+    let changes = vec![in alloc;
+        change(alloc, 0, ONE, Vec::new(alloc))?,
+        change(alloc, 2, b"\x01", twice)?,
+    ]?;
+    assert!(rt; is_refused(&mut store, changes.as_slice())?);
+    assert!(rt; shows(&mut store, FIRST)?);
+    store.apply(second_changes(alloc)?.as_slice())?;
+    assert!(rt; shows(&mut store, SECOND)?);
+    Ok(())
+}
+
+// ---- rows one at a time
+
+/// Keeps rows, and wants so many; where it wants none it refuses.
+#[derive(Drop)]
+struct Kept {
+    rows: Vec<CellRow>,
+    most: usize,
+}
+
+impl RowSink for Kept {
+    ghost use Rattle.std.specs.Prelude.{◌≡◌, ◌⊎◌, not, length, nat_lt};
+    ghost use Rattle.jpa_value.specs.declared.refusal.Cause.{Cause};
+
+    ghost refuses = { λ cause. (cause ≡ Cause.Limit) ⊎ (cause ≡ Cause.OutOfMemory) };
+
+    ghost taken = { λ kept. kept.rows.items };
+
+    ghost is_done = { λ kept. not (nat_lt (length kept.rows.items) kept.most) };
+
+    fn row(&mut self, row: CellRow) -> Result<bool, Cause> {
+        if self.most == 0 {
+            return Err(Cause::Limit);
+        }
+        self.rows.push(row)?;
+        Ok(self.rows.len() < self.most)
+    }
+}
+
+/// Whether the sink refuses the first row of table 2. Another refusal is passed on.
+fn is_limited<S: Alter>(store: &mut CellStore<S>, sink: &mut Kept) -> Result<bool, Cause> {
+    match store.each(2, sink) {
+        Ok(()) => Ok(false),
+        Err(Cause::Limit) => Ok(true),
+        Err(cause) => Err(cause),
+    }
+}
+
+#[test]
+fn rows_are_handed_on_in_order_until_no_more_are_wanted(rt: HostRuntime) -> Result<(), Fail> {
+    let alloc = rt.alloc();
+    let mut store = in_memory(alloc)?;
+    store.apply(second_changes(alloc)?.as_slice())?;
+    for (most, taken) in [(5, 2), (1, 1)] {
+        let mut kept = Kept {
+            rows: Vec::new(alloc),
+            most,
+        };
+        store.each(2, &mut kept)?;
+        assert_eq!(rt; kept.rows.len(), taken);
+        match kept.rows.as_slice() {
+            [first, ..] => assert_eq!(rt; first.row.as_slice(), b"\x01".as_slice()),
+            [] => return Err(Fail::from("no row was handed on")),
+        }
+    }
+    let mut none = Kept {
+        rows: Vec::new(alloc),
+        most: 0,
+    };
+    assert!(rt; is_limited(&mut store, &mut none)?);
+    store.each(1, &mut none)?;
+    assert!(rt; none.rows.is_empty());
+    assert_eq!(rt; store.selects(), 4);
+    Ok(())
+}
+
+// ---- stops at a call of the disk
+
+type Device = Fuse<Memory>;
+
+/// How many steps of a run were acknowledged, whether the disk stopped, and what it left.
+#[derive(Drop)]
+struct Left {
+    acknowledged: usize,
+    stopped: bool,
+    files: Files<Memory>,
+}
+
+fn copy(alloc: Global, device: &Device) -> Result<Memory, Fail>
+    ensures { IfOk result (λ memory. IsTrue (memory_is_usable memory)) }
+{
+    let mut memory = Memory::new(alloc);
+    memory.write_at(0, device.inner().bytes())?;
+    Ok(memory)
+}
+
+fn leave(
+    alloc: Global,
+    acknowledged: usize,
+    stopped: bool,
+    files: Files<Device>,
+) -> Result<Left, Fail>
+    ensures { IfOk result (λ left. IsTrue (memory_is_usable left.files.log) × IsTrue (memory_is_usable left.files.db)) }
+{
+    Ok(Left {
+        acknowledged,
+        stopped,
+        files: Files {
+            log: copy(alloc, &files.log)?,
+            db: copy(alloc, &files.db)?,
+        },
+    })
+}
+
+/// Closes the files, as far as the disk allows.
+fn close(
+    alloc: Global,
+    acknowledged: usize,
+    stopped: bool,
+    conn: Connection<FileStore<Device>>,
+) -> Result<Left, Fail>
+    ensures { IfOk result (λ left. IsTrue (memory_is_usable left.files.log) × IsTrue (memory_is_usable left.files.db)) }
+{
+    match conn.close_files() {
+        Ok(files) => leave(alloc, acknowledged, stopped, files),
+        Err((Error::SqliteFailure(ErrorCode::OutOfMemory), _)) => Err(Fail::from(
+            Cause::OutOfMemory,
+        )),
+        Err((_, store)) => leave(alloc, acknowledged, true, store.close()),
+    }
+}
+
+/// Opens, and writes the first cells and then the second, until the disk stops.
+fn run(alloc: Global, log_calls: u64, db_calls: u64) -> Result<Left, Fail>
+    ensures { IfOk result (λ left. IsTrue (memory_is_usable left.files.log) × IsTrue (memory_is_usable left.files.db)) }
+{
+    let files = Files {
+        log: Fuse::new(Memory::new(alloc), log_calls),
+        db: Fuse::new(Memory::new(alloc), db_calls),
+    };
+    let conn = match Connection::open_files(alloc, files, Options::new(7)) {
+        Ok(conn) => conn,
+        Err((Error::SqliteFailure(ErrorCode::OutOfMemory), _)) => return Err(Fail::from(
+            Cause::OutOfMemory,
+        )),
+        Err((_, rest)) => return leave(alloc, 0, true, rest.into_files()),
+    };
+    let mut store = match CellStore::open(alloc, conn) {
+        Ok(store) => store,
+        Err((Cause::StoreFault, conn)) => return close(alloc, 0, true, conn),
+        Err((cause, _)) => return Err(Fail::from(cause)),
+    };
+    if is_refused(&mut store, first_changes(alloc)?.as_slice())? {
+        return close(alloc, 1, true, store.into_connection());
+    }
+    if is_refused(&mut store, second_changes(alloc)?.as_slice())? {
+        return close(alloc, 2, true, store.into_connection());
+    }
+    close(alloc, 3, false, store.into_connection())
+}
+
+/// The cells after so many steps.
+fn lines(steps: usize) -> &'static [Line] {
+    match steps {
+        0 | 1 => &[],
+        2 => FIRST,
+        _ => SECOND,
+    }
+}
+
+/// Opens the files again, and finds the cells of the last step that was acknowledged, or of the next one.
+fn is_whole(alloc: Global, left: Left) -> Result<bool, Fail>
+    requires { IsTrue (memory_is_usable left.files.log) × IsTrue (memory_is_usable left.files.db) }
+{
+    let steps = left.acknowledged.min(3);
+    let conn = match Connection::open_files(alloc, left.files, Options::new(7)) {
+        Ok(conn) => conn,
+        Err((error, _)) => return Err(Fail::from(error)),
+    };
+    let mut store = match CellStore::open(alloc, conn) {
+        Ok(store) => store,
+        Err((cause, _)) => return Err(Fail::from(cause)),
+    };
+    Ok(shows(&mut store, lines(steps))? || shows(&mut store, lines(steps + 1))?)
+}
+
+fn stops_whole(alloc: Global, log_calls: u64, db_calls: u64) -> Result<bool, Fail> {
+    let left = run(alloc, log_calls, db_calls)?;
+    let stopped = left.stopped;
+    if !is_whole(alloc, left)? {
+        return Err(Fail::from("a stop left cells in between"));
+    }
+    Ok(stopped)
+}
+
+#[test]
+fn a_stop_of_the_log_leaves_what_was_before_or_after(rt: HostRuntime) -> Result<(), Fail> {
+    for calls in 0..1000 {
+        if !stops_whole(rt.alloc(), calls, u64::MAX)? {
+            assert!(rt; calls > 20);
+            return Ok(());
+        }
+    }
+    Err(Fail::from("each run was stopped"))
+}
+
+#[test]
+fn a_stop_of_the_database_leaves_what_was_before_or_after(rt: HostRuntime) -> Result<(), Fail> {
+    for calls in 0..1000 {
+        if !stops_whole(rt.alloc(), u64::MAX, calls)? {
+            assert!(rt; calls > 2);
+            return Ok(());
+        }
+    }
+    Err(Fail::from("each run was stopped"))
+}

@@ -1,0 +1,349 @@
+//! What the cells of a store stand for, and the cells that objects and next numbers are written as.
+//!
+//! A row is a line: its table, its bytes, and the column and the bytes of each of its cells, all bytes in hexadecimal
+//! digits. The rows of an object stand before those of the next object, and the next numbers last.
+ghost use Rattle.std.specs.Prelude.{◌≡◌, true, IfOk};
+ghost use Rattle.jpa_stored.specs.Sets.{is_shaped, all_shaped};
+ghost use Rattle.jpa_rows.specs.Tables.{schema_of};
+
+use jpa_behaviour::Registry;
+use jpa_cells::{Cell, CellChange, CellStore};
+use jpa_functions::{ProgramFunctions, names_are_known, read_functions, registry_of};
+use jpa_judgment::{Committed, read_store};
+use jpa_key::encode_key;
+use jpa_mapper::{number_row, to_rows};
+use jpa_mapping::read_mapping;
+use jpa_model::Metamodel;
+use jpa_rows::{Row, RowId, Schema, spell_row};
+use jpa_rowspace::RowSpace;
+use jpa_stored::Stored;
+use jpa_value::{Bytes, Cause, Identity, Seq};
+use sqlite::{Connection, MemStore};
+use std::alloc::Global;
+use std::test::Fail;
+
+/// Persons with generated keys and versions, and orders that each may have a person.
+const PERSONS: &str = r#"{"revision":1,"entities":[
+{"name":"Person","table":1,"key":[{"name":"id","type":"int"}],"generated":true,"version":{"name":"version","column":1},
+ "attributes":[{"name":"name","type":"text","column":2}],
+ "relations":[{"name":"orders","kind":"oneToMany","target":"Order","mappedBy":"person"}]},
+{"name":"Order","table":2,"key":[{"name":"number","type":"int"}],"attributes":[{"name":"amount","type":"int","column":1}],
+ "relations":[{"name":"person","kind":"manyToOne","target":"Person","column":2}]}]}"#;
+
+/// Orders whose amounts are flipped, and persons whose names are codes: Ada is 1, and Bob 2.
+const CONVERTED: &str = r#"{"revision":1,"entities":[
+{"name":"Person","table":1,"key":[{"name":"id","type":"int"}],"attributes":[{"name":"name","type":"text","column":2,"converter":"codes"}]},
+{"name":"Order","table":2,"key":[{"name":"number","type":"int"}],"attributes":[{"name":"amount","type":"int","column":1,"converter":"flip"}]}],
+"functions":[{"name":"flip","make":"flip"},{"name":"codes","make":"table","pairs":[["Ada",1],["Bob",2]]}]}"#;
+
+/// Functions of the same names, among whose codes is no Bob.
+const WITHOUT_BOB: &str =
+    r#"{"functions":[{"name":"flip","make":"flip"},{"name":"codes","make":"table","pairs":[["Ada",1]]}]}"#;
+
+/// As have one B, and any number of them; a B has an embedded key.
+const EMBEDDED: &str =
+    r#"{"revision":1,"entities":[{"name":"A","table":1,"key":[{"name":"id","type":"int"}],"relations":[
+{"name":"b","kind":"oneToOne","target":"B","column":1},{"name":"bs","kind":"manyToMany","target":"B","joinTable":3}]},
+{"name":"B","table":2,"embedded":"k","key":[{"name":"x","type":"int"},{"name":"y","type":"text"}],"relations":[
+{"name":"a","kind":"oneToOne","target":"A","mappedBy":"b"},{"name":"owners","kind":"manyToMany","target":"A","mappedBy":"bs"}]}]}"#;
+
+/// Persons, and customers, who are persons with points.
+const HIERARCHY: &str = r#"{"revision":1,"entities":[
+{"name":"Person","table":1,"key":[{"name":"id","type":"int"}],"discriminator":"p","attributes":[{"name":"name","type":"text","column":2,"required":true}]},
+{"name":"Customer","extends":"Person","attributes":[{"name":"points","type":"bytes","column":4}]}]}"#;
+
+/// Rows that are written as they were read.
+const SOUND: [(&str, &str); 8] = [
+    (PERSONS, ""),
+    // A next number outlives the persons that had the keys below it.
+    (PERSONS, "0 018000000000000001 0 018000000000000002\n"),
+    (
+        PERSONS,
+        "1 018000000000000001 0 02506572736f6e 1 018000000000000000 2 02416461\n0 018000000000000001 0 018000000000000002\n",
+    ),
+    (
+        PERSONS,
+        "1 018000000000000001 0 02506572736f6e 1 018000000000000000\n2 01800000000000000a 0 024f72646572 2 04018000000000000001\n0 018000000000000001 0 018000000000000002\n",
+    ),
+    (
+        CONVERTED,
+        "1 018000000000000001 0 02506572736f6e 2 018000000000000002\n2 01800000000000000a 0 024f72646572 1 017ffffffffffffffe\n",
+    ),
+    // Null passes a converter by.
+    (
+        CONVERTED,
+        "1 018000000000000001 0 02506572736f6e\n2 01800000000000000a 0 024f72646572\n",
+    ),
+    (
+        EMBEDDED,
+        "1 018000000000000001 0 0241 1 0401800000000000000202610000\n3 01800000000000000101800000000000000202610000 0 018000000000000001\n2 01800000000000000202610000 0 0242\n",
+    ),
+    (
+        HIERARCHY,
+        "1 018000000000000001 0 0270 2 02416461\n1 018000000000000002 0 02437573746f6d6572 2 02426f62 4 0300ff\n",
+    ),
+];
+
+/// Rows of no set, with the place that is told.
+const DAMAGED: [(&str, &str, &str); 17] = [
+    (
+        PERSONS,
+        "1 018000000000000001 0 0258",
+        "Damaged(1:018000000000000001)",
+    ),
+    (PERSONS, "1 01 0 02506572736f6e", "Damaged(1:01)"),
+    (
+        PERSONS,
+        "0 018000000000000001 0 018000000000000001",
+        "Damaged(0:018000000000000001)",
+    ),
+    (
+        PERSONS,
+        "0 018000000000000000 0 018000000000000002",
+        "Damaged(0:018000000000000000)",
+    ),
+    (
+        PERSONS,
+        "1 018000000000000001 0 02506572736f6e 1 018000000000000000 2 02416461",
+        "Damaged(0:)",
+    ),
+    (
+        PERSONS,
+        "2 01800000000000000a 0 024f72646572 2 04018000000000000001",
+        "Damaged(0:)",
+    ),
+    (
+        PERSONS,
+        "1 018000000000000001 2 02ff",
+        "Damaged(1:018000000000000001)",
+    ),
+    // No version, a column that no member has, and the first of two.
+    (
+        PERSONS,
+        "1 018000000000000001 0 02506572736f6e",
+        "Damaged(1:018000000000000001)",
+    ),
+    (
+        PERSONS,
+        "2 018000000000000001 0 024f72646572 3 018000000000000001",
+        "Damaged(2:018000000000000001)",
+    ),
+    (
+        PERSONS,
+        "2 01 0 02\n1 018000000000000009 0 0258",
+        "Damaged(1:018000000000000009)",
+    ),
+    // The key 2 isn't below the next number.
+    (
+        PERSONS,
+        "1 018000000000000002 0 02506572736f6e 1 018000000000000000\n0 018000000000000001 0 018000000000000002",
+        "Damaged(0:)",
+    ),
+    // The code of nobody, and an amount in place of a code.
+    (
+        CONVERTED,
+        "1 018000000000000001 0 02506572736f6e 2 018000000000000003",
+        "Damaged(1:018000000000000001)",
+    ),
+    (
+        CONVERTED,
+        "1 018000000000000001 0 02506572736f6e 2 02416461",
+        "Damaged(1:018000000000000001)",
+    ),
+    // A pair whose owner is missing, one in the order of target and owner, and one with the number 2.
+    (
+        EMBEDDED,
+        "2 01800000000000000202610000 0 0242\n3 01800000000000000101800000000000000202610000 0 018000000000000001",
+        "Damaged(0:)",
+    ),
+    (
+        EMBEDDED,
+        "3 01800000000000000202610000018000000000000001 0 018000000000000001",
+        "Damaged(3:01800000000000000202610000018000000000000001)",
+    ),
+    (
+        EMBEDDED,
+        "3 01800000000000000101800000000000000202610000 0 018000000000000002",
+        "Damaged(3:01800000000000000101800000000000000202610000)",
+    ),
+    // A name is required.
+    (HIERARCHY, "1 018000000000000001 0 0270", "Damaged(0:)"),
+];
+
+/// An empty store of a unit.
+fn opened(alloc: Global, metamodel: &Metamodel) -> Result<RowSpace<MemStore>, Fail>
+    ensures { IfOk result (λ space. space.schema ≡ schema_of metamodel.now) }
+{
+    let store = match CellStore::open(alloc, Connection::open_in_memory(alloc)?) {
+        Ok(store) => store,
+        Err((cause, _)) => return Err(Fail::from(cause)),
+    };
+    Ok(RowSpace::new(alloc, store, Schema::of(alloc, metamodel)?))
+}
+
+fn decoded(alloc: Global, digits: &str) -> Result<Bytes, Fail> {
+    match hex::decode(alloc, digits) {
+        Ok(bytes) => Ok(Bytes::of(bytes)),
+        Err(_) => Err(Fail::from("no digits, or no memory")),
+    }
+}
+
+fn number(word: &str) -> Result<i64, Fail> {
+    match word.parse::<i64>() {
+        Ok(number) => Ok(number),
+        Err(_) => Err(Fail::from("no number")),
+    }
+}
+
+/// The row on a line.
+fn row_on(alloc: Global, line: &str) -> Result<CellChange, Fail> {
+    let words: Vec<&str> = line.split(' ').collect(alloc)?;
+    let (table, row, columns) = match words.as_slice() {
+        [table, row, columns @ ..] => (number(table)?, decoded(alloc, row)?, columns),
+        _ => return Err(Fail::from("no row")),
+    };
+    let mut cells = Seq::new(alloc);
+    let mut rest = columns;
+    while let [column, value, more @ ..] = rest {
+        cells.push(Cell {
+            column: number(column)?,
+            value: decoded(alloc, value)?,
+        })?;
+        rest = more;
+    }
+    Ok(CellChange { table, row, cells })
+}
+
+/// Writes the rows, past the space.
+fn write_rows(alloc: Global, space: &mut RowSpace<MemStore>, rows: &str) -> Result<(), Fail>
+    ensures { space.new.schema ≡ space.old.schema }
+{
+    for line in rows.lines() {
+        let change = row_on(alloc, line)?;
+        space.store.apply(&[change])?;
+    }
+    Ok(())
+}
+
+/// A row as its line.
+fn push_row(alloc: Global, id: &RowId, row: &Row, out: &mut String) -> Result<(), Cause> {
+    let table = id.table;
+    let key = hex::encode(alloc, encode_key(alloc, &id.key)?.as_slice())?;
+    write!(out, "{table} {key}")?;
+    let cells = spell_row(alloc, row)?;
+    for (column, value) in cells.as_slice() {
+        let value = hex::encode(alloc, value.as_slice())?;
+        write!(out, " {column} {value}")?;
+    }
+    out.push('\n')?;
+    Ok(())
+}
+
+/// The rows of an object.
+fn push_object(
+    alloc: Global,
+    metamodel: &Metamodel,
+    registry: &Registry<ProgramFunctions>,
+    id: &Identity,
+    object: &Stored,
+    out: &mut String,
+) -> Result<(), Cause>
+    requires { is_shaped metamodel.now id.now object.now ≡ true }
+{
+    let rows = to_rows(alloc, metamodel, registry, id, object)?;
+    for (id, row) in rows.as_slice() {
+        push_row(alloc, id, row, out)?;
+    }
+    Ok(())
+}
+
+/// The rows of the next numbers.
+fn push_numbers(
+    alloc: Global,
+    metamodel: &Metamodel,
+    numbers: &[u64],
+    out: &mut String,
+) -> Result<(), Cause> {
+    for (class, next) in numbers.iter().enumerate() {
+        if *next > 1 && *next < 1 << 63 && class < metamodel.entities().len() {
+            let table = metamodel.root_of(class).table as u32;
+            let (id, row) = number_row(alloc, table, *next)?;
+            push_row(alloc, &id, &row, out)?;
+        }
+    }
+    Ok(())
+}
+
+/// The rows that a set and next numbers are written as.
+fn written(
+    alloc: Global,
+    metamodel: &Metamodel,
+    registry: &Registry<ProgramFunctions>,
+    committed: &Committed,
+) -> Result<String, Cause>
+    requires { all_shaped metamodel.now committed.now.set ≡ true }
+{
+    let mut out = String::new(alloc);
+    for entry in committed.set.entries() {
+        let (id, object) = entry.get();
+        push_object(alloc, metamodel, registry, id, object, &mut out)?;
+    }
+    push_numbers(alloc, metamodel, committed.numbers.as_slice(), &mut out)?;
+    Ok(out)
+}
+
+/// The rows that are written of what these stand for, with the functions of another mapping, or the refusal.
+fn answer(alloc: Global, mapping: &str, functions: &str, rows: &str) -> Result<String, Fail> {
+    let metamodel = read_mapping(alloc, mapping.as_bytes())?;
+    let registry = registry_of(alloc, read_functions(alloc, mapping.as_bytes())?)?;
+    let writing = registry_of(alloc, read_functions(alloc, functions.as_bytes())?)?;
+    let mut space = opened(alloc, &metamodel)?;
+    write_rows(alloc, &mut space, rows)?;
+    let told = match read_store(alloc, &metamodel, &registry, &mut space) {
+        Ok(committed) => written(alloc, &metamodel, &writing, &committed),
+        Err(cause) => Err(cause),
+    };
+    match told {
+        Ok(rows) => Ok(rows),
+        Err(Cause::OutOfMemory) => Err(Fail::from(Cause::OutOfMemory)),
+        Err(cause) => Ok(cause.text(alloc)?.into_string()),
+    }
+}
+
+#[test]
+fn rows_there_and_back(rt: HostRuntime) -> Result<(), Fail> {
+    for (mapping, rows) in SOUND {
+        let found = answer(rt.alloc(), mapping, mapping, rows)?;
+        assert_eq!(rt; found.as_str(), rows);
+    }
+    Ok(())
+}
+
+#[test]
+fn damaged_stores(rt: HostRuntime) -> Result<(), Fail> {
+    for (mapping, rows, want) in DAMAGED {
+        let found = answer(rt.alloc(), mapping, mapping, rows)?;
+        assert_eq!(rt; found.as_str(), want, "{rows}");
+    }
+    Ok(())
+}
+
+// Bob is read, and the functions that he is written with have no code for him.
+#[test]
+fn a_converter_throws(rt: HostRuntime) -> Result<(), Fail> {
+    let bob = "1 018000000000000001 0 02506572736f6e 2 018000000000000002";
+    let found = answer(rt.alloc(), CONVERTED, WITHOUT_BOB, bob)?;
+    assert_eq!(rt; found.as_str(), "Persistence(converter)");
+    Ok(())
+}
+
+#[test]
+fn names_of_functions(rt: HostRuntime) -> Result<(), Fail> {
+    let alloc = rt.alloc();
+    let metamodel = read_mapping(alloc, CONVERTED.as_bytes())?;
+    for (functions, want) in [(CONVERTED, true), (WITHOUT_BOB, true), (PERSONS, false)] {
+        let registry = registry_of(alloc, read_functions(alloc, functions.as_bytes())?)?;
+        assert_eq!(rt; names_are_known(&metamodel, &registry), want);
+    }
+    Ok(())
+}

@@ -1,0 +1,433 @@
+ghost use Rattle.std.specs.Prelude.{◌≡◌, ◌∷◌, [], IfOk};
+ghost use Rattle.jpa_value.specs.declared.value.Kind.{Kind};
+ghost use Rattle.jpa_value.specs.declared.value.Value.{Value};
+ghost use Rattle.jpa_rows.specs.declared.row.Content.{Content};
+ghost use Rattle.jpa_rowspace.specs.Samples as samples;
+
+use jpa_cells::{Cell, CellChange, CellStore};
+use jpa_overlay::Overlay;
+use jpa_rows::{
+    ColumnRule, Content, Field, Holds, Row, RowChange, RowId, RowSource, Schema, TableRule,
+};
+use jpa_rowspace::RowSpace;
+use jpa_value::{Bytes, Cause, Key, Kind, Seq, Text, TryCopy, Value, is_same_identity};
+use sqlite::{Connection, MemStore};
+use std::alloc::Global;
+use std::process::Abort;
+use std::test::Fail;
+
+const ONE: &[u8] = b"\x01\x80\x00\x00\x00\x00\x00\x00\x01";
+
+const TWO: &[u8] = b"\x01\x80\x00\x00\x00\x00\x00\x00\x02";
+
+const SEVEN: &[u8] = b"\x01\x80\x00\x00\x00\x00\x00\x00\x07";
+
+/// Table 1 by one integer, with an integer in column 0.
+fn numbers(alloc: Global) -> Result<Schema, Cause>
+    ensures { IfOk result (λ schema. schema ≡ samples.numbers) }
+{
+    let mut key = Seq::new(alloc);
+    key.push(Kind::Int)?;
+    let mut columns = Seq::new(alloc);
+    columns.push(ColumnRule {
+        column: 0,
+        holds: Holds::Kind(Kind::Int),
+    })?;
+    let mut tables = Seq::new(alloc);
+    tables.push(TableRule {
+        table: 1,
+        key,
+        columns,
+    })?;
+    Ok(Schema { tables })
+}
+
+fn key(alloc: Global, number: i64) -> Result<Key, Cause>
+    ensures { IfOk result (λ key. key ≡ samples.key number) }
+{
+    let mut key = Seq::new(alloc);
+    key.push(Value::Int(number))?;
+    Ok(key)
+}
+
+fn adds_seven(alloc: Global) -> Result<RowChange, Cause>
+    ensures { IfOk result (λ change. change ≡ samples.adds_seven) }
+{
+    let mut row = Seq::new(alloc);
+    row.push(Field {
+        column: 0,
+        content: Content::Value(Value::Int(7)),
+    })?;
+    Ok(RowChange {
+        id: RowId {
+            table: 1,
+            key: key(alloc, 1)?,
+        },
+        row: Some(row),
+    })
+}
+
+fn opened_by(alloc: Global, schema: Schema) -> Result<RowSpace<MemStore>, Fail>
+    ensures { IfOk result (λ space. space.schema ≡ schema) }
+{
+    let store = match CellStore::open(alloc, Connection::open_in_memory(alloc)?) {
+        Ok(store) => store,
+        Err((cause, _)) => return Err(Fail::from(cause)),
+    };
+    Ok(RowSpace::new(alloc, store, schema))
+}
+
+fn opened(alloc: Global) -> Result<RowSpace<MemStore>, Fail>
+    ensures { IfOk result (λ space. space.schema ≡ samples.numbers) }
+{
+    opened_by(alloc, numbers(alloc)?)
+}
+
+/// Writes one cell, past the space.
+fn write_cell(
+    alloc: Global,
+    space: &mut RowSpace<MemStore>,
+    row: &[u8],
+    value: &[u8],
+) -> Result<(), Cause> {
+    let mut cells = Seq::new(alloc);
+    cells.push(Cell {
+        column: 0,
+        value: Bytes::of(Vec::from_slice(alloc, value)?),
+    })?;
+    let change = CellChange {
+        table: 1,
+        row: Bytes::of(Vec::from_slice(alloc, row)?),
+        cells,
+    };
+    space.store.apply(&[change])
+}
+
+/// The number that names a row, and the one in its column.
+fn line(alloc: Global, key: &Key, row: &Row) -> Result<String, Cause> {
+    match (key.as_slice(), row.as_slice()) {
+        (
+            [Value::Int(number)],
+            [
+                Field {
+                    column,
+                    content: Content::Value(Value::Int(held)),
+                },
+            ],
+        ) => { Ok(format!(in alloc; "{number}: {column}={held};")?) }
+        _ => Ok(String::from_str(alloc, "another row;")?),
+    }
+}
+
+fn lines(alloc: Global, rows: &[(RowId, Row)]) -> Result<String, Cause> {
+    let mut out = String::new(alloc);
+    for (id, row) in rows {
+        let line = line(alloc, &id.key, row)?;
+        out.push_str(line.as_str())?;
+    }
+    Ok(out)
+}
+
+fn got<R: RowSource>(alloc: Global, source: &mut R, id: &RowId) -> Result<String, Cause> {
+    match source.get(id)? {
+        Some(row) => line(alloc, &id.key, &row),
+        None => Ok(String::from_str(alloc, "none")?),
+    }
+}
+
+fn scanned<R: RowSource>(alloc: Global, source: &mut R, table: u64) -> Result<String, Cause> {
+    let rows = source.scan(table)?;
+    lines(alloc, rows.as_slice())
+}
+
+/// The bytes that are told of a damaged row of table 1.
+fn told<T: Drop>(answer: Result<T, Cause>) -> Result<Option<Bytes>, Cause> {
+    match answer {
+        Ok(_) => Ok(None),
+        Err(Cause::Damaged(1, bytes)) => Ok(Some(bytes)),
+        Err(cause) => Err(cause),
+    }
+}
+
+fn is_row(found: &Option<Bytes>, row: &[u8]) -> bool {
+    match found {
+        Some(bytes) => bytes.as_slice() == row,
+        None => false,
+    }
+}
+
+fn id(alloc: Global, table: u64, number: i64) -> Result<RowId, Cause>
+    ensures { IfOk result (λ id. id ≡ record { table = table; key = samples.key number }) }
+{
+    Ok(RowId {
+        table,
+        key: key(alloc, number)?,
+    })
+}
+
+fn commit_seven(alloc: Global, space: &mut RowSpace<MemStore>) -> Result<(), Cause>
+    requires { space.old.schema ≡ samples.numbers }
+{
+    let change = adds_seven(alloc)?;
+    space.commit(&[change])
+}
+
+#[test]
+fn commits_and_reads_the_first_row(rt: HostRuntime) -> Result<(), Fail> {
+    let alloc = rt.alloc();
+    let mut space = opened(alloc)?;
+    commit_seven(alloc, &mut space)?;
+    assert_eq!(rt; (space.store.writes(), space.store.selects()), (2, 0));
+    let first = id(alloc, 1, 1)?;
+    assert_eq!(rt; got(alloc, &mut space, &first)?.as_str(), "1: 0=7;");
+    assert_eq!(rt; scanned(alloc, &mut space, 1)?.as_str(), "1: 0=7;");
+    let second = id(alloc, 1, 2)?;
+    assert_eq!(rt; got(alloc, &mut space, &second)?.as_str(), "none");
+    assert_eq!(rt; (space.store.writes(), space.store.selects()), (2, 3));
+    assert_eq!(rt; space.schema().tables.len(), 1);
+    Ok(())
+}
+
+#[test]
+fn ids_of_no_row_run_no_select(rt: HostRuntime) -> Result<(), Fail> {
+    let alloc = rt.alloc();
+    let mut space = opened(alloc)?;
+    write_cell(alloc, &mut space, ONE, SEVEN)?;
+    let other_table = id(alloc, 2, 1)?;
+    assert!(rt; space.get(&other_table)?.is_none());
+    let no_parts = RowId {
+        table: 1,
+        key: Seq::new(alloc),
+    };
+    assert!(rt; space.get(&no_parts)?.is_none());
+    assert!(rt; space.scan(2)?.is_empty());
+    assert_eq!(rt; space.store.selects(), 0);
+    Ok(())
+}
+
+#[test]
+fn the_lowest_damaged_row_is_told(rt: HostRuntime) -> Result<(), Fail> {
+    let alloc = rt.alloc();
+    let mut space = opened(alloc)?;
+    write_cell(alloc, &mut space, b"\x05", SEVEN)?;
+    write_cell(alloc, &mut space, TWO, b"\x02\xff")?;
+    write_cell(alloc, &mut space, ONE, SEVEN)?;
+    let (rows, damaged) = space.read_table(1)?;
+    assert_eq!(rt; lines(alloc, rows.as_slice())?.as_str(), "1: 0=7;");
+    assert!(rt; is_row(&damaged, TWO));
+    assert!(rt; is_row(&told(space.scan(1))?, TWO));
+    let first = id(alloc, 1, 1)?;
+    assert!(rt; told(space.get(&first))?.is_none());
+    let second = id(alloc, 1, 2)?;
+    assert!(rt; is_row(&told(space.get(&second))?, TWO));
+    Ok(())
+}
+
+// ---- example `removing-a-referenced-person`: person 1, to whom order 10 leads
+
+/// A cell as a line: row, column and bytes.
+type Line = (&'static [u8], i64, &'static [u8]);
+
+const TEN: &[u8] = b"\x01\x80\x00\x00\x00\x00\x00\x00\x0a";
+
+/// The cells of the example, table by table.
+const CELLS: [&[Line]; 3] = [
+    &[(ONE, 0, TWO)],
+    &[
+        (ONE, 0, b"\x02Person"),
+        (ONE, 1, b"\x01\x80\x00\x00\x00\x00\x00\x00\x00"),
+    ],
+    &[
+        (TEN, 0, b"\x02Order"),
+        (TEN, 2, b"\x04\x01\x80\x00\x00\x00\x00\x00\x00\x01"),
+    ],
+];
+
+fn rule(column: u32, holds: Holds) -> ColumnRule
+    ensures { result ≡ record { column = column; holds = holds } }
+{
+    ColumnRule { column, holds }
+}
+
+/// A table whose rows are named by one integer.
+fn table(alloc: Global, table: u32, columns: Vec<ColumnRule>) -> Result<TableRule, Cause>
+    ensures { IfOk result (λ rule. rule ≡ record { table = table; key = Kind.Int ∷ []; columns = columns.items }) }
+{
+    Ok(TableRule {
+        table,
+        key: Seq::of(vec![in alloc; Kind::Int]?),
+        columns: Seq::of(columns),
+    })
+}
+
+fn shop(alloc: Global) -> Result<Schema, Cause>
+    ensures { IfOk result (λ schema. schema ≡ samples.shop) }
+{
+    let numbers = vec![in alloc; rule(0, Holds::Kind(Kind::Int))]?;
+    let persons = vec![in alloc;
+        rule(0, Holds::Kind(Kind::Text)),
+        rule(1, Holds::Kind(Kind::Int)),
+        rule(2, Holds::Kind(Kind::Text)),
+    ]?;
+    let person = Seq::of(vec![in alloc; Kind::Int]?);
+    let orders = vec![in alloc;
+        rule(0, Holds::Kind(Kind::Text)),
+        rule(1, Holds::Kind(Kind::Int)),
+        rule(2, Holds::Reference(person)),
+    ]?;
+    let tables = vec![in alloc;
+        table(alloc, 0, numbers)?,
+        table(alloc, 1, persons)?,
+        table(alloc, 2, orders)?,
+    ]?;
+    Ok(Schema {
+        tables: Seq::of(tables),
+    })
+}
+
+fn field(column: u32, content: Content) -> Field
+    ensures { result ≡ record { column = column; content = content } }
+{
+    Field { column, content }
+}
+
+fn text(alloc: Global, words: &str) -> Result<Content, Cause>
+    ensures { IfOk result (λ content. content ≡ Content.Value (Value.Text words.now)) }
+{
+    Ok(Content::Value(Value::Text(Text::of(alloc, words)?)))
+}
+
+fn puts(alloc: Global, table: u64, number: i64, fields: Vec<Field>) -> Result<RowChange, Cause>
+    ensures { IfOk result (λ change. change ≡ samples.puts table number fields.items) }
+{
+    Ok(RowChange {
+        id: id(alloc, table, number)?,
+        row: Some(Seq::of(fields)),
+    })
+}
+
+fn first_rows(alloc: Global) -> Result<Vec<RowChange>, Cause>
+    ensures { IfOk result (λ changes. changes.items ≡ samples.first_rows) }
+{
+    let next = vec![in alloc; field(0, Content::Value(Value::Int(2)))]?;
+    let person = vec![in alloc;
+        field(0, text(alloc, "Person")?),
+        field(1, Content::Value(Value::Int(0))),
+    ]?;
+    let order = vec![in alloc;
+        field(0, text(alloc, "Order")?),
+        field(2, Content::Reference(key(alloc, 1)?)),
+    ]?;
+    Ok(vec![in alloc;
+        puts(alloc, 0, 1, next)?,
+        puts(alloc, 1, 1, person)?,
+        puts(alloc, 2, 10, order)?,
+    ]?)
+}
+
+fn commit_first(alloc: Global, space: &mut RowSpace<MemStore>) -> Result<(), Cause>
+    requires { space.old.schema ≡ samples.shop }
+{
+    space.commit(first_rows(alloc)?.as_slice())
+}
+
+/// Whether a table has the cells of these lines in this order, and no others.
+fn shows(space: &mut RowSpace<MemStore>, table: i64, lines: &[Line]) -> Result<bool, Cause> {
+    let mut at = 0;
+    for row in space.store.table(table)?.as_slice() {
+        for cell in row.cells.as_slice() {
+            match lines.get(at) {
+                Some(line)
+                    if line.0 == row.row.as_slice()
+                        && line.1 == cell.column
+                        && line.2 == cell.value.as_slice() => at += 1,
+                _ => return Ok(false),
+            }
+        }
+    }
+    Ok(at == lines.len())
+}
+
+/// A row as its columns, one by one.
+fn shown(alloc: Global, row: &Option<Row>) -> Result<String, Cause> {
+    let mut out = String::new(alloc);
+    let Some(row) = row else {
+        return Ok(String::from_str(alloc, "none")?);
+    };
+    for field in row.as_slice() {
+        let column = field.column;
+        let words = match &field.content {
+            Content::Value(Value::Int(number)) => format!(in alloc; "{column}={number};")?,
+            Content::Value(Value::Text(text)) => {
+                let text = text.as_str();
+                format!(in alloc; "{column}={text};")?
+            }
+            Content::Value(_) => format!(in alloc; "{column} another value;")?,
+            Content::Reference(key) => match key.as_slice() {
+                [Value::Int(number)] => format!(in alloc; "{column} to {number};")?,
+                _ => format!(in alloc; "{column} to another key;")?,
+            },
+        };
+        out.push_str(words.as_str())?;
+    }
+    Ok(out)
+}
+
+/// The id of the row to which column 2 leads.
+fn led_to(alloc: Global, table: u64, row: Option<Row>) -> Result<RowId, Fail> {
+    let Some(row) = row else {
+        return Err(Fail::from("there is no row"));
+    };
+    for field in row.as_slice() {
+        if let Content::Reference(key) = &field.content {
+            return Ok(RowId {
+                table,
+                key: key.try_copy()?,
+            });
+        }
+    }
+    Err(Fail::from("no column leads on"))
+}
+
+/// The rows are seen without the person, which is all that is to change.
+fn see_dropped(
+    rt: &impl Abort,
+    alloc: Global,
+    overlay: &Overlay,
+    space: &mut RowSpace<MemStore>,
+) -> Result<(), Fail> {
+    let person = id(alloc, 1, 1)?;
+    assert!(rt; overlay.get(space, &person)?.is_none());
+    assert!(rt; overlay.scan(space, 1)?.is_empty());
+    assert_eq!(rt; overlay.scan(space, 2)?.len(), 1);
+    let changes = overlay.changes(space)?;
+    match changes.as_slice() {
+        [change] => assert!(rt; is_same_identity(&change.id, &person) && change.row.is_none()),
+        _ => return Err(Fail::from("the difference is not one drop")),
+    }
+    Ok(())
+}
+
+#[test]
+fn a_referenced_person_is_dropped_over_the_space(rt: HostRuntime) -> Result<(), Fail> {
+    let alloc = rt.alloc();
+    let mut space = opened_by(alloc, shop(alloc)?)?;
+    commit_first(alloc, &mut space)?;
+    for (table, lines) in [(0, CELLS[0]), (1, CELLS[1]), (2, CELLS[2])] {
+        assert!(rt; shows(&mut space, table, lines)?, "table {table}");
+    }
+    let order = space.get(&id(alloc, 2, 10)?)?;
+    assert_eq!(rt; shown(alloc, &order)?.as_str(), "0=Order;2 to 1;");
+    let person = led_to(alloc, 1, order)?;
+    let read = space.get(&person)?;
+    assert_eq!(rt; shown(alloc, &read)?.as_str(), "0=Person;1=0;");
+    assert_eq!(rt; space.scan(1)?.len(), 1);
+    let mut overlay = Overlay::new(alloc);
+    overlay.drop_row(person)?;
+    see_dropped(&rt, alloc, &overlay, &mut space)?;
+    overlay.discard();
+    let read = overlay.get(&mut space, &id(alloc, 1, 1)?)?;
+    assert_eq!(rt; shown(alloc, &read)?.as_str(), "0=Person;1=0;");
+    assert!(rt; overlay.changes(&mut space)?.is_empty());
+    Ok(())
+}
