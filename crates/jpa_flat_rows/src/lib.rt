@@ -8,8 +8,6 @@
 mod cells;
 mod change;
 mod laws;
-#[cfg(test)]
-mod tests;
 
 pub use change::{number_change, object_change};
 pub use laws::row_laws;

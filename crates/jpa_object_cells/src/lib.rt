@@ -7,7 +7,5 @@
 mod commit;
 mod entity;
 mod objects;
-#[cfg(test)]
-mod tests;
 
 pub use objects::{ObjectCells, cells_law};

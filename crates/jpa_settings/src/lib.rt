@@ -8,6 +8,3 @@ mod stop;
 
 pub use settings::{Settings, read_settings};
 pub use stop::{Stop, status};
-
-#[cfg(test)]
-mod tests;

@@ -1,7 +1,7 @@
 //! What the cells of a store stand for, and the cells that objects and next numbers are written as.
 //!
-//! A row is a line: its table, its bytes, and the column and the bytes of each of its cells, all bytes in hexadecimal
-//! digits. The rows of an object stand before those of the next object, and the next numbers last.
+//! A row is a line: its table, its bytes, and for each of its cells the column, a colon and the bytes, all bytes in
+//! hexadecimal digits. The rows of an object stand before those of the next object, and the next numbers last.
 ghost use Rattle.std.specs.Prelude.{◌≡◌, true, IfOk};
 ghost use Rattle.jpa_stored.specs.Sets.{is_shaped, all_shaped};
 ghost use Rattle.jpa_rows.specs.Tables.{schema_of};
@@ -52,134 +52,139 @@ const HIERARCHY: &str = r#"{"revision":1,"entities":[
 {"name":"Person","table":1,"key":[{"name":"id","type":"int"}],"discriminator":"p","attributes":[{"name":"name","type":"text","column":2,"required":true}]},
 {"name":"Customer","extends":"Person","attributes":[{"name":"points","type":"bytes","column":4}]}]}"#;
 
+/// The units above.
+#[derive(Clone, Copy)]
+enum Unit {
+    Persons,
+    Converted,
+    Embedded,
+    Hierarchy,
+}
+
+fn mapping_of(unit: Unit) -> &'static str {
+    match unit {
+        Unit::Persons => PERSONS,
+        Unit::Converted => CONVERTED,
+        Unit::Embedded => EMBEDDED,
+        Unit::Hierarchy => HIERARCHY,
+    }
+}
+
 /// Rows that are written as they were read.
-const SOUND: [(&str, &str); 8] = [
-    (PERSONS, ""),
+const SOUND: [(Unit, &str); 8] = [
+    (Unit::Persons, ""),
     // A next number outlives the persons that had the keys below it.
-    (PERSONS, "0 018000000000000001 0 018000000000000002\n"),
+    (Unit::Persons, "0 018000000000000001 0:018000000000000002\n"),
     (
-        PERSONS,
-        "1 018000000000000001 0 02506572736f6e 1 018000000000000000 2 02416461\n0 018000000000000001 0 018000000000000002\n",
+        Unit::Persons,
+        "1 018000000000000001 0:02506572736f6e 1:018000000000000000 2:02416461\n0 018000000000000001 0:018000000000000002\n",
     ),
     (
-        PERSONS,
-        "1 018000000000000001 0 02506572736f6e 1 018000000000000000\n2 01800000000000000a 0 024f72646572 2 04018000000000000001\n0 018000000000000001 0 018000000000000002\n",
+        Unit::Persons,
+        "1 018000000000000001 0:02506572736f6e 1:018000000000000000\n2 01800000000000000a 0:024f72646572 2:04018000000000000001\n0 018000000000000001 0:018000000000000002\n",
     ),
     (
-        CONVERTED,
-        "1 018000000000000001 0 02506572736f6e 2 018000000000000002\n2 01800000000000000a 0 024f72646572 1 017ffffffffffffffe\n",
+        Unit::Converted,
+        "1 018000000000000001 0:02506572736f6e 2:018000000000000002\n2 01800000000000000a 0:024f72646572 1:017ffffffffffffffe\n",
     ),
     // Null passes a converter by.
     (
-        CONVERTED,
-        "1 018000000000000001 0 02506572736f6e\n2 01800000000000000a 0 024f72646572\n",
+        Unit::Converted,
+        "1 018000000000000001 0:02506572736f6e\n2 01800000000000000a 0:024f72646572\n",
     ),
     (
-        EMBEDDED,
-        "1 018000000000000001 0 0241 1 0401800000000000000202610000\n3 01800000000000000101800000000000000202610000 0 018000000000000001\n2 01800000000000000202610000 0 0242\n",
+        Unit::Embedded,
+        "1 018000000000000001 0:0241 1:0401800000000000000202610000\n3 01800000000000000101800000000000000202610000 0:018000000000000001\n2 01800000000000000202610000 0:0242\n",
     ),
     (
-        HIERARCHY,
-        "1 018000000000000001 0 0270 2 02416461\n1 018000000000000002 0 02437573746f6d6572 2 02426f62 4 0300ff\n",
+        Unit::Hierarchy,
+        "1 018000000000000001 0:0270 2:02416461\n1 018000000000000002 0:02437573746f6d6572 2:02426f62 4:0300ff\n",
     ),
 ];
 
-/// Rows of no set, with the place that is told.
-const DAMAGED: [(&str, &str, &str); 17] = [
+/// Rows of no set of persons and orders, with the place that is told.
+const DAMAGED: [(&str, &str); 11] = [
     (
-        PERSONS,
-        "1 018000000000000001 0 0258",
+        "1 018000000000000001 0:0258",
         "Damaged(1:018000000000000001)",
     ),
-    (PERSONS, "1 01 0 02506572736f6e", "Damaged(1:01)"),
+    ("1 01 0:02506572736f6e", "Damaged(1:01)"),
     (
-        PERSONS,
-        "0 018000000000000001 0 018000000000000001",
+        "0 018000000000000001 0:018000000000000001",
         "Damaged(0:018000000000000001)",
     ),
     (
-        PERSONS,
-        "0 018000000000000000 0 018000000000000002",
+        "0 018000000000000000 0:018000000000000002",
         "Damaged(0:018000000000000000)",
     ),
     (
-        PERSONS,
-        "1 018000000000000001 0 02506572736f6e 1 018000000000000000 2 02416461",
+        "1 018000000000000001 0:02506572736f6e 1:018000000000000000 2:02416461",
         "Damaged(0:)",
     ),
     (
-        PERSONS,
-        "2 01800000000000000a 0 024f72646572 2 04018000000000000001",
+        "2 01800000000000000a 0:024f72646572 2:04018000000000000001",
         "Damaged(0:)",
     ),
     (
-        PERSONS,
-        "1 018000000000000001 2 02ff",
+        "1 018000000000000001 2:02ff",
         "Damaged(1:018000000000000001)",
     ),
     // No version, a column that no member has, and the first of two.
     (
-        PERSONS,
-        "1 018000000000000001 0 02506572736f6e",
+        "1 018000000000000001 0:02506572736f6e",
         "Damaged(1:018000000000000001)",
     ),
     (
-        PERSONS,
-        "2 018000000000000001 0 024f72646572 3 018000000000000001",
+        "2 018000000000000001 0:024f72646572 3:018000000000000001",
         "Damaged(2:018000000000000001)",
     ),
     (
-        PERSONS,
-        "2 01 0 02\n1 018000000000000009 0 0258",
+        "2 01 0:02\n1 018000000000000009 0:0258",
         "Damaged(1:018000000000000009)",
     ),
     // The key 2 isn't below the next number.
     (
-        PERSONS,
-        "1 018000000000000002 0 02506572736f6e 1 018000000000000000\n0 018000000000000001 0 018000000000000002",
+        "1 018000000000000002 0:02506572736f6e 1:018000000000000000\n0 018000000000000001 0:018000000000000002",
         "Damaged(0:)",
     ),
-    // The code of nobody, and an amount in place of a code.
+];
+
+/// The same of the other units.
+const DAMAGED_OTHERS: [(Unit, &str, &str); 6] = [
+    // The code of nobody, and a text in place of a code.
     (
-        CONVERTED,
-        "1 018000000000000001 0 02506572736f6e 2 018000000000000003",
+        Unit::Converted,
+        "1 018000000000000001 0:02506572736f6e 2:018000000000000003",
         "Damaged(1:018000000000000001)",
     ),
     (
-        CONVERTED,
-        "1 018000000000000001 0 02506572736f6e 2 02416461",
+        Unit::Converted,
+        "1 018000000000000001 0:02506572736f6e 2:02416461",
         "Damaged(1:018000000000000001)",
     ),
     // A pair whose owner is missing, one in the order of target and owner, and one with the number 2.
     (
-        EMBEDDED,
-        "2 01800000000000000202610000 0 0242\n3 01800000000000000101800000000000000202610000 0 018000000000000001",
+        Unit::Embedded,
+        "2 01800000000000000202610000 0:0242\n3 01800000000000000101800000000000000202610000 0:018000000000000001",
         "Damaged(0:)",
     ),
     (
-        EMBEDDED,
-        "3 01800000000000000202610000018000000000000001 0 018000000000000001",
+        Unit::Embedded,
+        "3 01800000000000000202610000018000000000000001 0:018000000000000001",
         "Damaged(3:01800000000000000202610000018000000000000001)",
     ),
     (
-        EMBEDDED,
-        "3 01800000000000000101800000000000000202610000 0 018000000000000002",
+        Unit::Embedded,
+        "3 01800000000000000101800000000000000202610000 0:018000000000000002",
         "Damaged(3:01800000000000000101800000000000000202610000)",
     ),
     // A name is required.
-    (HIERARCHY, "1 018000000000000001 0 0270", "Damaged(0:)"),
+    (
+        Unit::Hierarchy,
+        "1 018000000000000001 0:0270",
+        "Damaged(0:)",
+    ),
 ];
-
-/// An empty store of a unit.
-fn opened(alloc: Global, metamodel: &Metamodel) -> Result<RowSpace<MemStore>, Fail>
-    ensures { IfOk result (λ space. space.schema ≡ schema_of metamodel.now) }
-{
-    let store = match CellStore::open(alloc, Connection::open_in_memory(alloc)?) {
-        Ok(store) => store,
-        Err((cause, _)) => return Err(Fail::from(cause)),
-    };
-    Ok(RowSpace::new(alloc, store, Schema::of(alloc, metamodel)?))
-}
 
 fn decoded(alloc: Global, digits: &str) -> Result<Bytes, Fail> {
     match hex::decode(alloc, digits) {
@@ -195,6 +200,16 @@ fn number(word: &str) -> Result<i64, Fail> {
     }
 }
 
+fn cell_in(alloc: Global, word: &str) -> Result<Cell, Fail> {
+    match word.split_once(':') {
+        Some((column, value)) => Ok(Cell {
+            column: number(column)?,
+            value: decoded(alloc, value)?,
+        }),
+        None => Err(Fail::from("no cell")),
+    }
+}
+
 /// The row on a line.
 fn row_on(alloc: Global, line: &str) -> Result<CellChange, Fail> {
     let words: Vec<&str> = line.split(' ').collect(alloc)?;
@@ -203,26 +218,31 @@ fn row_on(alloc: Global, line: &str) -> Result<CellChange, Fail> {
         _ => return Err(Fail::from("no row")),
     };
     let mut cells = Seq::new(alloc);
-    let mut rest = columns;
-    while let [column, value, more @ ..] = rest {
-        cells.push(Cell {
-            column: number(column)?,
-            value: decoded(alloc, value)?,
-        })?;
-        rest = more;
+    for word in columns {
+        cells.push(cell_in(alloc, word)?)?;
     }
     Ok(CellChange { table, row, cells })
 }
 
-/// Writes the rows, past the space.
-fn write_rows(alloc: Global, space: &mut RowSpace<MemStore>, rows: &str) -> Result<(), Fail>
-    ensures { space.new.schema ≡ space.old.schema }
-{
-    for line in rows.lines() {
+fn write_rows(alloc: Global, store: &mut CellStore<MemStore>, rows: &str) -> Result<(), Fail> {
+    let lines: Vec<&str> = rows.lines().collect(alloc)?;
+    for line in lines.as_slice() {
         let change = row_on(alloc, line)?;
-        space.store.apply(&[change])?;
+        store.apply(&[change])?;
     }
     Ok(())
+}
+
+/// A store with these rows, for a unit.
+fn opened(alloc: Global, metamodel: &Metamodel, rows: &str) -> Result<RowSpace<MemStore>, Fail>
+    ensures { IfOk result (λ space. space.schema ≡ schema_of metamodel.now) }
+{
+    let mut store = match CellStore::open(alloc, Connection::open_in_memory(alloc)?) {
+        Ok(store) => store,
+        Err((cause, _)) => return Err(Fail::from(cause)),
+    };
+    write_rows(alloc, &mut store, rows)?;
+    Ok(RowSpace::new(alloc, store, Schema::of(alloc, metamodel)?))
 }
 
 /// A row as its line.
@@ -233,7 +253,7 @@ fn push_row(alloc: Global, id: &RowId, row: &Row, out: &mut String) -> Result<()
     let cells = spell_row(alloc, row)?;
     for (column, value) in cells.as_slice() {
         let value = hex::encode(alloc, value.as_slice())?;
-        write!(out, " {column} {value}")?;
+        write!(out, " {column}:{value}")?;
     }
     out.push('\n')?;
     Ok(())
@@ -257,6 +277,18 @@ fn push_object(
     Ok(())
 }
 
+/// The row of a next number that is no longer 1.
+fn push_number(alloc: Global, table: u64, next: u64, out: &mut String) -> Result<(), Cause> {
+    let Ok(table) = u32::try_from(table) else {
+        return Err(Cause::Limit);
+    };
+    if next > 1 && next <= 9_223_372_036_854_775_807 {
+        let (id, row) = number_row(alloc, table, next)?;
+        push_row(alloc, &id, &row, out)?;
+    }
+    Ok(())
+}
+
 /// The rows of the next numbers.
 fn push_numbers(
     alloc: Global,
@@ -264,12 +296,9 @@ fn push_numbers(
     numbers: &[u64],
     out: &mut String,
 ) -> Result<(), Cause> {
-    for (class, next) in numbers.iter().enumerate() {
-        if *next > 1 && *next < 1 << 63 && class < metamodel.entities().len() {
-            let table = metamodel.root_of(class).table as u32;
-            let (id, row) = number_row(alloc, table, *next)?;
-            push_row(alloc, &id, &row, out)?;
-        }
+    for class in 0..metamodel.entities().len().min(numbers.len()) {
+        let table = metamodel.root_of(class).table;
+        push_number(alloc, table, numbers[class], out)?;
     }
     Ok(())
 }
@@ -297,8 +326,7 @@ fn answer(alloc: Global, mapping: &str, functions: &str, rows: &str) -> Result<S
     let metamodel = read_mapping(alloc, mapping.as_bytes())?;
     let registry = registry_of(alloc, read_functions(alloc, mapping.as_bytes())?)?;
     let writing = registry_of(alloc, read_functions(alloc, functions.as_bytes())?)?;
-    let mut space = opened(alloc, &metamodel)?;
-    write_rows(alloc, &mut space, rows)?;
+    let mut space = opened(alloc, &metamodel, rows)?;
     let told = match read_store(alloc, &metamodel, &registry, &mut space) {
         Ok(committed) => written(alloc, &metamodel, &writing, &committed),
         Err(cause) => Err(cause),
@@ -312,7 +340,8 @@ fn answer(alloc: Global, mapping: &str, functions: &str, rows: &str) -> Result<S
 
 #[test]
 fn rows_there_and_back(rt: HostRuntime) -> Result<(), Fail> {
-    for (mapping, rows) in SOUND {
+    for (unit, rows) in SOUND {
+        let mapping = mapping_of(unit);
         let found = answer(rt.alloc(), mapping, mapping, rows)?;
         assert_eq!(rt; found.as_str(), rows);
     }
@@ -321,7 +350,17 @@ fn rows_there_and_back(rt: HostRuntime) -> Result<(), Fail> {
 
 #[test]
 fn damaged_stores(rt: HostRuntime) -> Result<(), Fail> {
-    for (mapping, rows, want) in DAMAGED {
+    for (rows, want) in DAMAGED {
+        let found = answer(rt.alloc(), PERSONS, PERSONS, rows)?;
+        assert_eq!(rt; found.as_str(), want, "{rows}");
+    }
+    Ok(())
+}
+
+#[test]
+fn damaged_stores_of_other_units(rt: HostRuntime) -> Result<(), Fail> {
+    for (unit, rows, want) in DAMAGED_OTHERS {
+        let mapping = mapping_of(unit);
         let found = answer(rt.alloc(), mapping, mapping, rows)?;
         assert_eq!(rt; found.as_str(), want, "{rows}");
     }
@@ -331,7 +370,7 @@ fn damaged_stores(rt: HostRuntime) -> Result<(), Fail> {
 // Bob is read, and the functions that he is written with have no code for him.
 #[test]
 fn a_converter_throws(rt: HostRuntime) -> Result<(), Fail> {
-    let bob = "1 018000000000000001 0 02506572736f6e 2 018000000000000002";
+    let bob = "1 018000000000000001 0:02506572736f6e 2:018000000000000002";
     let found = answer(rt.alloc(), CONVERTED, WITHOUT_BOB, bob)?;
     assert_eq!(rt; found.as_str(), "Persistence(converter)");
     Ok(())
@@ -341,9 +380,9 @@ fn a_converter_throws(rt: HostRuntime) -> Result<(), Fail> {
 fn names_of_functions(rt: HostRuntime) -> Result<(), Fail> {
     let alloc = rt.alloc();
     let metamodel = read_mapping(alloc, CONVERTED.as_bytes())?;
-    for (functions, want) in [(CONVERTED, true), (WITHOUT_BOB, true), (PERSONS, false)] {
-        let registry = registry_of(alloc, read_functions(alloc, functions.as_bytes())?)?;
-        assert_eq!(rt; names_are_known(&metamodel, &registry), want);
-    }
+    let with_names = registry_of(alloc, read_functions(alloc, WITHOUT_BOB.as_bytes())?)?;
+    assert!(rt; names_are_known(&metamodel, &with_names));
+    let none = registry_of(alloc, read_functions(alloc, PERSONS.as_bytes())?)?;
+    assert!(rt; !names_are_known(&metamodel, &none));
     Ok(())
 }

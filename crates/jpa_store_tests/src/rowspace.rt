@@ -325,6 +325,7 @@ fn first_rows(alloc: Global) -> Result<Vec<RowChange>, Cause>
     ]?)
 }
 
+#[tactic(auto, using(jpa_rowspace::proofs::Samples::are_changes))]
 fn commit_first(alloc: Global, space: &mut RowSpace<MemStore>) -> Result<(), Cause>
     requires { space.old.schema ≡ samples.shop }
 {

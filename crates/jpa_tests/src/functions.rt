@@ -6,9 +6,8 @@ mod registries;
 
 use jpa_behaviour::Registry;
 use jpa_functions::{ProgramFunctions, read_functions, registry_of};
-use jpa_value::{Cause, Text, Value, order_values};
+use jpa_value::{Cause, Value};
 use std::alloc::Global;
-use std::cmp::Ordering;
 
 /// The registry of the functions that a mapping describes.
 pub(crate) fn registry_from(
@@ -18,10 +17,18 @@ pub(crate) fn registry_from(
     registry_of(alloc, read_functions(alloc, mapping.as_bytes())?)
 }
 
-pub(crate) fn text(alloc: Global, text: &str) -> Result<Value, Cause> {
-    Ok(Value::Text(Text::of(alloc, text)?))
-}
-
-pub(crate) fn is_same(value: &Value, want: &Value) -> bool {
-    matches!(order_values(value, want), Ordering::Equal)
+/// A value as text: an integer, a text in quotes, bytes as digits after 0x, or null.
+pub(crate) fn shown(alloc: Global, value: &Value) -> Result<String, Cause> {
+    Ok(match value {
+        Value::Null => String::from_str(alloc, "null")?,
+        Value::Int(number) => format!(in alloc; "{number}")?,
+        Value::Text(text) => {
+            let text = text.as_str();
+            format!(in alloc; "'{text}'")?
+        }
+        Value::Bytes(bytes) => {
+            let digits = hex::encode(alloc, bytes.as_slice())?;
+            format!(in alloc; "0x{digits}")?
+        }
+    })
 }

@@ -3,8 +3,6 @@
 #![tactic(auto)]
 
 #[cfg(test)]
-mod behaviour;
-#[cfg(test)]
 mod functions;
 #[cfg(test)]
 mod key;
@@ -18,6 +16,8 @@ mod model;
 mod overlay;
 #[cfg(test)]
 mod rows;
+#[cfg(test)]
+mod settings;
 #[cfg(test)]
 mod stored;
 #[cfg(test)]

@@ -106,17 +106,18 @@ fn row(alloc: Global, amount: i64) -> Result<Row, Cause> {
 /// The amount in a row; none where there is no row.
 fn amount_of(row: &Option<Row>) -> Option<i64> {
     match row {
+        None => None,
         Some(row) => match row.as_slice() {
-            [
-                Field {
-                    column: 2,
-                    content: Content::Value(Value::Int(amount)),
-                },
-                _,
-            ] => Some(*amount),
+            [field, _] => amount_in(&field.content),
             _ => Some(-1),
         },
-        None => None,
+    }
+}
+
+fn amount_in(content: &Content) -> Option<i64> {
+    match content {
+        Content::Value(Value::Int(amount)) => Some(*amount),
+        _ => Some(-1),
     }
 }
 

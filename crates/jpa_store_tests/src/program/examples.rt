@@ -1,5 +1,6 @@
 //! The worked examples, byte for byte.
-use super::{joined, shows};
+use super::{joined, opened, shows};
+use jpa_program::run;
 use std::alloc::{AllocError, Global};
 use std::test::Fail;
 
@@ -141,6 +142,22 @@ fn first_run(rt: HostRuntime) -> Result<(), Fail> {
     let a = rt.alloc();
     let input = joined(a, &FIRST_CALLS)?;
     shows(&rt, a, input.as_bytes(), &FIRST_REPLIES, &FIRST_CELLS)
+}
+
+// The opening makes the table and looks at two tables; the commit writes two rows, the person and the next number.
+#[test]
+fn first_run_counts(rt: HostRuntime) -> Result<(), Fail> {
+    let a = rt.alloc();
+    let input = joined(a, &FIRST_CALLS)?;
+    let mut writer = Vec::with_capacity(a, 4096)?;
+    let mut provider = opened(a)?;
+    let ended = run(a, &mut input.as_bytes(), &mut writer, &mut provider);
+    let store = provider.into_store();
+    let counts = [store.selects(), store.writes(), store.statements()];
+    drop(store);
+    ended?;
+    assert_eq!(rt; counts, [2u64, 6, 9]);
+    Ok(())
 }
 
 #[test]

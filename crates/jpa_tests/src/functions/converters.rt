@@ -1,9 +1,9 @@
 //! What the converters make of values.
-use super::{is_same, registry_from, text};
+use super::{registry_from, shown};
 use jpa_behaviour::Registry;
 use jpa_functions::ProgramFunctions;
-use jpa_value::{Bytes, Cause, Persist, Value};
-use std::alloc::Global;
+use jpa_value::{Bytes, Cause, Text, Value};
+use std::alloc::{AllocError, Global};
 use std::process::Abort;
 use std::test::Fail;
 
@@ -13,79 +13,134 @@ const CONVERTERS: &str = r#"{"functions":[
  {"name":"empty","make":"table","pairs":[]},
  {"name":"digits","make":"hextext"}]}"#;
 
-fn bytes(alloc: Global, bytes: &[u8]) -> Result<Value, Cause> {
-    Ok(Value::Bytes(Bytes::of(Vec::from_slice(alloc, bytes)?)))
+/// What they make of attributes for columns.
+const COLUMNS: [(&str, &str, &str); 15] = [
+    ("flip", "1", "-2"),
+    ("flip", "0", "-1"),
+    ("flip", "9223372036854775807", "-9223372036854775808"),
+    ("flip", "'1'", "Persistence(converter)"),
+    ("codes", "'Ada'", "1"),
+    ("codes", "1", "'Ada'"),
+    ("codes", "'Bob'", "0x0aff"),
+    ("codes", "2", "Persistence(converter)"),
+    ("codes", "null", "Persistence(converter)"),
+    ("empty", "'Ada'", "Persistence(converter)"),
+    ("digits", "0x0aff", "'0aff'"),
+    ("digits", "0x", "''"),
+    ("digits", "'0a'", "Persistence(converter)"),
+    ("digits", "10", "Persistence(converter)"),
+    ("nope", "1", "IllegalArgument(name)"),
+];
+
+/// What they make of columns for attributes.
+const ATTRIBUTES: [(&str, &str, &str); 16] = [
+    ("flip", "-2", "1"),
+    ("flip", "-9223372036854775808", "9223372036854775807"),
+    ("flip", "0x01", "Persistence(converter)"),
+    ("codes", "1", "'Ada'"),
+    ("codes", "'Ada'", "1"),
+    ("codes", "0x0aff", "'Bob'"),
+    ("codes", "'Bob'", "Persistence(converter)"),
+    ("digits", "'0aff'", "0x0aff"),
+    ("digits", "''", "0x"),
+    ("digits", "'0AFF'", "Persistence(converter)"),
+    ("digits", "'0aFf'", "Persistence(converter)"),
+    ("digits", "'0af'", "Persistence(converter)"),
+    ("digits", "'0g'", "Persistence(converter)"),
+    ("digits", "' 0a'", "Persistence(converter)"),
+    ("digits", "0x0aff", "Persistence(converter)"),
+    ("nope", "1", "IllegalArgument(name)"),
+];
+
+/// The value that a text shows.
+fn value_of(alloc: Global, text: &str) -> Result<Value, Fail> {
+    if let Some(digits) = text.strip_prefix("0x") {
+        return match hex::decode(alloc, digits) {
+            Ok(bytes) => Ok(Value::Bytes(Bytes::of(bytes))),
+            Err(_) => Err(Fail::from("no digits, or no memory")),
+        };
+    }
+    if text == "null" {
+        return Ok(Value::Null);
+    }
+    match text.parse::<i64>() {
+        Ok(number) => Ok(Value::Int(number)),
+        Err(_) => Ok(Value::Text(Text::of(alloc, text.trim_matches('\''))?)),
+    }
 }
 
-fn see_both(
-    rt: &impl Abort,
-    registry: &Registry<ProgramFunctions>,
-    name: &str,
-    attribute: &Value,
-    column: &Value,
-) -> Result<(), Cause> {
-    assert!(rt;
-        is_same(&registry.to_column(name, attribute)?, column),
-        "{name} to the column"
-    );
-    assert!(rt;
-        is_same(&registry.to_attribute(name, column)?, attribute),
-        "{name} to the attribute"
-    );
-    Ok(())
-}
-
-fn is_thrown(answer: Result<Value, Cause>) -> Result<bool, Cause> {
+/// A converted value, or the refusal.
+fn answer_text(alloc: Global, answer: Result<Value, Cause>) -> Result<String, Cause> {
     match answer {
-        Ok(_) => Ok(false),
-        Err(Cause::Persistence(Persist::Converter)) => Ok(true),
-        Err(cause) => Err(cause),
+        Ok(value) => shown(alloc, &value),
+        Err(Cause::OutOfMemory) => Err(Cause::OutOfMemory),
+        Err(cause) => Ok(cause.text(alloc)?.into_string()),
     }
 }
 
-#[test]
-fn integers_are_flipped(rt: HostRuntime) -> Result<(), Fail> {
-    let alloc = rt.alloc();
-    let registry = registry_from(alloc, CONVERTERS)?;
-    see_both(&rt, &registry, "flip", &Value::Int(1), &Value::Int(-2))?;
-    see_both(&rt, &registry, "flip", &Value::Int(0), &Value::Int(-1))?;
-    let most = Value::Int(i64::MAX);
-    see_both(&rt, &registry, "flip", &most, &Value::Int(i64::MIN))?;
-    assert!(rt; is_thrown(registry.to_column("flip", &text(alloc, "1")?))?);
-    assert!(rt; is_thrown(registry.to_attribute("flip", &bytes(alloc, &[1])?))?);
+/// What a converter makes of an attribute for its column, or of a column for its attribute.
+fn answer(
+    alloc: Global,
+    registry: &Registry<ProgramFunctions>,
+    is_column: bool,
+    name: &str,
+    value: &str,
+) -> Result<String, Fail> {
+    let value = value_of(alloc, value)?;
+    let converted = if is_column {
+        registry.to_column(name, &value)
+    } else {
+        registry.to_attribute(name, &value)
+    };
+    Ok(answer_text(alloc, converted)?)
+}
+
+fn see_answers(
+    rt: &impl Abort,
+    alloc: Global,
+    registry: &Registry<ProgramFunctions>,
+    is_column: bool,
+    answers: &[(&str, &str, &str)],
+) -> Result<(), Fail> {
+    for (name, value, want) in answers {
+        let found = answer(alloc, registry, is_column, name, value)?;
+        assert_eq!(rt; found.as_str(), *want);
+    }
     Ok(())
 }
 
 #[test]
-fn tables_go_by_their_pairs(rt: HostRuntime) -> Result<(), Fail> {
-    let alloc = rt.alloc();
-    let registry = registry_from(alloc, CONVERTERS)?;
-    let ada = text(alloc, "Ada")?;
-    let bob = text(alloc, "Bob")?;
-    see_both(&rt, &registry, "codes", &ada, &Value::Int(1))?;
-    see_both(&rt, &registry, "codes", &Value::Int(1), &ada)?;
-    see_both(&rt, &registry, "codes", &bob, &bytes(alloc, &[10, 255])?)?;
-    assert!(rt; is_thrown(registry.to_attribute("codes", &bob))?);
-    assert!(rt; is_thrown(registry.to_column("codes", &Value::Int(2)))?);
-    assert!(rt; is_thrown(registry.to_column("codes", &Value::Null))?);
-    assert!(rt; is_thrown(registry.to_column("empty", &ada))?);
+fn values_are_converted(rt: HostRuntime) -> Result<(), Fail> {
+    let registry = registry_from(rt.alloc(), CONVERTERS)?;
+    see_answers(&rt, rt.alloc(), &registry, true, &COLUMNS)?;
+    see_answers(&rt, rt.alloc(), &registry, false, &ATTRIBUTES)?;
     Ok(())
 }
 
-#[test]
-fn bytes_are_written_as_digits(rt: HostRuntime) -> Result<(), Fail> {
-    let alloc = rt.alloc();
-    let registry = registry_from(alloc, CONVERTERS)?;
-    let both = bytes(alloc, &[10, 255])?;
-    see_both(&rt, &registry, "digits", &both, &text(alloc, "0aff")?)?;
-    let none = bytes(alloc, &[])?;
-    see_both(&rt, &registry, "digits", &none, &text(alloc, "")?)?;
-    for wrong in ["0AFF", "0aFf", "0af", "0", "0g", " 0a"] {
-        let answer = registry.to_attribute("digits", &text(alloc, wrong)?);
-        assert!(rt; is_thrown(answer)?, "{wrong}");
+/// A table whose one text has so many letters.
+fn long_table(alloc: Global, letters: usize) -> Result<String, AllocError> {
+    let mut mapping = String::from_str(
+        alloc,
+        r#"{"functions":[{"name":"long","make":"table","pairs":[[1,""#,
+    )?;
+    for _ in 0..letters {
+        mapping.push('x')?;
     }
-    assert!(rt; is_thrown(registry.to_column("digits", &text(alloc, "0a")?))?);
-    assert!(rt; is_thrown(registry.to_attribute("digits", &both))?);
-    assert!(rt; is_thrown(registry.to_column("digits", &Value::Int(10)))?);
+    mapping.push_str("\"]]}]}")?;
+    Ok(mapping)
+}
+
+/// Whether what the table answers counts as thrown.
+fn is_too_long(alloc: Global, letters: usize) -> Result<bool, Cause> {
+    let registry = registry_from(alloc, long_table(alloc, letters)?.as_str())?;
+    let answer = registry.to_column("long", &Value::Int(1));
+    Ok(answer_text(alloc, answer)?.as_str() == "Persistence(converter)")
+}
+
+// An answer of over 65,535 bytes counts as thrown.
+#[test]
+fn long_answers_are_thrown(rt: HostRuntime) -> Result<(), Fail> {
+    assert!(rt; !is_too_long(rt.alloc(), 65_535)?);
+    assert!(rt; is_too_long(rt.alloc(), 65_536)?);
     Ok(())
 }

@@ -1,5 +1,5 @@
 //! What the listeners answer.
-use super::{is_same, registry_from, text};
+use super::{registry_from, shown};
 use jpa_behaviour::{Heard, Image, Named, Registry};
 use jpa_functions::ProgramFunctions;
 use jpa_value::{Cause, LifecycleEvent, Seq, Text, Value};
@@ -23,6 +23,25 @@ const LISTENERS: &str = r#"{"functions":[
  {"name":"need nobody","make":"require","attribute":"nobody"},
  {"name":"seen","make":"note"}]}"#;
 
+/// What each of them answers to the image; each of two listeners under two names answers its own.
+const ANSWERS: [(&str, &str); 15] = [
+    ("call", "name='A'"),
+    ("rename", "name='B'"),
+    ("nick", "nick='Ada'"),
+    ("lost", "nick=null"),
+    ("bump", "hits=7"),
+    ("first", "none=1"),
+    ("most", "throws count"),
+    ("least", "least=-9223372036854775807"),
+    ("word", "throws count"),
+    ("absent", "throws count"),
+    ("need", "nothing"),
+    ("need none", "throws require none"),
+    ("need nobody", "throws require nobody"),
+    ("seen", "nothing"),
+    ("nobody", "IllegalArgument(name)"),
+];
+
 fn named(alloc: Global, name: &str, value: Value) -> Result<Named, Cause> {
     Ok(Named {
         name: Text::of(alloc, name)?,
@@ -30,9 +49,11 @@ fn named(alloc: Global, name: &str, value: Value) -> Result<Named, Cause> {
     })
 }
 
+/// A person's name, and integers.
 fn image(alloc: Global) -> Result<Image, Cause> {
     let mut values = Seq::new(alloc);
-    values.push(named(alloc, "name", text(alloc, "Ada")?)?)?;
+    let name = Value::Text(Text::of(alloc, "Ada")?);
+    values.push(named(alloc, "name", name)?)?;
     values.push(named(alloc, "hits", Value::Int(6))?)?;
     values.push(named(alloc, "none", Value::Null)?)?;
     values.push(named(alloc, "most", Value::Int(i64::MAX))?)?;
@@ -44,97 +65,56 @@ fn image(alloc: Global) -> Result<Image, Cause> {
     })
 }
 
-/// Whether an answer assigns this value and no other.
-fn assigns(heard: &Heard, name: &str, want: &Value) -> bool {
+fn assigned_text(alloc: Global, assigned: &[Named]) -> Result<String, Cause> {
+    match assigned {
+        [] => Ok(String::from_str(alloc, "nothing")?),
+        [one] => {
+            let name = one.name.as_str();
+            let value = shown(alloc, &one.value)?;
+            Ok(format!(in alloc; "{name}={value}")?)
+        }
+        _ => Ok(String::from_str(alloc, "more than one")?),
+    }
+}
+
+fn heard_text(alloc: Global, heard: &Heard) -> Result<String, Cause> {
     match heard {
-        Heard::Assign(assigned) => match assigned.as_slice() {
-            [one] => one.name.as_str() == name && is_same(&one.value, want),
-            _ => false,
-        },
-        Heard::Throw(_) => false,
+        Heard::Assign(assigned) => assigned_text(alloc, assigned.as_slice()),
+        Heard::Throw(text) => {
+            let text = text.as_str();
+            Ok(format!(in alloc; "throws {text}")?)
+        }
     }
 }
 
-fn see_assigned(
-    rt: &impl Abort,
+/// What a listener answers to the image, or the refusal.
+fn answer(
     alloc: Global,
     registry: &Registry<ProgramFunctions>,
     listener: &str,
-    name: &str,
-    want: &Value,
-) -> Result<(), Cause> {
-    let heard = registry.hear(listener, &image(alloc)?)?;
-    assert!(rt; assigns(&heard, name, want), "{listener}");
-    Ok(())
-}
-
-fn see_thrown(
-    rt: &impl Abort,
-    alloc: Global,
-    registry: &Registry<ProgramFunctions>,
-    listener: &str,
-    want: &str,
-) -> Result<(), Cause> {
-    match registry.hear(listener, &image(alloc)?)? {
-        Heard::Throw(text) => assert_eq!(rt; text.as_str(), want, "{listener}"),
-        Heard::Assign(_) => assert!(rt; false, "{listener} assigns"),
+) -> Result<String, Cause> {
+    match registry.hear(listener, &image(alloc)?) {
+        Ok(heard) => heard_text(alloc, &heard),
+        Err(Cause::OutOfMemory) => Err(Cause::OutOfMemory),
+        Err(cause) => Ok(cause.text(alloc)?.into_string()),
     }
-    Ok(())
 }
 
-fn see_nothing(
+fn see_answers(
     rt: &impl Abort,
     alloc: Global,
     registry: &Registry<ProgramFunctions>,
-    listener: &str,
 ) -> Result<(), Cause> {
-    match registry.hear(listener, &image(alloc)?)? {
-        Heard::Assign(assigned) => assert!(rt; assigned.is_empty(), "{listener}"),
-        Heard::Throw(_) => assert!(rt; false, "{listener} throws"),
+    for (listener, want) in ANSWERS {
+        let found = answer(alloc, registry, listener)?;
+        assert_eq!(rt; found.as_str(), want, "{listener}");
     }
     Ok(())
 }
 
 #[test]
-fn texts_are_set(rt: HostRuntime) -> Result<(), Fail> {
-    let alloc = rt.alloc();
-    let registry = registry_from(alloc, LISTENERS)?;
-    // Each of two listeners under two names answers its own.
-    see_assigned(&rt, alloc, &registry, "call", "name", &text(alloc, "A")?)?;
-    see_assigned(&rt, alloc, &registry, "rename", "name", &text(alloc, "B")?)?;
-    Ok(())
-}
-
-#[test]
-fn values_are_copied(rt: HostRuntime) -> Result<(), Fail> {
-    let alloc = rt.alloc();
-    let registry = registry_from(alloc, LISTENERS)?;
-    see_assigned(&rt, alloc, &registry, "nick", "nick", &text(alloc, "Ada")?)?;
-    see_assigned(&rt, alloc, &registry, "lost", "nick", &Value::Null)?;
-    Ok(())
-}
-
-#[test]
-fn integers_are_counted(rt: HostRuntime) -> Result<(), Fail> {
-    let alloc = rt.alloc();
-    let registry = registry_from(alloc, LISTENERS)?;
-    see_assigned(&rt, alloc, &registry, "bump", "hits", &Value::Int(7))?;
-    see_assigned(&rt, alloc, &registry, "first", "none", &Value::Int(1))?;
-    let above = Value::Int(i64::MIN + 1);
-    see_assigned(&rt, alloc, &registry, "least", "least", &above)?;
-    see_thrown(&rt, alloc, &registry, "most", "count")?;
-    see_thrown(&rt, alloc, &registry, "word", "count")?;
-    see_thrown(&rt, alloc, &registry, "absent", "count")?;
-    Ok(())
-}
-
-#[test]
-fn values_are_required(rt: HostRuntime) -> Result<(), Fail> {
-    let alloc = rt.alloc();
-    let registry = registry_from(alloc, LISTENERS)?;
-    see_nothing(&rt, alloc, &registry, "need")?;
-    see_thrown(&rt, alloc, &registry, "need none", "require none")?;
-    see_thrown(&rt, alloc, &registry, "need nobody", "require nobody")?;
-    see_nothing(&rt, alloc, &registry, "seen")?;
+fn listeners_answer(rt: HostRuntime) -> Result<(), Fail> {
+    let registry = registry_from(rt.alloc(), LISTENERS)?;
+    see_answers(&rt, rt.alloc(), &registry)?;
     Ok(())
 }

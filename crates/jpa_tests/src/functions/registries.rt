@@ -1,12 +1,14 @@
 //! Registries of functions, and units that name them.
-use super::registry_from;
+use super::{registry_from, shown};
+use jpa_behaviour::Registry;
 use jpa_functions::{
-    Converter, Function, Listener, Make, names_are_known, read_functions, registry_of,
+    Converter, Function, Listener, ProgramFunctions, names_are_known, read_functions, registry_of,
 };
 use jpa_mapping::read_mapping;
 use jpa_model::Metamodel;
-use jpa_value::{Argument, Cause, Seq, Text};
+use jpa_value::{Argument, Cause, Seq, Value};
 use std::alloc::Global;
+use std::process::Abort;
 use std::test::Fail;
 
 /// The functions of the mapping whose converter flips amounts.
@@ -19,28 +21,41 @@ const CODES: &str = r#"{"functions":[{"name":"codes","make":"table","pairs":[["A
 const LISTENERS: &str = r#"{"functions":[{"name":"bump","make":"count","attribute":"hits"},
  {"name":"need","make":"require","attribute":"name"},{"name":"seen","make":"note"}]}"#;
 
-fn seq<T: Drop>(alloc: Global, item: T) -> Result<Seq<T>, Cause> {
-    let mut list = Seq::new(alloc);
-    list.push(item)?;
-    Ok(list)
-}
+/// What stands before each of the four names, and after the last.
+const PIECES: [&str; 4] = [
+    r#"{"revision":1,"listeners":[{"name":""#,
+    r#"","events":["PreUpdate"]}],"entities":[{"name":"Order","table":2,"key":[{"name":"number","type":"int"}],"attributes":[{"name":"amount","type":"int","column":1,"converter":""#,
+    r#""}],"listeners":[{"name":""#,
+    r#"","events":["PreUpdate"]}],"callbacks":[{"name":""#,
+];
+
+const END: &str = r#"","events":["PreUpdate"]}]}]}"#;
 
 /// A unit that names a default listener, a converter, a listener and a callback.
 fn unit(alloc: Global, names: [&str; 4]) -> Result<Metamodel, Cause> {
-    let [default, converter, listener, callback] = names;
-    let text = format!(in alloc;
-        "{{\"revision\":1,\"listeners\":[{{\"name\":\"{default}\",\"events\":[\"PreUpdate\"]}}],\"entities\":[{{\"name\":\"Order\",\"table\":2,\"key\":[{{\"name\":\"number\",\"type\":\"int\"}}],\"attributes\":[{{\"name\":\"amount\",\"type\":\"int\",\"column\":1,\"converter\":\"{converter}\"}}],\"listeners\":[{{\"name\":\"{listener}\",\"events\":[\"PreUpdate\"]}}],\"callbacks\":[{{\"name\":\"{callback}\",\"events\":[\"PreUpdate\"]}}]}}]}}"
-    )?;
+    let mut text = String::new(alloc);
+    for (piece, name) in PIECES.iter().zip(names.iter()) {
+        text.push_str(piece)?;
+        text.push_str(name)?;
+    }
+    text.push_str(END)?;
     read_mapping(alloc, text.as_bytes())
 }
 
-#[test]
-fn a_unit_names_functions_of_the_registry(rt: HostRuntime) -> Result<(), Fail> {
-    let alloc = rt.alloc();
-    let registry = registry_from(
-        alloc,
-        r#"{"functions":[{"name":"n","make":"note"},{"name":"f","make":"flip"}]}"#,
-    )?;
+/// Whether a unit with these names names functions of the registry.
+fn are_known(
+    alloc: Global,
+    registry: &Registry<ProgramFunctions>,
+    names: [&str; 4],
+) -> Result<bool, Cause> {
+    Ok(names_are_known(&unit(alloc, names)?, registry))
+}
+
+fn see_known(
+    rt: &impl Abort,
+    alloc: Global,
+    registry: &Registry<ProgramFunctions>,
+) -> Result<(), Cause> {
     for (names, want) in [
         (["n", "f", "n", "n"], true),
         (["nope", "f", "n", "n"], false),
@@ -51,8 +66,18 @@ fn a_unit_names_functions_of_the_registry(rt: HostRuntime) -> Result<(), Fail> {
         (["f", "f", "n", "n"], false),
         (["n", "n", "n", "n"], false),
     ] {
-        assert_eq!(rt; names_are_known(&unit(alloc, names)?, &registry), want);
+        assert_eq!(rt; are_known(alloc, registry, names)?, want);
     }
+    Ok(())
+}
+
+#[test]
+fn a_unit_names_functions_of_the_registry(rt: HostRuntime) -> Result<(), Fail> {
+    let registry = registry_from(
+        rt.alloc(),
+        r#"{"functions":[{"name":"n","make":"note"},{"name":"f","make":"flip"}]}"#,
+    )?;
+    see_known(&rt, rt.alloc(), &registry)?;
     Ok(())
 }
 
@@ -64,15 +89,18 @@ fn is_alone(functions: &Seq<Function>, name: &str) -> bool {
     }
 }
 
+/// Whether a mapping has one function, a converter of this name.
+fn has_one_converter(alloc: Global, mapping: &str, name: &str) -> Result<bool, Cause> {
+    let functions = read_functions(alloc, mapping.as_bytes())?;
+    let alone = is_alone(&functions, name);
+    Ok(alone && registry_of(alloc, functions)?.has_converter(name))
+}
+
 #[test]
 fn mappings_have_their_functions(rt: HostRuntime) -> Result<(), Fail> {
     let alloc = rt.alloc();
-    let flip = read_functions(alloc, FLIP.as_bytes())?;
-    assert!(rt; is_alone(&flip, "flip"));
-    assert!(rt; registry_of(alloc, flip)?.has_converter("flip"));
-    let codes = read_functions(alloc, CODES.as_bytes())?;
-    assert!(rt; is_alone(&codes, "codes"));
-    assert!(rt; registry_of(alloc, codes)?.has_converter("codes"));
+    assert!(rt; has_one_converter(alloc, FLIP, "flip")?);
+    assert!(rt; has_one_converter(alloc, CODES, "codes")?);
     let registry = registry_from(alloc, LISTENERS)?;
     for name in ["bump", "need", "seen"] {
         assert!(rt; registry.has_listener(name), "{name}");
@@ -81,34 +109,30 @@ fn mappings_have_their_functions(rt: HostRuntime) -> Result<(), Fail> {
     Ok(())
 }
 
-fn function(alloc: Global, name: &str, make: Make) -> Result<Function, Cause> {
-    Ok(Function {
-        name: Text::of(alloc, name)?,
-        make,
-    })
+fn is_second(added: Result<(), Cause>) -> bool {
+    matches!(added, Err(Cause::IllegalArgument(Argument::Second)))
 }
 
-fn two(one: Function, other: Function, alloc: Global) -> Result<Seq<Function>, Cause> {
-    let mut functions = seq(alloc, one)?;
-    functions.push(other)?;
-    Ok(functions)
+/// Adds functions of one name: a second converter changes nothing, and a listener may have the name of a converter.
+fn add_one_name(
+    rt: &impl Abort,
+    alloc: Global,
+    registry: &mut Registry<ProgramFunctions>,
+) -> Result<(), Cause> {
+    registry.add_converter("one", Converter::Flip)?;
+    assert!(rt; is_second(registry.add_converter("one", Converter::Hextext)));
+    let column = shown(alloc, &registry.to_column("one", &Value::Int(1))?)?;
+    assert_eq!(rt; column.as_str(), "-2");
+    registry.add_listener("one", Listener::Note)?;
+    assert!(rt; is_second(registry.add_listener("one", Listener::Note)));
+    registry.laws();
+    Ok(())
 }
 
 #[test]
-fn a_second_name_is_not_registered(rt: HostRuntime) -> Result<(), Fail> {
-    let alloc = rt.alloc();
-    let flip = function(alloc, "one", Make::Converter(Converter::Flip))?;
-    let digits = function(alloc, "one", Make::Converter(Converter::Hextext))?;
-    match registry_of(alloc, two(flip, digits, alloc)?) {
-        Ok(_) => assert!(rt; false, "two converters of one name"),
-        Err(cause) => {
-            let second = matches!(cause, Cause::IllegalArgument(Argument::Second));
-            assert!(rt; second);
-        }
-    }
-    let flip = function(alloc, "one", Make::Converter(Converter::Flip))?;
-    let note = function(alloc, "one", Make::Listener(Listener::Note))?;
-    let registry = registry_of(alloc, two(flip, note, alloc)?)?;
+fn second_names_are_refused(rt: HostRuntime) -> Result<(), Fail> {
+    let mut registry: Registry<ProgramFunctions> = Registry::new(rt.alloc());
+    add_one_name(&rt, rt.alloc(), &mut registry)?;
     assert!(rt; registry.has_listener("one"));
     assert!(rt; registry.has_converter("one"));
     Ok(())

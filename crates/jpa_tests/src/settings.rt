@@ -1,6 +1,6 @@
 //! The words of a command line, and the exit statuses.
-use crate::{Stop, read_settings, status};
 use jpa_lines::RunFault;
+use jpa_settings::{Stop, read_settings, status};
 use jpa_value::{Cause, MappingFault, Refusal, Text};
 use std::alloc::{AllocError, Global};
 use std::test::Fail;
