@@ -1,5 +1,6 @@
 //! What the converters make of values.
 use super::{registry_from, shown};
+use hex::FromHexError;
 use jpa_behaviour::Registry;
 use jpa_functions::ProgramFunctions;
 use jpa_value::{Bytes, Cause, Text, Value};
@@ -57,7 +58,8 @@ fn value_of(alloc: Global, text: &str) -> Result<Value, Fail> {
     if let Some(digits) = text.strip_prefix("0x") {
         return match hex::decode(alloc, digits) {
             Ok(bytes) => Ok(Value::Bytes(Bytes::of(bytes))),
-            Err(_) => Err(Fail::from("no digits, or no memory")),
+            Err(FromHexError::OutOfMemory) => Err(Fail::from(Cause::OutOfMemory)),
+            Err(_) => Err(Fail::from("no digits")),
         };
     }
     if text == "null" {
