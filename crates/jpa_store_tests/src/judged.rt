@@ -2,17 +2,22 @@
 //!
 //! A row is a line: its table, its bytes, and for each of its cells the column, a colon and the bytes, all bytes in
 //! hexadecimal digits.
-ghost use Rattle.std.specs.Prelude.{◌≡◌, IfOk};
+ghost use Rattle.std.specs.Prelude.{◌≡◌, true, IfOk};
+ghost use Rattle.jpa_stored.specs.Sets.{all_shaped};
 ghost use Rattle.jpa_rows.specs.Tables.{schema_of};
 
 use hex::FromHexError;
+use jpa_behaviour::Registry;
 use jpa_cells::{Cell, CellChange, CellStore};
-use jpa_functions::{names_are_known, read_functions, registry_of};
+use jpa_functions::{ProgramFunctions, names_are_known, read_functions, registry_of};
 use jpa_judgment::{Committed, read_store};
+use jpa_key::encode_key;
+use jpa_mapper::{number_row, to_rows};
 use jpa_mapping::read_mapping;
 use jpa_model::Metamodel;
-use jpa_rows::Schema;
+use jpa_rows::{Row, RowId, Schema, spell_row};
 use jpa_rowspace::RowSpace;
+use jpa_stored::StoredSet;
 use jpa_value::{Bytes, Cause, Seq};
 use sqlite::{Connection, MemStore};
 use std::alloc::Global;
@@ -32,7 +37,7 @@ const CONVERTED: &str = r#"{"revision":1,"entities":[
 {"name":"Order","table":2,"key":[{"name":"number","type":"int"}],"attributes":[{"name":"amount","type":"int","column":1,"converter":"flip"}]}],
 "functions":[{"name":"flip","make":"flip"},{"name":"codes","make":"table","pairs":[["Ada",1],["Bob",2]]}]}"#;
 
-/// Functions of the same names.
+/// Functions of the same names, among whose codes is no Bob.
 const WITHOUT_BOB: &str =
     r#"{"functions":[{"name":"flip","make":"flip"},{"name":"codes","make":"table","pairs":[["Ada",1]]}]}"#;
 
@@ -275,6 +280,133 @@ fn answer(alloc: Global, mapping: &str, rows: &str) -> Result<String, Fail> {
     let mut space = opened(alloc, &metamodel, rows)?;
     let read = read_store(alloc, &metamodel, &registry, &mut space);
     Ok(told(alloc, read)?)
+}
+
+/// A row as its line.
+fn push_row(alloc: Global, id: &RowId, row: &Row, out: &mut String) -> Result<(), Cause> {
+    let table = id.table;
+    let key = hex::encode(alloc, encode_key(alloc, &id.key)?.as_slice())?;
+    write!(out, "{table} {key}")?;
+    let cells = spell_row(alloc, row)?;
+    for (column, value) in cells.as_slice() {
+        let value = hex::encode(alloc, value.as_slice())?;
+        write!(out, " {column}:{value}")?;
+    }
+    out.push('\n')?;
+    Ok(())
+}
+
+/// The rows of the one object of a set.
+fn rows_of_one(
+    alloc: Global,
+    metamodel: &Metamodel,
+    registry: &Registry<ProgramFunctions>,
+    set: &StoredSet,
+) -> Result<Seq<(RowId, Row)>, Cause>
+    requires { all_shaped metamodel.now set.now ≡ true }
+{
+    match set.entries() {
+        [entry] => {
+            let (id, object) = entry.get();
+            to_rows(alloc, metamodel, registry, id, object)
+        }
+        _ => Err(Cause::Limit),
+    }
+}
+
+/// The one object that rows stand for.
+fn read_one(
+    alloc: Global,
+    metamodel: &Metamodel,
+    mapping: &str,
+    rows: &str,
+) -> Result<Committed, Fail>
+    ensures { IfOk result (λ committed. all_shaped metamodel.now committed.set ≡ true) }
+{
+    let registry = registry_of(alloc, read_functions(alloc, mapping.as_bytes())?)?;
+    let mut space = opened(alloc, metamodel, rows)?;
+    Ok(read_store(alloc, metamodel, &registry, &mut space)?)
+}
+
+/// The rows that a set of one object is written as with the functions of a mapping, or the refusal.
+fn write_one(
+    alloc: Global,
+    metamodel: &Metamodel,
+    functions: &str,
+    committed: &Committed,
+) -> Result<String, Cause>
+    requires { all_shaped metamodel.now committed.now.set ≡ true }
+{
+    let registry = registry_of(alloc, read_functions(alloc, functions.as_bytes())?)?;
+    let rows = match rows_of_one(alloc, metamodel, &registry, &committed.set) {
+        Ok(rows) => rows,
+        Err(Cause::OutOfMemory) => return Err(Cause::OutOfMemory),
+        Err(cause) => return Ok(cause.text(alloc)?.into_string()),
+    };
+    let mut out = String::new(alloc);
+    for (id, row) in rows.as_slice() {
+        push_row(alloc, id, row, &mut out)?;
+    }
+    Ok(out)
+}
+
+/// The rows that are written of the object that these stand for.
+fn there_and_back(
+    alloc: Global,
+    mapping: &str,
+    functions: &str,
+    rows: &str,
+) -> Result<String, Fail> {
+    let metamodel = read_mapping(alloc, mapping.as_bytes())?;
+    let committed = read_one(alloc, &metamodel, mapping, rows)?;
+    Ok(write_one(alloc, &metamodel, functions, &committed)?)
+}
+
+/// The rows of one object, which is written as it was read.
+const OBJECTS: [(Unit, &str); 5] = [
+    (
+        Unit::Converted,
+        "1 018000000000000001 0:02506572736f6e 2:018000000000000002\n",
+    ),
+    (
+        Unit::Converted,
+        "2 01800000000000000a 0:024f72646572 1:017ffffffffffffffe\n",
+    ),
+    // Null passes a converter by.
+    (Unit::Converted, "2 01800000000000000a 0:024f72646572\n"),
+    (
+        Unit::Hierarchy,
+        "1 018000000000000002 0:02437573746f6d6572 2:02426f62 4:0300ff\n",
+    ),
+    (Unit::Embedded, "2 01800000000000000202610000 0:0242\n"),
+];
+
+#[test]
+fn objects_there_and_back(rt: HostRuntime) -> Result<(), Fail> {
+    for (unit, rows) in OBJECTS {
+        let mapping = mapping_of(unit);
+        let found = there_and_back(rt.alloc(), mapping, mapping, rows)?;
+        assert_eq!(rt; found.as_str(), rows);
+    }
+    Ok(())
+}
+
+// Bob is read, and the functions that he is written with have no code for him.
+#[test]
+fn a_converter_throws(rt: HostRuntime) -> Result<(), Fail> {
+    let bob = "1 018000000000000001 0:02506572736f6e 2:018000000000000002";
+    let found = there_and_back(rt.alloc(), CONVERTED, WITHOUT_BOB, bob)?;
+    assert_eq!(rt; found.as_str(), "Persistence(converter)");
+    Ok(())
+}
+
+#[test]
+fn a_next_number_is_a_row(rt: HostRuntime) -> Result<(), Fail> {
+    let (id, row) = number_row(rt.alloc(), 1, 2)?;
+    let mut out = String::new(rt.alloc());
+    push_row(rt.alloc(), &id, &row, &mut out)?;
+    assert_eq!(rt; out.as_str(), "0 018000000000000001 0:018000000000000002\n");
+    Ok(())
 }
 
 #[test]
