@@ -3,7 +3,7 @@
 //! A row is a line: its table, its bytes, and for each of its cells the column, a colon and the bytes, all bytes in
 //! hexadecimal digits.
 ghost use Rattle.std.specs.Prelude.{◌≡◌, true, IfOk};
-ghost use Rattle.jpa_stored.specs.Sets.{all_shaped};
+ghost use Rattle.jpa_stored.specs.Sets.{is_shaped, all_shaped};
 ghost use Rattle.jpa_rows.specs.Tables.{schema_of};
 
 use hex::FromHexError;
@@ -17,8 +17,8 @@ use jpa_mapping::read_mapping;
 use jpa_model::Metamodel;
 use jpa_rows::{Row, RowId, Schema, spell_row};
 use jpa_rowspace::RowSpace;
-use jpa_stored::StoredSet;
-use jpa_value::{Bytes, Cause, Seq};
+use jpa_stored::{Stored, StoredSet};
+use jpa_value::{Bytes, Cause, Identity, Seq};
 use sqlite::{Connection, MemStore};
 use std::alloc::Global;
 use std::test::Fail;
@@ -296,26 +296,45 @@ fn push_row(alloc: Global, id: &RowId, row: &Row, out: &mut String) -> Result<()
     Ok(())
 }
 
-/// The rows of the one object of a set.
-fn rows_of_one(
+/// The rows of an object.
+fn push_object(
+    alloc: Global,
+    metamodel: &Metamodel,
+    registry: &Registry<ProgramFunctions>,
+    entry: &(Identity, Stored),
+    out: &mut String,
+) -> Result<(), Cause>
+    requires { is_shaped metamodel.now entry.now.0 entry.now.1 ≡ true }
+{
+    let rows = to_rows(alloc, metamodel, registry, &entry.0, &entry.1)?;
+    for (id, row) in rows.as_slice() {
+        push_row(alloc, id, row, out)?;
+    }
+    Ok(())
+}
+
+/// The rows of a set of one object or two.
+fn push_objects(
     alloc: Global,
     metamodel: &Metamodel,
     registry: &Registry<ProgramFunctions>,
     set: &StoredSet,
-) -> Result<Seq<(RowId, Row)>, Cause>
+    out: &mut String,
+) -> Result<(), Cause>
     requires { all_shaped metamodel.now set.now ≡ true }
 {
     match set.entries() {
-        [entry] => {
-            let (id, object) = entry.get();
-            to_rows(alloc, metamodel, registry, id, object)
+        [one] => push_object(alloc, metamodel, registry, one.get(), out),
+        [one, other] => {
+            push_object(alloc, metamodel, registry, one.get(), out)?;
+            push_object(alloc, metamodel, registry, other.get(), out)
         }
         _ => Err(Cause::Limit),
     }
 }
 
-/// The one object that rows stand for.
-fn read_one(
+/// The one object or two that rows stand for.
+fn read_objects(
     alloc: Global,
     metamodel: &Metamodel,
     mapping: &str,
@@ -328,8 +347,8 @@ fn read_one(
     Ok(read_store(alloc, metamodel, &registry, &mut space)?)
 }
 
-/// The rows that a set of one object is written as with the functions of a mapping, or the refusal.
-fn write_one(
+/// The rows that a set of one object or two is written as with the functions of a mapping, or the refusal.
+fn write_objects(
     alloc: Global,
     metamodel: &Metamodel,
     functions: &str,
@@ -338,19 +357,15 @@ fn write_one(
     requires { all_shaped metamodel.now committed.now.set ≡ true }
 {
     let registry = registry_of(alloc, read_functions(alloc, functions.as_bytes())?)?;
-    let rows = match rows_of_one(alloc, metamodel, &registry, &committed.set) {
-        Ok(rows) => rows,
-        Err(Cause::OutOfMemory) => return Err(Cause::OutOfMemory),
-        Err(cause) => return Ok(cause.text(alloc)?.into_string()),
-    };
     let mut out = String::new(alloc);
-    for (id, row) in rows.as_slice() {
-        push_row(alloc, id, row, &mut out)?;
+    match push_objects(alloc, metamodel, &registry, &committed.set, &mut out) {
+        Ok(()) => Ok(out),
+        Err(Cause::OutOfMemory) => Err(Cause::OutOfMemory),
+        Err(cause) => Ok(cause.text(alloc)?.into_string()),
     }
-    Ok(out)
 }
 
-/// The rows that are written of the object that these stand for.
+/// The rows that are written of the objects that these stand for.
 fn there_and_back(
     alloc: Global,
     mapping: &str,
@@ -358,12 +373,12 @@ fn there_and_back(
     rows: &str,
 ) -> Result<String, Fail> {
     let metamodel = read_mapping(alloc, mapping.as_bytes())?;
-    let committed = read_one(alloc, &metamodel, mapping, rows)?;
-    Ok(write_one(alloc, &metamodel, functions, &committed)?)
+    let committed = read_objects(alloc, &metamodel, mapping, rows)?;
+    Ok(write_objects(alloc, &metamodel, functions, &committed)?)
 }
 
-/// The rows of one object, which is written as it was read.
-const OBJECTS: [(Unit, &str); 5] = [
+/// The rows of one object or two, which are written as they were read.
+const OBJECTS: [(Unit, &str); 6] = [
     (
         Unit::Converted,
         "1 018000000000000001 0:02506572736f6e 2:018000000000000002\n",
@@ -379,6 +394,11 @@ const OBJECTS: [(Unit, &str); 5] = [
         "1 018000000000000002 0:02437573746f6d6572 2:02426f62 4:0300ff\n",
     ),
     (Unit::Embedded, "2 01800000000000000202610000 0:0242\n"),
+    // A one-to-one reference, and a pair, whose row stands after that of its owner.
+    (
+        Unit::Embedded,
+        "1 018000000000000001 0:0241 1:0401800000000000000202610000\n3 01800000000000000101800000000000000202610000 0:018000000000000001\n2 01800000000000000202610000 0:0242\n",
+    ),
 ];
 
 #[test]
@@ -388,6 +408,18 @@ fn objects_there_and_back(rt: HostRuntime) -> Result<(), Fail> {
         let found = there_and_back(rt.alloc(), mapping, mapping, rows)?;
         assert_eq!(rt; found.as_str(), rows);
     }
+    Ok(())
+}
+
+// A person with a generated key is written beside the next number, which is a row of its own, and an order leads to her.
+#[test]
+fn persons_there_and_back(rt: HostRuntime) -> Result<(), Fail> {
+    let rows =
+        "1 018000000000000001 0:02506572736f6e 1:018000000000000000\n2 01800000000000000a 0:024f72646572 2:04018000000000000001\n0 018000000000000001 0:018000000000000002\n";
+    let written =
+        "1 018000000000000001 0:02506572736f6e 1:018000000000000000\n2 01800000000000000a 0:024f72646572 2:04018000000000000001\n";
+    let found = there_and_back(rt.alloc(), PERSONS, PERSONS, rows)?;
+    assert_eq!(rt; found.as_str(), written);
     Ok(())
 }
 
