@@ -3,6 +3,8 @@
 #![tactic(auto)]
 
 #[cfg(test)]
+mod behaviour;
+#[cfg(test)]
 mod functions;
 #[cfg(test)]
 mod key;
