@@ -1,48 +1,167 @@
-//! The program: it serves persons over a store in memory, by the calls on standard input, and writes the replies to
-//! standard output.
+//! The program: it serves the entities of a mapping over a store in memory or in a file, by the calls on standard input,
+//! and writes the replies to standard output.
 #![tactic(auto)]
+ghost use Rattle.jpa_cells_meaning.specs.Store.{IsOrderedIfFound};
 
-use jpa_object_cells::ObjectCells;
-use jpa_program::{Stop, first_unit, open, run, status};
-use jpa_provider::Provider;
-use jpa_value::{Cause, Refusal, refusal_text};
-use sqlite::{Connection, MemStore};
+use jpa_behaviour::Registry;
+use jpa_functions::{ProgramFunctions, read_functions, registry_of};
+use jpa_mapping::read_mapping;
+use jpa_model::Metamodel;
+use jpa_program::{first_unit, open, run};
+use jpa_settings::{Settings, Stop, read_settings, status};
+use jpa_value::{Cause, MappingFault, Refusal, Text, refusal_text};
+use sqlite::{Alter, Connection, Error, ErrorCode, Unknown};
 use std::alloc::Global;
-use std::io;
+use std::io::ErrorKind;
 use std::process::ExitCode;
+use std::{env, fs, io};
 
-/// The provider of the program's unit, over a store in memory.
-fn opened(alloc: Global) -> Result<Provider<ObjectCells<MemStore>>, Cause> {
-    let metamodel = first_unit(alloc)?;
-    let conn = Connection::open_in_memory(alloc)?;
-    match open(alloc, conn, metamodel) {
-        Ok(provider) => Ok(provider),
-        Err((cause, _)) => Err(cause),
+/// A persistence unit and its stored functions.
+#[derive(Drop)]
+struct Unit {
+    metamodel: Metamodel,
+    registry: Registry<ProgramFunctions>,
+}
+
+/// The words of the command line, of which the first is the program's own name.
+fn words(rt: &HostRuntime) -> io::Result<Vec<String>> {
+    let mut words = Vec::new(rt.alloc());
+    for word in env::args(rt)? {
+        words.push(word)?;
+    }
+    Ok(words)
+}
+
+/// Why there are no words: for want of memory, or one of them is no text.
+fn stop_of(alloc: Global, error: &io::Error) -> Stop {
+    if error.kind() == ErrorKind::OutOfMemory {
+        return Stop::Refused(Refusal::Because(Cause::OutOfMemory));
+    }
+    match format!(in alloc; "error: {error}\n") {
+        Ok(text) => Stop::Words(text),
+        Err(_) => Stop::Refused(Refusal::Because(Cause::OutOfMemory)),
     }
 }
 
-/// Answers the calls on standard input until it ends.
-fn serve(rt: &HostRuntime) -> Stop {
-    let mut provider = match opened(rt.alloc()) {
+fn settings_of(rt: &HostRuntime) -> Result<Settings, Stop> {
+    match words(rt) {
+        Ok(words) => read_settings(rt.alloc(), words.as_slice()),
+        Err(error) => Err(stop_of(rt.alloc(), &error)),
+    }
+}
+
+/// The bytes of a mapping file; one that can't be read is no JSON.
+fn mapping_file(rt: &HostRuntime, path: &Text) -> Result<Vec<u8>, Cause> {
+    match fs::read(rt, path.as_str()) {
+        Ok(bytes) => Ok(bytes),
+        Err(error) if error.kind() == ErrorKind::OutOfMemory => Err(Cause::OutOfMemory),
+        Err(_) => Err(Cause::Mapping(MappingFault::Json)),
+    }
+}
+
+/// The unit that a mapping's bytes describe: its entities are read before its functions.
+fn described(alloc: Global, bytes: &[u8]) -> Result<Unit, Cause> {
+    let metamodel = read_mapping(alloc, bytes)?;
+    let functions = read_functions(alloc, bytes)?;
+    let registry = registry_of(alloc, functions)?;
+    Ok(Unit {
+        metamodel,
+        registry,
+    })
+}
+
+/// The unit that is served: that of the mapping file, or without one the program's own persons.
+fn unit_of(rt: &HostRuntime, settings: &Settings) -> Result<Unit, Cause> {
+    match &settings.mapping {
+        Some(path) => {
+            let bytes = mapping_file(rt, path)?;
+            described(rt.alloc(), bytes.as_slice())
+        }
+        None => Ok(Unit {
+            metamodel: first_unit(rt.alloc())?,
+            registry: Registry::new(rt.alloc()),
+        }),
+    }
+}
+
+/// Answers the calls on standard input until it ends, over the cells of a connection, which is handed back.
+fn serve<S: Alter + Drop>(
+    rt: &HostRuntime,
+    conn: Connection<S>,
+    unit: Unit,
+) -> Result<(Stop, Connection<S>), Cause>
+    requires { IsOrderedIfFound S.Store conn }
+{
+    let Unit {
+        metamodel,
+        registry,
+    } = unit;
+    let mut provider = match open(rt.alloc(), conn, metamodel, registry) {
         Ok(provider) => provider,
-        Err(cause) => return Stop::Refused(Refusal::Because(cause)),
+        Err((cause, _)) => return Err(cause),
     };
-    let ran = run(
+    let stop = match run(
         rt.alloc(),
         &mut rt.reader(),
         &mut io::writer(rt),
         &mut provider,
-    );
-    drop(provider.into_store());
-    match ran {
+    ) {
         Ok(()) => Stop::End,
         Err(fault) => Stop::Run(fault),
+    };
+    Ok((stop, provider.into_rows().store.into_connection()))
+}
+
+fn serve_in_memory(rt: &HostRuntime, unit: Unit) -> Result<Stop, Cause> {
+    let conn = Connection::open_in_memory(rt.alloc())?;
+    let (stop, _conn) = serve(rt, conn, unit)?;
+    Ok(stop)
+}
+
+/// Why a store's file can't be opened.
+fn cause_of(error: Error) -> Cause {
+    match error {
+        Error::SqliteFailure(ErrorCode::OutOfMemory) => Cause::OutOfMemory,
+        _ => Cause::StoreFault,
     }
 }
 
-/// Tells why the program could not begin: the refusal's text, or its name where memory is refused for the text.
-fn tell(rt: &HostRuntime, refusal: &Refusal) {
-    let _told = match refusal_text(rt.alloc(), refusal) {
+/// Serves over a store's file, which is made where there is none. What was committed stands in the file and in the log beside
+/// it; where the closing can't bring the log into the file, both stay.
+fn serve_file(rt: &HostRuntime, path: &Text, unit: Unit) -> Result<Stop, Cause> {
+    let conn = match Connection::open_from(rt, path.as_str(), false, Unknown) {
+        Ok(conn) => conn,
+        Err((error, _)) => return Err(cause_of(error)),
+    };
+    let (stop, conn) = serve(rt, conn, unit)?;
+    let _closed = conn.close();
+    Ok(stop)
+}
+
+/// Serves what the settings say; what is refused is refused before the first line.
+fn serve_as_said(rt: &HostRuntime, settings: &Settings) -> Result<Stop, Cause> {
+    let unit = unit_of(rt, settings)?;
+    match &settings.db {
+        Some(path) => serve_file(rt, path, unit),
+        None => serve_in_memory(rt, unit),
+    }
+}
+
+/// Serves, and answers why it ended.
+fn serve_words(rt: &HostRuntime) -> Stop {
+    let settings = match settings_of(rt) {
+        Ok(settings) => settings,
+        Err(stop) => return stop,
+    };
+    match serve_as_said(rt, &settings) {
+        Ok(stop) => stop,
+        Err(cause) => Stop::Refused(Refusal::Because(cause)),
+    }
+}
+
+/// Tells a refusal on standard error: its text, or its name where memory is refused for the text.
+fn tell_refusal(rt: &HostRuntime, refusal: &Refusal) -> io::Result<()> {
+    match refusal_text(rt.alloc(), refusal) {
         Ok(text) => {
             let text = text.as_str();
             eprintln!(rt; "jpa: {text}")
@@ -51,13 +170,21 @@ fn tell(rt: &HostRuntime, refusal: &Refusal) {
             let name = refusal.name();
             eprintln!(rt; "jpa: {name}")
         }
-    };
+    }
+}
+
+/// Tells why the program ends without reading calls, where it does.
+fn tell(rt: &HostRuntime, stop: &Stop) -> io::Result<()> {
+    match stop {
+        Stop::End | Stop::Run(_) => Ok(()),
+        Stop::Shown(text) => print!(rt; "{text}"),
+        Stop::Words(text) => eprint!(rt; "{text}"),
+        Stop::Refused(refusal) => tell_refusal(rt, refusal),
+    }
 }
 
 fn main(rt: HostRuntime) -> ExitCode {
-    let stop = serve(&rt);
-    if let Stop::Refused(refusal) = &stop {
-        tell(&rt, refusal);
-    }
+    let stop = serve_words(&rt);
+    let _told = tell(&rt, &stop);
     ExitCode::from(status(&stop))
 }

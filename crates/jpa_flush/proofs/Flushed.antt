@@ -15,7 +15,7 @@ use Rattle.jpa_protocol.specs.declared.event.Told.{Told}
 use Rattle.jpa_model.specs.declared.unit.PersistenceUnit.{PersistenceUnit}
 use Rattle.jpa_model.specs.declared.unit.Relation.{Relation}
 use Rattle.jpa_model.specs.Chains.{is_versioned}
-use Rattle.jpa_behaviour.specs.Behaviour.{World, without_functions}
+use Rattle.jpa_behaviour.specs.Behaviour.{World}
 use Rattle.jpa_stored.specs.declared.stored.Stored.{Stored}
 use Rattle.jpa_stored.specs.Sets.{StoredSet, without, fault_of}
 use Rattle.jpa_context.specs.declared.Entry.{Entry}
@@ -219,47 +219,46 @@ written_is world flat w h rising =
     (told_by world (plan_of m w) (applied m (plan_of m w) (new_view m w) w)) (ended world flat w (new_view m w) h)
 
 -- what PreUpdate refuses is refused
-pub refused_at_first : (m : PersistenceUnit) → IsFlat m → (w : Work) (r : Cause) (events : List Told) → IsRefusedAs r events (pre_update (without_functions m) w) → IsRefusedAs r events (flush (without_functions m) w)
-refused_at_first m flat w r events h =
-    subst (IsRefusedAs r events) (sym (flat_flush (without_functions m) flat w)) (refused_after r events (pre_update (without_functions m) w) (λ _. writing (without_functions m)) h)
+pub refused_at_first : (world : World) → IsFlat world.model → (w : Work) (r : Cause) (events : List Told) → IsRefusedAs r events (pre_update world w) → IsRefusedAs r events (flush world w)
+refused_at_first world flat w r events h =
+    subst (IsRefusedAs r events) (sym (flat_flush world flat w)) (refused_after r events (pre_update world w) (λ _. writing world) h)
 
-after_updates : (m : PersistenceUnit) → IsFlat m → (w0 w : Work) → pre_update (without_functions m) w0 ≡ Done tt w → flush (without_functions m) w0 ≡ writing (without_functions m) w
-after_updates m flat w0 w e = flat_flush (without_functions m) flat w0 ∙ ap (λ o. after o (λ _. writing (without_functions m))) e
+after_updates : (world : World) → IsFlat world.model → (w0 w : Work) → pre_update world w0 ≡ Done tt w → flush world w0 ≡ writing world w
+after_updates world flat w0 w e = flat_flush world flat w0 ∙ ap (λ o. after o (λ _. writing world)) e
 
 -- what a check refuses is refused
-pub refused_by_check : (m : PersistenceUnit) → IsFlat m → (w0 w : Work) (r : Cause) (events : List Told) → pre_update (without_functions m) w0 ≡ Done tt w → IsRefusedAs r events (check_actions (without_functions m) w) →
-    IsRefusedAs r events (flush (without_functions m) w0)
-refused_by_check m flat w0 w r events e h =
-    subst (IsRefusedAs r events) (sym (after_updates m flat w0 w e)) (refused_after r events (check_actions (without_functions m) w) (λ _. write_all (without_functions m)) h)
+pub refused_by_check : (world : World) → IsFlat world.model → (w0 w : Work) (r : Cause) (events : List Told) → pre_update world w0 ≡ Done tt w → IsRefusedAs r events (check_actions world w) →
+    IsRefusedAs r events (flush world w0)
+refused_by_check world flat w0 w r events e h =
+    subst (IsRefusedAs r events) (sym (after_updates world flat w0 w e)) (refused_after r events (check_actions world w) (λ _. write_all world) h)
 
 -- a flush whose checks pass
-pub checked : (m : PersistenceUnit) → IsFlat m → (w0 w : Work) → IsPlain w → All (λ e. e.object < length w.objects) w.context → T (is_sorted identity_cmp w.view) →
-    pre_update (without_functions m) w0 ≡ Done tt w → check_actions (without_functions m) w ≡ Done tt w → flush (without_functions m) w0 ≡ outcome (without_functions m) w
-checked m flat w0 w plain within rising updated passed =
-    let world = without_functions m in
-    after_updates m flat w0 w updated ∙ ap (λ o. after o (λ _. write_all world)) passed ∙ written_is world flat w (plain_entries w plain within) rising
+pub checked : (world : World) → IsFlat world.model → (w0 w : Work) → IsPlain w → All (λ e. e.object < length w.objects) w.context → T (is_sorted identity_cmp w.view) →
+    pre_update world w0 ≡ Done tt w → check_actions world w ≡ Done tt w → flush world w0 ≡ outcome world w
+checked world flat w0 w plain within rising updated passed =
+    after_updates world flat w0 w updated ∙ ap (λ o. after o (λ _. write_all world)) passed ∙ written_is world flat w (plain_entries w plain within) rising
 
-pub at_fault : (m : PersistenceUnit) (w : Work) (fault : Persist) → fault_of m (new_view m w) ≡ Some fault → outcome (without_functions m) w ≡ Refused (Cause.Persistence fault) w.events
-at_fault m w fault e =
-    ap (λ f. after (sound_or f w) (λ _ _. told_by (without_functions m) (plan_of m w) (applied m (plan_of m w) (new_view m w) w))) e
+pub at_fault : (world : World) (w : Work) (fault : Persist) → fault_of world.model (new_view world.model w) ≡ Some fault → outcome world w ≡ Refused (Cause.Persistence fault) w.events
+at_fault world w fault e =
+    ap (λ f. after (sound_or f w) (λ _ _. told_by world (plan_of world.model w) (applied world.model (plan_of world.model w) (new_view world.model w) w))) e
 
-pub sound : (m : PersistenceUnit) (w : Work) → fault_of m (new_view m w) ≡ None → outcome (without_functions m) w ≡ told_by (without_functions m) (plan_of m w) (applied m (plan_of m w) (new_view m w) w)
-sound m w e = ap (λ f. after (sound_or f w) (λ _ _. told_by (without_functions m) (plan_of m w) (applied m (plan_of m w) (new_view m w) w))) e
+pub sound : (world : World) (w : Work) → fault_of world.model (new_view world.model w) ≡ None → outcome world w ≡ told_by world (plan_of world.model w) (applied world.model (plan_of world.model w) (new_view world.model w) w)
+sound world w e = ap (λ f. after (sound_or f w) (λ _ _. told_by world (plan_of world.model w) (applied world.model (plan_of world.model w) (new_view world.model w) w))) e
 
 -- what the look for a fault of the new set refuses
-pub refused_by_fault : (m : PersistenceUnit) (w : Work) (r : Cause) (o : Option Persist) → o ≡ fault_of m (new_view m w) → (r ≡ Cause.OutOfMemory) ⊎ (option_map Cause.Persistence o ≡ Some r) →
-    IsRefusedAs r w.events (outcome (without_functions m) w)
-refused_by_fault m w r o e (inl h) = subst (λ c. IsRefusedAs c w.events (outcome (without_functions m) w)) (sym h) tt
-refused_by_fault m w r None e (inr h) = absurd cc
-refused_by_fault m w r (Some fault) e (inr h) =
+pub refused_by_fault : (world : World) (w : Work) (r : Cause) (o : Option Persist) → o ≡ fault_of world.model (new_view world.model w) → (r ≡ Cause.OutOfMemory) ⊎ (option_map Cause.Persistence o ≡ Some r) →
+    IsRefusedAs r w.events (outcome world w)
+refused_by_fault world w r o e (inl h) = subst (λ c. IsRefusedAs c w.events (outcome world w)) (sym h) tt
+refused_by_fault world w r None e (inr h) = absurd cc
+refused_by_fault world w r (Some fault) e (inr h) =
     let same : Cause.Persistence fault ≡ r = cc in
-    subst (λ c. IsRefusedAs c w.events (outcome (without_functions m) w)) same (at_fault m w fault (sym e))
+    subst (λ c. IsRefusedAs c w.events (outcome world w)) same (at_fault world w fault (sym e))
 
 -- a flush whose work changed in its events alone
-pub ready : (m : PersistenceUnit) → IsFlat m → (w0 w : Work) → IsPlain w0 → All (λ e. e.object < length w0.objects) w0.context → w ≡ record w0 { events = w.events } → T (is_sorted identity_cmp w.view) →
-    pre_update (without_functions m) w0 ≡ Done tt w → check_actions (without_functions m) w ≡ Done tt w → flush (without_functions m) w0 ≡ outcome (without_functions m) w
-ready m flat w0 w plain within same rising updated passed =
-    checked m flat w0 w (told_plain w0 w same plain) (subst (λ (v : Work). All (λ e. e.object < length v.objects) v.context) (sym same) within) rising updated passed
+pub ready : (world : World) → IsFlat world.model → (w0 w : Work) → IsPlain w0 → All (λ e. e.object < length w0.objects) w0.context → w ≡ record w0 { events = w.events } → T (is_sorted identity_cmp w.view) →
+    pre_update world w0 ≡ Done tt w → check_actions world w ≡ Done tt w → flush world w0 ≡ outcome world w
+ready world flat w0 w plain within same rising updated passed =
+    checked world flat w0 w (told_plain w0 w same plain) (subst (λ (v : Work). All (λ e. e.object < length v.objects) v.context) (sym same) within) rising updated passed
 
 pub same_writes : (m : PersistenceUnit) → IsFlat m → (w0 w : Work) → IsPlain w0 → All (λ e. e.object < length w0.objects) w0.context → w ≡ record w0 { events = w.events } → writes_of (plan_of m w) ≡ writes m w0
 same_writes m flat w0 w plain within same =

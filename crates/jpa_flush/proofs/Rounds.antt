@@ -8,7 +8,7 @@ use Rattle.std.proofs.lemmas.List.Elements.{All-append, All-nil, All-cons}
 use Rattle.jpa_value.specs.declared.refusal.Cause.{Cause}
 use Rattle.jpa_protocol.specs.declared.event.Told.{Told}
 use Rattle.jpa_model.specs.declared.unit.PersistenceUnit.{PersistenceUnit}
-use Rattle.jpa_behaviour.specs.Behaviour.{without_functions}
+use Rattle.jpa_behaviour.specs.Behaviour.{World}
 use Rattle.jpa_heap.specs.Objects.{no_object}
 use Rattle.jpa_context.specs.declared.Entry.{Entry}
 use Rattle.jpa_context.specs.Undo.{IsPlain}
@@ -43,17 +43,16 @@ next_refused f xs i x w r events l read h =
 pub plain_at : (w : Work) (i : ℕ) (e : Entry) → IsPlain w → i < length w.context → e ≡ get_or w.context i e → e.object < length w.objects → IsPlainEntry w e
 plain_at w i e h l read within = (h.objects e.object no_object within, ap (λ (x : Entry). x.lock) read ∙ h.context i e l)
 
-pub check_done : (m : PersistenceUnit) → IsFlat m → (w : Work) (i : ℕ) (e : Entry) → IsPlain w → i < length w.context → e ≡ get_or w.context i e → e.object < length w.objects →
-    check (without_functions m) e.object (step_of w e) w ≡ Done tt w →
-    each (check_one (without_functions m)) (drop (i + 1) w.context) w ≡ each (check_one (without_functions m)) (drop i w.context) w
-check_done m flat w i e plain l read within done =
-    next_done (check_one (without_functions m)) w.context i e w w l read (plain_check (without_functions m) flat w e (plain_at w i e plain l read within) ∙ done)
+pub check_done : (world : World) → IsFlat world.model → (w : Work) (i : ℕ) (e : Entry) → IsPlain w → i < length w.context → e ≡ get_or w.context i e → e.object < length w.objects →
+    check world e.object (step_of w e) w ≡ Done tt w →
+    each (check_one world) (drop (i + 1) w.context) w ≡ each (check_one world) (drop i w.context) w
+check_done world flat w i e plain l read within done =
+    next_done (check_one world) w.context i e w w l read (plain_check world flat w e (plain_at w i e plain l read within) ∙ done)
 
-pub check_refused : (m : PersistenceUnit) → IsFlat m → (w : Work) (i : ℕ) (e : Entry) (r : Cause) → IsPlain w → i < length w.context → e ≡ get_or w.context i e → e.object < length w.objects →
-    each (check_one (without_functions m)) (drop i w.context) w ≡ check_actions (without_functions m) w →
-    IsRefusedAs r w.events (check (without_functions m) e.object (step_of w e) w) → IsRefusedAs r w.events (check_actions (without_functions m) w)
-check_refused m flat w i e r plain l read within rest h =
-    let world = without_functions m in
+pub check_refused : (world : World) → IsFlat world.model → (w : Work) (i : ℕ) (e : Entry) (r : Cause) → IsPlain w → i < length w.context → e ≡ get_or w.context i e → e.object < length w.objects →
+    each (check_one world) (drop i w.context) w ≡ check_actions world w →
+    IsRefusedAs r w.events (check world e.object (step_of w e) w) → IsRefusedAs r w.events (check_actions world w)
+check_refused world flat w i e r plain l read within rest h =
     subst (IsRefusedAs r w.events) rest
     (next_refused (check_one world) w.context i e w r w.events l read
     (subst (IsRefusedAs r w.events) (sym (plain_check world flat w e (plain_at w i e plain l read within))) h))
@@ -85,20 +84,18 @@ within_round m w e plan plan' o l before this next =
 pub told_plain : (w0 w : Work) → w ≡ record w0 { events = w.events } → IsPlain w0 → IsPlain w
 told_plain w0 w same h = subst IsPlain (sym same) (record { objects = h.objects; context = h.context })
 
-pub update_done : (m : PersistenceUnit) → IsFlat m → (w0 w w' : Work) (i : ℕ) (e : Entry) → IsPlain w0 → w ≡ record w0 { events = w.events } → i < length w.context → e ≡ get_or w.context i e →
-    e.object < length w.objects → update (without_functions m) e.object (step_of w e) w ≡ Done tt w' →
-    each (pre_update_one (without_functions m)) (drop (i + 1) w0.context) w' ≡ each (pre_update_one (without_functions m)) (drop i w0.context) w
-update_done m flat w0 w w' i e plain same l read within done =
-    let world = without_functions m in
+pub update_done : (world : World) → IsFlat world.model → (w0 w w' : Work) (i : ℕ) (e : Entry) → IsPlain w0 → w ≡ record w0 { events = w.events } → i < length w.context → e ≡ get_or w.context i e →
+    e.object < length w.objects → update world e.object (step_of w e) w ≡ Done tt w' →
+    each (pre_update_one world) (drop (i + 1) w0.context) w' ≡ each (pre_update_one world) (drop i w0.context) w
+update_done world flat w0 w w' i e plain same l read within done =
     ap (λ (v : Work). each (pre_update_one world) (drop (i + 1) v.context) w') (sym same)
     ∙ next_done (pre_update_one world) w.context i e w w' l read (plain_update world flat w e (plain_at w i e (told_plain w0 w same plain) l read within) ∙ done)
     ∙ ap (λ (v : Work). each (pre_update_one world) (drop i v.context) w) same
 
-pub update_refused : (m : PersistenceUnit) → IsFlat m → (w0 w : Work) (i : ℕ) (e : Entry) (r : Cause) (events : List Told) (o : Outcome (Unit {0})) → IsPlain w0 → w ≡ record w0 { events = w.events } →
-    i < length w.context → e ≡ get_or w.context i e → e.object < length w.objects → each (pre_update_one (without_functions m)) (drop i w0.context) w ≡ o →
-    IsRefusedAs r events (update (without_functions m) e.object (step_of w e) w) → IsRefusedAs r events o
-update_refused m flat w0 w i e r events o plain same l read within rest h =
-    let world = without_functions m in
+pub update_refused : (world : World) → IsFlat world.model → (w0 w : Work) (i : ℕ) (e : Entry) (r : Cause) (events : List Told) (o : Outcome (Unit {0})) → IsPlain w0 → w ≡ record w0 { events = w.events } →
+    i < length w.context → e ≡ get_or w.context i e → e.object < length w.objects → each (pre_update_one world) (drop i w0.context) w ≡ o →
+    IsRefusedAs r events (update world e.object (step_of w e) w) → IsRefusedAs r events o
+update_refused world flat w0 w i e r events o plain same l read within rest h =
     subst (IsRefusedAs r events) (ap (λ (v : Work). each (pre_update_one world) (drop i v.context) w) same ∙ rest)
     (next_refused (pre_update_one world) w.context i e w r events l read
     (subst (IsRefusedAs r events) (sym (plain_update world flat w e (plain_at w i e (told_plain w0 w same plain) l read within))) h))

@@ -1,17 +1,19 @@
 //! What is checked of an object before it is written.
-ghost use Rattle.std.specs.Prelude.{◌≡◌, ◌<◌, length, is_some, true};
-ghost use Rattle.jpa_behaviour.specs.Behaviour.{without_functions};
+ghost use Rattle.std.specs.Prelude.{◌≡◌, ◌<◌, length, is_some, true, IfOk, IfErr};
+ghost use Rattle.jpa_behaviour.specs.Registered.{world_of, column_in};
 ghost use Rattle.jpa_context.specs.Undo.{now};
 ghost use Rattle.jpa_context.specs.Work as works;
 ghost use Rattle.jpa_heap.specs.Shape.{HasShape};
 ghost use Rattle.jpa_model.specs.declared.unit.PersistenceUnit.{PersistenceUnit};
+ghost use Rattle.jpa_value.specs.declared.refusal.Cause.{Cause};
 ghost use Rattle.jpa_flush.specs.Flush as flushes;
 ghost use Rattle.jpa_flush.specs.Plan as plans;
 
+use jpa_behaviour::{Behaviour, Registry};
 use jpa_context::UnitOfWork;
 use jpa_heap::LiveObject;
 use jpa_model::{Attribute, Metamodel};
-use jpa_value::{Identity, Value};
+use jpa_value::{Cause, Identity, Value};
 
 /// Whether an object stands in the set under the identity.
 pub fn is_stored(work: &UnitOfWork, id: &Option<Identity>) -> bool
@@ -68,24 +70,55 @@ pub fn raised(version: Option<i64>) -> Option<i64>
     }
 }
 
-/// Whether a value goes through without its converter, which always throws here.
-fn converts(attribute: &Attribute, value: &Value) -> bool
-    ensures { (m : PersistenceUnit) → result ≡ flushes.converts (without_functions m) attribute.now.converter value.now }
+/// Whether the converter of this name makes something of a value for its column. It doesn't where it throws, where its
+/// answer counts as a throw, and where there is none of this name. `OutOfMemory` where a growth was refused.
+fn goes_through<B: Behaviour>(
+    registry: &Registry<B>,
+    name: &str,
+    value: &Value,
+) -> Result<bool, Cause>
+    ensures ok { IfOk result (λ goes. goes ≡ is_some (column_in B.meaning registry.now name.now value.now)) }
+    ensures err { IfErr result (λ cause. cause ≡ Cause.OutOfMemory) }
 {
-    attribute.converter.is_none() || matches!(value, Value::Null)
+    match registry.to_column(name, value) {
+        Ok(_) => Ok(true),
+        Err(Cause::OutOfMemory) => Err(Cause::OutOfMemory),
+        Err(_) => Ok(false),
+    }
 }
 
-/// Whether no converter of an object throws (chapter 3.8).
-pub fn all_convert(metamodel: &Metamodel, object: &LiveObject) -> bool
+/// Whether a value goes through its attribute's converter, if there is one; null passes no converter. `OutOfMemory` where
+/// a growth was refused.
+fn converts<B: Behaviour>(
+    registry: &Registry<B>,
+    attribute: &Attribute,
+    value: &Value,
+) -> Result<bool, Cause>
+    ensures ok { (m : PersistenceUnit) → IfOk result (λ goes. goes ≡ flushes.converts (world_of B.meaning m registry.now) attribute.now.converter value.now) }
+    ensures err { IfErr result (λ cause. cause ≡ Cause.OutOfMemory) }
+{
+    match (&attribute.converter, value) {
+        (None, _) | (Some(_), Value::Null) => Ok(true),
+        (Some(name), _) => goes_through(registry, name.as_str(), value),
+    }
+}
+
+/// Whether no converter of an object throws (chapter 3.8). `OutOfMemory` where a growth was refused.
+pub fn all_convert<B: Behaviour>(
+    metamodel: &Metamodel,
+    registry: &Registry<B>,
+    object: &LiveObject,
+) -> Result<bool, Cause>
     requires { HasShape metamodel.now object.now }
-    ensures { result ≡ flushes.all_convert (without_functions metamodel.now) object.now }
+    ensures ok { IfOk result (λ convert. convert ≡ flushes.all_convert (world_of B.meaning metamodel.now registry.now) object.now) }
+    ensures err { IfErr result (λ cause. cause ≡ Cause.OutOfMemory) }
 {
     let values = object.values.as_slice();
     let attributes = metamodel.attributes_of(object.class);
     for (i, value) in values.iter().enumerate() {
-        if !converts(&attributes[i], value) {
-            return false;
+        if !converts(registry, &attributes[i], value)? {
+            return Ok(false);
         }
     }
-    true
+    Ok(true)
 }

@@ -1,6 +1,6 @@
 //! The flush of a manager's context.
 ghost use Rattle.std.specs.Prelude.{◌≡◌, ◌<◌, All, length, IfOk, OnOk};
-ghost use Rattle.jpa_behaviour.specs.Behaviour.{without_functions};
+ghost use Rattle.jpa_behaviour.specs.Registered.{world_of};
 ghost use Rattle.jpa_context.specs.Steps.{Ends, Meets};
 ghost use Rattle.jpa_context.specs.Undo.{now, since, IsPlaced, IsPlain};
 ghost use Rattle.jpa_lifecycle.specs.Flat.{IsFlat};
@@ -12,6 +12,7 @@ use crate::planning::{Planned, plan};
 use crate::settling::{remember, settle};
 use crate::telling::{tell_updates, tell_written};
 use crate::writing::{with_writes, writes_of};
+use jpa_behaviour::{Behaviour, Registry};
 use jpa_context::UnitOfWork;
 use jpa_model::Metamodel;
 use jpa_stored::{Stored, StoredSet, integrity};
@@ -20,9 +21,10 @@ use std::alloc::Global;
 
 /// The work after a plan is written: the objects have their versions and bases, the work sees the new set, and what was
 /// written is told.
-fn apply(
+fn apply<B: Behaviour>(
     alloc: Global,
     metamodel: &Metamodel,
+    registry: &Registry<B>,
     work: &mut UnitOfWork,
     plan: &[Planned],
     view: StoredSet,
@@ -31,7 +33,7 @@ fn apply(
     requires placed { IsPlaced metamodel.now (now work.old) }
     requires plain { IsPlain (now work.old) }
     requires objects { All (λ p. p.object < length work.old.objects.now) plan.now }
-    ensures meets { Meets result (now work.new) (plans.told_by (without_functions metamodel.now) plan.now (plans.applied metamodel.now plan.now view (now work.old))) }
+    ensures meets { Meets result (now work.new) (plans.told_by (world_of B.meaning metamodel.now registry.now) plan.now (plans.applied metamodel.now plan.now view (now work.old))) }
     ensures plain { OnOk result (IsPlain (now work.new)) }
     ensures view { OnOk result (work.new.view ≡ view) }
     ensures since { since work.new ≡ since work.old }
@@ -39,7 +41,7 @@ fn apply(
     settle(alloc, work, plan)?;
     remember(alloc, metamodel, work)?;
     work.replace_view(view);
-    tell_written(alloc, metamodel, work, plan)?;
+    tell_written(alloc, metamodel, registry, work, plan)?;
     Ok(())
 }
 
@@ -51,25 +53,26 @@ fn apply(
 /// has not the version that an object was loaded with; `Persistence(version)` where a version can't rise;
 /// `Persistence(converter)` where a converter throws; `Persistence(null)`, `(reference)` or `(unique)` where the new set
 /// isn't sound; `OutOfMemory` where a growth was refused. What a refused call changed is undone by `UnitOfWork::undo`.
-pub fn flush(
+pub fn flush<B: Behaviour>(
     alloc: Global,
     metamodel: &Metamodel,
+    registry: &Registry<B>,
     work: &mut UnitOfWork,
 ) -> Result<Seq<(Identity, Stored)>, Cause>
     requires flat { IsFlat metamodel.now }
     requires placed { IsPlaced metamodel.now (now work.old) }
     requires plain { IsPlain (now work.old) }
-    ensures ends { Ends result (now work.new) (flushes.flush (without_functions metamodel.now) (now work.old)) }
+    ensures ends { Ends result (now work.new) (flushes.flush (world_of B.meaning metamodel.now registry.now) (now work.old)) }
     ensures written { IfOk result (λ objects. objects ≡ writes metamodel.now (now work.old)) }
     ensures view { IfOk result (λ objects. work.new.view ≡ put_all objects work.old.view) }
     ensures plain { OnOk result (IsPlain (now work.new)) }
     ensures since { since work.new ≡ since work.old }
 {
-    tell_updates(alloc, metamodel, work)?;
-    let plan = plan(alloc, metamodel, work)?;
+    tell_updates(alloc, metamodel, registry, work)?;
+    let plan = plan(alloc, metamodel, registry, work)?;
     let writes = writes_of(alloc, plan.as_slice())?;
     let view = with_writes(&work.view, writes.as_slice())?;
     integrity(metamodel.unit(), &view)?;
-    apply(alloc, metamodel, work, plan.as_slice(), view)?;
+    apply(alloc, metamodel, registry, work, plan.as_slice(), view)?;
     Ok(writes)
 }

@@ -1,6 +1,6 @@
 //! What the flush writes.
 ghost use Rattle.std.specs.Prelude.{◌≡◌, ◌<◌, All, length, IfOk, IfErr};
-ghost use Rattle.jpa_behaviour.specs.Behaviour.{without_functions};
+ghost use Rattle.jpa_behaviour.specs.Registered.{world_of};
 ghost use Rattle.jpa_context.specs.Steps.{Ends};
 ghost use Rattle.jpa_context.specs.Undo.{now, IsPlaced, IsPlain};
 ghost use Rattle.jpa_lifecycle.specs.Flat.{IsFlat};
@@ -10,6 +10,7 @@ ghost use Rattle.jpa_flush.specs.Plan as plans;
 
 use crate::checking::{all_convert, can_rise, is_current, is_stored, raised};
 use crate::steps::{Step, step_of};
+use jpa_behaviour::{Behaviour, Registry};
 use jpa_context::UnitOfWork;
 use jpa_heap::{LiveObject, identity_of};
 use jpa_model::Metamodel;
@@ -40,23 +41,24 @@ fn stored_of(alloc: Global, object: &LiveObject, version: Option<i64>) -> Result
 }
 
 /// An object that the set has not.
-fn insertion(
+fn insertion<B: Behaviour>(
     alloc: Global,
     metamodel: &Metamodel,
+    registry: &Registry<B>,
     work: &UnitOfWork,
     object: usize,
 ) -> Result<Planned, Cause>
     requires placed { IsPlaced metamodel.now (now work.now) }
     requires object { object < length work.now.objects.now }
     ensures planned { IfOk result (λ planned. planned ≡ plans.insertion metamodel.now (now work.now) object) }
-    ensures ends { Ends result (now work.now) (plans.check_insertion (without_functions metamodel.now) object (now work.now)) }
+    ensures ends { Ends result (now work.now) (plans.check_insertion (world_of B.meaning metamodel.now registry.now) object (now work.now)) }
 {
     let live = &work.objects.as_slice()[object];
     let id = identity_of(metamodel, live)?;
     if is_stored(work, &id) {
         return Err(Cause::EntityExists);
     }
-    if !all_convert(metamodel, live) {
+    if !all_convert(metamodel, registry, live)? {
         return Err(Cause::Persistence(Persist::Converter));
     }
     let version = if metamodel.is_versioned(live.class) {
@@ -73,9 +75,10 @@ fn insertion(
 }
 
 /// An object that replaces its row, which has this version.
-fn replacement(
+fn replacement<B: Behaviour>(
     alloc: Global,
     metamodel: &Metamodel,
+    registry: &Registry<B>,
     work: &UnitOfWork,
     object: usize,
     version: Option<i64>,
@@ -83,7 +86,7 @@ fn replacement(
     requires placed { IsPlaced metamodel.now (now work.now) }
     requires object { object < length work.now.objects.now }
     ensures planned { IfOk result (λ planned. planned ≡ plans.replacement metamodel.now (now work.now) object version) }
-    ensures ends { Ends result (now work.now) (plans.check_replacement (without_functions metamodel.now) object version (now work.now)) }
+    ensures ends { Ends result (now work.now) (plans.check_replacement (world_of B.meaning metamodel.now registry.now) object version (now work.now)) }
 {
     let live = &work.objects.as_slice()[object];
     let id = identity_of(metamodel, live)?;
@@ -93,7 +96,7 @@ fn replacement(
     if !can_rise(version) {
         return Err(Cause::Persistence(Persist::Version));
     }
-    if !all_convert(metamodel, live) {
+    if !all_convert(metamodel, registry, live)? {
         return Err(Cause::Persistence(Persist::Converter));
     }
     Ok(Planned {
@@ -105,9 +108,10 @@ fn replacement(
 }
 
 /// What is written of an object in this step, if anything.
-fn plan_one(
+fn plan_one<B: Behaviour>(
     alloc: Global,
     metamodel: &Metamodel,
+    registry: &Registry<B>,
     work: &UnitOfWork,
     object: usize,
     step: Step,
@@ -115,30 +119,35 @@ fn plan_one(
     requires placed { IsPlaced metamodel.now (now work.now) }
     requires object { object < length work.now.objects.now }
     ensures planned { IfOk result (λ planned. planned ≡ plans.planned metamodel.now (now work.now) object step) }
-    ensures ends { Ends result (now work.now) (plans.check (without_functions metamodel.now) object step (now work.now)) }
+    ensures ends { Ends result (now work.now) (plans.check (world_of B.meaning metamodel.now registry.now) object step (now work.now)) }
 {
     match step {
         Step::Keep => Ok(None),
-        Step::Insert => Ok(Some(insertion(alloc, metamodel, work, object)?)),
+        Step::Insert => Ok(Some(insertion(alloc, metamodel, registry, work, object)?)),
         Step::Replace(version) => {
-            Ok(Some(replacement(alloc, metamodel, work, object, version)?))
+            Ok(Some(replacement(alloc, metamodel, registry, work, object, version)?))
         }
     }
 }
 
 /// What the flush writes, in the order of the context, each object checked against the set.
-pub fn plan(alloc: Global, metamodel: &Metamodel, work: &UnitOfWork) -> Result<Seq<Planned>, Cause>
+pub fn plan<B: Behaviour>(
+    alloc: Global,
+    metamodel: &Metamodel,
+    registry: &Registry<B>,
+    work: &UnitOfWork,
+) -> Result<Seq<Planned>, Cause>
     requires flat { IsFlat metamodel.now }
     requires placed { IsPlaced metamodel.now (now work.now) }
     requires plain { IsPlain (now work.now) }
     ensures planned { IfOk result (λ plan. plan ≡ plans.plan_of metamodel.now (now work.now)) }
     ensures objects { IfOk result (λ plan. All (λ p. p.object < length work.now.objects.now) plan) }
-    ensures ends { Ends result (now work.now) (flushes.check_actions (without_functions metamodel.now) (now work.now)) }
+    ensures ends { Ends result (now work.now) (flushes.check_actions (world_of B.meaning metamodel.now registry.now) (now work.now)) }
 {
     let mut plan = Seq::new(alloc);
     for entry in work.context.as_slice() {
         let step = step_of(work, entry);
-        if let Some(planned) = plan_one(alloc, metamodel, work, entry.object, step)? {
+        if let Some(planned) = plan_one(alloc, metamodel, registry, work, entry.object, step)? {
             plan.push(planned)?;
         }
     }

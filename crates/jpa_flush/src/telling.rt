@@ -1,6 +1,6 @@
 //! The events of a flush.
 ghost use Rattle.std.specs.Prelude.{◌≡◌, ◌<◌, All, length};
-ghost use Rattle.jpa_behaviour.specs.Behaviour.{without_functions};
+ghost use Rattle.jpa_behaviour.specs.Registered.{world_of};
 ghost use Rattle.jpa_context.specs.Steps.{Meets};
 ghost use Rattle.jpa_context.specs.Undo.{now, since, IsPlaced, IsPlain};
 ghost use Rattle.jpa_lifecycle.specs.Flat.{IsFlat};
@@ -9,6 +9,7 @@ ghost use Rattle.jpa_flush.specs.Plan as plans;
 
 use crate::planning::Planned;
 use crate::steps::{Step, step_of};
+use jpa_behaviour::{Behaviour, Registry};
 use jpa_context::UnitOfWork;
 use jpa_lifecycle::callback;
 use jpa_model::Metamodel;
@@ -16,35 +17,40 @@ use jpa_value::{Cause, LifecycleEvent};
 use std::alloc::Global;
 
 /// PreUpdate, where the object replaces its row.
-fn tell_update(
+fn tell_update<B: Behaviour>(
     alloc: Global,
     metamodel: &Metamodel,
+    registry: &Registry<B>,
     work: &mut UnitOfWork,
     object: usize,
     step: Step,
 ) -> Result<(), Cause>
     requires flat { IsFlat metamodel.now }
     requires object { object < length work.old.objects.now }
-    ensures meets { Meets result (now work.new) (plans.update (without_functions metamodel.now) object step (now work.old)) }
+    ensures meets { Meets result (now work.new) (plans.update (world_of B.meaning metamodel.now registry.now) object step (now work.old)) }
     ensures events { now work.new ≡ record (now work.old) { events = (now work.new).events } }
     ensures since { since work.new ≡ since work.old }
 {
     match step {
         Step::Keep | Step::Insert => Ok(()),
-        Step::Replace(_) => callback(alloc, metamodel, work, LifecycleEvent::PreUpdate, object),
+        Step::Replace(_) => {
+            let event = LifecycleEvent::PreUpdate;
+            callback(alloc, metamodel, registry, work, event, object)
+        }
     }
 }
 
 /// PreUpdate for each object that replaces its row (chapter 3.5.2).
-pub fn tell_updates(
+pub fn tell_updates<B: Behaviour>(
     alloc: Global,
     metamodel: &Metamodel,
+    registry: &Registry<B>,
     work: &mut UnitOfWork,
 ) -> Result<(), Cause>
     requires flat { IsFlat metamodel.now }
     requires placed { IsPlaced metamodel.now (now work.old) }
     requires plain { IsPlain (now work.old) }
-    ensures meets { Meets result (now work.new) (flushes.pre_update (without_functions metamodel.now) (now work.old)) }
+    ensures meets { Meets result (now work.new) (flushes.pre_update (world_of B.meaning metamodel.now registry.now) (now work.old)) }
     ensures events { now work.new ≡ record (now work.old) { events = (now work.new).events } }
     ensures since { since work.new ≡ since work.old }
 {
@@ -52,26 +58,28 @@ pub fn tell_updates(
         let entry = &work.context.as_slice()[i];
         let object = entry.object;
         let step = step_of(work, entry);
-        tell_update(alloc, metamodel, work, object, step)?;
+        tell_update(alloc, metamodel, registry, work, object, step)?;
     }
     Ok(())
 }
 
 /// The event of each object that was written, in the order of the plan.
-pub fn tell_written(
+pub fn tell_written<B: Behaviour>(
     alloc: Global,
     metamodel: &Metamodel,
+    registry: &Registry<B>,
     work: &mut UnitOfWork,
     plan: &[Planned],
 ) -> Result<(), Cause>
     requires flat { IsFlat metamodel.now }
     requires objects { All (λ p. p.object < length work.old.objects.now) plan.now }
-    ensures meets { Meets result (now work.new) (plans.told_by (without_functions metamodel.now) plan.now (now work.old)) }
+    ensures meets { Meets result (now work.new) (plans.told_by (world_of B.meaning metamodel.now registry.now) plan.now (now work.old)) }
     ensures events { now work.new ≡ record (now work.old) { events = (now work.new).events } }
     ensures since { since work.new ≡ since work.old }
 {
     for planned in plan {
-        callback(alloc, metamodel, work, planned.event, planned.object)?;
+        let event = planned.event;
+        callback(alloc, metamodel, registry, work, event, planned.object)?;
     }
     Ok(())
 }

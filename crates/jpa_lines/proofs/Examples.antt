@@ -13,7 +13,7 @@ use Rattle.jpa_protocol.specs.declared.call.Given.{Given}
 use Rattle.jpa_value.specs.declared.event.LifecycleEvent.{LifecycleEvent}
 use Rattle.jpa_protocol.specs.declared.reply.Answer.{Answer}
 use Rattle.jpa_protocol.specs.declared.reply.Item.{Item}
-use Rattle.jpa_lines.specs.CallOf.{meaning, text_call, call_of, create_of, new_of, set_of, em_of, persist_of, find_of, given_of, marked_of, key_of, hex_of}
+use Rattle.jpa_lines.specs.CallOf.{meaning, text_call, call_of, create_of, new_of, set_of, get_of, em_of, persist_of, find_of, given_of, marked_of, key_of, hex_of}
 use Rattle.jpa_lines.specs.ReplyText.{reply_text}
 use Rattle.jpa_lines.specs.Run.{lines_of}
 
@@ -49,6 +49,10 @@ gives_object : meaning (codes "{\"value\":{\"object\":-2},\"call\":\"set\",\"nam
 unfolding is_utf8 chars meaning text_call call_of set_of given_of marked_of serde_json_on_literals
 gives_object = refl
 
+gets : meaning (codes "{\"call\":\"get\",\"object\":1,\"name\":\"x\"}") ≡ Ok (Call.Get (pos 1) (codes "x"))
+unfolding is_utf8 chars meaning text_call call_of get_of serde_json_on_literals
+gets = refl
+
 begins : meaning (codes "{\"call\":\"begin\",\"em\":1}") ≡ Ok (Call.Begin (pos 1))
 unfolding is_utf8 chars meaning text_call call_of em_of serde_json_on_literals
 begins = refl
@@ -60,6 +64,14 @@ persists = refl
 commits : meaning (codes " {\"call\":\"commit\",\"em\":1}\t") ≡ Ok (Call.Commit (pos 1))
 unfolding is_utf8 chars meaning text_call call_of em_of serde_json_on_literals
 commits = refl
+
+rolls_back : meaning (codes "{\"call\":\"rollback\",\"em\":1}") ≡ Ok (Call.Rollback (pos 1))
+unfolding is_utf8 chars meaning text_call call_of em_of serde_json_on_literals
+rolls_back = refl
+
+only_rolls_back : meaning (codes "{\"call\":\"setRollbackOnly\",\"em\":1}") ≡ Ok (Call.SetRollbackOnly (pos 1))
+unfolding is_utf8 chars meaning text_call call_of em_of serde_json_on_literals
+only_rolls_back = refl
 
 finds : meaning (codes "{\"call\":\"find\",\"em\":1,\"entity\":\"Person\",\"key\":[1,null]}") ≡ Ok (Call.Find (pos 1) (codes "Person") (Given.Plain (Value.Int (pos 1)) ∷ Given.Plain Value.Null ∷ []))
 unfolding is_utf8 chars meaning text_call call_of find_of key_of given_of serde_json_on_literals
@@ -84,6 +96,10 @@ empty = refl
 surplus : meaning (codes "{\"call\":\"begin\",\"em\":1,\"x\":1}") ≡ Err Cause.BadLine
 unfolding is_utf8 chars meaning text_call call_of em_of serde_json_on_literals
 surplus = refl
+
+nameless : meaning (codes "{\"call\":\"get\",\"object\":1}") ≡ Err Cause.BadLine
+unfolding is_utf8 chars meaning text_call call_of get_of serde_json_on_literals
+nameless = refl
 
 fraction : meaning (codes "{\"call\":\"begin\",\"em\":1.5}") ≡ Err Cause.BadLine
 unfolding is_utf8 chars meaning text_call call_of em_of serde_json_on_literals

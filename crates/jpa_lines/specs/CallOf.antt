@@ -7,7 +7,7 @@ use Rattle.jpa_value.specs.declared.refusal.Cause.{Cause}
 use Rattle.jpa_value.specs.declared.refusal.Cause.TheVariants.{BadLine, Limit}
 use Rattle.jpa_value.specs.declared.value.Value.TheVariants.{Null, Int, Text, Bytes}
 use Rattle.jpa_protocol.specs.declared.call.Call.{Call}
-use Rattle.jpa_protocol.specs.declared.call.Call.TheVariants.{CreateEntityManager, NewObject, SetValue, Begin, Persist, Commit, Find}
+use Rattle.jpa_protocol.specs.declared.call.Call.TheVariants.{CreateEntityManager, NewObject, SetValue, Get, Begin, Persist, Commit, Rollback, SetRollbackOnly, Find}
 use Rattle.jpa_protocol.specs.declared.call.Given.{Given}
 use Rattle.jpa_protocol.specs.declared.call.Given.TheVariants as given
 use Rattle.serde_json.specs.Data.{Data, null, boolean, number, string, array, object, Items, no_items, item}
@@ -101,11 +101,24 @@ set_of d = do
   value ← given_of member
   Some (SetValue on name value)
 
+unfoldable pub get_of : Data → Option Call
+get_of d = do
+  all ← guard (count_of d == 3)
+  on ← integer_at (codes "object") d
+  name ← text_at (codes "name") d
+  Some (Get on name)
+
 -- the manager, of a call that has no other member
 unfoldable pub em_of : Data → Option ℤ
 em_of d = do
   all ← guard (count_of d == 2)
   integer_at (codes "em") d
+
+-- a call of a manager alone
+abbrev pub of_em : (ℤ → Call) → Data → Option Call
+of_em call d = do
+  em ← em_of d
+  Some (call em)
 
 unfoldable pub persist_of : Data → Option Call
 persist_of d = do
@@ -129,9 +142,12 @@ word_of name =
     if bytes_eq name (codes "createEntityManager") then Some word.CreateEntityManager
     else if bytes_eq name (codes "new") then Some word.New
     else if bytes_eq name (codes "set") then Some word.Set
+    else if bytes_eq name (codes "get") then Some word.Get
     else if bytes_eq name (codes "begin") then Some word.Begin
     else if bytes_eq name (codes "persist") then Some word.Persist
     else if bytes_eq name (codes "commit") then Some word.Commit
+    else if bytes_eq name (codes "rollback") then Some word.Rollback
+    else if bytes_eq name (codes "setRollbackOnly") then Some word.SetRollbackOnly
     else if bytes_eq name (codes "find") then Some word.Find
     else None
 
@@ -140,13 +156,12 @@ abbrev pub worded_call : Word → Data → Option Call
 worded_call word.CreateEntityManager d = create_of d
 worded_call word.New d = new_of d
 worded_call word.Set d = set_of d
-worded_call word.Begin d = do
-  em ← em_of d
-  Some (Begin em)
+worded_call word.Get d = get_of d
+worded_call word.Begin d = of_em Begin d
 worded_call word.Persist d = persist_of d
-worded_call word.Commit d = do
-  em ← em_of d
-  Some (Commit em)
+worded_call word.Commit d = of_em Commit d
+worded_call word.Rollback d = of_em Rollback d
+worded_call word.SetRollbackOnly d = of_em SetRollbackOnly d
 worded_call word.Find d = find_of d
 
 unfoldable pub call_of : Data → Option Call

@@ -5,7 +5,7 @@ ghost use Rattle.serde_json.specs.Read.{read};
 ghost use Rattle.serde_json.specs.View.{view, items_view};
 ghost use Rattle.jpa_value.specs.declared.refusal.Cause.TheVariants.{OutOfMemory};
 ghost use Rattle.jpa_lines.specs.Outcome.{Gives, same, guard};
-ghost use Rattle.jpa_lines.specs.CallOf.{count_of, integer_of, integer_at, text_at, hex_of, marked_of, given_of, key_of, em_of, create_of, new_of, set_of, persist_of, find_of, word_of, worded_call, call_of, text_call, meaning};
+ghost use Rattle.jpa_lines.specs.CallOf.{count_of, integer_of, integer_at, text_at, hex_of, marked_of, given_of, key_of, em_of, create_of, new_of, set_of, get_of, persist_of, find_of, word_of, worded_call, call_of, text_call, meaning};
 
 use jpa_protocol::{Call, Given};
 use jpa_value::{Bytes, Cause, Seq, Text, Value};
@@ -21,9 +21,12 @@ enum Word {
     CreateEntityManager,
     New,
     Set,
+    Get,
     Begin,
     Persist,
     Commit,
+    Rollback,
+    SetRollbackOnly,
     Find,
 }
 
@@ -81,9 +84,12 @@ fn word_of(name: &str) -> Result<Word, Cause>
         "createEntityManager" => Ok(Word::CreateEntityManager),
         "new" => Ok(Word::New),
         "set" => Ok(Word::Set),
+        "get" => Ok(Word::Get),
         "begin" => Ok(Word::Begin),
         "persist" => Ok(Word::Persist),
         "commit" => Ok(Word::Commit),
+        "rollback" => Ok(Word::Rollback),
+        "setRollbackOnly" => Ok(Word::SetRollbackOnly),
         "find" => Ok(Word::Find),
         _ => Err(Cause::BadLine),
     }
@@ -96,9 +102,12 @@ fn worded_call(alloc: Global, word: Word, json: &Json) -> Result<Call, Cause>
         Word::CreateEntityManager => create_of(json),
         Word::New => new_of(alloc, json),
         Word::Set => set_of(alloc, json),
+        Word::Get => get_of(alloc, json),
         Word::Begin => Ok(Call::Begin { em: em_of(json)? }),
         Word::Persist => persist_of(json),
         Word::Commit => Ok(Call::Commit { em: em_of(json)? }),
+        Word::Rollback => Ok(Call::Rollback { em: em_of(json)? }),
+        Word::SetRollbackOnly => Ok(Call::SetRollbackOnly { em: em_of(json)? }),
         Word::Find => find_of(alloc, json),
     }
 }
@@ -134,6 +143,16 @@ fn set_of(alloc: Global, json: &Json) -> Result<Call, Cause>
         name,
         value,
     })
+}
+
+#[tactic(auto, unfolding(crate::specs::CallOf::get_of))]
+fn get_of(alloc: Global, json: &Json) -> Result<Call, Cause>
+    ensures { Gives same result (get_of (view json.now)) }
+{
+    only(json, 3)?;
+    let object = integer_at(json, "object")?;
+    let name = text_at(alloc, json, "name")?;
+    Ok(Call::Get { object, name })
 }
 
 /// The manager of a call that has no other member.

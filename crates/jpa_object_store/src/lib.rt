@@ -1,11 +1,15 @@
-//! Where committed objects stand: what a provider asks of its store.
+//! Committed objects over a store of rows: what a commit writes (Jakarta Persistence 3.1, chapters 2.4 keys, 2.10 relations,
+//! 2.12 hierarchies, 3.2.4 synchronization to the database).
 //!
-//! `ObjectStore` is a store of the objects of one persistence unit, and of the next number of its generated keys;
-//! `specs/Served` says which units are served. The crate stands on the metamodel and on stored sets.
+//! `write` brings the objects that a flush wrote, and the next numbers of generated keys, into a store of rows: it makes the
+//! changes over the committed rows, and commits them as one transaction. It reads nothing of the store, so that a disk that
+//! lies can't change what a commit answers. `specs/Written` says what the written objects make of a committed set. The crate stands on the mapper of
+//! objects to rows, on changes over rows and on the laws of `jpa_object_rows`; it names no database.
 #![tactic(auto)]
 
-mod served;
-mod store;
+mod commit;
+mod numbers;
+mod objects;
+mod rows;
 
-pub use served::is_served;
-pub use store::ObjectStore;
+pub use commit::write;

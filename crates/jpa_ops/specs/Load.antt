@@ -14,7 +14,7 @@ use Rattle.jpa_heap.specs.declared.Held.{Held}
 use Rattle.jpa_heap.specs.declared.Life.{Life}
 use Rattle.jpa_heap.specs.declared.LiveObject.{LiveObject}
 use Rattle.jpa_context.specs.declared.Base.{Base}
-use Rattle.jpa_context.specs.Steps.{◌>>=◌, ◌>>◌, Op, give, require, read, change}
+use Rattle.jpa_context.specs.Steps.{◌>>=◌, ◌>>◌, Op, give, refuse, require, read, change}
 use Rattle.jpa_model.specs.Chains.{is_kind_of, relations_of, root_of, is_to_one}
 use Rattle.jpa_stored.specs.Sets.{StoredSet, members}
 use Rattle.jpa_context.specs.Work.{Work, object, state_of, is_removed, instance, row, entered, with_base}
@@ -61,6 +61,15 @@ load world id x = do
   change (λ w. with_base n (Some (base_loaded world.model w.view id x)) (entered n (made (object_loaded world.model w.manager w.view id x) w)))
   callback world LifecycleEvent.PostLoad n
   give n
+
+-- the instance of the context, else the row loaded, else the refusal
+abbrev pub reached : World → Cause → Identity → Option ℕ → Option Stored → Op ℕ
+reached world r id (Some n) x = give n
+reached world r id None (Some x) = load world id x
+reached world r id None None = refuse r
+
+abbrev pub reach : World → Cause → Identity → Op ℕ
+reach world r id w = reached world r id (instance world.model w id) (row w id) w
 
 -- ---- find
 

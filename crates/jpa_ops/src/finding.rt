@@ -1,7 +1,7 @@
 //! Finding an object.
 ghost use Rattle.std.specs.Prelude.{◌≡◌, ◌<◌, [], length, IfOk, IfErr, IfSome, None};
 ghost use Rattle.jpa_value.specs.declared.refusal.Cause.{Cause};
-ghost use Rattle.jpa_behaviour.specs.Behaviour.{without_functions};
+ghost use Rattle.jpa_behaviour.specs.Registered.{world_of};
 ghost use Rattle.jpa_heap.specs.declared.Life.{Life};
 ghost use Rattle.jpa_context.specs.Steps.{Meets};
 ghost use Rattle.jpa_context.specs.Undo.{now, since, IsPlaced};
@@ -10,6 +10,7 @@ ghost use Rattle.jpa_lifecycle.specs.Flat.{IsFlat};
 ghost use Rattle.jpa_ops.specs.Load as load;
 
 use crate::context::{instance, state_of};
+use jpa_behaviour::{Behaviour, Registry};
 use jpa_context::{Base, EntityState, Entry, Lock, UnitOfWork};
 use jpa_heap::{Life, LiveObject};
 use jpa_lifecycle::callback;
@@ -43,16 +44,17 @@ fn object_loaded(
 
 /// A row becomes an object of the context, and PostLoad is told (chapter 3.5.2); its place. `Limit` where there are
 /// 1,000,000 live objects already, and `OutOfMemory`.
-fn load(
+fn load<B: Behaviour>(
     alloc: Global,
     metamodel: &Metamodel,
+    registry: &Registry<B>,
     work: &mut UnitOfWork,
     id: Identity,
     row: Stored,
 ) -> Result<usize, Cause>
     requires flat { IsFlat metamodel.now }
     requires placed { IsPlaced metamodel.now (now work.old) }
-    ensures meets { Meets result (now work.new) (load.load (without_functions metamodel.now) id row (now work.old)) }
+    ensures meets { Meets result (now work.new) (load.load (world_of B.meaning metamodel.now registry.now) id row (now work.old)) }
     ensures within { IfOk result (λ n. n < length (now work.new).objects) }
     ensures view { work.new.view ≡ work.old.view }
     ensures since { since work.new ≡ since work.old }
@@ -72,7 +74,14 @@ fn load(
         lock: Lock::Unlocked,
         base: Some(base),
     })?;
-    callback(alloc, metamodel, work, LifecycleEvent::PostLoad, place)?;
+    callback(
+        alloc,
+        metamodel,
+        registry,
+        work,
+        LifecycleEvent::PostLoad,
+        place,
+    )?;
     Ok(place)
 }
 
@@ -99,9 +108,10 @@ fn found_instance(
 }
 
 /// The row under an identity of which the context has no instance, loaded, unless it is of another class.
-fn found_row(
+fn found_row<B: Behaviour>(
     alloc: Global,
     metamodel: &Metamodel,
+    registry: &Registry<B>,
     work: &mut UnitOfWork,
     class: usize,
     id: Identity,
@@ -109,7 +119,7 @@ fn found_row(
     requires flat { IsFlat metamodel.now }
     requires placed { IsPlaced metamodel.now (now work.old) }
     requires class { class < length metamodel.now.entities }
-    ensures meets { Meets result (now work.new) (load.found (without_functions metamodel.now) class id None (works.row (now work.old) id) (now work.old)) }
+    ensures meets { Meets result (now work.new) (load.found (world_of B.meaning metamodel.now registry.now) class id None (works.row (now work.old) id) (now work.old)) }
     ensures within { IfOk result (λ found. IfSome found (λ n. n < length (now work.new).objects)) }
     ensures view { work.new.view ≡ work.old.view }
     ensures since { since work.new ≡ since work.old }
@@ -121,7 +131,7 @@ fn found_row(
         return Ok(None);
     }
     let row = row.try_copy()?;
-    Ok(Some(load(alloc, metamodel, work, id, row)?))
+    Ok(Some(load(alloc, metamodel, registry, work, id, row)?))
 }
 
 /// The place of the object under a key of an entity, in a unit without relations and listeners: the persistence
@@ -130,9 +140,10 @@ fn found_row(
 ///
 /// `Limit` where there are 1,000,000 live objects already; `OutOfMemory` where a growth was refused. What a refused call
 /// changed is undone by `UnitOfWork::undo`.
-pub fn find(
+pub fn find<B: Behaviour>(
     alloc: Global,
     metamodel: &Metamodel,
+    registry: &Registry<B>,
     work: &mut UnitOfWork,
     class: usize,
     key: Key,
@@ -140,7 +151,7 @@ pub fn find(
     requires flat { IsFlat metamodel.now }
     requires placed { IsPlaced metamodel.now (now work.old) }
     requires class { class < length metamodel.now.entities }
-    ensures meets { Meets result (now work.new) (load.find (without_functions metamodel.now) class key (now work.old)) }
+    ensures meets { Meets result (now work.new) (load.find (world_of B.meaning metamodel.now registry.now) class key (now work.old)) }
     ensures within { IfOk result (λ found. IfSome found (λ n. n < length (now work.new).objects)) }
     ensures view { work.new.view ≡ work.old.view }
     ensures since { since work.new ≡ since work.old }
@@ -152,5 +163,5 @@ pub fn find(
     if let Some(place) = instance(metamodel, work, &id) {
         return Ok(found_instance(metamodel, work, class, place));
     }
-    found_row(alloc, metamodel, work, class, id)
+    found_row(alloc, metamodel, registry, work, class, id)
 }

@@ -4,7 +4,8 @@ ghost use Rattle.std.specs.List.{list_all};
 ghost use Rattle.jpa_value.specs.Value.{is_null};
 ghost use Rattle.jpa_value.specs.declared.refusal.Cause.{Cause};
 ghost use Rattle.jpa_model.specs.Chains.{root_of};
-ghost use Rattle.jpa_behaviour.specs.Behaviour.{without_functions};
+ghost use Rattle.jpa_behaviour.specs.Behaviour.{World};
+ghost use Rattle.jpa_behaviour.specs.Registered.{world_of};
 ghost use Rattle.jpa_heap.specs.declared.Life.{Life};
 ghost use Rattle.jpa_context.specs.Steps.{Meets, Done};
 ghost use Rattle.jpa_context.specs.Undo.{now, since, IsPlaced};
@@ -14,6 +15,7 @@ ghost use Rattle.jpa_lifecycle.specs.Flat.{IsFlat};
 ghost use Rattle.jpa_ops.specs.States as states;
 
 use crate::context::{has_base, has_instance, state_of};
+use jpa_behaviour::{Behaviour, Registry};
 use jpa_context::{EntityState, Entry, Lock, UnitOfWork};
 use jpa_heap::{Life, LiveObject, is_whole};
 use jpa_lifecycle::callback;
@@ -61,7 +63,7 @@ fn give_number(
     requires placed { IsPlaced metamodel.now (now work.old) }
     requires object { object < length work.old.objects.now }
     requires generated { (root_of metamodel.now (works.object (now work.old) object).class).generated ≡ true }
-    ensures meets { Meets result (now work.new) (states.give_key (without_functions metamodel.now) object true (now work.old)) }
+    ensures meets { (world : World) → Meets result (now work.new) (states.give_key (record world { model = metamodel.now }) object true (now work.old)) }
     ensures placed { IsPlaced metamodel.now (now work.new) }
     ensures count { length work.new.objects.now ≡ length work.old.objects.now }
     ensures view { work.new.view ≡ work.old.view }
@@ -93,7 +95,7 @@ fn give_key(
     requires flat { IsFlat metamodel.now }
     requires placed { IsPlaced metamodel.now (now work.old) }
     requires object { object < length work.old.objects.now }
-    ensures meets { Meets result (now work.new) (states.give_key (without_functions metamodel.now) object (root_of metamodel.now (works.object (now work.old) object).class).generated (now work.old)) }
+    ensures meets { (world : World) → Meets result (now work.new) (states.give_key (record world { model = metamodel.now }) object (root_of metamodel.now (works.object (now work.old) object).class).generated (now work.old)) }
     ensures placed { IsPlaced metamodel.now (now work.new) }
     ensures count { length work.new.objects.now ≡ length work.old.objects.now }
     ensures view { work.new.view ≡ work.old.view }
@@ -134,7 +136,7 @@ fn become_managed(
     requires flat { IsFlat metamodel.now }
     requires placed { IsPlaced metamodel.now (now work.old) }
     requires object { object < length work.old.objects.now }
-    ensures meets { Meets result (now work.new) (states.become_managed (without_functions metamodel.now) object (now work.old)) }
+    ensures meets { (world : World) → Meets result (now work.new) (states.become_managed (record world { model = metamodel.now }) object (now work.old)) }
     ensures count { length work.new.objects.now ≡ length work.old.objects.now }
     ensures view { work.new.view ≡ work.old.view }
     ensures since { since work.new ≡ since work.old }
@@ -153,34 +155,43 @@ fn become_managed(
 }
 
 /// A new object becomes managed, and PrePersist is told (chapter 3.5.2). Refused as `persist` is.
-fn persist_new(
+fn persist_new<B: Behaviour>(
     alloc: Global,
     metamodel: &Metamodel,
+    registry: &Registry<B>,
     work: &mut UnitOfWork,
     object: usize,
 ) -> Result<(), Cause>
     requires flat { IsFlat metamodel.now }
     requires placed { IsPlaced metamodel.now (now work.old) }
     requires object { object < length work.old.objects.now }
-    ensures meets { Meets result (now work.new) (states.persist_one (without_functions metamodel.now) object EntityState.New (now work.old)) }
+    ensures meets { Meets result (now work.new) (states.persist_one (world_of B.meaning metamodel.now registry.now) object EntityState.New (now work.old)) }
     ensures view { work.new.view ≡ work.old.view }
     ensures since { since work.new ≡ since work.old }
 {
     become_managed(alloc, metamodel, work, object)?;
-    callback(alloc, metamodel, work, LifecycleEvent::PrePersist, object)
+    callback(
+        alloc,
+        metamodel,
+        registry,
+        work,
+        LifecycleEvent::PrePersist,
+        object,
+    )
 }
 
 /// A removed object is managed again, and PrePersist is told unless it is stored. Fails for want of memory alone, with
 /// `OutOfMemory`.
-fn persist_removed(
+fn persist_removed<B: Behaviour>(
     alloc: Global,
     metamodel: &Metamodel,
+    registry: &Registry<B>,
     work: &mut UnitOfWork,
     object: usize,
 ) -> Result<(), Cause>
     requires flat { IsFlat metamodel.now }
     requires object { object < length work.old.objects.now }
-    ensures meets { Meets result (now work.new) (states.persist_one (without_functions metamodel.now) object EntityState.Removed (now work.old)) }
+    ensures meets { Meets result (now work.new) (states.persist_one (world_of B.meaning metamodel.now registry.now) object EntityState.Removed (now work.old)) }
     ensures view { work.new.view ≡ work.old.view }
     ensures since { since work.new ≡ since work.old }
 {
@@ -188,7 +199,14 @@ fn persist_removed(
     if has_base(work, object) {
         return Ok(());
     }
-    callback(alloc, metamodel, work, LifecycleEvent::PrePersist, object)
+    callback(
+        alloc,
+        metamodel,
+        registry,
+        work,
+        LifecycleEvent::PrePersist,
+        object,
+    )
 }
 
 /// Makes an object of a unit without relations and listeners managed: a new one enters the persistence context, with the
@@ -198,23 +216,24 @@ fn persist_removed(
 /// `EntityExists` for a detached object, and where the context has another of the identity; `Persistence(key)` where a
 /// part of an assigned key is null, or a generated key is not; `Persistence(generator)` where no number is left;
 /// `OutOfMemory` where a growth was refused. What a refused call changed is undone by `UnitOfWork::undo`.
-pub fn persist(
+pub fn persist<B: Behaviour>(
     alloc: Global,
     metamodel: &Metamodel,
+    registry: &Registry<B>,
     work: &mut UnitOfWork,
     object: usize,
 ) -> Result<(), Cause>
     requires flat { IsFlat metamodel.now }
     requires placed { IsPlaced metamodel.now (now work.old) }
     requires object { object < length work.old.objects.now }
-    ensures meets { Meets result (now work.new) (states.persist (without_functions metamodel.now) object (now work.old)) }
+    ensures meets { Meets result (now work.new) (states.persist (world_of B.meaning metamodel.now registry.now) object (now work.old)) }
     ensures view { work.new.view ≡ work.old.view }
     ensures since { since work.new ≡ since work.old }
 {
     match state_of(work, object) {
-        EntityState::New => persist_new(alloc, metamodel, work, object),
+        EntityState::New => persist_new(alloc, metamodel, registry, work, object),
         EntityState::Managed => Ok(()),
-        EntityState::Removed => persist_removed(alloc, metamodel, work, object),
+        EntityState::Removed => persist_removed(alloc, metamodel, registry, work, object),
         EntityState::Detached => Err(Cause::EntityExists),
     }
 }

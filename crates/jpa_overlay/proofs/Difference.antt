@@ -1,7 +1,8 @@
 -- The changes that leave no row as it was: they are the difference, and under them the same is seen.
-use Rattle.std.specs.Prelude.{◌≡◌, ◌≢◌, ℕ, ◌<◌, ◌+◌, Bool, true, false, not, cond, T, List, [], ◌∷◌, ◌++◌, length, map, Option, Some, None}
+use Rattle.std.specs.Prelude.{◌≡◌, ◌≢◌, ℕ, ◌<◌, ◌+◌, Bool, true, false, not, cond, T, List, [], ◌∷◌, ◌++◌, length, map, All, Option, Some, None}
 use Rattle.std.proofs.Common.{refl, sym, ap, subst, ◌∙◌, get_or, take}
-use Rattle.std.proofs.lemmas.List.{append-nil, get_or_default, map-append, take_more}
+use Rattle.std.proofs.Math.ListN.{get_or-map}
+use Rattle.std.proofs.lemmas.List.{append-nil, get_or_default, length-map, map-append, take_more}
 use Rattle.std.specs.List.{filter}
 use Rattle.std.specs.FinMap.{find}
 use Rattle.std.specs.FinMap.Entries.{below_all, is_sorted}
@@ -117,6 +118,13 @@ seen_after_commit rows cs made rise h e = ap (λ ds. rows_under ds rows) e ∙ s
 pub stands : (cs : Changes) (i : ℕ) (d : RowId × Option Row) → T (is_sorted identity_cmp cs) → i < length cs → find identity_cmp (get_or cs i d).0 cs ≡ Some (get_or cs i d).1
 stands cs i d h l =
     find_at identity_total cs (get_or cs i d).0 i d h (record { within = l; tied = λ e. ap (λ c. identity_cmp c.0 (get_or cs i d).0) (get_or_default cs i e d l) ∙ tied_itself identity_total (get_or cs i d).0 })
+
+-- changes made of these entries: each is found among them
+pub each_found : (made : List RowChange) (cs : Changes) → T (is_sorted identity_cmp cs) → map entry_of made ≡ cs → All (λ change. find identity_cmp change.id cs ≡ Some change.row) made
+each_found made cs h e = λ i d l.
+    let within : i < length cs = subst (λ n. i < n) (sym (length-map made entry_of) ∙ ap length e) l in
+    let placed : get_or cs i (entry_of d) ≡ entry_of (get_or made i d) = ap (λ es. get_or es i (entry_of d)) (sym e) ∙ get_or-map entry_of made i d in
+    subst (λ (c : RowId × Option Row). find identity_cmp c.0 cs ≡ Some c.1) placed (stands cs i (entry_of d) h within)
 
 pub one_more : (rows : Rows) (cs : Changes) (i : ℕ) (c : RowId × Option Row) → i < length cs → c ≡ get_or cs i c
     → differing rows (take (i + 1) cs) ≡ differing rows (take i cs) ++ cond (differs rows c) (c ∷ []) []

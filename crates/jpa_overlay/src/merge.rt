@@ -7,7 +7,7 @@ ghost use Rattle.jpa_value.specs.Value.{identity_cmp};
 ghost use Rattle.jpa_rows.specs.Rows.{Rows, AreRising};
 ghost use Rattle.jpa_overlay.specs.Overlay.{rows_under, rows_put, stands_first};
 
-use crate::overlay::Change;
+use crate::change::Change;
 use jpa_rows::{Row, RowId};
 use jpa_value::{Cause, Seq, TryCopy, is_same_identity, order_identities};
 use std::alloc::Global;

@@ -10,16 +10,14 @@ ghost use Rattle.jpa_rows.specs.Rows.{Rows, AreRising, table_rows, entry_of, row
 ghost use Rattle.jpa_row_laws.specs.Changes.{AreDifference};
 ghost use Rattle.jpa_overlay.specs.Overlay.{rows_under, with_change, with_row};
 
+use crate::change::Change;
 use crate::merge::merge;
 use crate::same::is_same;
 use jpa_rows::{Row, RowChange, RowId, RowSource};
-use jpa_value::{Boxed, Cause, Seq, TryCopy, order_identities};
+use jpa_value::{Cause, Seq, TryCopy, order_identities};
 use std::alloc::Global;
 use std::cmp::Ordering;
 use std::marker::Model;
-
-/// A change of a row: its id, and the row that is to stand there, or none.
-pub type Change = Boxed<(RowId, Option<Row>)>;
 
 /// Changes over committed rows, seen by contracts as a finite map from row ids to the row that is to stand there, or to
 /// none where the row is dropped: its entries in rising order of the ids.
@@ -123,6 +121,25 @@ impl Overlay {
         Ok(changes)
     }
 
+    /// All changes in the order of their ids, also those that leave a row as it is in the store. Made in a store, they give
+    /// the rows that are seen here. It reads no store and copies no row, and refuses with `OutOfMemory` alone.
+    #[tactic(auto, using(crate::proofs::Difference::each_found))]
+    pub fn into_changes(self) -> Result<Seq<RowChange>, Cause>
+        ensures ok { IfOk result (λ changes. map entry_of changes ≡ self) }
+        ensures seen { IfOk result (λ changes. (rows : Rows) → rows_after changes rows ≡ rows_under self rows) }
+        ensures rising { IfOk result (λ changes. T (is_sorted identity_cmp (map entry_of changes))) }
+        ensures among { IfOk result (λ changes. All (λ change. find identity_cmp change.id self ≡ Some change.row) changes) }
+        ensures err { IfErr result (λ cause. cause ≡ Cause.OutOfMemory) }
+    {
+        let mut changes = Seq::new(self.allocator());
+        let Overlay { entries } = self;
+        for entry in entries {
+            let (id, row) = entry.open();
+            changes.push(RowChange { id, row })?;
+        }
+        Ok(changes)
+    }
+
     /// Puts a row under an id. For want of memory, which is `OutOfMemory` and the only refusal, the overlay stays as it
     /// was.
     pub fn put(&mut self, id: RowId, row: Row) -> Result<(), Cause>
@@ -160,7 +177,7 @@ impl Overlay {
         ensures refused { IfErr result (λ cause. cause ≡ Cause.OutOfMemory) }
     {
         let place = self.search(&id);
-        let entry = Boxed::new(self.allocator(), (id, row))?;
+        let entry = Change::new(self.allocator(), id, row)?;
         match place {
             Ok(at) => self.entries[at] = entry,
             Err(at) => self.entries.insert(at, entry)?,
@@ -219,8 +236,8 @@ impl TryCopy for Overlay {
         let mut entries = Vec::new(self.allocator());
         for entry in self.entries.as_slice() {
             let (id, row) = entry.get();
-            let copy = (id.try_copy()?, copied(row)?);
-            entries.push(Boxed::new(self.allocator(), copy)?)?;
+            let copy = Change::new(self.allocator(), id.try_copy()?, copied(row)?)?;
+            entries.push(copy)?;
         }
         Ok(Overlay { entries })
     }

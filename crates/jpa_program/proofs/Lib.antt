@@ -1,2 +1,4 @@
-pub mod Machines
+pub mod Opened
 pub mod Mapped
+pub mod Machines
+pub mod Standing

@@ -1,3 +1,3 @@
-pub mod Ending
+pub mod Opening
 pub mod Persons
 pub mod Run

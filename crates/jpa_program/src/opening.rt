@@ -1,50 +1,140 @@
 //! The opening of a provider.
-ghost use Rattle.std.specs.Prelude.{◌≡◌, [], ◌∷◌, pos, true, false, Err, IfOk, IfErr};
+ghost use Rattle.std.specs.Prelude.{◌≡◌, true, false, length, Ok, Err, IfOk, IfErr};
 ghost use Rattle.jpa_value.specs.declared.refusal.Cause.{Cause};
 ghost use Rattle.jpa_value.specs.declared.refusal.MappingFault.{MappingFault};
-ghost use Rattle.jpa_cells_meaning.specs.Store.{IsOrderedIfFound};
-ghost use Rattle.jpa_model.specs.Chains.{root_of};
-ghost use Rattle.jpa_object_store.specs.Served.{is_served};
-ghost use Rattle.jpa_object_cells.specs.Objects.{HaveRow, IsOpenCause, KeepsOrMakes};
+ghost use Rattle.jpa_behaviour.specs.Registered.{world_of};
+ghost use Rattle.jpa_rows.specs.Cells.{CanBeHeld};
+ghost use Rattle.jpa_rows.specs.Tables.{schema_of};
+ghost use Rattle.jpa_object_rows.specs.Sets.{rows_of};
+ghost use Rattle.jpa_cells_meaning.specs.Store.{up_to_greatest, IsClean, IsOpen, IsOrderedIfFound, Keeps, Opens, HoldsTable, HasFault};
+ghost use Rattle.jpa_rowspace.specs.Space.{HoldsRows, IsStoreCause};
+ghost use Rattle.jpa_functions.specs.Known as known;
 ghost use Rattle.jpa_provider.specs.Machine.{opened};
+ghost use Rattle.jpa_provider.specs.Served.{is_served};
+ghost use Rattle.jpa_program.specs.Opening.{KeepsOrMakes, EnduresMaking, HoldsCells, IsOpenCause};
+ghost use Rattle.jpa_program.specs.Run.{HoldsCommitted};
 
+use jpa_behaviour::{Behaviour, Registry};
+use jpa_cells::CellStore;
+use jpa_functions::names_are_known;
+use jpa_judgment::{Committed, read_store};
 use jpa_model::Metamodel;
-use jpa_object_cells::ObjectCells;
-use jpa_object_store::is_served;
-use jpa_provider::Provider;
+use jpa_provider::{Provider, is_served};
+use jpa_rows::Schema;
+use jpa_rowspace::RowSpace;
 use jpa_value::{Cause, MappingFault};
 use sqlite::{Alter, Connection};
 use std::alloc::Global;
 
-/// A provider of a unit over the cells of a database, where no object is stored yet. Refused, it hands the connection back.
+/// The rows of a metamodel over the cells of a database, which are not read yet.
+fn rows_over<S: Alter + Drop>(
+    alloc: Global,
+    conn: Connection<S>,
+    metamodel: &Metamodel,
+) -> Result<RowSpace<S>, (Cause, Connection<S>)>
+    requires ordered { IsOrderedIfFound S.Store conn }
+    ensures schema { IfOk result (λ space. space.schema ≡ schema_of metamodel.now) }
+    ensures opens { IfOk result (λ space. Opens S.Store conn space.store) }
+    ensures crash { IfOk result (λ space. EnduresMaking S.Store conn space.store.conn) }
+    ensures refused { IfErr result (λ e. IsStoreCause e.0) }
+    ensures takes { IfErr result (λ e. e.0 ≡ Cause.StoreFault → conn.in_transaction ≡ false → HoldsTable S.Store conn → ⊥) }
+    ensures kept { IfErr result (λ e. Keeps S.Store conn e.1) }
+    ensures crash_err { IfErr result (λ e. EnduresMaking S.Store conn e.1) }
+    ensures again { IfErr result (λ e. IsOrderedIfFound S.Store e.1) }
+{
+    let schema = match Schema::of(alloc, metamodel) {
+        Ok(schema) => schema,
+        Err(cause) => return Err((cause, conn)),
+    };
+    match CellStore::open(alloc, conn) {
+        Ok(store) => Ok(RowSpace::new(alloc, store, schema)),
+        Err(refused) => Err(refused),
+    }
+}
+
+/// The rows of a metamodel over the cells of a database, and what they stand for. A database that is empty gets the table of
+/// cells, and is held to have no object. Refused, it hands the connection back.
 ///
-/// `Mapping(model)` for a unit that is not served, before the store is looked at. Then `OutOfMemory` where a growth was
-/// refused, `StoreFault` where the database holds anything else than cells, where the connection is in a transaction and
-/// where the store fails, and `Damaged` without a place where it holds rows, which are not read yet.
-pub fn open<S: Alter + Drop>(
+/// `Mapping(function)` where the metamodel names a listener, callback or converter that the registry lacks, before the store
+/// is looked at. Then `OutOfMemory` where a growth was refused, `StoreFault` where the database holds anything else than
+/// cells, where the connection is in a transaction and where the store fails, and `Damaged` with its place where the cells of
+/// the metamodel's tables stand for no set of objects.
+pub fn open_rows<S: Alter + Drop, B: Behaviour>(
+    alloc: Global,
+    conn: Connection<S>,
+    metamodel: &Metamodel,
+    registry: &Registry<B>,
+) -> Result<(RowSpace<S>, Committed), (Cause, Connection<S>)>
+    requires ordered { IsOrderedIfFound S.Store conn }
+    ensures schema { IfOk result (λ o. o.0.schema ≡ schema_of metamodel.now) }
+    ensures held { IfOk result (λ o. CanBeHeld (world_of B.meaning metamodel.now registry.now) o.1.set o.1.numbers) }
+    ensures holds { IfOk result (λ o. IsClean S.Store o.0.store.conn → HoldsRows S.Store (schema_of metamodel.now) o.0.store.conn (rows_of (world_of B.meaning metamodel.now registry.now) o.1.set o.1.numbers)) }
+    ensures stand { IfOk result (λ o. HoldsCells S.Store (world_of B.meaning metamodel.now registry.now) o.0.store.conn o.1.set o.1.numbers) }
+    ensures live { IfOk result (λ o. IsClean S.Store o.0.store.conn → IsOpen S.Store o.0.store.conn) }
+    ensures opens { IfOk result (λ o. KeepsOrMakes S.Store conn o.0.store.conn) }
+    ensures crash { IfOk result (λ o. EnduresMaking S.Store conn o.0.store.conn) }
+    ensures counted { IfOk result (λ o. o.0.store.table_selects ≡ up_to_greatest (length (schema_of metamodel.now).tables)) }
+    ensures unknown { known.names_are_known registry.now metamodel.now ≡ false → result ≡ Err (Cause.Mapping MappingFault.Function, conn) }
+    ensures refused { IfErr result (λ e. known.names_are_known registry.now metamodel.now ≡ true → IsOpenCause S.Store (world_of B.meaning metamodel.now registry.now) e.1 e.0) }
+    ensures cause { IfErr result (λ e. e.0 ≡ Cause.StoreFault → IsClean S.Store e.1 → conn.in_transaction ≡ false → HoldsTable S.Store conn → HasFault S.Store conn e.1) }
+    ensures kept { IfErr result (λ e. KeepsOrMakes S.Store conn e.1) }
+    ensures crash_err { IfErr result (λ e. EnduresMaking S.Store conn e.1) }
+    ensures again { IfErr result (λ e. IsOrderedIfFound S.Store e.1) }
+{
+    if !names_are_known(metamodel, registry) {
+        return Err((Cause::Mapping(MappingFault::Function), conn));
+    }
+    let mut space = match rows_over(alloc, conn, metamodel) {
+        Ok(space) => space,
+        Err(refused) => return Err(refused),
+    };
+    match read_store(alloc, metamodel, registry, &mut space) {
+        Ok(committed) => Ok((space, committed)),
+        Err(cause) => Err((cause, space.store.into_connection())),
+    }
+}
+
+/// A provider of a metamodel over the cells of a database, with what they stand for committed: no object lives and no manager
+/// was made. A database that is empty gets the table of cells, and is held to have no object. Refused, it hands the
+/// connection back.
+///
+/// `Mapping(model)` for a unit that is not served, and then `Mapping(function)` where it names a listener, callback or
+/// converter that the registry lacks, both before the store is looked at. Then `OutOfMemory` where a growth was refused,
+/// `StoreFault` where the database holds anything else than cells, where the connection is in a transaction and where the
+/// store fails, and `Damaged` with its place where the cells of the metamodel's tables stand for no set of objects.
+pub fn open<S: Alter + Drop, B: Behaviour>(
     alloc: Global,
     conn: Connection<S>,
     metamodel: Metamodel,
-) -> Result<Provider<ObjectCells<S>>, (Cause, Connection<S>)>
+    registry: Registry<B>,
+) -> Result<Provider<RowSpace<S>, B>, (Cause, Connection<S>)>
     requires ordered { IsOrderedIfFound S.Store conn }
-    ensures unit { IfOk result (λ provider. provider.unit ≡ metamodel) }
-    ensures machine { IfOk result (λ provider. provider.machine ≡ opened [] (1 ∷ [])) }
-    ensures opens { IfOk result (λ provider. KeepsOrMakes S.Store conn provider.store.store.conn) }
+    ensures model { IfOk result (λ provider. provider.model ≡ metamodel) }
+    ensures registry { IfOk result (λ provider. provider.registry ≡ registry) }
+    ensures machine { IfOk result (λ provider. provider.machine ≡ opened (provider.machine).committed (provider.machine).stored_numbers) }
+    ensures held { IfOk result (λ provider. CanBeHeld (world_of B.meaning metamodel registry) (provider.machine).committed (provider.machine).stored_numbers) }
+    ensures cells { IfOk result (HoldsCommitted S.Store B.meaning) }
+    ensures live { IfOk result (λ provider. IsClean S.Store (provider.rows).store.conn → IsOpen S.Store (provider.rows).store.conn) }
+    ensures opens { IfOk result (λ provider. KeepsOrMakes S.Store conn (provider.rows).store.conn) }
+    ensures crash { IfOk result (λ provider. EnduresMaking S.Store conn (provider.rows).store.conn) }
     ensures unserved { is_served metamodel ≡ false → result ≡ Err (Cause.Mapping MappingFault.Model, conn) }
-    ensures refused { IfErr result (λ e. is_served metamodel ≡ true → IsOpenCause e.0) }
-    ensures damaged { IfErr result (λ e. e.0 ≡ Cause.Damaged 0 [] → HaveRow S.Store (pos (root_of metamodel 0).table) e.1) }
-    ensures kept { IfErr result (λ e. is_served metamodel ≡ true → KeepsOrMakes S.Store conn e.1) }
+    ensures unknown { is_served metamodel ≡ true → known.names_are_known registry metamodel ≡ false → result ≡ Err (Cause.Mapping MappingFault.Function, conn) }
+    ensures refused { IfErr result (λ e. is_served metamodel ≡ true → known.names_are_known registry metamodel ≡ true → IsOpenCause S.Store (world_of B.meaning metamodel registry) e.1 e.0) }
+    ensures cause { IfErr result (λ e. e.0 ≡ Cause.StoreFault → IsClean S.Store e.1 → conn.in_transaction ≡ false → HoldsTable S.Store conn → HasFault S.Store conn e.1) }
+    ensures kept { IfErr result (λ e. KeepsOrMakes S.Store conn e.1) }
+    ensures crash_err { IfErr result (λ e. EnduresMaking S.Store conn e.1) }
     ensures again { IfErr result (λ e. IsOrderedIfFound S.Store e.1) }
 {
     if !is_served(metamodel.unit()) {
         return Err((Cause::Mapping(MappingFault::Model), conn));
     }
-    let objects = match ObjectCells::open(alloc, conn, &metamodel) {
-        Ok(objects) => objects,
+    let (space, committed) = match open_rows(alloc, conn, &metamodel, &registry) {
+        Ok(opened) => opened,
         Err(refused) => return Err(refused),
     };
-    match Provider::new(alloc, metamodel, objects) {
+    let Committed { set, numbers } = committed;
+    match Provider::new(alloc, metamodel, registry, space, set, numbers) {
         Ok(provider) => Ok(provider),
-        Err((cause, objects)) => Err((cause, objects.into_connection())),
+        Err((cause, space)) => Err((cause, space.store.into_connection())),
     }
 }

@@ -1,14 +1,15 @@
 //! The run over lines.
 ghost use Rattle.std.specs.Prelude.{◌≡◌, OnOk, IfErr};
-ghost use Rattle.jpa_behaviour.specs.Behaviour.{without_functions};
 ghost use Rattle.jpa_lines.specs.Run.{Served, Broken, AnswersRead};
+ghost use Rattle.jpa_provider.specs.Provided.{world_in};
 ghost use Rattle.jpa_provider.specs.Step.{Step};
 ghost use Rattle.jpa_program.specs.Run.{HoldsCommitted};
 
+use jpa_behaviour::Behaviour;
 use jpa_lines::RunFault;
 use jpa_lines::run::run as run_lines;
-use jpa_object_cells::{ObjectCells, cells_law};
 use jpa_provider::Provider;
+use jpa_rowspace::RowSpace;
 use sqlite::Alter;
 use std::alloc::Global;
 use std::io::{Read, Write};
@@ -22,24 +23,23 @@ use std::io::{Read, Write};
 ///
 /// However it ends, the cells of the store are those of the objects that were committed last, and of the next numbers that
 /// were stored with them: no others, and all of them.
-pub fn run<S: Alter, R: Read, W: Write>(
+pub fn run<S: Alter, B: Behaviour, R: Read, W: Write>(
     alloc: Global,
     reader: &mut R,
     writer: &mut W,
-    provider: &mut Provider<ObjectCells<S>>,
+    provider: &mut Provider<RowSpace<S>, B>,
 ) -> Result<(), RunFault>
-    ensures ok { OnOk result (Served (Step (without_functions provider.old.unit)) provider.old.machine provider.new.machine
+    ensures ok { OnOk result (Served (Step (world_in B.meaning provider.old)) provider.old.machine provider.new.machine
         (R.remaining reader.old) (W.contents writer.old) (W.contents writer.new)) }
-    ensures err { IfErr result (λ fault. Broken (Step (without_functions provider.old.unit)) provider.old.machine
-        provider.new.machine fault (R.remaining reader.old) (W.contents writer.old) (W.contents writer.new)) }
-    ensures read { IfErr result (λ fault. AnswersRead (Step (without_functions provider.old.unit)) provider.old.machine
-        provider.new.machine fault (R.remaining reader.old) (R.remaining reader.new) (W.contents writer.old)
-        (W.contents writer.new)) }
-    ensures unit { provider.new.unit ≡ provider.old.unit }
-    ensures cells { HoldsCommitted S.Store provider.new }
+    ensures err { IfErr result (λ fault. Broken (Step (world_in B.meaning provider.old)) provider.old.machine provider.new.machine fault
+        (R.remaining reader.old) (W.contents writer.old) (W.contents writer.new)) }
+    ensures read { IfErr result (λ fault. AnswersRead (Step (world_in B.meaning provider.old)) provider.old.machine provider.new.machine
+        fault (R.remaining reader.old) (R.remaining reader.new) (W.contents writer.old) (W.contents writer.new)) }
+    ensures model { provider.new.model ≡ provider.old.model }
+    ensures registry { provider.new.registry ≡ provider.old.registry }
+    ensures cells { HoldsCommitted S.Store B.meaning provider.new }
 {
     let ran = run_lines(alloc, reader, writer, provider);
     provider.stands();
-    cells_law::<S>();
     ran
 }

@@ -27,6 +27,11 @@ pub enum Call {
         name: Text,
         value: Given,
     },
+    /// Asks what an attribute or relation of an object holds, by its name (chapter 3.2).
+    Get {
+        object: i64,
+        name: Text,
+    },
     /// Begins the transaction of a manager.
     Begin {
         em: i64,
@@ -38,6 +43,14 @@ pub enum Call {
     },
     /// Commits the transaction of a manager.
     Commit {
+        em: i64,
+    },
+    /// Rolls back the transaction of a manager (chapter 7.5).
+    Rollback {
+        em: i64,
+    },
+    /// Marks the transaction of a manager so that it can only roll back (chapter 7.5).
+    SetRollbackOnly {
         em: i64,
     },
     /// Finds an object by its entity and the parts of its key.

@@ -1,37 +1,26 @@
--- persist and find, from the call to the step.
-use Rattle.std.proofs.Common.{◌≡◌, ◌<◌, ◌⊎◌, inl, inr, ℕ, ℤ, true, false, List, [], length, refl, ap, sym, subst, ◌∙◌}
-use Rattle.std.specs.Prelude.{All, is_some, Option, Some, None, Result, Err}
+-- What persist and find make of what is handed in.
+use Rattle.std.proofs.Common.{◌≡◌, inl, ℕ, ℤ, true, false, List, [], length, refl, ap, ◌∙◌}
+use Rattle.std.specs.Prelude.{Some, None, Err}
 use Rattle.std.specs.List.{list_all}
-use Rattle.std.proofs.lemmas.List.Elements.{All-nil}
 use Rattle.jpa_value.specs.declared.value.Value.{Value}
-use Rattle.jpa_value.specs.declared.refusal.Cause.{Cause}
 use Rattle.jpa_value.specs.declared.refusal.Argument.{Argument}
-use Rattle.jpa_model.specs.declared.unit.PersistenceUnit.{PersistenceUnit}
+use Rattle.jpa_value.specs.declared.refusal.Cause.{Cause}
+use Rattle.jpa_value.specs.declared.refusal.Refusal.{Refusal}
 use Rattle.jpa_model.specs.Chains.{class_of, root_of}
-use Rattle.jpa_behaviour.specs.Behaviour.{World, without_functions}
+use Rattle.jpa_behaviour.specs.Behaviour.{World}
 use Rattle.jpa_protocol.specs.declared.call.Call.{Call}
 use Rattle.jpa_protocol.specs.declared.call.Given.{Given}
-use Rattle.jpa_protocol.specs.declared.reply.Answer.{Answer}
-use Rattle.jpa_protocol.specs.declared.reply.Reply.{Reply}
 use Rattle.jpa_heap.specs.Objects.{place_of}
-use Rattle.jpa_context.specs.declared.Entry.{Entry}
 use Rattle.jpa_context.specs.Work.{Work}
-use Rattle.jpa_context.specs.Steps.{Refused, Op, after, require}
-use Rattle.jpa_context.specs.Undo.{now, IsPlain, IsPlaced}
+use Rattle.jpa_context.specs.Steps.{Refused, after, require}
 use Rattle.jpa_ops.specs.States.{persist}
 use Rattle.jpa_ops.specs.Load.{find}
-use Rattle.jpa_provider.specs.declared.session.ManagerState.{ManagerState}
 use Rattle.jpa_provider.specs.declared.session.Session.{Session}
-use Rattle.jpa_provider.specs.Calls.{give_or, is_short_given, class_named, key_given, whole_key, nothing, object_or_null}
-use Rattle.jpa_provider.specs.Step.{worked, outcome, takes_nothing, persist_call, find_call}
-use Rattle.jpa_provider.specs.Invariant.{IsMachine, hands_representable, given_representable}
-use Rattle.jpa_provider.specs.Serving.{machine_with, machine_of, own, Answers, Concludes, IsServing, IsUnused, Serves}
-use Rattle.jpa_provider.proofs.AtWork.{HoldsAfter}
-use Rattle.jpa_provider.proofs.Placed.{work_placed}
-use Rattle.jpa_provider.proofs.Plain.{persist_plain, find_plain}
-use Rattle.jpa_value.specs.declared.refusal.Refusal.{Refusal}
-use Rattle.jpa_provider.proofs.Served.{by_none, first_of, absent, machine_served}
-use Rattle.jpa_provider.proofs.Worked.{IsDone, GaveUp, worked_step, worked_serving}
+use Rattle.jpa_provider.specs.Machine.{work_of}
+use Rattle.jpa_provider.specs.Calls.{give_or, is_short_given, class_named, key_given, whole_key, concluded, marks, nothing, object_or_null}
+use Rattle.jpa_provider.specs.Step.{persist_call, find_call}
+use Rattle.jpa_provider.specs.Serving.{machine_of, Serves}
+use Rattle.jpa_provider.proofs.Worked.{of_nobody}
 
 -- ---- what the operations make of what is handed in
 
@@ -72,80 +61,11 @@ pub find_named : (world : World) (name : List ℕ) (key : List Given) (w : Work)
 find_named world name key w class values e f g =
     found_key world name key w class e f ∙ ap (λ o. after (give_or (Cause.IllegalArgument Argument.Key) o w) (λ values. find world class values)) g
 
--- ---- the manager at work
+-- ---- a number that names no manager
 
--- the manager at this place works
-abbrev pub at_place : Session → ℕ → Session
-at_place s k = record s { work = record s.work { manager = k } }
+pub persist_alone : (world : World) (s : Session) (em number : ℤ) → place_of (length s.managers.items) em ≡ None → Serves world s (Call.Persist em number) (record { events = []; answer = Err (Refusal.Because Cause.NoSuchManager) }) s
+persist_alone world s em number e = inl (of_nobody s (λ k. concluded marks (machine_of s) k nothing (persist_call world number (work_of (machine_of s) k))) em e)
 
-placed_in : (m : PersistenceUnit) (state : ManagerState) (w : Work) (n k : ℕ) → IsMachine (without_functions m) (machine_with state w n) → IsUnused state w.context → IsPlaced m (record w { manager = k })
-placed_in m ManagerState.Absent w n k h u =
-    let p = work_placed 0 h in
-    record { objects = p.objects; entries = subst (λ es. All (λ (e : Entry). e.object < length w.objects) es) (sym u) (All-nil _); numbers = p.numbers; view = p.view }
-placed_in m ManagerState.Idle w n k h u = let p = work_placed 0 h in record { objects = p.objects; entries = p.entries; numbers = p.numbers; view = p.view }
-placed_in m ManagerState.Active w n k h u = let p = work_placed 0 h in record { objects = p.objects; entries = p.entries; numbers = p.numbers; view = p.view }
-placed_in m ManagerState.RollbackOnly w n k h u = let p = work_placed 0 h in record { objects = p.objects; entries = p.entries; numbers = p.numbers; view = p.view }
-
-pub serving_placed : (m : PersistenceUnit) (s : Session) (k : ℕ) → IsServing m s → IsPlaced m (now (at_place s k).work)
-serving_placed m s k h = placed_in m s.manager (now s.work) s.stored k h.machine h.unused
-
-serving_at : (m : PersistenceUnit) (s : Session) (k : ℕ) → IsServing m s → IsServing m (at_place s k)
-serving_at m s k h =
-    record {
-      flat = h.flat;
-      single = h.single;
-      machine = h.machine;
-      plain = record { objects = (h.plain).objects; context = (h.plain).context };
-      kept = h.kept;
-      quiet = h.quiet;
-      unused = h.unused;
-    }
-
-named : (o : Option ℕ) (k : ℕ) → o ≡ Some k → is_some o ≡ true
-named o k e = ap is_some e
-
-pub first_own : (state : ManagerState) (em : ℤ) (k : ℕ) → own state em ≡ Some k → k ≡ 0
-first_own ManagerState.Absent em k e = absurd (absent em (named (own ManagerState.Absent em) k e))
-first_own ManagerState.Idle em k e = first_of em k e
-first_own ManagerState.Active em k e = first_of em k e
-first_own ManagerState.RollbackOnly em k e = first_of em k e
-
--- a call of an operation serves, and what holds between calls holds again
-pub work_serves : {A : Type 0} (m : PersistenceUnit) (s mid new : Session) (k : ℕ) (em : ℤ) (f : A → Answer) (op : Op A) (call : Call) (answered : Result Answer Cause) (reply : Reply) → IsServing m s →
-    own s.manager em ≡ Some k → IsDone (at_place s k) mid new → Answers f answered (now mid.work) (op (now (at_place s k).work)) → Concludes mid answered reply new →
-    takes_nothing call ≡ false → hands_representable call ≡ true → outcome (without_functions m) (machine_of s) call ≡ worked (machine_of s) em f op →
-    HoldsAfter (λ a w. IsPlain w) (op (now (at_place s k).work)) → IsServing m new × Serves m s call reply new
-work_serves {A} m s mid new k em f op call answered reply h e d a c t rep is p =
-    (worked_serving m (at_place s k) mid new em f op answered reply (serving_at m s k h) n d a c p (machine_served m s new call reply h rep step), step)
-  where
-    n : is_some (own s.manager em) ≡ true
-    n = named (own s.manager em) k e
-
-    either : (worked (machine_of s) em f op ≡ (reply, machine_of new)) ⊎ GaveUp (machine_of s) reply (machine_of new) → Serves m s call reply new
-    either (inl x) = inl (is ∙ x)
-    either (inr x) = inr (t, x.0, x.1)
-
-    step : Serves m s call reply new
-    step = either (worked_step (at_place s k) mid new em f op answered reply h.kept h.quiet (first_own s.manager em k e) n d a c)
-
-pub persist_serves : (m : PersistenceUnit) (s mid new : Session) (k : ℕ) (em number : ℤ) (answered : Result Answer Cause) (reply : Reply) → IsServing m s → own s.manager em ≡ Some k →
-    IsDone (at_place s k) mid new → Answers nothing answered (now mid.work) (persist_call (without_functions m) number (now (at_place s k).work)) → Concludes mid answered reply new →
-    IsServing m new × Serves m s (Call.Persist em number) reply new
-persist_serves m s mid new k em number answered reply h e d a c =
-    work_serves m s mid new k em nothing (persist_call (without_functions m) number) (Call.Persist em number) answered reply h e d a c refl refl refl
-    (persist_plain (without_functions m) h.flat number (now (at_place s k).work) (record { objects = (h.plain).objects; context = (h.plain).context }))
-
-pub find_serves : (m : PersistenceUnit) (s mid new : Session) (k : ℕ) (em : ℤ) (name : List ℕ) (key : List Given) (answered : Result Answer Cause) (reply : Reply) → IsServing m s → own s.manager em ≡ Some k →
-    IsDone (at_place s k) mid new → Answers object_or_null answered (now mid.work) (find_call (without_functions m) name key (now (at_place s k).work)) → Concludes mid answered reply new →
-    list_all given_representable key ≡ true → IsServing m new × Serves m s (Call.Find em name key) reply new
-find_serves m s mid new k em name key answered reply h e d a c rep =
-    work_serves m s mid new k em object_or_null (find_call (without_functions m) name key) (Call.Find em name key) answered reply h e d a c refl rep refl
-    (find_plain (without_functions m) h.flat name key (now (at_place s k).work) (record { objects = (h.plain).objects; context = (h.plain).context }))
-
--- a number that names no manager
-pub persist_alone : (m : PersistenceUnit) (s : Session) (em number : ℤ) → own s.manager em ≡ None → Serves m s (Call.Persist em number) (record { events = []; answer = Err (Refusal.Because Cause.NoSuchManager) }) s
-persist_alone m s em number e = inl (by_none _ s.manager (now s.work) s.stored em (ap is_some e))
-
-pub find_alone : (m : PersistenceUnit) (s : Session) (em : ℤ) (name : List ℕ) (key : List Given) → own s.manager em ≡ None →
-    Serves m s (Call.Find em name key) (record { events = []; answer = Err (Refusal.Because Cause.NoSuchManager) }) s
-find_alone m s em name key e = inl (by_none _ s.manager (now s.work) s.stored em (ap is_some e))
+pub find_alone : (world : World) (s : Session) (em : ℤ) (name : List ℕ) (key : List Given) → place_of (length s.managers.items) em ≡ None →
+    Serves world s (Call.Find em name key) (record { events = []; answer = Err (Refusal.Because Cause.NoSuchManager) }) s
+find_alone world s em name key e = inl (of_nobody s (λ k. concluded marks (machine_of s) k object_or_null (find_call world name key (work_of (machine_of s) k))) em e)

@@ -1,38 +1,35 @@
 -- How a commit steps.
-use Rattle.std.proofs.Common.{◌≡◌, ◌<◌, ◌⊎◌, inl, inr, ℕ, suc, ℤ, Bool, true, false, List, [], ◌∷◌, length, refl, ap, sym, subst, ◌∙◌, arith}
-use Rattle.std.specs.Prelude.{All, is_some, None, Result, Ok, Err}
-use Rattle.std.proofs.lemmas.Bool.{false≢true, true≢false, and_parts}
+use Rattle.std.proofs.Common.{◌≡◌, ◌≢◌, ◌<◌, ◌⊎◌, inl, inr, ℕ, zero, suc, ℤ, Bool, true, false, List, [], ◌∷◌, length, refl, ap, sym, subst, ◌∙◌, arith}
+use Rattle.std.specs.Prelude.{Some, None, Ok, Err, Option, slice_index_or, slice_set}
+use Rattle.std.proofs.lemmas.Bool.{false≢true, true≢false}
 use Rattle.jpa_value.specs.declared.refusal.Cause.{Cause}
 use Rattle.jpa_value.specs.declared.refusal.Refusal.{Refusal}
 use Rattle.jpa_value.specs.declared.refusal.State.{State}
-use Rattle.jpa_model.specs.declared.unit.PersistenceUnit.{PersistenceUnit}
-use Rattle.jpa_model.specs.Chains.{root_of}
-use Rattle.jpa_behaviour.specs.Behaviour.{World, without_functions}
-use Rattle.jpa_stored.specs.Sets.{each_fits}
+use Rattle.jpa_behaviour.specs.Behaviour.{World}
+use Rattle.jpa_stored.specs.Sets.{StoredSet}
+use Rattle.jpa_undo.specs.Undo.{Changes}
 use Rattle.jpa_protocol.specs.declared.call.Call.{Call}
 use Rattle.jpa_protocol.specs.declared.event.Told.{Told}
+use Rattle.jpa_protocol.specs.declared.reply.Answer.{Answer}
 use Rattle.jpa_protocol.specs.declared.reply.Reply.{Reply}
+use Rattle.jpa_heap.specs.Objects.{place_of}
 use Rattle.jpa_context.specs.declared.Entry.{Entry}
 use Rattle.jpa_context.specs.Work.{Work}
 use Rattle.jpa_context.specs.Steps.{Outcome, Done, Refused, IsRefusedAs}
-use Rattle.jpa_context.specs.Undo.{now, since, IsKept, IsPlain, view_before}
+use Rattle.jpa_context.specs.Undo.{now, IsPlain}
 use Rattle.jpa_flush.specs.Flush.{flush}
-use Rattle.jpa_flush.specs.Writes.{writes}
-use Rattle.jpa_object_store.specs.Served.{is_served, AreOfUnit, is_next_number}
-use Rattle.jpa_rows.specs.Cells.{are_numbers}
-use Rattle.jpa_provider.specs.declared.session.ManagerState.{ManagerState}
+use Rattle.jpa_provider.specs.declared.session.Status.{Status}
+use Rattle.jpa_provider.specs.declared.session.EntityManager.{EntityManager}
 use Rattle.jpa_provider.specs.declared.session.Session.{Session}
-use Rattle.jpa_provider.specs.Machine.{Machine}
-use Rattle.jpa_provider.specs.Transactions.{commit}
-use Rattle.jpa_provider.specs.Step.{gives_up}
-use Rattle.jpa_provider.specs.Invariant.{IsMachine}
-use Rattle.jpa_provider.specs.Serving.{machine_with, machine_of, own, before, detached, gave_up, release_reply, Releases, Refuses, Stores, IsServing, IsUnused, Serves}
-use Rattle.jpa_provider.proofs.AtWork.{HoldsAfter, IsAtWork, taken}
-use Rattle.jpa_provider.proofs.Flushed.{flush_holds}
-use Rattle.jpa_provider.proofs.Committed.{commit_active, commit_refused_active, commit_marked, commit_idle, detached_plain}
-use Rattle.jpa_provider.proofs.ServedUnits.{next_of_unit, set_of_unit, writes_of_unit}
-use Rattle.jpa_provider.proofs.Served.{absent, by_none, by_first, convertible, machine_served}
-use Rattle.jpa_provider.proofs.Called.{at_place, serving_placed}
+use Rattle.jpa_provider.specs.Machine.{Machine, Manager, Transaction, manager_at, no_manager, has_transaction, is_begun, with_manager, work_of, committed_after, rolled_back}
+use Rattle.jpa_provider.specs.Transactions.{commit, commit_in, commit_of, commit_work}
+use Rattle.jpa_provider.specs.Step.{outcome, gives_up}
+use Rattle.jpa_provider.specs.Invariant.{HasOneTransaction}
+use Rattle.jpa_provider.specs.Serving.{transaction_in, manager_of, managers_of, manager_in, machine_of, gave_up, Refuses, Stores, IsWorking, Serves}
+use Rattle.jpa_provider.proofs.AtWork.{manager_set}
+use Rattle.jpa_provider.proofs.Opened.{refusal, transaction_there}
+use Rattle.jpa_provider.proofs.Plain.{commit_done, commit_refused, committed_plain}
+use Rattle.jpa_provider.proofs.Worked.{of_manager, of_nobody}
 
 -- ---- refusals
 
@@ -80,234 +77,98 @@ refused_by (Cause.Listener a) events o g h = h
 refused_by (Cause.Mapping a) events o g h = h
 refused_by (Cause.Damaged t row) events o g h = h
 
--- ---- what undoing leads back to
+-- ---- the call
 
--- up to the manager and the events, which the machine does not see
-strip : Work → Work
-strip w = record w { manager = 0; events = [] }
+pub commit_alone : (world : World) (s : Session) (em : ℤ) → place_of (length s.managers.items) em ≡ None → Serves world s (Call.Commit em) (refusal Cause.NoSuchManager) s
+commit_alone world s em e = inl (of_nobody s (commit world (machine_of s)) em e)
 
-before_same : (s mid : Session) → IsKept s.work → since mid.work ≡ since s.work → strip (before mid) ≡ strip (now s.work)
-unfolding strip
-before_same s mid k e =
-    ap (λ x. record { manager = 0; objects = x.objects; context = x.context; numbers = x.numbers; view = x.view; events = [] }) e
-    ∙ (λ i. record { manager = 0; objects = k.0 i; context = k.1 i; numbers = k.2 i; view = ap (λ o. view_before o s.work.view) k.3 i; events = [] })
+commit_at : (world : World) (s : Session) (em : ℤ) (m : ℕ) (st : Status) → place_of (length s.managers.items) em ≡ Some m → m < length s.managers.items → (manager_in s.managers.items m).status ≡ st →
+    outcome world (machine_of s) (Call.Commit em) ≡ commit_in world (machine_of s) m (transaction_in st s.work.view)
+commit_at world s em m st e l is =
+    of_manager s (commit world (machine_of s)) em m e l ∙ ap (commit_in world (machine_of s) m) (transaction_there s m l ∙ ap (λ (x : Status). transaction_in x s.work.view) is)
 
-back_same : (state : ManagerState) (n : ℕ) (s mid : Session) → IsKept s.work → since mid.work ≡ since s.work → machine_with state (before mid) n ≡ machine_with state (now s.work) n
-unfolding strip
-back_same state n s mid k e = ap (λ w. machine_with state w n) (before_same s mid k e)
+pub commit_inactive : (world : World) (s : Session) (em : ℤ) (m : ℕ) → place_of (length s.managers.items) em ≡ Some m → m < length s.managers.items → (manager_in s.managers.items m).status ≡ Status.Inactive →
+    Serves world s (Call.Commit em) (refusal (Cause.IllegalState State.Inactive)) s
+commit_inactive world s em m e l is = inl (commit_at world s em m Status.Inactive e l is)
 
-let_go_same : (n : ℕ) (s mid : Session) → IsKept s.work → since mid.work ≡ since s.work → machine_with ManagerState.Idle (detached (before mid)) n ≡ machine_with ManagerState.Idle (detached (now s.work)) n
-unfolding strip
-let_go_same n s mid k e = ap (λ w. machine_with ManagerState.Idle (detached w) n) (before_same s mid k e)
+pub commit_marked : (world : World) (s t : Session) (em : ℤ) (m : ℕ) → place_of (length s.managers.items) em ≡ Some m → m < length s.managers.items → (manager_in s.managers.items m).status ≡ Status.RollbackOnly →
+    machine_of t ≡ rolled_back (machine_of s) m → Serves world s (Call.Commit em) (record { events = []; answer = Err Refusal.RollbackMarked }) t
+commit_marked world s t em m e l is f = inl (commit_at world s em m Status.RollbackOnly e l is ∙ (λ i. (record { events = []; answer = Err Refusal.RollbackMarked }, sym f i)))
 
-plain_same : (w v : Work) → v.objects ≡ w.objects → v.context ≡ w.context → IsPlain w → IsPlain v
-plain_same w v e f p = subst (λ es. IsPlain (record v { context = es })) (sym f) (subst (λ os. IsPlain (record v { objects = os; context = w.context })) (sym e) (record { objects = p.objects; context = p.context }))
+gives : (r : Cause) (reply : Reply) → gave_up r ≡ true → reply ≡ gives_up r → (reply ≡ gives_up Cause.OutOfMemory) ⊎ (reply ≡ gives_up Cause.StoreFault)
+gives r reply h e = either (gave_cases r h)
+  where
+    either : (r ≡ Cause.OutOfMemory) ⊎ (r ≡ Cause.StoreFault) → (reply ≡ gives_up Cause.OutOfMemory) ⊎ (reply ≡ gives_up Cause.StoreFault)
+    either (inl x) = inl (e ∙ ap gives_up x)
+    either (inr x) = inr (e ∙ ap gives_up x)
 
-before_plain : (m : PersistenceUnit) (s mid : Session) → IsServing m s → since mid.work ≡ since s.work → IsPlain (before mid)
-unfolding strip
-before_plain m s mid h e =
-    let same : strip (before mid) ≡ strip (now s.work) = before_same s mid h.kept e in
-    plain_same (now s.work) (before mid) (ap (λ (w : Work). w.objects) same) (ap (λ (w : Work). w.context) same) h.plain
+module _ (world : World) (s t : Session) (em : ℤ) (m : ℕ) (e : place_of (length s.managers.items) em ≡ Some m) (l : m < length s.managers.items) (active : (manager_in s.managers.items m).status ≡ Status.Active) where
+  -- the flush was refused
+  pub refused_step : (r : Cause) (events : List Told) (reply : Reply) → IsRefusedAs r events (flush world (work_of (machine_of s) m)) → Refuses (machine_of s) m events r reply (machine_of t) → Serves world s (Call.Commit em) reply t
+  refused_step r events reply o (inl g) = inr (refl, gives r reply g.0 g.1, g.2)
+  refused_step r events reply o (inr g) =
+      let M = machine_of s in
+      inl (commit_at world s em m Status.Active e l active ∙ ap (commit_of M m) (commit_refused world (work_of M m) r events (refused_by r events _ g.0 o)) ∙ (λ i. (sym g.1 i, sym g.2 i)))
 
-each_fits_length : {A B : Type 0} (f : A → B → Bool) (xs : List A) (ys : List B) → each_fits f xs ys ≡ true → length xs ≡ length ys
-each_fits_length f [] [] h = refl
-each_fits_length f [] (y ∷ ys) h = absurd (false≢true h)
-each_fits_length f (x ∷ xs) [] h = absurd (false≢true h)
-each_fits_length f (x ∷ xs) (y ∷ ys) h = ap suc (each_fits_length f xs ys (and_parts (f x y) (each_fits f xs ys) h).1)
+  -- the flush was done
+  pub stored_step : (w : Work) (reply : Reply) → flush world (work_of (machine_of s) m) ≡ Done tt w → IsPlain w → Stores (machine_of s) m w reply (machine_of t) → Serves world s (Call.Commit em) reply t
+  stored_step w reply o p (inl g) =
+      let M = machine_of s in
+      inl (commit_at world s em m Status.Active e l active ∙ ap (commit_of M m) (commit_done world (work_of M m) w o p) ∙ (λ i. (sym g.0 i, sym g.1 i)))
+  stored_step w reply o p (inr g) = inr (refl, g.0, g.1)
 
--- the session in the middle of a commit
-pub record IsMid (s mid new : Session) : Type 0 where
-  pub manager : mid.manager ≡ s.manager
-  pub stored : mid.stored ≡ s.stored
-  pub since : since mid.work ≡ since s.work
-  pub kept : IsKept new.work
+-- ---- the end of a commit: no manager has a transaction, so what was committed is nobody's view
 
--- nothing was done
-unchanged : (m : PersistenceUnit) (s mid new : Session) → IsServing m s → IsMid s mid new → new.manager ≡ mid.manager → now new.work ≡ before mid → new.stored ≡ mid.stored → machine_of new ≡ machine_of s
-unchanged m s mid new h d e f g =
-    (λ i. machine_with (e i) (f i) (g i)) ∙ (λ i. machine_with (d.manager i) (before mid) (d.stored i)) ∙ back_same s.manager s.stored s mid h.kept d.since
+shut_alike : (st : Status) (V C : StoredSet) → is_begun (transaction_in st C) ≡ false → transaction_in st V ≡ transaction_in st C
+shut_alike Status.Inactive V C h = refl
+shut_alike Status.Active V C h = absurd (true≢false h)
+shut_alike Status.RollbackOnly V C h = absurd (true≢false h)
 
-serving_unchanged : (m : PersistenceUnit) (s mid new : Session) → IsServing m s → IsMid s mid new → new.manager ≡ mid.manager → now new.work ≡ before mid → new.stored ≡ mid.stored → IsServing m new
-unfolding strip
-serving_unchanged m s mid new h d e f g =
-    let same : strip (before mid) ≡ strip (now s.work) = before_same s mid h.kept d.since in
-    let context : (now new.work).context ≡ s.work.context.now = ap (λ (w : Work). w.context) f ∙ ap (λ (w : Work). w.context) same in
-    record {
-      flat = h.flat;
-      single = h.single;
-      machine = subst (IsMachine (without_functions m)) (sym (unchanged m s mid new h d e f g)) h.machine;
-      plain = plain_same (now s.work) (now new.work) (ap (λ (w : Work). w.objects) f ∙ ap (λ (w : Work). w.objects) same) context h.plain;
-      kept = d.kept;
-      quiet = ap (λ (w : Work). w.events) f;
-      unused = subst (λ st. IsUnused st new.work.context.now) (sym (e ∙ d.manager)) (subst (IsUnused s.manager) (sym context) h.unused);
-    }
+alike : (V C : StoredSet) (xs : List EntityManager) → ((k : ℕ) → has_transaction (slice_index_or (managers_of C xs) k no_manager) ≡ false) → managers_of V xs ≡ managers_of C xs
+alike V C [] h = refl
+alike V C (x ∷ xs) h = λ i. record { is_open = true; context = x.context.now; transaction = shut_alike x.status V C (h zero) i } ∷ (alike V C xs (λ k. h (suc k)) i)
 
--- what holds once the flush is done
-module _ (m : PersistenceUnit) (s : Session) (h : IsServing m s) (active : s.manager ≡ ManagerState.Active) where
-  at_work : IsAtWork (without_functions m) (machine_of s) 0 (now (at_place s 0).work)
-  at_work = by_state s.manager active h.machine
-    where
-      by_state : (state : ManagerState) → state ≡ ManagerState.Active → IsMachine (without_functions m) (machine_with state (now s.work) s.stored) → IsAtWork (without_functions m) (machine_with state (now s.work) s.stored) 0 (now (at_place s 0).work)
-      by_state ManagerState.Absent e k = cc
-      by_state ManagerState.Idle e k = cc
-      by_state ManagerState.RollbackOnly e k = cc
-      by_state ManagerState.Active e k =
-          subst (IsAtWork (without_functions m) (machine_with ManagerState.Active (now s.work) s.stored) 0) (λ i. record (now (at_place s 0).work) { events = sym h.quiet i }) (taken 0 (omega arith) k)
+-- the manager whose transaction was the only one
+none_left : (M : Machine) (m : ℕ) (y : Manager) → m < length M.managers → HasOneTransaction M → has_transaction (manager_at M m) ≡ true → has_transaction y ≡ false →
+    (k : ℕ) → has_transaction (slice_index_or (with_manager M m y) k no_manager) ≡ false
+none_left M m y l one begun none k = by_place (manager_set M.managers m k y l)
+  where
+    not_other : (b : Bool) → has_transaction (manager_at M k) ≡ b → k ≢ m → b ≡ false
+    not_other false e apart = refl
+    not_other true e apart = absurd (apart (sym (one m k begun e)))
 
-  pub flushed_work : (w : Work) → flush (without_functions m) (now (at_place s 0).work) ≡ Done tt w → IsAtWork (without_functions m) (machine_of s) 0 w
-  flushed_work w o = subst (HoldsAfter (λ u v. IsAtWork (without_functions m) (machine_of s) 0 v)) o (flush_holds h.flat (convertible m) at_work)
+    by_place : ((k ≡ m) × (slice_index_or (slice_set M.managers m y) k no_manager ≡ y)) ⊎ ((k ≢ m) × (slice_index_or (slice_set M.managers m y) k no_manager ≡ slice_index_or M.managers k no_manager)) →
+        has_transaction (slice_index_or (slice_set M.managers m y) k no_manager) ≡ false
+    by_place (inl h) = ap has_transaction h.1 ∙ none
+    by_place (inr h) = ap has_transaction h.1 ∙ not_other (has_transaction (manager_at M k)) refl h.0
 
-  pub one_number : (w : Work) → flush (without_functions m) (now (at_place s 0).work) ≡ Done tt w → length w.numbers ≡ 1
-  one_number w o = sym (each_same (flushed_work w o).numbered) ∙ h.single
-    where
-      each_same : are_numbers m w.numbers ≡ true → length m.entities ≡ length w.numbers
-      each_same e = each_fits_length _ m.entities w.numbers e
+within_machine : (xs : List Manager) (m : ℕ) → (slice_index_or xs m no_manager).is_open ≡ true → m < length xs
+within_machine [] m h = absurd (false≢true h)
+within_machine (x ∷ xs) zero h = omega arith
+within_machine (x ∷ xs) (suc m) h = let l = within_machine xs m h in omega (arith, l)
 
-  pub written_of_unit : AreOfUnit m (writes m (now (at_place s 0).work))
-  written_of_unit = writes_of_unit m s.work.numbers.now 0 (now (at_place s 0).work) h.single at_work.objects at_work.entries
-
-module _ (m : PersistenceUnit) (s mid new : Session) (em : ℤ) (h : IsServing m s) (active : s.manager ≡ ManagerState.Active) (named : is_some (own s.manager em) ≡ true) (d : IsMid s mid new) where
-  world : World
-  world = without_functions m
-
-  work : Work
-  work = now (at_place s 0).work
-
-  by_commit : (reply : Reply) (N : Machine) → commit (without_functions m) (machine_with ManagerState.Active (now s.work) s.stored) 0 ≡ (reply, N) → machine_of new ≡ N → Serves m s (Call.Commit em) reply new
-  by_commit reply N e f =
-      inl (by_first (commit (without_functions m) (machine_of s)) s.manager (now s.work) s.stored em named
-      ∙ ap (λ st. commit (without_functions m) (machine_with st (now s.work) s.stored) 0) active ∙ e ∙ (λ i. (reply, sym f i)))
-
-  gives : (reply : Reply) → (reply ≡ gives_up Cause.OutOfMemory) ⊎ (reply ≡ gives_up Cause.StoreFault) → machine_of new ≡ machine_of s → Serves m s (Call.Commit em) reply new
-  gives reply e f = inr (refl, e, f)
-
-  -- ---- refused
-
-  rolled_serves : (r : Cause) (reply : Reply) (rel : Result (Unit {0}) Cause) → flush (without_functions m) (now (at_place s 0).work) ≡ Refused r mid.work.events →
-      reply ≡ release_reply rel (Refusal.Rollback r) mid.work.events → Releases mid.manager (before mid) rel new → new.stored ≡ mid.stored → Serves m s (Call.Commit em) reply new
-  rolled_serves r reply (Ok u) o e f g =
-      subst (λ x. Serves m s (Call.Commit em) x new) (sym e)
-      (by_commit (record { events = mid.work.events; answer = Err (Refusal.Rollback r) }) (machine_with ManagerState.Idle (detached (now s.work)) s.stored)
-      (commit_refused_active m (now (at_place s 0).work) s.stored r mid.work.events refl h.quiet o)
-      ((λ i. machine_with (f.0 i) (f.1 i) ((g ∙ d.stored) i)) ∙ let_go_same s.stored s mid h.kept d.since))
-  rolled_serves r reply (Err c) o e f g = gives reply (inl (e ∙ ap gives_up f.0)) (unchanged m s mid new h d f.1 f.2 g)
-
-  pub refused_serves : (r : Cause) (reply : Reply) → IsRefusedAs r mid.work.events (flush (without_functions m) (now (at_place s 0).work)) → Refuses mid r reply new → new.stored ≡ mid.stored → Serves m s (Call.Commit em) reply new
-  refused_serves r reply o (inl e) g = gives reply (either (gave_cases r e.0)) (unchanged m s mid new h d e.2 e.3 g)
-    where
-      either : (r ≡ Cause.OutOfMemory) ⊎ (r ≡ Cause.StoreFault) → (reply ≡ gives_up Cause.OutOfMemory) ⊎ (reply ≡ gives_up Cause.StoreFault)
-      either (inl x) = inl (e.1 ∙ ap gives_up x)
-      either (inr x) = inr (e.1 ∙ ap gives_up x)
-  refused_serves r reply o (inr e) g = rolled_serves r reply e.1.0 (refused_by r mid.work.events _ e.0 o) e.1.1 e.1.2 g
-
-  serving_released : (rel : Result (Unit {0}) Cause) (reply : Reply) → Releases mid.manager (before mid) rel new → new.stored ≡ mid.stored → Serves m s (Call.Commit em) reply new → IsServing m new
-  serving_released (Ok u) reply f g step =
-      record {
-        flat = h.flat;
-        single = h.single;
-        machine = machine_served m s new (Call.Commit em) reply h refl step;
-        plain = subst IsPlain (sym f.1) (detached_plain (before mid) (before_plain m s mid h d.since));
-        kept = d.kept;
-        quiet = ap (λ (w : Work). w.events) f.1;
-        unused = subst (λ st. IsUnused st new.work.context.now) (sym f.0) tt;
-      }
-  serving_released (Err r) reply f g step = serving_unchanged m s mid new h d f.1 f.2 g
-
-  pub refused_serving : (r : Cause) (reply : Reply) → Refuses mid r reply new → new.stored ≡ mid.stored → Serves m s (Call.Commit em) reply new → IsServing m new
-  refused_serving r reply (inl e) g step = serving_unchanged m s mid new h d e.2 e.3 g
-  refused_serving r reply (inr e) g step = serving_released e.1.0 reply e.1.2 g step
-
-  -- ---- stored
-
-  pub stored_serves : (next : ℕ) (reply : Reply) → flush (without_functions m) (now (at_place s 0).work) ≡ Done tt (now mid.work) → IsPlain (now mid.work) → mid.work.numbers.now ≡ next ∷ [] →
-      Stores mid next reply new → Serves m s (Call.Commit em) reply new
-  stored_serves next reply o p q (inl e) =
-      by_commit reply (machine_with ManagerState.Idle (record (now mid.work) { events = [] }) next)
-      (commit_active m (now (at_place s 0).work) (now mid.work) s.stored next refl h.quiet p q o ∙ (λ i. (sym e.0 i, machine_with ManagerState.Idle (record (now mid.work) { events = [] }) next)))
-      (λ i. machine_with (e.1 i) (e.2 i) (e.3 i))
-  stored_serves next reply o p q (inr e) = gives reply e.0 (unchanged m s mid new h d e.1 e.2 e.3)
-
-  pub stored_serving : (next : ℕ) (reply : Reply) → IsPlain (now mid.work) → Stores mid next reply new → Serves m s (Call.Commit em) reply new → IsServing m new
-  stored_serving next reply p (inl e) step =
-      record {
-        flat = h.flat;
-        single = h.single;
-        machine = machine_served m s new (Call.Commit em) reply h refl step;
-        plain = plain_same (now mid.work) (now new.work) (ap (λ (w : Work). w.objects) e.2) (ap (λ (w : Work). w.context) e.2) p;
-        kept = d.kept;
-        quiet = ap (λ (w : Work). w.events) e.2;
-        unused = subst (λ st. IsUnused st new.work.context.now) (sym e.1) tt;
-      }
-  stored_serving next reply p (inr e) step = serving_unchanged m s mid new h d e.1 e.2 e.3
-
--- ---- the numbers that are stored
-
-pub stored_number : (m : PersistenceUnit) (s : Session) → IsServing m s → is_served m ≡ true → is_next_number (root_of m 0) s.stored ≡ true
-stored_number m s h served = next_of_unit m s.stored served ((h.machine).committed).numbered
-
-pub set_is_of_unit : (m : PersistenceUnit) (s : Session) → IsServing m s → AreOfUnit m s.work.view
-set_is_of_unit m s h = set_of_unit m s.work.view h.single ((h.machine).committed).shaped
-
--- ---- the other ends
-
-pub commit_alone : (m : PersistenceUnit) (s : Session) (em : ℤ) → own s.manager em ≡ None → Serves m s (Call.Commit em) (record { events = []; answer = Err (Refusal.Because Cause.NoSuchManager) }) s
-commit_alone m s em e = inl (by_none _ s.manager (now s.work) s.stored em (ap is_some e))
-
-marked : (m : PersistenceUnit) (w : Work) (n : ℕ) (em : ℤ) (state : ManagerState) → state ≡ ManagerState.RollbackOnly → commit (without_functions m) (machine_with state w n) 0 ≡
-    (record { events = []; answer = Err Refusal.RollbackMarked }, machine_with ManagerState.Idle (detached w) n)
-marked m w n em ManagerState.Absent e = cc
-marked m w n em ManagerState.Idle e = cc
-marked m w n em ManagerState.Active e = cc
-marked m w n em ManagerState.RollbackOnly e = commit_marked m w n
-
-pub marked_serves : (m : PersistenceUnit) (s new : Session) (em : ℤ) (rel : Result (Unit {0}) Cause) (reply : Reply) → IsServing m s → s.manager ≡ ManagerState.RollbackOnly → is_some (own s.manager em) ≡ true →
-    Releases s.manager (now s.work) rel new → reply ≡ release_reply rel Refusal.RollbackMarked [] → new.stored ≡ s.stored → Serves m s (Call.Commit em) reply new
-marked_serves m s new em (Ok u) reply h state named e f g =
-    inl (by_first (commit (without_functions m) (machine_of s)) s.manager (now s.work) s.stored em named ∙ marked m (now s.work) s.stored em s.manager state
-    ∙ (λ i. (sym f i, sym (λ j. machine_with (e.0 j) (e.1 j) (g j)) i)))
-marked_serves m s new em (Err r) reply h state named e f g = inr (refl, inl (f ∙ ap gives_up e.0), λ i. machine_with (e.1 i) (e.2 i) (g i))
-
-pub marked_serving : (m : PersistenceUnit) (s new : Session) (em : ℤ) (rel : Result (Unit {0}) Cause) (reply : Reply) → IsServing m s → Releases s.manager (now s.work) rel new → IsKept new.work →
-    Serves m s (Call.Commit em) reply new → IsServing m new
-marked_serving m s new em (Ok u) reply h e k step =
-    record {
-      flat = h.flat;
-      single = h.single;
-      machine = machine_served m s new (Call.Commit em) reply h refl step;
-      plain = subst IsPlain (sym e.1) (detached_plain (now s.work) h.plain);
-      kept = k;
-      quiet = ap (λ (w : Work). w.events) e.1;
-      unused = subst (λ st. IsUnused st new.work.context.now) (sym e.0) tt;
-    }
-marked_serving m s new em (Err r) reply h e k step =
-    record {
-      flat = h.flat;
-      single = h.single;
-      machine = machine_served m s new (Call.Commit em) reply h refl step;
-      plain = subst IsPlain (sym e.2) h.plain;
-      kept = k;
-      quiet = ap (λ (w : Work). w.events) e.2 ∙ h.quiet;
-      unused = subst (λ st. IsUnused st new.work.context.now) (sym e.1) (subst (IsUnused s.manager) (sym (ap (λ (w : Work). w.context) e.2)) h.unused);
-    }
-
-abbrev pub is_inactive : ManagerState → Bool
-is_inactive ManagerState.Absent = true
-is_inactive ManagerState.Idle = true
-is_inactive ManagerState.Active = false
-is_inactive ManagerState.RollbackOnly = false
-
-inactive : (m : PersistenceUnit) (w : Work) (n : ℕ) (em : ℤ) (state : ManagerState) → is_inactive state ≡ true → is_some (own state em) ≡ true →
-    commit (without_functions m) (machine_with state w n) 0 ≡ (record { events = []; answer = Err (Refusal.Because (Cause.IllegalState State.Inactive)) }, machine_with state w n)
-inactive m w n em ManagerState.Absent e named = absurd (absent em named)
-inactive m w n em ManagerState.Idle e named = commit_idle m w n
-inactive m w n em ManagerState.Active e named = cc
-inactive m w n em ManagerState.RollbackOnly e named = cc
-
-pub commit_inactive : (m : PersistenceUnit) (s : Session) (em : ℤ) → is_some (own s.manager em) ≡ true → is_inactive s.manager ≡ true →
-    Serves m s (Call.Commit em) (record { events = []; answer = Err (Refusal.Because (Cause.IllegalState State.Inactive)) }) s
-commit_inactive m s em named e =
-    inl (by_first (commit (without_functions m) (machine_of s)) s.manager (now s.work) s.stored em named ∙ inactive m (now s.work) s.stored em s.manager e named)
-
--- entries name objects
-pub entries_within : (m : PersistenceUnit) (s : Session) → IsServing m s → All (λ (e : Entry). e.object < length s.work.objects.now) s.work.context.now
-entries_within m s h = (serving_placed m s 0 h).entries
+pub committed_there : (M : Machine) (s t : Session) (m : ℕ) (c : Changes Entry) → IsWorking M m s → HasOneTransaction M → is_begun (manager_at M m).transaction ≡ true → IsPlain (now s.work) →
+    t.managers.items ≡ slice_set s.managers.items m (record { status = Status.Inactive; context = c }) → c.now ≡ s.work.context.now → t.work.objects.now ≡ s.work.objects.now →
+    t.work.numbers.now ≡ s.work.numbers.now → t.work.view ≡ s.work.view → t.stored ≡ s.work.numbers.now → machine_of t ≡ committed_after M m (now s.work)
+committed_there M s t m c h one begun plain f e o n v k =
+    let x : EntityManager = record { status = Status.Inactive; context = c } in
+    let V = s.work.view in
+    let C = M.committed in
+    let zs = slice_set s.managers.items m x in
+    let idle : (j : ℕ) → has_transaction (slice_index_or (managers_of C zs) j no_manager) ≡ false = λ j.
+    ap (λ (ys : List Manager). has_transaction (slice_index_or ys j no_manager)) (h.managers x) ∙ none_left M m (manager_of C x) (within_machine M.managers m h.is_open) one begun refl j in
+    (λ i. record {
+      objects = o i;
+      managers = (ap (λ set. managers_of set t.managers.items) v ∙ ap (managers_of V) f ∙ alike V C zs idle ∙ h.managers x) i;
+      numbers = n i;
+      stored_numbers = k i;
+      committed = v i;
+    })
+    ∙ (λ i. record M {
+      objects = s.work.objects.now;
+      managers = with_manager M m (record { is_open = sym h.is_open i; context = e i; transaction = None });
+      numbers = s.work.numbers.now;
+      stored_numbers = s.work.numbers.now;
+      committed = V;
+    })
+    ∙ sym (committed_plain M m (now s.work) plain)

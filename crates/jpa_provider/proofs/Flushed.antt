@@ -256,7 +256,7 @@ flushed_at_work {world} {M} {m} {w} flat plan h sound at =
 
 -- ---- the parts of a flush
 
-each_holds : {A : Type 0} (P : Work → Type 0) (f : A → Op (Unit {0})) → ((x : A) (w : Work) → P w → HoldsAfter (λ u w'. P w') (f x w)) → (xs : List A) (w : Work) → P w →
+pub each_holds : {A : Type 0} (P : Work → Type 0) (f : A → Op (Unit {0})) → ((x : A) (w : Work) → P w → HoldsAfter (λ u w'. P w') (f x w)) → (xs : List A) (w : Work) → P w →
     HoldsAfter (λ u w'. P w') (each f xs w)
 each_holds P f k [] w h = h
 each_holds P f k (x ∷ xs) w h = after_holds (λ u w'. P w') (λ u w'. P w') (f x w) _ (k x w h) (λ u w' h'. each_holds P f k xs w' h')
@@ -273,7 +273,7 @@ nothing_behind : (world : World) → IsFlat world.model → (o : Option Entry) (
 nothing_behind world flat None w = refl
 nothing_behind world flat (Some e) w = no_targets world flat e.object (state_of w e.object) w
 
-nothing_from : (world : World) → IsFlat world.model → (bound i : ℕ) (w : Work) → Done tt w ≡ persist_from world bound i w
+pub nothing_from : (world : World) → IsFlat world.model → (bound i : ℕ) (w : Work) → Done tt w ≡ persist_from world bound i w
 nothing_from world flat zero i w = refl
 nothing_from world flat (suc bound) i w =
     nothing_from world flat bound (suc i) w ∙ ap (λ o. after o (λ _. persist_from world bound (suc i))) (nothing_behind world flat (slice_get w.context i) w)
@@ -288,7 +288,7 @@ no_orphans m flat w n EntityState.Detached = refl
 no_orphan_of : (world : World) → IsFlat world.model → (e : Entry) (w : Work) → Done tt w ≡ remove_orphans_of world e w
 no_orphan_of world flat e w = ap (λ ids. each (remove_orphan world) ids w) (no_orphans world.model flat w e.object (state_of w e.object))
 
-no_orphan : (world : World) → IsFlat world.model → (es : List Entry) (w : Work) → Done tt w ≡ each (remove_orphans_of world) es w
+pub no_orphan : (world : World) → IsFlat world.model → (es : List Entry) (w : Work) → Done tt w ≡ each (remove_orphans_of world) es w
 no_orphan world flat [] w = refl
 no_orphan world flat (e ∷ es) w = no_orphan world flat es w ∙ ap (λ o. after o (λ _. each (remove_orphans_of world) es)) (no_orphan_of world flat e w)
 
@@ -304,7 +304,7 @@ pre_update_holds flat e (Some (Drop b)) w h = h
 pre_update_holds flat e None w h = h
 
 -- the checks change nothing
-checks_hold : (world : World) (es : List Entry) (w : Work) →
+pub checks_hold : (world : World) (es : List Entry) (w : Work) →
     HoldsAfter (λ u w'. (w' ≡ w) × AllByRecursion (λ (e : Entry). Checked world w e.object (action_of world.model w e)) es) (each (check_one world) es w)
 checks_hold world [] w = (refl, tt)
 checks_hold world (e ∷ es) w =

@@ -1,5 +1,5 @@
 -- At most one manager has an open transaction: each call keeps it so, in every unit.
-use Rattle.std.proofs.Common.{◌≡◌, ℕ, zero, suc, Bool, true, false, List, [], ◌∷◌, ◌++◌, length, refl, ap, sym, subst, ◌∙◌}
+use Rattle.std.proofs.Common.{◌≡◌, inl, inr, ℕ, zero, suc, Bool, true, false, List, [], ◌∷◌, ◌++◌, length, refl, ap, sym, subst, ◌∙◌}
 use Rattle.std.specs.Prelude.{slice_index_or, slice_set, Option, Some, None, ◌&&◌, nat_lt, count_by}
 use Rattle.std.specs.List.{list_any}
 use Rattle.std.proofs.lemmas.Bool.{false≢true, true≢false, or_parts, cond_both}
@@ -10,14 +10,15 @@ use Rattle.jpa_heap.specs.Objects.{place_of}
 use Rattle.jpa_stored.specs.Sets.{StoredSet}
 use Rattle.jpa_context.specs.Steps.{Outcome, Done, Refused, after}
 use Rattle.jpa_ops.specs.Load.{most_objects}
+use Rattle.jpa_ops.specs.Members.{get}
 use Rattle.jpa_protocol.specs.declared.call.Call.{Call}
 use Rattle.jpa_protocol.specs.declared.reply.Answer.{Answer}
 use Rattle.jpa_protocol.specs.declared.reply.Reply.{Reply}
 use Rattle.jpa_provider.specs.Machine.{Machine, Manager, Transaction, manager_at, no_manager, new_manager, is_begun, has_transaction, is_busy, seen_in, marked_in}
-use Rattle.jpa_provider.specs.Calls.{because, concluded, marked_if, marks, marks_if_callback, nothing, object_or_null, object_numbered}
-use Rattle.jpa_provider.specs.Transactions.{begin, begin_in, begun, commit, commit_in, commit_if, commit_of, commit_work}
+use Rattle.jpa_provider.specs.Calls.{because, concluded, marked_if, marks, marks_if_callback, nothing, object_or_null, got, object_numbered}
+use Rattle.jpa_provider.specs.Transactions.{begin, begin_in, begun, rollback, rollback_in, set_rollback_only, only_rollback_in, commit, commit_in, commit_if, commit_of, commit_work}
 use Rattle.jpa_provider.specs.Machine.{work_of}
-use Rattle.jpa_provider.specs.Step.{most_open, most_managers, create, made_new, if_open, holder, set_call, persist_call, find_call, outcome}
+use Rattle.jpa_provider.specs.Step.{Step, most_open, most_managers, create, made_new, if_open, holder, set_call, persist_call, find_call, outcome}
 use Rattle.jpa_provider.specs.Invariant.{HasOneTransaction}
 
 -- no manager has a transaction that had none
@@ -102,6 +103,14 @@ module _ (M : Machine) (h : HasOneTransaction M) where
   commit_one world m None = h
   commit_one world m (Some t) = commit_if_one world m t.is_marked
 
+  rollback_one : (m : ℕ) (t : Option Transaction) → HasOneTransaction (rollback_in M m t).1
+  rollback_one m None = h
+  rollback_one m (Some t) = ended_one m _ (rollback_in M m (Some t)).1 refl refl
+
+  only_rollback_one : (m : ℕ) (t : Option Transaction) → HasOneTransaction (only_rollback_in M m t).1
+  only_rollback_one m None = h
+  only_rollback_one m (Some t) = marked_one true m
+
   create_one : HasOneTransaction (create M).1
   create_one =
       cond_both (nat_lt (count_by (λ (x : Manager). x.is_open) M.managers) most_open && nat_lt (length M.managers) most_managers) _ _ (λ (o : Reply × Machine). HasOneTransaction o.1)
@@ -123,5 +132,14 @@ outcome_one world M (Call.Begin em) h = open_one M h (begin M) (λ m. begin_one 
 outcome_one world M (Call.Persist em object) h =
     open_one M h (λ m. concluded marks M m nothing (persist_call world object (work_of M m))) (λ m. concluded_one M h marks m nothing (persist_call world object (work_of M m))) (place_of (length M.managers) em)
 outcome_one world M (Call.Commit em) h = open_one M h (commit world M) (λ m. commit_one M h world m (manager_at M m).transaction) (place_of (length M.managers) em)
+outcome_one world M (Call.Rollback em) h = open_one M h (rollback M) (λ m. rollback_one M h m (manager_at M m).transaction) (place_of (length M.managers) em)
+outcome_one world M (Call.SetRollbackOnly em) h = open_one M h (set_rollback_only M) (λ m. only_rollback_one M h m (manager_at M m).transaction) (place_of (length M.managers) em)
+outcome_one world M (Call.Get object name) h =
+    let m = holder M (place_of (length M.objects) object) in
+    concluded_one M h marks_if_callback m got (after (object_numbered object (work_of M m)) (λ n. get world n name))
 outcome_one world M (Call.Find em name key) h =
     open_one M h (λ m. concluded marks M m object_or_null (find_call world name key (work_of M m))) (λ m. concluded_one M h marks m object_or_null (find_call world name key (work_of M m))) (place_of (length M.managers) em)
+
+pub step_one : {M N : Machine} {reply : Reply} (world : World) (call : Call) → HasOneTransaction M → Step world M call reply N → HasOneTransaction N
+step_one {M} world call h (inl e) = subst HasOneTransaction (ap (λ (o : Reply × Machine). o.1) e) (outcome_one world M call h)
+step_one world call h (inr g) = subst HasOneTransaction (sym g.2) h

@@ -12,7 +12,7 @@ use Rattle.jpa_protocol.specs.declared.reply.Answer.{Answer}
 use Rattle.jpa_protocol.specs.declared.reply.Reply.{Reply}
 use Rattle.jpa_provider.specs.Machine.{Machine, Manager, Transaction, manager_at, is_busy, work_of}
 use Rattle.jpa_provider.specs.Calls.{because, concluded, marks, marked_if, nothing, object_or_null}
-use Rattle.jpa_provider.specs.Transactions.{begin, begin_in, commit, commit_in, commit_if, commit_of, commit_work}
+use Rattle.jpa_provider.specs.Transactions.{begin, begin_in, rollback, rollback_in, set_rollback_only, only_rollback_in, commit, commit_in, commit_if, commit_of, commit_work}
 use Rattle.jpa_provider.specs.Step.{most_open, most_managers, create, if_open, by_manager, outcome, machine_after, persist_call, find_call, Step, Runs}
 use Rattle.jpa_provider.specs.Invariant.{IsMachine, hands_representable}
 use Rattle.jpa_lifecycle.specs.Flat.{IsFlat}
@@ -20,6 +20,7 @@ use Rattle.jpa_provider.proofs.AtWork.{HoldsAfter, IsAtWork, taken, given_back}
 use Rattle.jpa_provider.proofs.Settled.{created_holds, begun_holds, marked_holds}
 use Rattle.jpa_provider.proofs.Created.{new_holds}
 use Rattle.jpa_provider.proofs.Changed.{set_value_holds, place_within}
+use Rattle.jpa_provider.proofs.GetOf.{get_call_holds}
 use Rattle.jpa_provider.proofs.Entered.{persist_call_holds}
 use Rattle.jpa_provider.proofs.Loaded.{find_call_holds}
 use Rattle.jpa_provider.proofs.Ended.{committed_holds, rolled_back_holds}
@@ -73,6 +74,14 @@ module _ {world : World} {M : Machine} (h : IsMachine world M) where
   commit_keeps flat convertible m l is_open None = h
   commit_keeps flat convertible m l is_open (Some t) = commit_if_keeps flat convertible m l is_open t.is_marked
 
+  rollback_keeps : (m : ℕ) → m < length M.managers → (manager_at M m).is_open ≡ true → (t : Option Transaction) → IsMachine world (rollback_in M m t).1
+  rollback_keeps m l is_open None = h
+  rollback_keeps m l is_open (Some t) = rolled_back_holds m l is_open h
+
+  only_rollback_keeps : (m : ℕ) (t : Option Transaction) → IsMachine world (only_rollback_in M m t).1
+  only_rollback_keeps m None = h
+  only_rollback_keeps m (Some t) = marked_holds m h
+
 -- each call keeps what holds of the machine
 pub outcome_keeps : {world : World} {M : Machine} → IsFlat world.model → AnswersConvertible world → (call : Call) → hands_representable call ≡ true → IsMachine world M → IsMachine world (outcome world M call).1
 outcome_keeps flat convertible Call.CreateEntityManager rep h = create_keeps h
@@ -82,6 +91,9 @@ outcome_keeps {world} {M} flat convertible (Call.Begin em) rep h = manager_keeps
 outcome_keeps {world} {M} flat convertible (Call.Persist em object) rep h =
     manager_keeps h _ (λ m l is_open. concluded_keeps h marks m nothing (persist_call world object (work_of M m)) l is_open (persist_call_holds flat object (taken m l h))) em
 outcome_keeps {world} {M} flat convertible (Call.Commit em) rep h = manager_keeps h (commit world M) (λ m l is_open. commit_keeps h flat convertible m l is_open (manager_at M m).transaction) em
+outcome_keeps {world} {M} flat convertible (Call.Rollback em) rep h = manager_keeps h (rollback M) (λ m l is_open. rollback_keeps h m l is_open (manager_at M m).transaction) em
+outcome_keeps {world} {M} flat convertible (Call.SetRollbackOnly em) rep h = manager_keeps h (set_rollback_only M) (λ m l is_open. only_rollback_keeps h m (manager_at M m).transaction) em
+outcome_keeps flat convertible (Call.Get object name) rep h = get_call_holds flat object name h
 outcome_keeps {world} {M} flat convertible (Call.Find em name key) rep h =
     manager_keeps h _ (λ m l is_open. concluded_keeps h marks m object_or_null (find_call world name key (work_of M m)) l is_open (find_call_holds flat name key (taken m l h))) em
 

@@ -145,7 +145,7 @@ entry_planned world w k flat convertible e (Some (Replace base)) h live b c =
     )
 entry_planned world w k flat convertible e (Some (Drop base)) h live b c = ((h.within, λ x q. absurd (true≢false (sym (ap is_some q)))), tt)
 
-all_appended : {A : Type 0} (P : A → Type 0) (xs ys : List A) → AllByRecursion P xs → AllByRecursion P ys → AllByRecursion P (xs ++ ys)
+pub all_appended : {A : Type 0} (P : A → Type 0) (xs ys : List A) → AllByRecursion P xs → AllByRecursion P ys → AllByRecursion P (xs ++ ys)
 all_appended P [] ys h k = k
 all_appended P (x ∷ xs) ys h k = (h.0, all_appended P xs ys h.1 k)
 

@@ -31,7 +31,7 @@ seen_view None C = refl
 seen_view (Some t) C = refl
 
 -- a manager that keeps context and view is the same
-same_manager : (M : Machine) (m : ℕ) → record (manager_at M m) { transaction = seen_in (manager_at M m).transaction (view M m) } ≡ manager_at M m
+pub same_manager : (M : Machine) (m : ℕ) → record (manager_at M m) { transaction = seen_in (manager_at M m).transaction (view M m) } ≡ manager_at M m
 same_manager M m = λ i. record (manager_at M m) { transaction = seen_view (manager_at M m).transaction M.committed i }
 
 same_machine : (M : Machine) (m n : ℕ) (y : LiveObject) → kept M m (with_object n y (work_of M m)) ≡ record M { objects = slice_set M.objects n y }

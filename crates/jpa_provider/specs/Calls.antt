@@ -1,5 +1,5 @@
 -- What a call hands in, in the order in which it is judged, and the reply to an operation (the order is this provider's own).
-use Rattle.std.specs.Prelude.{ℕ, suc, ℤ, Bool, true, false, not, ◌&&◌, List, [], ◌∷◌, length, Option, Some, None, Ok, Err, if◌then◌else◌}
+use Rattle.std.specs.Prelude.{ℕ, suc, ℤ, Bool, true, false, not, ◌&&◌, List, [], ◌∷◌, length, map, Option, Some, None, Ok, Err, if◌then◌else◌}
 use Rattle.jpa_value.specs.declared.value.Value.{Value}
 use Rattle.jpa_value.specs.declared.refusal.Cause.{Cause}
 use Rattle.jpa_value.specs.declared.refusal.Refusal.{Refusal}
@@ -12,6 +12,7 @@ use Rattle.jpa_behaviour.specs.Behaviour.{World, is_short}
 use Rattle.jpa_heap.specs.declared.Handed.{Handed}
 use Rattle.jpa_heap.specs.Objects.{place_of}
 use Rattle.jpa_context.specs.Steps.{◌>>=◌, ◌>>◌, Outcome, Done, Refused, Op, give, refuse, require}
+use Rattle.jpa_ops.specs.declared.getting.Got.{Got}
 use Rattle.jpa_protocol.specs.declared.call.Given.{Given}
 use Rattle.jpa_protocol.specs.declared.event.Told.{Told}
 use Rattle.jpa_protocol.specs.declared.reply.Answer.{Answer}
@@ -111,3 +112,12 @@ nothing u = Answer.Null
 abbrev pub object_or_null : Option ℕ → Answer
 object_or_null None = Answer.Null
 object_or_null (Some n) = Answer.Object (suc n)
+
+-- a value that is null is no answer
+abbrev pub got : Got → Answer
+got (Got.Scalar Value.Null) = Answer.Null
+got (Got.Scalar (Value.Int n)) = Answer.Value (Value.Int n)
+got (Got.Scalar (Value.Text bytes)) = Answer.Value (Value.Text bytes)
+got (Got.Scalar (Value.Bytes bytes)) = Answer.Value (Value.Bytes bytes)
+got (Got.One n) = Answer.Object (suc n)
+got (Got.Many ns) = Answer.Objects (map suc ns)

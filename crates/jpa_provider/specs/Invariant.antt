@@ -155,8 +155,11 @@ given_representable (Given.Object n) = true
 abbrev pub hands_representable : Call → Bool
 hands_representable Call.CreateEntityManager = true
 hands_representable (Call.NewObject name) = true
+hands_representable (Call.Get object name) = true
 hands_representable (Call.SetValue object name value) = given_representable value
 hands_representable (Call.Begin em) = true
 hands_representable (Call.Persist em object) = true
 hands_representable (Call.Commit em) = true
+hands_representable (Call.Rollback em) = true
+hands_representable (Call.SetRollbackOnly em) = true
 hands_representable (Call.Find em name key) = list_all given_representable key

@@ -5,3 +5,4 @@ pub mod Step
 pub mod Invariant
 pub mod Serving
 pub mod Provided
+pub mod Served

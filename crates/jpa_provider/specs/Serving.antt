@@ -1,68 +1,97 @@
--- The machine that live data stand for: one manager at most, whose open transaction sees the committed set.
-use Rattle.std.specs.Prelude.{◌≡◌, ◌⊎◌, ℕ, ℤ, Bool, true, false, List, [], ◌∷◌, length, Option, Some, None, Result, Ok, Err, slice_set}
+-- The machine that live data stand for: managers, at most one of which has an open transaction, which sees the committed set.
+use Rattle.std.specs.Prelude.{◌≡◌, ◌<◌, ◌⊎◌, All, ℕ, ℤ, Bool, true, false, List, [], ◌∷◌, length, map, Option, Some, None, Result, Ok, Err, slice_index_or, slice_set}
 use Rattle.jpa_value.specs.declared.refusal.Cause.{Cause}
 use Rattle.jpa_value.specs.declared.refusal.Refusal.{Refusal}
-use Rattle.jpa_model.specs.declared.unit.PersistenceUnit.{PersistenceUnit}
-use Rattle.jpa_behaviour.specs.Behaviour.{without_functions}
+use Rattle.jpa_behaviour.specs.Behaviour.{World, AnswersConvertible}
 use Rattle.jpa_stored.specs.Sets.{StoredSet}
+use Rattle.jpa_undo.specs.Undo.{Changes}
 use Rattle.jpa_protocol.specs.declared.call.Call.{Call}
 use Rattle.jpa_protocol.specs.declared.event.Told.{Told}
 use Rattle.jpa_protocol.specs.declared.reply.Answer.{Answer}
 use Rattle.jpa_protocol.specs.declared.reply.Reply.{Reply}
 use Rattle.jpa_context.specs.declared.Entry.{Entry}
+use Rattle.jpa_context.specs.declared.Lock.{Lock}
 use Rattle.jpa_context.specs.Work.{Work}
 use Rattle.jpa_context.specs.Steps.{Outcome, Done, IsRefusedAs}
-use Rattle.jpa_context.specs.Undo.{now, since, Since, IsKept, IsPlain}
+use Rattle.jpa_context.specs.Undo.{since, Since, IsKept, is_removed_life}
 use Rattle.jpa_heap.specs.declared.LiveObject.{LiveObject}
-use Rattle.jpa_heap.specs.Objects.{place_of}
-use Rattle.jpa_ops.specs.States.{detach_each}
 use Rattle.jpa_lifecycle.specs.Flat.{IsFlat}
-use Rattle.jpa_provider.specs.declared.session.ManagerState.{ManagerState}
+use Rattle.jpa_provider.specs.declared.session.Status.{Status}
+use Rattle.jpa_provider.specs.declared.session.EntityManager.{EntityManager}
 use Rattle.jpa_provider.specs.declared.session.Session.{Session}
-use Rattle.jpa_provider.specs.Machine.{Machine, Manager, Transaction}
-use Rattle.jpa_provider.specs.Calls.{marks}
+use Rattle.jpa_provider.specs.Machine.{Machine, Manager, Transaction, manager_at, with_manager, kept, committed_after, rolled_back}
+use Rattle.jpa_provider.specs.Calls.{marks, marked_if}
 use Rattle.jpa_provider.specs.Step.{Step, gives_up}
-use Rattle.jpa_provider.specs.Invariant.{IsMachine}
+use Rattle.jpa_provider.specs.Invariant.{IsMachine, HasOneTransaction, context_of}
 
-abbrev pub transaction_in : ManagerState → StoredSet → Option Transaction
-transaction_in ManagerState.Absent set = None
-transaction_in ManagerState.Idle set = None
-transaction_in ManagerState.Active set = Some (record { begun = set; view = set; is_marked = false })
-transaction_in ManagerState.RollbackOnly set = Some (record { begun = set; view = set; is_marked = true })
+-- ---- managers
 
-abbrev pub managers_in : ManagerState → List Entry → StoredSet → List Manager
-managers_in ManagerState.Absent context set = []
-managers_in ManagerState.Idle context set = record { is_open = true; context = context; transaction = transaction_in ManagerState.Idle set } ∷ []
-managers_in ManagerState.Active context set = record { is_open = true; context = context; transaction = transaction_in ManagerState.Active set } ∷ []
-managers_in ManagerState.RollbackOnly context set = record { is_open = true; context = context; transaction = transaction_in ManagerState.RollbackOnly set } ∷ []
+abbrev pub transaction_in : Status → StoredSet → Option Transaction
+transaction_in Status.Inactive set = None
+transaction_in Status.Active set = Some (record { begun = set; view = set; is_marked = false })
+transaction_in Status.RollbackOnly set = Some (record { begun = set; view = set; is_marked = true })
 
-abbrev pub machine_with : ManagerState → Work → ℕ → Machine
-machine_with state w stored =
-    record { objects = w.objects; managers = managers_in state w.context w.view; numbers = w.numbers; stored_numbers = stored ∷ []; committed = w.view }
+abbrev pub manager_of : StoredSet → EntityManager → Manager
+manager_of set x = record { is_open = true; context = x.context.now; transaction = transaction_in x.status set }
+
+-- what stands where a number names no manager
+abbrev pub nobody : EntityManager
+nobody = record { status = Status.Inactive; context = record { now = []; since = [] } }
+
+abbrev pub manager_in : List EntityManager → ℕ → EntityManager
+manager_in managers m = slice_index_or managers m nobody
+
+abbrev pub managers_of : StoredSet → List EntityManager → List Manager
+managers_of set managers = map (manager_of set) managers
+
+-- ---- the machine
 
 abbrev pub machine_of : Session → Machine
-machine_of s = machine_with s.manager (now s.work) s.stored
+machine_of s =
+    record {
+      objects = s.work.objects.now;
+      managers = managers_of s.work.view s.managers.items;
+      numbers = s.work.numbers.now;
+      stored_numbers = s.stored;
+      committed = s.work.view;
+    }
 
--- where there is no manager, no context
-abbrev pub IsUnused : ManagerState → List Entry → Type 0
-IsUnused ManagerState.Absent context = context ≡ []
-IsUnused ManagerState.Idle context = Unit {0}
-IsUnused ManagerState.Active context = Unit {0}
-IsUnused ManagerState.RollbackOnly context = Unit {0}
+-- no object is removed, and no entry has a lock
+pub record IsPlainMachine (M : Machine) : Type 0 where
+  pub objects : All (λ (x : LiveObject). is_removed_life x.life ≡ false) M.objects
+  pub contexts : (k : ℕ) → All (λ (e : Entry). e.lock ≡ Lock.Unlocked) (context_of M k)
 
--- what holds between calls, in a unit of one entity
-pub record IsServing (m : PersistenceUnit) (s : Session) : Type 0 where
-  pub flat : IsFlat m
-  pub single : length m.entities ≡ 1
-  pub machine : IsMachine (without_functions m) (machine_of s)
-  pub plain : IsPlain (now s.work)
+-- nothing is left to be undone or told
+pub record IsSettled (s : Session) : Type 0 where
   pub kept : IsKept s.work
   pub quiet : s.work.events ≡ []
-  pub unused : IsUnused s.manager s.work.context.now
+
+-- what holds between calls
+pub record IsServing (world : World) (s : Session) : Type 0 where
+  pub flat : IsFlat world.model
+  pub convertible : AnswersConvertible world
+  pub machine : IsMachine world (machine_of s)
+  pub one : HasOneTransaction (machine_of s)
+  pub plain : IsPlainMachine (machine_of s)
+  pub settled : IsSettled s
 
 -- the reply to a call, and what stands afterwards, are those of a step of the machine
-abbrev pub Serves : PersistenceUnit → Session → Call → Reply → Session → Type 0
-Serves m old call reply new = Step (without_functions m) (machine_of old) call reply (machine_of new)
+abbrev pub Serves : World → Session → Call → Reply → Session → Type 0
+Serves world old call reply new = Step world (machine_of old) call reply (machine_of new)
+
+-- ---- a manager at work
+
+abbrev pub since_of : Machine → ℕ → Since
+since_of M m = record { objects = M.objects; context = context_of M m; numbers = M.numbers; view = M.committed }
+
+-- in a call of the machine's manager m: undone, and with the manager's context put back, the session is the machine's again
+pub record IsWorking (M : Machine) (m : ℕ) (s : Session) : Type 0 where
+  pub within : m < length s.managers.items
+  pub since : since s.work ≡ since_of M m
+  pub stored : s.stored ≡ M.stored_numbers
+  pub status : transaction_in (manager_in s.managers.items m).status M.committed ≡ (manager_at M m).transaction
+  pub managers : (x : EntityManager) → managers_of M.committed (slice_set s.managers.items m x) ≡ with_manager M m (manager_of M.committed x)
+  pub is_open : (manager_at M m).is_open ≡ true
 
 -- ---- how an operation ends
 
@@ -72,27 +101,16 @@ told_of Cause.OutOfMemory events = []
 told_of Cause.StoreFault events = []
 told_of r events = events
 
-abbrev pub marked_state : Bool → ManagerState → ManagerState
-marked_state true ManagerState.Active = ManagerState.RollbackOnly
-marked_state true ManagerState.Absent = ManagerState.Absent
-marked_state true ManagerState.Idle = ManagerState.Idle
-marked_state true ManagerState.RollbackOnly = ManagerState.RollbackOnly
-marked_state false state = state
+abbrev pub marked_status : Status → Status
+marked_status Status.Inactive = Status.Inactive
+marked_status Status.Active = Status.RollbackOnly
+marked_status Status.RollbackOnly = Status.RollbackOnly
 
-abbrev pub undone : Since → ℕ → Work
-undone s manager = record { manager = manager; objects = s.objects; context = s.context; numbers = s.numbers; view = s.view; events = [] }
-
--- done: what was changed is kept; refused: it is undone, and marks the transaction where the cause does
-abbrev pub Concludes : Session → Result Answer Cause → Reply → Session → Type 0
-Concludes old (Ok answer) reply new =
-    (reply ≡ record { events = old.work.events; answer = Ok answer }) × (new.manager ≡ old.manager) × (now new.work ≡ record (now old.work) { events = [] })
-Concludes old (Err r) reply new =
-    (reply ≡ record { events = told_of r old.work.events; answer = Err (Refusal.Because r) }) × (new.manager ≡ marked_state (marks r) old.manager)
-    × (now new.work ≡ undone (since old.work) old.work.manager)
-
--- the manager's place, where the number names it
-abbrev pub own : ManagerState → ℤ → Option ℕ
-own state em = place_of (length (managers_in state [] [])) em
+-- done: the machine keeps the work; refused: nothing stays but the mark
+abbrev pub Concludes : Machine → ℕ → Work → Result Answer Cause → Reply → Machine → Type 0
+Concludes M m w (Ok answer) reply N = (reply ≡ record { events = w.events; answer = Ok answer }) × (N ≡ kept M m w)
+Concludes M m w (Err r) reply N =
+    (reply ≡ record { events = told_of r w.events; answer = Err (Refusal.Because r) }) × (N ≡ marked_if (marks r) M m)
 
 -- what code answered, and the work that it left, are the operation's outcome, its answer told by f
 abbrev pub Answers : {A : Type 0} → (A → Answer) → Result Answer Cause → Work → Outcome A → Type 0
@@ -101,40 +119,22 @@ Answers f (Err r) new o = IsRefusedAs r new.events o
 
 -- ---- rolling back
 
--- the transaction ended: its objects are detached as they are
-abbrev pub detached : Work → Work
-detached w = record w { objects = detach_each w.context w.objects; context = []; events = [] }
-
--- the objects of this work are let go, or for want of memory nothing was done
-abbrev pub Releases : ManagerState → Work → Result (Unit {0}) Cause → Session → Type 0
-Releases state w (Ok u) new = (new.manager ≡ ManagerState.Idle) × (now new.work ≡ detached w)
-Releases state w (Err r) new = (r ≡ Cause.OutOfMemory) × (new.manager ≡ state) × (now new.work ≡ w)
-
--- the reply then
-abbrev pub release_reply : Result (Unit {0}) Cause → Refusal → List Told → Reply
-release_reply (Ok u) refusal events = record { events = events; answer = Err refusal }
-release_reply (Err r) refusal events = gives_up r
-
 abbrev pub gave_up : Cause → Bool
 gave_up Cause.OutOfMemory = true
 gave_up Cause.StoreFault = true
 gave_up _ = false
 
--- what a refused commit leads back to
-abbrev pub before : Session → Work
-before s = undone (since s.work) s.work.manager
+-- a commit whose flush was refused: nothing was done where code gave up, else the transaction rolled back
+abbrev pub Refuses : Machine → ℕ → List Told → Cause → Reply → Machine → Type 0
+Refuses M m events r reply N =
+    ((gave_up r ≡ true) × (reply ≡ gives_up r) × (N ≡ M))
+    ⊎ ((gave_up r ≡ false) × (reply ≡ record { events = events; answer = Err (Refusal.Rollback r) }) × (N ≡ rolled_back M m))
 
--- a commit whose flush was refused: undone where code gave up, else rolled back
-abbrev pub Refuses : Session → Cause → Reply → Session → Type 0
-Refuses mid r reply new =
-    ((gave_up r ≡ true) × (reply ≡ gives_up r) × (new.manager ≡ mid.manager) × (now new.work ≡ before mid))
-    ⊎ ((gave_up r ≡ false) × ((rel : Result (Unit {0}) Cause) × (reply ≡ release_reply rel (Refusal.Rollback r) mid.work.events) × Releases mid.manager (before mid) rel new))
-
--- a commit whose flush was done: stored, or undone where the store refused
-abbrev pub Stores : Session → ℕ → Reply → Session → Type 0
-Stores mid next reply new =
-    ((reply ≡ record { events = mid.work.events; answer = Ok Answer.Null }) × (new.manager ≡ ManagerState.Idle) × (now new.work ≡ record (now mid.work) { events = [] }) × (new.stored ≡ next))
-    ⊎ (((reply ≡ gives_up Cause.OutOfMemory) ⊎ (reply ≡ gives_up Cause.StoreFault)) × (new.manager ≡ mid.manager) × (now new.work ≡ before mid) × (new.stored ≡ mid.stored))
+-- a commit whose flush was done: stored, or nothing was done where the store refused
+abbrev pub Stores : Machine → ℕ → Work → Reply → Machine → Type 0
+Stores M m w reply N =
+    ((reply ≡ record { events = w.events; answer = Ok Answer.Null }) × (N ≡ committed_after M m w))
+    ⊎ (((reply ≡ gives_up Cause.OutOfMemory) ⊎ (reply ≡ gives_up Cause.StoreFault)) × (N ≡ M))
 
 -- ---- set
 
@@ -142,3 +142,17 @@ Stores mid next reply new =
 abbrev pub SetsMember : Result LiveObject Cause → List LiveObject → ℕ → Result (Unit {0}) Cause → List LiveObject → Type 0
 SetsMember wanted old place (Ok u) new = (y : LiveObject) × (wanted ≡ Ok y) × (new ≡ slice_set old place y)
 SetsMember wanted old place (Err r) new = ((r ≡ Cause.OutOfMemory) ⊎ (wanted ≡ Err r)) × (new ≡ old)
+
+-- ---- the one call that writes to the store
+
+abbrev pub is_commit : Call → Bool
+is_commit (Call.Commit em) = true
+is_commit Call.CreateEntityManager = false
+is_commit (Call.NewObject name) = false
+is_commit (Call.SetValue object name value) = false
+is_commit (Call.Get object name) = false
+is_commit (Call.Begin em) = false
+is_commit (Call.Persist em object) = false
+is_commit (Call.Rollback em) = false
+is_commit (Call.SetRollbackOnly em) = false
+is_commit (Call.Find em name key) = false

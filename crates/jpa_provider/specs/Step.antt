@@ -11,21 +11,21 @@ use Rattle.jpa_heap.specs.declared.Life.{Life}
 use Rattle.jpa_heap.specs.Objects.{place_of, object_at, new_object}
 use Rattle.jpa_context.specs.Steps.{◌>>=◌, ◌>>◌, Op, require}
 use Rattle.jpa_ops.specs.Load.{find, most_objects}
-use Rattle.jpa_ops.specs.Members.{set}
+use Rattle.jpa_ops.specs.Members.{get, set}
 use Rattle.jpa_ops.specs.States.{persist}
 use Rattle.jpa_protocol.specs.declared.call.Call.{Call}
 use Rattle.jpa_protocol.specs.declared.call.Given.{Given}
 use Rattle.jpa_protocol.specs.declared.reply.Answer.{Answer}
 use Rattle.jpa_protocol.specs.declared.reply.Reply.{Reply}
 use Rattle.jpa_provider.specs.Machine.{Machine, new_manager, manager_at, work_of}
-use Rattle.jpa_provider.specs.Calls.{accepted, because, marks, marks_if_callback, concluded, nothing, object_or_null, object_numbered, handed, is_short_given, class_named, key_given}
-use Rattle.jpa_provider.specs.Transactions.{begin, commit}
+use Rattle.jpa_provider.specs.Calls.{accepted, because, marks, marks_if_callback, concluded, nothing, object_or_null, got, object_numbered, handed, is_short_given, class_named, key_given}
+use Rattle.jpa_provider.specs.Transactions.{begin, commit, rollback, set_rollback_only}
 
 -- ---- managers
 
--- one, until the work of several is kept apart
+-- the most that are open at a time
 abbrev pub most_open : ℕ
-most_open = 1
+most_open = 16
 
 abbrev pub most_managers : ℕ
 most_managers = 1000000
@@ -97,10 +97,13 @@ find_call world name key = do
 abbrev pub outcome : World → Machine → Call → Reply × Machine
 outcome world M Call.CreateEntityManager = create M
 outcome world M (Call.NewObject name) = make_new world M name
+outcome world M (Call.Get object name) = on_object M object got (λ n. get world n name)
 outcome world M (Call.SetValue object name value) = on_object M object nothing (set_call world name value)
 outcome world M (Call.Begin em) = by_manager M em (begin M)
 outcome world M (Call.Persist em object) = worked M em nothing (persist_call world object)
 outcome world M (Call.Commit em) = by_manager M em (commit world M)
+outcome world M (Call.Rollback em) = by_manager M em (rollback M)
+outcome world M (Call.SetRollbackOnly em) = by_manager M em (set_rollback_only M)
 outcome world M (Call.Find em name key) = worked M em object_or_null (find_call world name key)
 
 -- ---- steps and runs
@@ -109,16 +112,19 @@ outcome world M (Call.Find em name key) = worked M em object_or_null (find_call 
 abbrev pub takes_nothing : Call → Bool
 takes_nothing Call.CreateEntityManager = false
 takes_nothing (Call.NewObject name) = false
+takes_nothing (Call.Get object name) = false
 takes_nothing (Call.SetValue object name value) = false
 takes_nothing (Call.Begin em) = true
 takes_nothing (Call.Persist em object) = false
 takes_nothing (Call.Commit em) = false
+takes_nothing (Call.Rollback em) = true
+takes_nothing (Call.SetRollbackOnly em) = true
 takes_nothing (Call.Find em name key) = false
 
 abbrev pub gives_up : Cause → Reply
 gives_up r = record { events = []; answer = Err (Refusal.Because r) }
 
--- want of memory or a fault of the store: nothing was done and nothing is told. begin never gives up
+-- want of memory or a fault of the store: nothing was done and nothing is told
 abbrev pub GivesUp : Machine → Call → Reply → Machine → Type 0
 GivesUp M call reply after_it =
     (takes_nothing call ≡ false) × ((reply ≡ gives_up Cause.OutOfMemory) ⊎ (reply ≡ gives_up Cause.StoreFault)) × (after_it ≡ M)

@@ -1,4 +1,4 @@
--- begin and commit (Jakarta Persistence 3.1, chapters 7.5 transactions, 3.4 optimistic locking).
+-- begin, commit and rollback (Jakarta Persistence 3.1, chapters 7.5 transactions, 3.4 optimistic locking).
 use Rattle.std.specs.Prelude.{ℕ, Bool, true, false, not, ◌&&◌, ◌||◌, [], Option, Some, None, if◌then◌else◌}
 use Rattle.std.specs.List.{list_all}
 use Rattle.jpa_value.specs.declared.refusal.Cause.{Cause}
@@ -14,7 +14,7 @@ use Rattle.jpa_context.specs.Steps.{◌>>=◌, ◌>>◌, Outcome, Done, Refused,
 use Rattle.jpa_flush.specs.Flush.{flush, row_is_base}
 use Rattle.jpa_protocol.specs.declared.reply.Answer.{Answer}
 use Rattle.jpa_protocol.specs.declared.reply.Reply.{Reply}
-use Rattle.jpa_provider.specs.Machine.{Machine, Transaction, manager_at, with_manager, is_busy, work_of, rolled_back, committed_after}
+use Rattle.jpa_provider.specs.Machine.{Machine, Transaction, manager_at, with_manager, is_busy, work_of, marked, rolled_back, committed_after}
 use Rattle.jpa_provider.specs.Calls.{accepted, refused, because}
 
 -- ---- begin
@@ -68,3 +68,20 @@ commit_in world M m (Some t) = commit_if world M m t.is_marked
 -- the transaction's set becomes the committed one, or the transaction rolls back
 abbrev pub commit : World → Machine → ℕ → Reply × Machine
 commit world M m = commit_in world M m (manager_at M m).transaction
+
+-- ---- rollback
+
+abbrev pub rollback_in : Machine → ℕ → Option Transaction → Reply × Machine
+rollback_in M m None = because M (Cause.IllegalState State.Inactive)
+rollback_in M m (Some t) = accepted [] Answer.Null (rolled_back M m)
+
+abbrev pub rollback : Machine → ℕ → Reply × Machine
+rollback M m = rollback_in M m (manager_at M m).transaction
+
+abbrev pub only_rollback_in : Machine → ℕ → Option Transaction → Reply × Machine
+only_rollback_in M m None = because M (Cause.IllegalState State.Inactive)
+only_rollback_in M m (Some t) = accepted [] Answer.Null (marked M m)
+
+-- from now on the transaction can only roll back
+abbrev pub set_rollback_only : Machine → ℕ → Reply × Machine
+set_rollback_only M m = only_rollback_in M m (manager_at M m).transaction

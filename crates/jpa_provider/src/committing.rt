@@ -1,66 +1,38 @@
 //! The call commit (Jakarta Persistence 3.1, chapters 7.5 and 3.4).
-ghost use Rattle.std.specs.Prelude.{◌≡◌, ◌<◌, ℤ, All, [], ◌∷◌, true, length, is_some};
+ghost use Rattle.std.specs.Prelude.{◌≡◌, ◌<◌, [], All, ℤ, true, length, nat_le, IfOk, Some};
+ghost use Rattle.std.specs.List.{AllByRecursion};
+ghost use Rattle.jpa_behaviour.specs.Registered.{world_of};
+ghost use Rattle.jpa_context.specs.Undo.{now, since, IsPlain};
+ghost use Rattle.jpa_heap.specs.Objects.{place_of};
+ghost use Rattle.jpa_object_rows.specs.Sets.{rows_of};
+ghost use Rattle.jpa_object_store.specs.Written.{put_all};
 ghost use Rattle.jpa_protocol.specs.declared.call.Call.{Call};
-ghost use Rattle.jpa_context.specs.Undo.{now, since, IsKept};
-ghost use Rattle.jpa_model.specs.Chains.{root_of};
-ghost use Rattle.jpa_stored.specs.Sets.{StoredSet};
-ghost use Rattle.jpa_object_store.specs.Served.{is_served, AreOfUnit, is_next_number, put_all};
+ghost use Rattle.jpa_provider.specs.Machine.{Machine, committed_after, is_begun, manager_at};
+ghost use Rattle.jpa_provider.specs.Invariant.{HasOneTransaction};
+ghost use Rattle.jpa_provider.specs.declared.session.Status.{Status};
 ghost use Rattle.jpa_provider.specs.Serving as serving;
-ghost use Rattle.jpa_provider.specs.Serving.{IsServing, Serves, own};
-ghost use Rattle.jpa_provider.specs.declared.session.ManagerState.{ManagerState};
+ghost use Rattle.jpa_provider.specs.Serving.{machine_of, manager_in, IsPlainMachine, IsServing, IsSettled, IsWorking, Serves};
+ghost use Rattle.jpa_rows.specs.Cells.{CanBeHeld, are_numbers};
+ghost use Rattle.jpa_rows.specs.Tables.{schema_of};
+ghost use Rattle.jpa_stored.specs.Sets.{all_distinct, each_fits};
+ghost use Rattle.jpa_value.specs.Value.{same_identity};
+ghost use Rattle.jpa_view.specs.View.{is_storable};
 
-use crate::detaching::detach_each;
-use crate::replies::{accepted, because};
-use crate::session::{ManagerState, Session};
-use crate::working::manager_named;
+use crate::at_work::{manager_named, restore, take_work};
+use crate::ending::release;
+use crate::replies::because;
+use crate::session::{Session, Status, exchange, set_status, status_of};
+use jpa_behaviour::{Behaviour, Registry};
+use jpa_context::UnitOfWork;
 use jpa_flush::flush;
 use jpa_model::Metamodel;
-use jpa_object_store::ObjectStore;
-use jpa_protocol::{Answer, Reply, Told};
-use jpa_stored::Stored;
-use jpa_undo::UndoList;
+use jpa_object_store::write;
+use jpa_protocol::{Answer, Reply};
+use jpa_rows::RowSource;
+use jpa_stored::{Stored, StoredSet};
 use jpa_value::{Cause, Identity, Refusal, Seq, State};
-use std::alloc::Global;
+use std::alloc::{AllocError, Global};
 use std::mem;
-
-/// Ends the transaction: the manager's objects are detached as they are. For want of memory, which is `OutOfMemory` and the
-/// only refusal, nothing changes.
-fn release(alloc: Global, session: &mut Session) -> Result<(), Cause>
-    requires kept { IsKept session.old.work }
-    requires quiet { session.old.work.events ≡ [] }
-    requires entries { All (λ e. e.object < length session.old.work.objects.now) session.old.work.context.now }
-    ensures releases { serving.Releases session.old.manager (now session.old.work) result session.new }
-    ensures kept { IsKept session.new.work }
-    ensures stored { session.new.stored ≡ session.old.stored }
-{
-    let work = &mut session.work;
-    if let Err(cause) = detach_each(&mut work.objects, work.context.as_slice()) {
-        work.undo(alloc);
-        return Err(cause);
-    }
-    work.context = UndoList::new(alloc);
-    work.keep();
-    session.manager = ManagerState::Idle;
-    Ok(())
-}
-
-/// The reply where a transaction was rolled back, or could not be for want of memory.
-fn release_reply(
-    alloc: Global,
-    released: Result<(), Cause>,
-    refusal: Refusal,
-    events: Seq<Told>,
-) -> Reply
-    ensures { result ≡ serving.release_reply released refusal events }
-{
-    match released {
-        Ok(()) => Reply {
-            events,
-            answer: Err(refusal),
-        },
-        Err(cause) => because(alloc, cause),
-    }
-}
 
 /// Whether code gave up, for want of memory or a fault of the store.
 fn gave_up(cause: &Cause) -> bool
@@ -70,112 +42,180 @@ fn gave_up(cause: &Cause) -> bool
 }
 
 /// Ends a commit whose flush was refused: what it changed is undone, and the transaction rolls back, unless code gave up.
-fn refuse_commit(alloc: Global, session: &mut Session, cause: Cause) -> Reply
+fn refuse_commit(alloc: Global, session: &mut Session, manager: usize, cause: Cause) -> Reply
+    requires within { manager < length session.old.managers.items }
     requires entries { All (λ e. e.object < length (since session.old.work).objects) (since session.old.work).context }
-    ensures refuses { serving.Refuses session.old cause result session.new }
-    ensures kept { IsKept session.new.work }
-    ensures stored { session.new.stored ≡ session.old.stored }
+    ensures refuses { (M : Machine) → IsWorking M manager session.old → serving.Refuses M manager session.old.work.events cause result (machine_of session.new) }
+    ensures settled { IsSettled session.new }
 {
     let events = mem::replace(&mut session.work.events, Seq::new(alloc));
-    session.work.undo(alloc);
+    restore(alloc, session, manager);
     if gave_up(&cause) {
         return because(alloc, cause);
     }
-    let released = release(alloc, session);
-    release_reply(alloc, released, Refusal::Rollback(cause), events)
+    release(alloc, session, manager);
+    Reply {
+        events,
+        answer: Err(Refusal::Rollback(cause)),
+    }
 }
 
-/// Stores what a flush wrote, and the next number; the transaction is committed then.
-fn store_commit<C: ObjectStore>(
-    alloc: Global,
-    session: &mut Session,
-    store: &mut C,
-    written: &[(Identity, Stored)],
-    next: u64,
-) -> Reply
-    requires objects { AreOfUnit (C.unit store.old) written.now }
-    requires before { is_next_number (root_of (C.unit store.old) 0) session.old.stored ≡ true }
-    requires next { is_next_number (root_of (C.unit store.old) 0) next ≡ true }
-    ensures stores { serving.Stores session.old next result session.new }
-    ensures holds { (set : StoredSet) → AreOfUnit (C.unit store.old) set → C.holds store.old set session.old.stored → session.old.work.view ≡ put_all written.now set → (since session.old.work).view ≡ set → C.holds store.new session.new.work.view session.new.stored }
-    ensures kept { IsKept session.new.work }
-    ensures unit { C.unit store.new ≡ C.unit store.old }
+/// The set that was committed before.
+fn committed(work: &UnitOfWork) -> &StoredSet
+    ensures { result.now ≡ (since work.now).view }
 {
-    if let Err(cause) = store.write(written, session.stored, next) {
-        session.work.undo(alloc);
+    match &work.replaced {
+        Some(set) => set,
+        None => &work.view,
+    }
+}
+
+/// A copy of the next numbers.
+fn copied(alloc: Global, numbers: &[u64]) -> Result<Seq<u64>, AllocError>
+    ensures { IfOk result (λ copy. copy ≡ numbers.now) }
+{
+    let mut copy = Seq::new(alloc);
+    for number in numbers {
+        copy.push(*number)?;
+    }
+    Ok(copy)
+}
+
+/// Ends a commit that was stored: what the manager's work changed is kept, and its transaction is over. Takes no memory.
+fn end_commit(session: &mut Session, manager: usize, next: Seq<u64>)
+    requires within { manager < length session.old.managers.items }
+    requires next { next ≡ session.old.work.numbers.now }
+    requires plain { IsPlain (now session.old.work) }
+    ensures ended { (M : Machine) → IsWorking M manager session.old → HasOneTransaction M → is_begun (manager_at M manager).transaction ≡ true → machine_of session.new ≡ committed_after M manager (now session.old.work) }
+    ensures settled { session.old.work.events ≡ [] → IsSettled session.new }
+{
+    session.work.keep();
+    exchange(&mut session.managers, manager, &mut session.work.context);
+    session.work.context.keep();
+    set_status(&mut session.managers, manager, Status::Inactive);
+    session.stored = next;
+}
+
+/// Stores what a flush wrote, and the next numbers; the transaction is committed then.
+fn store_commit<R: RowSource, B: Behaviour>(
+    alloc: Global,
+    metamodel: &Metamodel,
+    registry: &Registry<B>,
+    session: &mut Session,
+    rows: &mut R,
+    manager: usize,
+    written: &[(Identity, Stored)],
+) -> Reply
+    requires within { manager < length session.old.managers.items }
+    requires schema { R.schema rows.old ≡ schema_of metamodel.now }
+    requires held { CanBeHeld (world_of B.meaning metamodel.now registry.now) (since session.old.work).view session.old.stored }
+    requires storable { AllByRecursion (λ e. is_storable (world_of B.meaning metamodel.now registry.now) e.0 e.1 ≡ true) written.now }
+    requires distinct { all_distinct (λ a b. same_identity a.0 b.0) written.now ≡ true }
+    requires numbers { are_numbers metamodel.now session.old.work.numbers.now ≡ true }
+    requires rising { each_fits nat_le session.old.stored session.old.work.numbers.now ≡ true }
+    requires plain { IsPlain (now session.old.work) }
+    ensures stores { (M : Machine) → IsWorking M manager session.old → HasOneTransaction M → is_begun (manager_at M manager).transaction ≡ true → serving.Stores M manager (now session.old.work) result (machine_of session.new) }
+    ensures settled { IsSettled session.new }
+    ensures holds { (M : Machine) → IsWorking M manager session.old → HasOneTransaction M → is_begun (manager_at M manager).transaction ≡ true → session.old.work.view ≡ put_all written.now M.committed → R.holds rows.old (rows_of (world_of B.meaning metamodel.now registry.now) M.committed M.stored_numbers) → R.holds rows.new (rows_of (world_of B.meaning metamodel.now registry.now) (machine_of session.new).committed (machine_of session.new).stored_numbers) }
+    ensures was_clean { R.clean rows.new → R.clean rows.old }
+    ensures schema { R.schema rows.new ≡ R.schema rows.old }
+{
+    let next = match copied(alloc, session.work.numbers.as_slice()) {
+        Ok(next) => next,
+        Err(_) => {
+            restore(alloc, session, manager);
+            return because(alloc, Cause::OutOfMemory);
+        }
+    };
+    let stored = write(
+        alloc,
+        metamodel,
+        registry,
+        rows,
+        committed(&session.work),
+        session.stored.as_slice(),
+        written,
+        next.as_slice(),
+    );
+    if let Err(cause) = stored {
+        restore(alloc, session, manager);
         return because(alloc, cause);
     }
     let events = mem::replace(&mut session.work.events, Seq::new(alloc));
-    session.work.keep();
-    session.stored = next;
-    session.manager = ManagerState::Idle;
+    end_commit(session, manager, next);
     Reply {
         events,
         answer: Ok(Answer::Null),
     }
 }
 
-/// The one next number of the generated keys.
-fn next_number(numbers: &[u64]) -> u64
-    requires { length numbers.now ≡ 1 }
-    ensures { numbers.now ≡ result ∷ [] }
-{
-    numbers[0]
-}
-
-/// Commits the open transaction.
-fn commit_active<C: ObjectStore>(
+/// Commits the open transaction of the manager.
+fn commit_active<R: RowSource, B: Behaviour>(
     alloc: Global,
     metamodel: &Metamodel,
+    registry: &Registry<B>,
     session: &mut Session,
-    store: &mut C,
+    rows: &mut R,
+    manager: usize,
 ) -> Reply
-    requires serving { IsServing metamodel.now session.old }
-    requires active { session.old.manager ≡ ManagerState.Active }
-    requires served { is_served metamodel.now ≡ true }
-    requires unit { C.unit store.old ≡ metamodel.now }
-    requires holds { C.holds store.old session.old.work.view session.old.stored }
-    ensures serving { IsServing metamodel.now session.new }
-    ensures step { (em : ℤ) → is_some (own session.old.manager em) ≡ true → Serves metamodel.now session.old (Call.Commit em) result session.new }
-    ensures holds { C.holds store.new session.new.work.view session.new.stored }
-    ensures unit { C.unit store.new ≡ metamodel.now }
+    requires within { manager < length session.old.managers.items }
+    requires active { (manager_in session.old.managers.items manager).status ≡ Status.Active }
+    requires serving { IsServing (world_of B.meaning metamodel.now registry.now) session.old }
+    requires schema { R.schema rows.old ≡ schema_of metamodel.now }
+    requires holds { R.clean rows.old → R.holds rows.old (rows_of (world_of B.meaning metamodel.now registry.now) (machine_of session.old).committed (machine_of session.old).stored_numbers) }
+    ensures step { (em : ℤ) → place_of (length session.old.managers.items) em ≡ Some manager → Serves (world_of B.meaning metamodel.now registry.now) session.old (Call.Commit em) result session.new }
+    ensures settled { IsSettled session.new }
+    ensures plain { IsPlainMachine (machine_of session.new) }
+    ensures holds { R.clean rows.new → R.holds rows.new (rows_of (world_of B.meaning metamodel.now registry.now) (machine_of session.new).committed (machine_of session.new).stored_numbers) }
+    ensures was_clean { R.clean rows.new → R.clean rows.old }
+    ensures schema { R.schema rows.new ≡ R.schema rows.old }
 {
-    session.work.manager = 0;
-    match flush(alloc, metamodel, &mut session.work) {
-        Err(cause) => refuse_commit(alloc, session, cause),
-        Ok(written) => {
-            let next = next_number(session.work.numbers.as_slice());
-            store_commit(alloc, session, store, written.as_slice(), next)
-        }
+    take_work(session, manager);
+    match flush(alloc, metamodel, registry, &mut session.work) {
+        Err(cause) => refuse_commit(alloc, session, manager, cause),
+        Ok(written) => store_commit(
+            alloc,
+            metamodel,
+            registry,
+            session,
+            rows,
+            manager,
+            written.as_slice(),
+        ),
     }
 }
 
 /// The call commit.
-pub(crate) fn commit_call<C: ObjectStore>(
+pub(crate) fn commit_call<R: RowSource, B: Behaviour>(
     alloc: Global,
     metamodel: &Metamodel,
+    registry: &Registry<B>,
     session: &mut Session,
-    store: &mut C,
+    rows: &mut R,
     em: i64,
 ) -> Reply
-    requires serving { IsServing metamodel.now session.old }
-    requires served { is_served metamodel.now ≡ true }
-    requires unit { C.unit store.old ≡ metamodel.now }
-    requires holds { C.holds store.old session.old.work.view session.old.stored }
-    ensures serving { IsServing metamodel.now session.new }
-    ensures step { Serves metamodel.now session.old (Call.Commit em) result session.new }
-    ensures holds { C.holds store.new session.new.work.view session.new.stored }
-    ensures unit { C.unit store.new ≡ metamodel.now }
+    requires serving { IsServing (world_of B.meaning metamodel.now registry.now) session.old }
+    requires schema { R.schema rows.old ≡ schema_of metamodel.now }
+    requires holds { R.clean rows.old → R.holds rows.old (rows_of (world_of B.meaning metamodel.now registry.now) (machine_of session.old).committed (machine_of session.old).stored_numbers) }
+    ensures step { Serves (world_of B.meaning metamodel.now registry.now) session.old (Call.Commit em) result session.new }
+    ensures settled { IsSettled session.new }
+    ensures plain { IsPlainMachine (machine_of session.new) }
+    ensures holds { R.clean rows.new → R.holds rows.new (rows_of (world_of B.meaning metamodel.now registry.now) (machine_of session.new).committed (machine_of session.new).stored_numbers) }
+    ensures was_clean { R.clean rows.new → R.clean rows.old }
+    ensures schema { R.schema rows.new ≡ R.schema rows.old }
 {
-    let Some(_manager) = manager_named(session.manager, em) else {
+    let Some(manager) = manager_named(session, em) else {
         return because(alloc, Cause::NoSuchManager);
     };
-    match session.manager {
-        ManagerState::Active => commit_active(alloc, metamodel, session, store),
-        ManagerState::RollbackOnly => {
-            let released = release(alloc, session);
-            release_reply(alloc, released, Refusal::RollbackMarked, Seq::new(alloc))
+    match status_of(&session.managers, manager) {
+        Status::Active => commit_active(alloc, metamodel, registry, session, rows, manager),
+        Status::RollbackOnly => {
+            release(alloc, session, manager);
+            Reply {
+                events: Seq::new(alloc),
+                answer: Err(Refusal::RollbackMarked),
+            }
         }
-        _ => because(alloc, Cause::IllegalState(State::Inactive)),
+        Status::Inactive => because(alloc, Cause::IllegalState(State::Inactive)),
     }
 }

@@ -1,75 +1,102 @@
 //! Calls that make managers and objects, and begin transactions (Jakarta Persistence 3.1, chapters 3.1.1 and 7.5).
 ghost use Rattle.std.specs.Prelude.{◌≡◌};
+ghost use Rattle.std.specs.List.{list_any};
+ghost use Rattle.jpa_stored.specs.Sets.{StoredSet};
+ghost use Rattle.jpa_behaviour.specs.Registered.{world_of};
 ghost use Rattle.jpa_protocol.specs.declared.call.Call.{Call};
-ghost use Rattle.jpa_provider.specs.Serving.{IsServing, Serves};
+ghost use Rattle.jpa_provider.specs.Machine.{has_transaction};
+ghost use Rattle.jpa_provider.specs.Serving.{managers_of, IsSettled, Serves};
 
+use crate::at_work::manager_named;
 use crate::replies::{accepted, because};
-use crate::session::{ManagerState, Session};
-use crate::working::manager_named;
+use crate::session::{EntityManager, Session, Status, set_status, status_of};
+use jpa_behaviour::{Behaviour, Registry};
 use jpa_heap::new_object;
 use jpa_model::Metamodel;
 use jpa_protocol::{Answer, Reply};
+use jpa_undo::UndoList;
 use jpa_value::{Argument, Cause, State};
 use std::alloc::Global;
+
+/// The most managers that are open.
+const MOST_MANAGERS: usize = 16;
 
 /// The most live objects.
 const MOST_OBJECTS: usize = 1_000_000;
 
 /// The call createEntityManager.
-#[tactic(auto, using(crate::proofs::Opened::created_serving, crate::proofs::Opened::created_serves, crate::proofs::Opened::not_created))]
-pub(crate) fn create_call(alloc: Global, _metamodel: &Metamodel, session: &mut Session) -> Reply
-    requires serving { IsServing _metamodel.now session.old }
-    ensures serving { IsServing _metamodel.now session.new }
-    ensures step { Serves _metamodel.now session.old Call.CreateEntityManager result session.new }
-    ensures committed { session.new.work.view ≡ session.old.work.view }
-    ensures stored { session.new.stored ≡ session.old.stored }
+#[tactic(auto, using(crate::proofs::Opened::not_created, crate::proofs::Opened::create_gives_up, crate::proofs::Opened::created))]
+pub(crate) fn create_call<B: Behaviour>(
+    alloc: Global,
+    _metamodel: &Metamodel,
+    _registry: &Registry<B>,
+    session: &mut Session,
+) -> Reply
+    ensures step { Serves (world_of B.meaning _metamodel.now _registry.now) session.old Call.CreateEntityManager result session.new }
+    ensures work { session.new.work ≡ session.old.work }
 {
-    match session.manager {
-        ManagerState::Absent => {
-            session.manager = ManagerState::Idle;
-            accepted(alloc, Answer::Number(1))
-        }
-        _ => because(alloc, Cause::Limit),
+    let count = session.managers.len();
+    if count >= MOST_MANAGERS {
+        return because(alloc, Cause::Limit);
     }
+    let manager = EntityManager {
+        status: Status::Inactive,
+        context: UndoList::new(alloc),
+    };
+    match session.managers.push(manager) {
+        Err(_) => because(alloc, Cause::OutOfMemory),
+        Ok(()) => accepted(alloc, Answer::Number(count as u64 + 1)),
+    }
+}
+
+/// Whether a manager has an open transaction. Takes no memory.
+fn is_busy(managers: &[EntityManager]) -> bool
+    ensures { (set : StoredSet) → result ≡ list_any has_transaction (managers_of set managers.now) }
+{
+    for manager in managers {
+        if manager.status.is_open() {
+            return true;
+        }
+    }
+    false
 }
 
 /// The call begin. Takes no memory.
-pub(crate) fn begin_call(
+#[tactic(auto, using(crate::proofs::Opened::begin_alone, crate::proofs::Opened::begin_refused, crate::proofs::Opened::begin_busy, crate::proofs::Opened::begin_begins))]
+pub(crate) fn begin_call<B: Behaviour>(
     alloc: Global,
     _metamodel: &Metamodel,
+    _registry: &Registry<B>,
     session: &mut Session,
     em: i64,
 ) -> Reply
-    requires serving { IsServing _metamodel.now session.old }
-    ensures serving { IsServing _metamodel.now session.new }
-    ensures step { Serves _metamodel.now session.old (Call.Begin em) result session.new }
-    ensures committed { session.new.work.view ≡ session.old.work.view }
-    ensures stored { session.new.stored ≡ session.old.stored }
+    ensures step { Serves (world_of B.meaning _metamodel.now _registry.now) session.old (Call.Begin em) result session.new }
+    ensures work { session.new.work ≡ session.old.work }
 {
-    let Some(_manager) = manager_named(session.manager, em) else {
+    let Some(manager) = manager_named(session, em) else {
         return because(alloc, Cause::NoSuchManager);
     };
-    match session.manager {
-        ManagerState::Idle => {
-            session.manager = ManagerState::Active;
-            accepted(alloc, Answer::Null)
-        }
-        _ => because(alloc, Cause::IllegalState(State::Active)),
+    if status_of(&session.managers, manager).is_open() {
+        return because(alloc, Cause::IllegalState(State::Active));
     }
+    if is_busy(session.managers.as_slice()) {
+        return because(alloc, Cause::Busy);
+    }
+    set_status(&mut session.managers, manager, Status::Active);
+    accepted(alloc, Answer::Null)
 }
 
 /// The call new: an object of an entity.
-pub(crate) fn new_call(
+pub(crate) fn new_call<B: Behaviour>(
     alloc: Global,
     metamodel: &Metamodel,
+    _registry: &Registry<B>,
     session: &mut Session,
     entity: &str,
 ) -> Reply
-    requires serving { IsServing metamodel.now session.old }
-    ensures serving { IsServing metamodel.now session.new }
-    ensures step { Serves metamodel.now session.old (Call.NewObject entity.now) result session.new }
-    ensures committed { session.new.work.view ≡ session.old.work.view }
-    ensures stored { session.new.stored ≡ session.old.stored }
+    requires settled { IsSettled session.old }
+    ensures step { Serves (world_of B.meaning metamodel.now _registry.now) session.old (Call.NewObject entity.now) result session.new }
+    ensures settled { IsSettled session.new }
 {
     let count = session.work.objects.len();
     if count >= MOST_OBJECTS {

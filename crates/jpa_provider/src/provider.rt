@@ -1,181 +1,262 @@
 //! The provider.
-ghost use Rattle.std.specs.Prelude.{◌≡◌, [], ◌∷◌, slice_index_or, IfOk, IfErr, true};
+ghost use Rattle.std.specs.Prelude.{◌≡◌, ℕ, IfOk, IfErr, true, false};
 ghost use Rattle.jpa_value.specs.declared.refusal.Cause.{Cause};
-ghost use Rattle.jpa_behaviour.specs.Behaviour.{without_functions};
-ghost use Rattle.jpa_object_store.specs.Served.{is_served, AreOfUnit};
+ghost use Rattle.jpa_behaviour.specs.Registered.{world_of};
+ghost use Rattle.jpa_model.specs.Chains.{entity_at};
+ghost use Rattle.jpa_model.specs.Kept.{IsDescribed};
+ghost use Rattle.jpa_object_rows.specs.Objects.{is_discriminator};
+ghost use Rattle.jpa_object_rows.specs.Sets.{rows_of};
+ghost use Rattle.jpa_view.specs.Unambiguous.{is_class};
+ghost use Rattle.jpa_protocol.specs.declared.call.Call.{Call};
+ghost use Rattle.jpa_rows.specs.Cells.{CanBeHeld};
+ghost use Rattle.jpa_rows.specs.Tables.{schema_of};
 ghost use Rattle.jpa_provider.specs.Machine.{opened};
-ghost use Rattle.jpa_provider.specs.Provided.{Steps, Stands};
-ghost use Rattle.jpa_provider.specs.Serving.{IsServing, Serves, machine_of};
+ghost use Rattle.jpa_provider.specs.Provided.{world_in, Stands};
+ghost use Rattle.jpa_provider.specs.Served.{is_served};
+ghost use Rattle.jpa_provider.specs.Serving.{machine_of, is_commit, IsPlainMachine, IsServing, IsSettled, Serves};
 
 use crate::committing::commit_call;
+use crate::ending::{rollback_call, set_rollback_only_call};
+use crate::getting::get_call;
 use crate::handing::hands_representable;
 use crate::opening::{begin_call, create_call, new_call};
-use crate::session::{ManagerState, Session};
+use crate::session::Session;
 use crate::setting::set_call;
 use crate::working::{find_call, persist_call};
+use jpa_behaviour::{Behaviour, Registry};
 use jpa_context::UnitOfWork;
+use jpa_mapper::discriminator_law;
 use jpa_model::Metamodel;
-use jpa_object_store::ObjectStore;
 use jpa_protocol::{Call, PersistenceProvider, Reply};
+use jpa_rows::RowSource;
 use jpa_stored::StoredSet;
 use jpa_undo::UndoList;
 use jpa_value::{Cause, Seq};
 use std::alloc::{AllocError, Global};
 use std::marker::Model;
 
-/// A provider over a store of objects: it serves calls, one after another (Jakarta Persistence 3.1, chapters 3 and 7).
+/// A provider over a store of rows: it serves calls, one after another (Jakarta Persistence 3.1, chapters 3 and 7).
 ///
-/// Contracts see the persistence unit, the machine that the live data stand for, and the store, which holds what was
-/// committed.
-pub struct Provider<C: ObjectStore> {
+/// Contracts see what the unit and its stored functions mean, the machine that the live data stand for, and the store, whose
+/// rows are those of the committed set and of the next numbers that were stored with it.
+pub struct Provider<R: RowSource, B: Behaviour> {
     alloc: Global,
     metamodel: Metamodel,
+    registry: Registry<B>,
     session: Session,
-    store: C,
+    rows: R,
 }
 
-impl<C: ObjectStore> Model for Provider<C> {
-    ghost use Rattle.std.specs.Prelude.{◌≡◌, true};
-    ghost use Rattle.jpa_object_store.specs.Served.{is_served};
+impl<R: RowSource, B: Behaviour> Model for Provider<R, B> {
+    ghost use Rattle.std.specs.Prelude.{◌≡◌};
+    ghost use Rattle.jpa_behaviour.specs.Registered.{world_of};
+    ghost use Rattle.jpa_object_rows.specs.Sets.{rows_of};
+    ghost use Rattle.jpa_rows.specs.Tables.{schema_of};
     ghost use Rattle.jpa_provider.specs.Provided.{Provided};
     ghost use Rattle.jpa_provider.specs.Serving.{IsServing, machine_of};
 
-    ghost Value = { Provided C };
+    ghost Value = { Provided R B.Listener B.Converter };
 
-    ghost view = { λ p. record { unit = p.metamodel; machine = machine_of p.session; store = p.store } };
+    ghost view = { λ p. record { model = p.metamodel; registry = p.registry; machine = machine_of p.session; rows = p.rows } };
 
     ghost invariant = { λ p. record {
-      serving : IsServing p.metamodel p.session;
-      served : is_served p.metamodel ≡ true;
-      unit : C.unit p.store ≡ p.metamodel;
-      holds : C.holds p.store p.session.work.view p.session.stored;
+      serving : IsServing (world_of B.meaning p.metamodel p.registry) p.session;
+      schema : R.schema p.rows ≡ schema_of p.metamodel;
+      holds : R.clean p.rows → R.holds p.rows (rows_of (world_of B.meaning p.metamodel p.registry) (machine_of p.session).committed (machine_of p.session).stored_numbers);
     } };
 }
 
-impl<C: ObjectStore + Drop> Provider<C> {
-    /// A provider of a unit that is served, over a store of its objects that holds none yet: no object lives, no manager was
-    /// made, and keys are given from 1. For want of memory, which is `OutOfMemory` and the only refusal, it hands the store
-    /// back.
-    pub fn new(alloc: Global, metamodel: Metamodel, store: C) -> Result<Provider<C>, (Cause, C)>
+impl<R: RowSource + Drop, B: Behaviour> Provider<R, B> {
+    /// A provider of a unit that is served, over a store of the rows of these objects and next numbers: no object lives, and
+    /// no manager was made. For want of memory, which is `OutOfMemory` and the only refusal, it hands the store back.
+    pub fn new(
+        alloc: Global,
+        metamodel: Metamodel,
+        registry: Registry<B>,
+        rows: R,
+        committed: StoredSet,
+        numbers: Seq<u64>,
+    ) -> Result<Provider<R, B>, (Cause, R)>
         requires served { is_served metamodel ≡ true }
-        requires unit { C.unit store ≡ metamodel }
-        requires holds { C.holds store [] 1 }
-        ensures unit { IfOk result (λ provider. provider.unit ≡ metamodel) }
-        ensures machine { IfOk result (λ provider. provider.machine ≡ opened [] (1 ∷ [])) }
-        ensures store { IfOk result (λ provider. provider.store ≡ store) }
-        ensures refused { IfErr result (λ e. (e.0 ≡ Cause.OutOfMemory) × (e.1 ≡ store)) }
+        requires schema { R.schema rows ≡ schema_of metamodel }
+        requires held { CanBeHeld (world_of B.meaning metamodel registry) committed numbers }
+        requires holds { R.clean rows → R.holds rows (rows_of (world_of B.meaning metamodel registry) committed numbers) }
+        ensures model { IfOk result (λ provider. provider.model ≡ metamodel) }
+        ensures registry { IfOk result (λ provider. provider.registry ≡ registry) }
+        ensures machine { IfOk result (λ provider. provider.machine ≡ opened committed numbers) }
+        ensures rows { IfOk result (λ provider. provider.rows ≡ rows) }
+        ensures refused { IfErr result (λ e. (e.0 ≡ Cause.OutOfMemory) × (e.1 ≡ rows)) }
     {
-        let numbers = match first_numbers(alloc) {
-            Ok(numbers) => numbers,
-            Err(_) => return Err((Cause::OutOfMemory, store)),
+        registry.laws();
+        let next = match noted(alloc, numbers.as_slice()) {
+            Ok(next) => next,
+            Err(_) => return Err((Cause::OutOfMemory, rows)),
         };
+        let session = opened(alloc, committed, next, numbers);
         Ok(Provider {
             alloc,
             metamodel,
-            session: Session {
-                manager: ManagerState::Absent,
-                work: UnitOfWork {
-                    manager: 0,
-                    objects: UndoList::new(alloc),
-                    context: UndoList::new(alloc),
-                    numbers,
-                    view: StoredSet::new(alloc),
-                    replaced: None,
-                    events: Seq::new(alloc),
-                },
-                stored: 1,
-            },
-            store,
+            registry,
+            session,
+            rows,
         })
     }
 
     /// The store, which holds what was committed last. What lives in the provider ends.
-    pub fn into_store(self) -> C
-        ensures { result ≡ self.store }
+    pub fn into_rows(self) -> R
+        ensures { result ≡ self.rows }
     {
         let Provider {
             alloc: _,
             metamodel: _,
+            registry: _,
             session: _,
-            store,
+            rows,
         } = self;
-        store
+        rows
     }
 }
 
-impl<C: ObjectStore> Provider<C> {
-    /// What stands between calls, for contracts to cite; it does nothing. The store, of the unit that is served, holds the
-    /// committed objects, which are of the unit's entity, and the next number that was stored with them.
-    #[tactic(auto, using(crate::proofs::Commits::set_is_of_unit))]
+impl<R: RowSource, B: Behaviour> Provider<R, B> {
+    /// What stands between calls, for contracts to cite; it does nothing. The store is of the unit's schema; what was
+    /// committed can be held, and if the store is clean it holds the rows of just that. A well-formed description describes the
+    /// unit.
     pub fn stands(&self)
-        ensures stands { Stands C.holds self.now }
-        ensures unit { C.unit self.now.store ≡ self.now.unit }
-        ensures served { is_served self.now.unit ≡ true }
-        ensures objects { AreOfUnit self.now.unit (self.now.machine).committed }
-        ensures numbers { (self.now.machine).stored_numbers ≡ (slice_index_or (self.now.machine).stored_numbers 0 1) ∷ [] }
+        ensures stands { Stands B.meaning R.clean R.holds self.now }
+        ensures schema { R.schema self.now.rows ≡ schema_of self.now.model }
+        ensures held { CanBeHeld (world_in B.meaning self.now) (self.now.machine).committed (self.now.machine).stored_numbers }
+        ensures described { IsDescribed self.now.model }
+        ensures discriminators { (class : ℕ) → is_class self.now.model class ≡ true → is_discriminator (entity_at self.now.model class) ≡ true }
     {
-        let _unit = &self.metamodel;
+        self.metamodel.unit();
+        discriminator_law(&self.metamodel);
     }
 }
 
-/// The next number of the one class, as nothing was given yet.
-fn first_numbers(alloc: Global) -> Result<UndoList<u64>, AllocError>
-    ensures { IfOk result (λ numbers. (numbers.now ≡ 1 ∷ []) × (numbers.since ≡ 1 ∷ [])) }
+/// These next numbers, as nothing was given yet.
+fn noted(alloc: Global, numbers: &[u64]) -> Result<UndoList<u64>, AllocError>
+    ensures { IfOk result (λ noted. (noted.now ≡ numbers.now) × (noted.since ≡ numbers.now)) }
 {
-    let mut numbers = UndoList::new(alloc);
-    numbers.push(1)?;
-    numbers.keep();
-    Ok(numbers)
+    let mut noted = UndoList::new(alloc);
+    for number in numbers {
+        noted.push(*number)?;
+    }
+    noted.keep();
+    Ok(noted)
 }
 
-/// Serves a call.
-fn serve<C: ObjectStore>(
+/// A session without objects and managers.
+fn opened(alloc: Global, committed: StoredSet, next: UndoList<u64>, numbers: Seq<u64>) -> Session
+    ensures machine { next.now ≡ numbers → machine_of result ≡ opened committed numbers }
+    ensures settled { next.since ≡ next.now → IsSettled result }
+{
+    Session {
+        managers: Vec::new(alloc),
+        work: UnitOfWork {
+            manager: 0,
+            objects: UndoList::new(alloc),
+            context: UndoList::new(alloc),
+            numbers: next,
+            view: committed,
+            replaced: None,
+            events: Seq::new(alloc),
+        },
+        stored: numbers,
+    }
+}
+
+/// Serves a call; what stands between calls is shown where it is called.
+fn served<R: RowSource, B: Behaviour>(
     alloc: Global,
     metamodel: &Metamodel,
+    registry: &Registry<B>,
     session: &mut Session,
-    store: &mut C,
+    rows: &mut R,
     call: Call,
 ) -> Reply
-    requires serving { IsServing metamodel.now session.old }
-    requires served { is_served metamodel.now ≡ true }
-    requires unit { C.unit store.old ≡ metamodel.now }
-    requires holds { C.holds store.old session.old.work.view session.old.stored }
-    ensures serving { IsServing metamodel.now session.new }
-    ensures step { Serves metamodel.now session.old call result session.new }
-    ensures holds { C.holds store.new session.new.work.view session.new.stored }
-    ensures unit { C.unit store.new ≡ metamodel.now }
+    requires serving { IsServing (world_of B.meaning metamodel.now registry.now) session.old }
+    requires schema { R.schema rows.old ≡ schema_of metamodel.now }
+    requires holds { R.clean rows.old → R.holds rows.old (rows_of (world_of B.meaning metamodel.now registry.now) (machine_of session.old).committed (machine_of session.old).stored_numbers) }
+    ensures step { Serves (world_of B.meaning metamodel.now registry.now) session.old call result session.new }
+    ensures settled { IsSettled session.new }
+    ensures plain { is_commit call ≡ true → IsPlainMachine (machine_of session.new) }
+    ensures holds { is_commit call ≡ true → R.clean rows.new → R.holds rows.new (rows_of (world_of B.meaning metamodel.now registry.now) (machine_of session.new).committed (machine_of session.new).stored_numbers) }
+    ensures others { is_commit call ≡ false → rows.new ≡ rows.old }
+    ensures was_clean { R.clean rows.new → R.clean rows.old }
+    ensures schema { R.schema rows.new ≡ schema_of metamodel.now }
 {
-    hands_representable(&call);
     match call {
-        Call::CreateEntityManager => create_call(alloc, metamodel, session),
-        Call::NewObject { entity } => new_call(alloc, metamodel, session, entity.as_str()),
+        Call::CreateEntityManager => create_call(alloc, metamodel, registry, session),
+        Call::NewObject { entity } => {
+            new_call(alloc, metamodel, registry, session, entity.as_str())
+        }
         Call::SetValue {
             object,
             name,
             value,
-        } => set_call(alloc, metamodel, session, object, name.as_str(), value),
-        Call::Begin { em } => begin_call(alloc, metamodel, session, em),
-        Call::Persist { em, object } => persist_call(alloc, metamodel, session, em, object),
-        Call::Commit { em } => commit_call(alloc, metamodel, session, store, em),
+        } => set_call(
+            alloc,
+            metamodel,
+            registry,
+            session,
+            object,
+            name.as_str(),
+            value,
+        ),
+        Call::Get { object, name } => {
+            get_call(alloc, metamodel, registry, session, object, name.as_str())
+        }
+        Call::Begin { em } => begin_call(alloc, metamodel, registry, session, em),
+        Call::Persist { em, object } => {
+            persist_call(alloc, metamodel, registry, session, em, object)
+        }
+        Call::Commit { em } => commit_call(alloc, metamodel, registry, session, rows, em),
+        Call::Rollback { em } => rollback_call(alloc, metamodel, registry, session, em),
+        Call::SetRollbackOnly { em } => {
+            set_rollback_only_call(alloc, metamodel, registry, session, em)
+        }
         Call::Find { em, entity, key } => {
-            find_call(alloc, metamodel, session, em, &entity, &key)
+            find_call(alloc, metamodel, registry, session, em, &entity, &key)
         }
     }
 }
 
-impl<C: ObjectStore> PersistenceProvider for Provider<C> {
+/// Serves a call.
+fn serve<R: RowSource, B: Behaviour>(
+    alloc: Global,
+    metamodel: &Metamodel,
+    registry: &Registry<B>,
+    session: &mut Session,
+    rows: &mut R,
+    call: Call,
+) -> Reply
+    requires serving { IsServing (world_of B.meaning metamodel.now registry.now) session.old }
+    requires schema { R.schema rows.old ≡ schema_of metamodel.now }
+    requires holds { R.clean rows.old → R.holds rows.old (rows_of (world_of B.meaning metamodel.now registry.now) (machine_of session.old).committed (machine_of session.old).stored_numbers) }
+    ensures serving { IsServing (world_of B.meaning metamodel.now registry.now) session.new }
+    ensures step { Serves (world_of B.meaning metamodel.now registry.now) session.old call result session.new }
+    ensures holds { R.clean rows.new → R.holds rows.new (rows_of (world_of B.meaning metamodel.now registry.now) (machine_of session.new).committed (machine_of session.new).stored_numbers) }
+    ensures was_clean { R.clean rows.new → R.clean rows.old }
+    ensures schema { R.schema rows.new ≡ schema_of metamodel.now }
+{
+    hands_representable(&call);
+    served(alloc, metamodel, registry, session, rows, call)
+}
+
+impl<R: RowSource, B: Behaviour> PersistenceProvider for Provider<R, B> {
     ghost use Rattle.jpa_provider.specs.Provided.{Steps, Stands};
 
-    ghost steps = { λ old call reply new. Steps C.holds old call reply new };
+    ghost steps = { λ old call reply new. Steps B.meaning R.clean R.holds old call reply new };
 
-    ghost stands = { λ provider. Stands C.holds provider };
+    ghost stands = { λ provider. Stands B.meaning R.clean R.holds provider };
 
     fn call(&mut self, call: Call) -> Reply {
         serve(
             self.alloc,
             &self.metamodel,
+            &self.registry,
             &mut self.session,
-            &mut self.store,
+            &mut self.rows,
             call,
         )
     }

@@ -1,15 +1,12 @@
 //! How calls end.
-ghost use Rattle.std.specs.Prelude.{◌≡◌, true, [], Ok, Err};
+ghost use Rattle.std.specs.Prelude.{◌≡◌, [], Ok, Err};
 ghost use Rattle.jpa_value.specs.declared.refusal.Refusal.{Refusal};
-ghost use Rattle.jpa_context.specs.Undo.{IsKept};
 ghost use Rattle.jpa_provider.specs.Calls as calls;
 ghost use Rattle.jpa_provider.specs.Serving as serving;
 
-use crate::session::{ManagerState, Session};
 use jpa_protocol::{Answer, Reply, Told};
 use jpa_value::{Cause, Refusal, Seq};
 use std::alloc::Global;
-use std::mem;
 
 /// An answer, with nothing told.
 pub(crate) fn accepted(alloc: Global, answer: Answer) -> Reply
@@ -57,47 +54,5 @@ pub(crate) fn told_of(alloc: Global, cause: &Cause, events: Seq<Told>) -> Seq<To
     match cause {
         Cause::OutOfMemory | Cause::StoreFault => Seq::new(alloc),
         _ => events,
-    }
-}
-
-/// The manager's transaction, where one is open, can only roll back.
-fn marked(manager: ManagerState) -> ManagerState
-    ensures { result ≡ serving.marked_state true manager }
-{
-    match manager {
-        ManagerState::Active => ManagerState::RollbackOnly,
-        other => other,
-    }
-}
-
-/// Ends an operation: what it changed is kept, or undone where it was refused. Takes no memory.
-pub(crate) fn conclude(
-    alloc: Global,
-    session: &mut Session,
-    answered: Result<Answer, Cause>,
-) -> Reply
-    ensures concludes { serving.Concludes session.old answered result session.new }
-    ensures kept { IsKept session.new.work }
-    ensures stored { session.new.stored ≡ session.old.stored }
-{
-    let events = mem::replace(&mut session.work.events, Seq::new(alloc));
-    match answered {
-        Ok(answer) => {
-            session.work.keep();
-            Reply {
-                events,
-                answer: Ok(answer),
-            }
-        }
-        Err(cause) => {
-            session.work.undo(alloc);
-            if marks(&cause) {
-                session.manager = marked(session.manager);
-            }
-            Reply {
-                events: told_of(alloc, &cause, events),
-                answer: Err(Refusal::Because(cause)),
-            }
-        }
     }
 }

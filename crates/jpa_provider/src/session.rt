@@ -1,22 +1,85 @@
 //! What stands between calls.
-use jpa_context::UnitOfWork;
+ghost use Rattle.std.specs.Prelude.{◌≡◌, ◌<◌, length, slice_set};
+ghost use Rattle.jpa_provider.specs.Serving.{manager_in};
 
-/// The one entity manager that there may be, and its transaction (Jakarta Persistence 3.1, chapter 7.5).
+use jpa_context::{Entry, UnitOfWork};
+use jpa_undo::UndoList;
+use jpa_value::Seq;
+use std::mem;
+
+/// The resource transaction of an entity manager (Jakarta Persistence 3.1, chapter 7.5).
 #[derive(Clone, Copy)]
-pub enum ManagerState {
-    /// None was made.
-    Absent,
-    /// No transaction is open.
-    Idle,
+pub enum Status {
+    /// None is open.
+    Inactive,
     Active,
     /// A transaction that can only roll back.
     RollbackOnly,
 }
 
-/// The manager, what it works on, and the next number that was last stored. Contracts see the machine that it stands for.
+impl Status {
+    ghost use Rattle.std.specs.Prelude.{◌≡◌};
+    ghost use Rattle.jpa_stored.specs.Sets.{StoredSet};
+    ghost use Rattle.jpa_provider.specs.Machine.{is_begun};
+    ghost use Rattle.jpa_provider.specs.Serving.{transaction_in};
+
+    /// Whether a transaction is open.
+    pub fn is_open(self) -> bool
+        ensures { (set : StoredSet) → result ≡ is_begun (transaction_in self set) }
+    {
+        !matches!(self, Status::Inactive)
+    }
+}
+
+/// An entity manager: its transaction, and its persistence context (chapter 7.2). While it is at work its context stands in
+/// the session's unit of work.
+#[derive(Drop)]
+pub struct EntityManager {
+    pub status: Status,
+    pub context: UndoList<Entry>,
+}
+
+/// The managers, what they work on, and the next numbers that were last stored. Contracts see the machine that it stands for.
 #[derive(Drop)]
 pub struct Session {
-    pub manager: ManagerState,
+    pub managers: Vec<EntityManager>,
     pub work: UnitOfWork,
-    pub stored: u64,
+    pub stored: Seq<u64>,
+}
+
+/// The state of the manager's transaction.
+pub(crate) fn status_of(managers: &Vec<EntityManager>, manager: usize) -> Status
+    requires { manager < length managers.now.items }
+    ensures { result ≡ (manager_in managers.now.items manager).status }
+{
+    managers[manager].status
+}
+
+/// The manager's persistence context, while it isn't at work.
+pub(crate) fn context_of(managers: &Vec<EntityManager>, manager: usize) -> &[Entry]
+    requires { manager < length managers.now.items }
+    ensures { result.now ≡ (manager_in managers.now.items manager).context.now }
+{
+    managers[manager].context.as_slice()
+}
+
+/// The manager's context and another one change places. Takes no memory.
+pub(crate) fn exchange(
+    managers: &mut Vec<EntityManager>,
+    manager: usize,
+    context: &mut UndoList<Entry>,
+)
+    requires { manager < length managers.old.items }
+    ensures managers { managers.new.items ≡ slice_set managers.old.items manager (record (manager_in managers.old.items manager) { context = context.old }) }
+    ensures context { context.new ≡ (manager_in managers.old.items manager).context }
+{
+    mem::swap(&mut managers[manager].context, context);
+}
+
+/// The manager's transaction is in another state. Takes no memory.
+pub(crate) fn set_status(managers: &mut Vec<EntityManager>, manager: usize, status: Status)
+    requires { manager < length managers.old.items }
+    ensures { managers.new.items ≡ slice_set managers.old.items manager (record (manager_in managers.old.items manager) { status = status }) }
+{
+    managers[manager].status = status;
 }

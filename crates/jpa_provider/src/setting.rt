@@ -1,16 +1,17 @@
 //! The call set (Jakarta Persistence 3.1, chapter 3.2).
 ghost use Rattle.std.specs.Prelude.{◌≡◌, ◌<◌, All, OnOk, OnErr, IfErr, length, slice_set, true, ℕ};
 ghost use Rattle.jpa_value.specs.declared.refusal.Cause.{Cause};
+ghost use Rattle.jpa_behaviour.specs.Registered.{world_of};
 ghost use Rattle.jpa_protocol.specs.declared.call.Call.{Call};
 ghost use Rattle.jpa_heap.specs.Assign.{set_in};
 ghost use Rattle.jpa_heap.specs.Shape.{HasShape, IsInHeap};
-ghost use Rattle.jpa_provider.specs.Invariant.{given_representable};
 ghost use Rattle.jpa_provider.specs.Serving as serving;
-ghost use Rattle.jpa_provider.specs.Serving.{IsServing, Serves};
+ghost use Rattle.jpa_provider.specs.Serving.{IsSettled, Serves};
 
 use crate::handing::{handed, place_of};
 use crate::replies::{accepted, because};
 use crate::session::Session;
+use jpa_behaviour::{Behaviour, Registry};
 use jpa_heap::{Handed, LiveObject, assign};
 use jpa_model::Metamodel;
 use jpa_protocol::{Answer, Given, Reply};
@@ -39,20 +40,19 @@ fn set_member(
 }
 
 /// The call set: a member of an object, by its name, takes what is handed in.
-pub(crate) fn set_call(
+pub(crate) fn set_call<B: Behaviour>(
     alloc: Global,
     metamodel: &Metamodel,
+    _registry: &Registry<B>,
     session: &mut Session,
     object: i64,
     name: &str,
     value: Given,
 ) -> Reply
-    requires serving { IsServing metamodel.now session.old }
-    requires representable { given_representable value ≡ true }
-    ensures serving { IsServing metamodel.now session.new }
-    ensures step { Serves metamodel.now session.old (Call.SetValue object name.now value) result session.new }
-    ensures committed { session.new.work.view ≡ session.old.work.view }
-    ensures stored { session.new.stored ≡ session.old.stored }
+    requires shaped { All (HasShape metamodel.now) session.old.work.objects.now }
+    requires settled { IsSettled session.old }
+    ensures step { Serves (world_of B.meaning metamodel.now _registry.now) session.old (Call.SetValue object name.now value) result session.new }
+    ensures settled { IsSettled session.new }
 {
     let count = session.work.objects.len();
     let Some(place) = place_of(count, object) else {

@@ -1,18 +1,19 @@
 //! Calls that work on the manager's context: persist and find (Jakarta Persistence 3.1, chapter 3.1.1).
-ghost use Rattle.std.specs.Prelude.{◌≡◌, length, [], true, IfSome};
+ghost use Rattle.std.specs.Prelude.{◌≡◌, true};
 ghost use Rattle.std.specs.List.{list_all};
-ghost use Rattle.jpa_behaviour.specs.Behaviour.{without_functions};
+ghost use Rattle.jpa_behaviour.specs.Registered.{world_of};
 ghost use Rattle.jpa_context.specs.Undo.{now, since, IsPlaced};
 ghost use Rattle.jpa_lifecycle.specs.Flat.{IsFlat};
 ghost use Rattle.jpa_protocol.specs.declared.call.Call.{Call};
 ghost use Rattle.jpa_provider.specs.Calls as calls;
-ghost use Rattle.jpa_provider.specs.Invariant.{given_representable};
-ghost use Rattle.jpa_provider.specs.Serving.{managers_in, own, Answers, IsServing, Serves};
+ghost use Rattle.jpa_provider.specs.Serving.{Answers, IsServing, IsSettled, Serves};
 ghost use Rattle.jpa_provider.specs.Step as step;
 
+use crate::at_work::{conclude, manager_named, take_work};
 use crate::handing::{are_short, place_of, whole_key};
-use crate::replies::{because, conclude};
-use crate::session::{ManagerState, Session};
+use crate::replies::because;
+use crate::session::Session;
+use jpa_behaviour::{Behaviour, Registry};
 use jpa_context::UnitOfWork;
 use jpa_model::Metamodel;
 use jpa_ops::{find, persist};
@@ -20,57 +21,40 @@ use jpa_protocol::{Answer, Given, Reply};
 use jpa_value::{Argument, Cause, Seq, Text};
 use std::alloc::Global;
 
-/// How many managers there are.
-fn count(manager: ManagerState) -> usize
-    ensures { result ≡ length (managers_in manager [] []) }
-{
-    match manager {
-        ManagerState::Absent => 0,
-        _ => 1,
-    }
-}
-
-/// The place of the manager that a number names.
-#[tactic(auto, using(crate::proofs::Called::first_own))]
-pub(crate) fn manager_named(manager: ManagerState, em: i64) -> Option<usize>
-    ensures own { result ≡ own manager em }
-    ensures first { IfSome result (λ place. place ≡ 0) }
-{
-    place_of(count(manager), em)
-}
-
 /// Makes an object managed, by its number.
 #[tactic(auto, using(crate::proofs::Called::persist_named, crate::proofs::Called::persist_unnamed))]
-fn persist_numbered(
+fn persist_numbered<B: Behaviour>(
     alloc: Global,
     metamodel: &Metamodel,
+    registry: &Registry<B>,
     work: &mut UnitOfWork,
     object: i64,
 ) -> Result<Answer, Cause>
     requires flat { IsFlat metamodel.now }
     requires placed { IsPlaced metamodel.now (now work.old) }
-    ensures answers { Answers calls.nothing result (now work.new) (step.persist_call (without_functions metamodel.now) object (now work.old)) }
+    ensures answers { Answers calls.nothing result (now work.new) (step.persist_call (world_of B.meaning metamodel.now registry.now) object (now work.old)) }
     ensures view { work.new.view ≡ work.old.view }
     ensures since { since work.new ≡ since work.old }
 {
     let Some(place) = place_of(work.objects.len(), object) else {
         return Err(Cause::NoSuchObject);
     };
-    persist(alloc, metamodel, work, place)?;
+    persist(alloc, metamodel, registry, work, place)?;
     Ok(Answer::Null)
 }
 
 /// Finds an object by the name of its entity and the parts of its key.
-fn find_by_key(
+fn find_by_key<B: Behaviour>(
     alloc: Global,
     metamodel: &Metamodel,
+    registry: &Registry<B>,
     work: &mut UnitOfWork,
     entity: &str,
     key: &[Given],
 ) -> Result<Answer, Cause>
     requires flat { IsFlat metamodel.now }
     requires placed { IsPlaced metamodel.now (now work.old) }
-    ensures answers { Answers calls.object_or_null result (now work.new) (step.find_call (without_functions metamodel.now) entity.now key.now (now work.old)) }
+    ensures answers { Answers calls.object_or_null result (now work.new) (step.find_call (world_of B.meaning metamodel.now registry.now) entity.now key.now (now work.old)) }
     ensures view { work.new.view ≡ work.old.view }
     ensures since { since work.new ≡ since work.old }
 {
@@ -83,7 +67,7 @@ fn find_by_key(
     let Some(values) = whole_key(alloc, metamodel.root_of(class).key.as_slice(), key)? else {
         return Err(Cause::IllegalArgument(Argument::Key));
     };
-    let Some(place) = find(alloc, metamodel, work, class, values)? else {
+    let Some(place) = find(alloc, metamodel, registry, work, class, values)? else {
         return Ok(Answer::Null);
     };
     // An object's number, one more than its place, is at most the count.
@@ -92,70 +76,68 @@ fn find_by_key(
 }
 
 /// The call persist.
-pub(crate) fn persist_call(
+#[tactic(auto, using(crate::proofs::Called::persist_alone))]
+pub(crate) fn persist_call<B: Behaviour>(
     alloc: Global,
     metamodel: &Metamodel,
+    registry: &Registry<B>,
     session: &mut Session,
     em: i64,
     object: i64,
 ) -> Reply
-    requires serving { IsServing metamodel.now session.old }
-    ensures serving { IsServing metamodel.now session.new }
-    ensures step { Serves metamodel.now session.old (Call.Persist em object) result session.new }
-    ensures committed { session.new.work.view ≡ session.old.work.view }
-    ensures stored { session.new.stored ≡ session.old.stored }
+    requires serving { IsServing (world_of B.meaning metamodel.now registry.now) session.old }
+    ensures step { Serves (world_of B.meaning metamodel.now registry.now) session.old (Call.Persist em object) result session.new }
+    ensures settled { IsSettled session.new }
 {
-    let Some(manager) = manager_named(session.manager, em) else {
+    let Some(manager) = manager_named(session, em) else {
         return because(alloc, Cause::NoSuchManager);
     };
-    session.work.manager = manager;
-    let answered = persist_numbered(alloc, metamodel, &mut session.work, object);
-    conclude(alloc, session, answered)
+    take_work(session, manager);
+    let answered = persist_numbered(alloc, metamodel, registry, &mut session.work, object);
+    conclude(alloc, session, manager, answered)
 }
 
 /// The call find, by slices.
-fn find_slices(
+#[tactic(auto, using(crate::proofs::Called::find_alone))]
+fn find_slices<B: Behaviour>(
     alloc: Global,
     metamodel: &Metamodel,
+    registry: &Registry<B>,
     session: &mut Session,
     em: i64,
     entity: &str,
     key: &[Given],
 ) -> Reply
-    requires serving { IsServing metamodel.now session.old }
-    requires representable { list_all given_representable key.now ≡ true }
-    ensures serving { IsServing metamodel.now session.new }
-    ensures step { Serves metamodel.now session.old (Call.Find em entity.now key.now) result session.new }
-    ensures committed { session.new.work.view ≡ session.old.work.view }
-    ensures stored { session.new.stored ≡ session.old.stored }
+    requires serving { IsServing (world_of B.meaning metamodel.now registry.now) session.old }
+    ensures step { Serves (world_of B.meaning metamodel.now registry.now) session.old (Call.Find em entity.now key.now) result session.new }
+    ensures settled { IsSettled session.new }
 {
-    let Some(manager) = manager_named(session.manager, em) else {
+    let Some(manager) = manager_named(session, em) else {
         return because(alloc, Cause::NoSuchManager);
     };
-    session.work.manager = manager;
-    let answered = find_by_key(alloc, metamodel, &mut session.work, entity, key);
-    conclude(alloc, session, answered)
+    take_work(session, manager);
+    let answered = find_by_key(alloc, metamodel, registry, &mut session.work, entity, key);
+    conclude(alloc, session, manager, answered)
 }
 
 /// The call find.
-pub(crate) fn find_call(
+pub(crate) fn find_call<B: Behaviour>(
     alloc: Global,
     metamodel: &Metamodel,
+    registry: &Registry<B>,
     session: &mut Session,
     em: i64,
     entity: &Text,
     key: &Seq<Given>,
 ) -> Reply
-    requires serving { IsServing metamodel.now session.old }
-    requires representable { list_all given_representable key.now ≡ true }
-    ensures serving { IsServing metamodel.now session.new }
-    ensures step { Serves metamodel.now session.old (Call.Find em entity.now key.now) result session.new }
-    ensures committed { session.new.work.view ≡ session.old.work.view }
-    ensures stored { session.new.stored ≡ session.old.stored }
+    requires serving { IsServing (world_of B.meaning metamodel.now registry.now) session.old }
+    ensures step { Serves (world_of B.meaning metamodel.now registry.now) session.old (Call.Find em entity.now key.now) result session.new }
+    ensures settled { IsSettled session.new }
 {
     find_slices(
         alloc,
         metamodel,
+        registry,
         session,
         em,
         entity.as_str(),

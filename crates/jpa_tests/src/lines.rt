@@ -10,31 +10,37 @@ use std::io::{Read, Write};
 use std::process::Abort;
 use std::test::Fail;
 
-const LINES: [&str; 7] = [
+const LINES: [&str; 10] = [
     "{\"call\":\"createEntityManager\"}",
     "{\"call\":\"new\",\"entity\":\"Person\"}",
     "{\"call\":\"set\",\"object\":1,\"name\":\"name\",\"value\":\"Ada\"}",
+    "{\"call\":\"get\",\"object\":1,\"name\":\"id\"}",
     "{\"call\":\"begin\",\"em\":1}",
     "{\"call\":\"persist\",\"em\":1,\"object\":1}",
     "{\"call\":\"commit\",\"em\":1}",
     "{\"call\":\"find\",\"em\":1,\"entity\":\"Person\",\"key\":[1]}",
+    "{\"call\":\"setRollbackOnly\",\"em\":1}",
+    "{\"call\":\"rollback\",\"em\":1}",
 ];
 
-const REPLIES: [&str; 7] = [
+const REPLIES: [&str; 10] = [
     "{\"events\":[],\"ok\":1}\n",
     "{\"events\":[],\"ok\":{\"object\":1}}\n",
     "{\"events\":[],\"ok\":null}\n",
+    "{\"events\":[],\"ok\":7}\n",
     "{\"events\":[],\"ok\":null}\n",
     "{\"events\":[[\"PrePersist\",1]],\"ok\":null}\n",
     "{\"events\":[[\"PostPersist\",1]],\"ok\":null}\n",
     "{\"events\":[],\"ok\":{\"object\":1}}\n",
+    "{\"events\":[],\"ok\":null}\n",
+    "{\"events\":[],\"ok\":null}\n",
 ];
 
 const BAD_LINE: &str = "{\"error\":{\"name\":\"BadLine\",\"no\":3},\"events\":[]}\n";
 
 // ---- a provider, a reader and a writer to run over
 
-// Serves the seven calls of `LINES` once each, and nothing else.
+// Serves the ten calls of `LINES` once each, and nothing else.
 #[derive(Drop)]
 struct Scripted {
     alloc: Global,
@@ -72,6 +78,7 @@ impl PersistenceProvider for Scripted {
         let answer = match &call {
             Call::CreateEntityManager => Answer::Number(1),
             Call::NewObject { .. } | Call::Find { .. } => Answer::Object(1),
+            Call::Get { .. } => Answer::Value(Value::Int(7)),
             _ => Answer::Null,
         };
         drop(call);
@@ -265,6 +272,20 @@ fn calls(rt: HostRuntime) -> Result<(), Fail> {
         "{\"call\":\"begin\",\"em\":-0}",
         "{\"call\":\"begin\",\"em\":\"1\"}",
         "{\"call\":\"begin\",\"object\":1}",
+        "{\"call\":\"rollback\"}",
+        "{\"call\":\"rollback\",\"object\":1}",
+        "{\"call\":\"rollback\",\"em\":1,\"object\":1}",
+        "{\"call\":\"rollback\",\"em\":1.5}",
+        "{\"call\":\"setRollbackOnly\"}",
+        "{\"call\":\"setRollbackOnly\",\"em\":1,\"x\":null}",
+        "{\"call\":\"setRollbackOnly\",\"em\":null}",
+        "{\"call\":\"setrollbackonly\",\"em\":1}",
+        "{\"call\":\"get\",\"object\":1}",
+        "{\"call\":\"get\",\"name\":\"n\"}",
+        "{\"call\":\"get\",\"em\":1,\"name\":\"n\"}",
+        "{\"call\":\"get\",\"em\":1,\"object\":1,\"name\":\"n\"}",
+        "{\"call\":\"get\",\"object\":\"1\",\"name\":\"n\"}",
+        "{\"call\":\"get\",\"object\":1,\"name\":null}",
         "{\"call\":\"set\",\"object\":1,\"name\":\"n\",\"value\":1.5}",
         "{\"call\":\"set\",\"object\":1,\"name\":\"n\",\"value\":{\"hex\":\"0\"}}",
         "{\"call\":\"set\",\"object\":1,\"name\":\"n\",\"value\":{\"hex\":\"00\",\"object\":1}}",
@@ -276,6 +297,29 @@ fn calls(rt: HostRuntime) -> Result<(), Fail> {
     }
     let refused = is_bad(rt.alloc(), &[255])?;
     assert!(rt; refused);
+    Ok(())
+}
+
+// Members in another order, and the ends of their range.
+#[test]
+fn more_calls(rt: HostRuntime) -> Result<(), Fail> {
+    let a = rt.alloc();
+    let line = b"{\"em\":9223372036854775807,\"call\":\"rollback\"}";
+    let Call::Rollback { em } = read_call(a, line)? else {
+        panic!(rt; "not the call")
+    };
+    assert_eq!(rt; em, i64::MAX);
+    let line = b"{\"call\":\"setRollbackOnly\",\"em\":-9223372036854775808}";
+    let Call::SetRollbackOnly { em } = read_call(a, line)? else {
+        panic!(rt; "not the call")
+    };
+    assert_eq!(rt; em, i64::MIN);
+    let line = b"{\"name\":\"\\u00e9\",\"object\":-3,\"call\":\"get\"}";
+    let Call::Get { object, name } = read_call(a, line)? else {
+        panic!(rt; "not the call")
+    };
+    assert_eq!(rt; object, -3);
+    assert_eq!(rt; name.as_str(), "\u{e9}");
     Ok(())
 }
 

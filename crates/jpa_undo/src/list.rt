@@ -78,6 +78,19 @@ impl<T: Drop> UndoList<T> {
         Ok(())
     }
 
+    /// Another item at a place, counted from 0, for good: neither it nor a change before it can be undone. Answers what
+    /// stood there. Takes no memory.
+    pub fn put(&mut self, at: usize, item: T) -> T
+        requires { at < length self.old.now }
+        ensures now { self.new.now ≡ slice_set self.old.now at item }
+        ensures since { self.new.since ≡ self.new.now }
+        ensures old { slice_get self.old.now at ≡ Some result }
+    {
+        let old = mem::replace(&mut self.items[at], item);
+        self.keep();
+        old
+    }
+
     /// Keeps the changes: from now on they are what undoing leads back to. Takes no memory.
     pub fn keep(&mut self)
         ensures now { self.new.now ≡ self.old.now }

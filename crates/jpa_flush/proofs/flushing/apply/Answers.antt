@@ -12,15 +12,15 @@ use Rattle.jpa_flush.proofs.Settled.{same_count}
 use Rattle.jpa_flush.proofs.flushing.apply.Goals as goal
 
 pub remember-requires-clause-entries : goal.remember-requires-clause-entries
-remember-requires-clause-entries c =
+remember-requires-clause-entries g c =
     subst (λ (v : Work). All (λ (e : Entry). e.object < length v.objects) v.context) (sym c.in_ok-settle.ensures.ok) (entries_after c.args.plan.now (now c.args.work.now) c.requires.placed.entries)
 
 pub remember-requires-clause-bare : goal.remember-requires-clause-bare
-remember-requires-clause-bare c =
+remember-requires-clause-bare g c =
     subst (λ (v : Work). AreBare v.objects) (sym c.in_ok-settle.ensures.ok) (bare_after c.args.metamodel.now c.requires.flat c.args.plan.now (now c.args.work.now) c.requires.placed)
 
 pub tell_written-requires-clause-objects : goal.tell_written-requires-clause-objects
-tell_written-requires-clause-objects c =
+tell_written-requires-clause-objects g c =
     let many : length (now c.replace_view.new.self).objects ≡ length (now c.args.work.now).objects =
     ap (λ (v : Work). length v.objects) c.replace_view.ensures.now
     ∙ ap (λ (v : Work). length v.objects) c.in_ok-remember.ensures.ok
@@ -29,7 +29,7 @@ tell_written-requires-clause-objects c =
     subst (λ n. All (λ (p : Planned). p.object < n) c.args.plan.now) (sym many) c.requires.objects
 
 pub returns-clause-plain : goal.returns-clause-plain
-returns-clause-plain c =
+returns-clause-plain g c =
     let m = c.args.metamodel.now in
     let w = now c.args.work.now in
     let remembered : now c.remember.new.work ≡ all_remembered m (settled_by c.args.plan.now w) = c.in_ok-remember.ensures.ok ∙ ap (all_remembered m) c.in_ok-settle.ensures.ok in

@@ -1,6 +1,6 @@
 use Rattle.std.proofs.Common.{◌≡◌, ◌∙◌, ap, sym, subst}
 use Rattle.std.proofs.lemmas.Result.{err_from_is_err_and}
-use Rattle.jpa_behaviour.specs.Behaviour.{without_functions}
+use Rattle.jpa_behaviour.specs.Registered.{world_of}
 use Rattle.jpa_context.specs.Steps.{IsRefusedAs}
 use Rattle.jpa_context.specs.Undo.{now}
 use Rattle.jpa_stored.specs.Sets.{fault_of}
@@ -11,64 +11,67 @@ use Rattle.jpa_flush.proofs.Flushed.{new_view, outcome, refused_at_first, refuse
 use Rattle.jpa_flush.proofs.flushing.flush.Goals as goal
 
 pub returns-in_err-tell_updates-clause-ends : goal.returns-in_err-tell_updates-clause-ends
-returns-in_err-tell_updates-clause-ends c =
+returns-in_err-tell_updates-clause-ends g c =
     let w = now c.tell_updates.new.work in
     let p = err_from_is_err_and c.from_residual.result c.from_residual.ensures.1 in
-    rw (p.1, p.2) (refused_at_first c.args.metamodel.now c.requires.flat (now c.args.work.now) c.in_err-tell_updates.field-0.0 w.events c.in_err-tell_updates.ensures.meets)
+    rw (p.1, p.2) (refused_at_first (world_of g.B.Behaviour.meaning c.args.metamodel.now c.args.registry.now) c.requires.flat (now c.args.work.now) c.in_err-tell_updates.field-0.0 w.events c.in_err-tell_updates.ensures.meets)
 
 pub returns-in_err-plan-clause-ends : goal.returns-in_err-plan-clause-ends
-returns-in_err-plan-clause-ends c =
+returns-in_err-plan-clause-ends g c =
     let w = now c.tell_updates.new.work in
     let p = err_from_is_err_and c.from_residual-in_err-plan.result c.from_residual-in_err-plan.ensures.1 in
     rw (p.1, p.2)
-    (refused_by_check c.args.metamodel.now c.requires.flat (now c.args.work.now) w c.in_err-plan.field-0.0 w.events c.in_ok-tell_updates.ensures.meets c.in_err-plan.ensures.ends)
+    (refused_by_check (world_of g.B.Behaviour.meaning c.args.metamodel.now c.args.registry.now) c.requires.flat (now c.args.work.now) w c.in_err-plan.field-0.0 w.events c.in_ok-tell_updates.ensures.meets c.in_err-plan.ensures.ends)
 
 pub returns-in_err-integrity-clause-ends : goal.returns-in_err-integrity-clause-ends
-returns-in_err-integrity-clause-ends c =
+returns-in_err-integrity-clause-ends g c =
     let m = c.args.metamodel.now in
+    let world = world_of g.B.Behaviour.meaning m c.args.registry.now in
     let w0 = now c.args.work.now in
     let w = now c.tell_updates.new.work in
     let r = c.in_err-integrity.field-0.0 in
     let made : c.in_ok-view.view ≡ new_view m w =
     c.in_ok-view.ensures.ok ∙ ap (λ es. put_all es w.view) (c.as_slice-2.ensures ∙ c.in_ok-writes.ensures.ok ∙ ap writes_of (c.as_slice.ensures ∙ c.in_ok-plan.ensures.planned)) in
-    let is : flush (without_functions m) w0 ≡ outcome (without_functions m) w =
-    ready m c.requires.flat w0 w c.requires.plain c.requires.placed.entries c.tell_updates.ensures.events c.with_writes.ensures.rising c.in_ok-tell_updates.ensures.meets c.in_ok-plan.ensures.ends in
+    let is : flush world w0 ≡ outcome world w =
+    ready world c.requires.flat w0 w c.requires.plain c.requires.placed.entries c.tell_updates.ensures.events c.with_writes.ensures.rising c.in_ok-tell_updates.ensures.meets c.in_ok-plan.ensures.ends in
     let p = err_from_is_err_and c.from_residual-in_err-integrity.result c.from_residual-in_err-integrity.ensures.1 in
     rw (p.1, p.2)
     (subst (IsRefusedAs r w.events) (sym is)
-    (refused_by_fault m w r (fault_of c.unit.result.now c.in_ok-view.view) (λ j. fault_of (c.unit.ensures.unit j) (made j)) c.in_err-integrity.ensures.fault))
+    (refused_by_fault world w r (fault_of c.unit.result.now c.in_ok-view.view) (λ j. fault_of (c.unit.ensures.unit j) (made j)) c.in_err-integrity.ensures.fault))
 
 pub returns-in_err-apply-clause-ends : goal.returns-in_err-apply-clause-ends
-returns-in_err-apply-clause-ends c =
+returns-in_err-apply-clause-ends g c =
     let m = c.args.metamodel.now in
+    let world = world_of g.B.Behaviour.meaning m c.args.registry.now in
     let w0 = now c.args.work.now in
     let w = now c.tell_updates.new.work in
     let r = c.in_err-apply.field-0.0 in
     let planned = c.as_slice-3.ensures ∙ c.in_ok-plan.ensures.planned in
     let made : c.in_ok-view.view ≡ new_view m w =
     c.in_ok-view.ensures.ok ∙ ap (λ es. put_all es w.view) (c.as_slice-2.ensures ∙ c.in_ok-writes.ensures.ok ∙ ap writes_of (c.as_slice.ensures ∙ c.in_ok-plan.ensures.planned)) in
-    let is : flush (without_functions m) w0 ≡ outcome (without_functions m) w =
-    ready m c.requires.flat w0 w c.requires.plain c.requires.placed.entries c.tell_updates.ensures.events c.with_writes.ensures.rising c.in_ok-tell_updates.ensures.meets c.in_ok-plan.ensures.ends in
-    let whole = sound m w ((λ j. fault_of (sym c.unit.ensures.unit j) (sym made j)) ∙ c.in_ok-integrity.ensures.sound) in
+    let is : flush world w0 ≡ outcome world w =
+    ready world c.requires.flat w0 w c.requires.plain c.requires.placed.entries c.tell_updates.ensures.events c.with_writes.ensures.rising c.in_ok-tell_updates.ensures.meets c.in_ok-plan.ensures.ends in
+    let whole = sound world w ((λ j. fault_of (sym c.unit.ensures.unit j) (sym made j)) ∙ c.in_ok-integrity.ensures.sound) in
     let p = err_from_is_err_and c.from_residual-in_err-apply.result c.from_residual-in_err-apply.ensures.1 in
     rw (p.1, p.2)
-    (subst (IsRefusedAs r (now c.apply.new.work).events) ((λ j. told_by (without_functions m) (planned j) (applied m (planned j) (made j) w)) ∙ sym whole ∙ sym is) c.in_err-apply.ensures.meets)
+    (subst (IsRefusedAs r (now c.apply.new.work).events) ((λ j. told_by world (planned j) (applied m (planned j) (made j) w)) ∙ sym whole ∙ sym is) c.in_err-apply.ensures.meets)
 
 pub returns-clause-ends : goal.returns-clause-ends
-returns-clause-ends c =
+returns-clause-ends g c =
     let m = c.args.metamodel.now in
+    let world = world_of g.B.Behaviour.meaning m c.args.registry.now in
     let w0 = now c.args.work.now in
     let w = now c.tell_updates.new.work in
     let planned = c.as_slice-3.ensures ∙ c.in_ok-plan.ensures.planned in
     let made : c.in_ok-view.view ≡ new_view m w =
     c.in_ok-view.ensures.ok ∙ ap (λ es. put_all es w.view) (c.as_slice-2.ensures ∙ c.in_ok-writes.ensures.ok ∙ ap writes_of (c.as_slice.ensures ∙ c.in_ok-plan.ensures.planned)) in
-    let is : flush (without_functions m) w0 ≡ outcome (without_functions m) w =
-    ready m c.requires.flat w0 w c.requires.plain c.requires.placed.entries c.tell_updates.ensures.events c.with_writes.ensures.rising c.in_ok-tell_updates.ensures.meets c.in_ok-plan.ensures.ends in
-    let whole = sound m w ((λ j. fault_of (sym c.unit.ensures.unit j) (sym made j)) ∙ c.in_ok-integrity.ensures.sound) in
-    is ∙ whole ∙ sym (λ j. told_by (without_functions m) (planned j) (applied m (planned j) (made j) w)) ∙ c.in_ok-apply.ensures.meets
+    let is : flush world w0 ≡ outcome world w =
+    ready world c.requires.flat w0 w c.requires.plain c.requires.placed.entries c.tell_updates.ensures.events c.with_writes.ensures.rising c.in_ok-tell_updates.ensures.meets c.in_ok-plan.ensures.ends in
+    let whole = sound world w ((λ j. fault_of (sym c.unit.ensures.unit j) (sym made j)) ∙ c.in_ok-integrity.ensures.sound) in
+    is ∙ whole ∙ sym (λ j. told_by world (planned j) (applied m (planned j) (made j) w)) ∙ c.in_ok-apply.ensures.meets
 
 pub returns-clause-written : goal.returns-clause-written
-returns-clause-written c =
+returns-clause-written g c =
     let m = c.args.metamodel.now in
     c.in_ok-writes.ensures.ok
     ∙ ap writes_of (c.as_slice.ensures ∙ c.in_ok-plan.ensures.planned)

@@ -3,7 +3,7 @@ use Rattle.std.specs.Prelude.{Option}
 use Rattle.std.specs.Option.{option_to_list}
 use Rattle.std.proofs.lemmas.List.{append-nil}
 use Rattle.std.proofs.lemmas.Result.{err_from_is_err_and}
-use Rattle.jpa_behaviour.specs.Behaviour.{without_functions}
+use Rattle.jpa_behaviour.specs.Registered.{world_of}
 use Rattle.jpa_context.specs.declared.Entry.{Entry}
 use Rattle.jpa_context.specs.Undo.{now}
 use Rattle.jpa_context.specs.Steps.{Done, IsRefusedAs}
@@ -15,8 +15,9 @@ use Rattle.jpa_flush.proofs.planning.plan.Goals as goal
 use Rattle.jpa_flush.proofs.planning.plan.Goals.{in-Some+in_ok-push, in_default}
 
 pub returns-in_err-planned-clause-ends : goal.returns-in_err-planned-clause-ends
-returns-in_err-planned-clause-ends c =
+returns-in_err-planned-clause-ends g c =
     let m = c.args.metamodel.now in
+    let world = world_of g.B.Behaviour.meaning m c.args.registry.now in
     let w = now c.args.work.now in
     let i = c.loop-entry.entry-index in
     let e = c.entry-item.result in
@@ -26,12 +27,13 @@ returns-in_err-planned-clause-ends c =
     let r = c.in_err-planned.field-0.0 in
     let p = err_from_is_err_and c.from_residual.result c.from_residual.ensures.1 in
     rw (p.1, p.2)
-    (check_refused m c.requires.flat w i e r c.requires.plain l read within c.loop-entry.invariant.rest
-    (subst (λ (s : Step). IsRefusedAs r w.events (check (without_functions m) e.object s w)) c.step_of-step.ensures c.in_err-planned.ensures.ends))
+    (check_refused world c.requires.flat w i e r c.requires.plain l read within c.loop-entry.invariant.rest
+    (subst (λ (s : Step). IsRefusedAs r w.events (check world e.object s w)) c.step_of-step.ensures c.in_err-planned.ensures.ends))
 
 pub loop-entry-preserved : goal.loop-entry-preserved
-loop-entry-preserved c =
+loop-entry-preserved g c =
     let m = c.args.metamodel.now in
+    let world = world_of g.B.Behaviour.meaning m c.args.registry.now in
     let w = now c.args.work.now in
     let i = c.loop-entry.entry-index in
     let e = c.entry-item.result in
@@ -41,8 +43,8 @@ loop-entry-preserved c =
     let l : i < length w.context = rw c.as_slice-entry-items.ensures at c.loop-entry-test.true in
     let within = subst (λ (x : Entry). x.object < length w.objects) (sym read) (c.requires.placed.entries i e l) in
     let this : o ≡ planned m w e.object (step_of w e) = c.in_ok-planned.ensures.planned ∙ ap (planned m w e.object) c.step_of-step.ensures in
-    let done : check (without_functions m) e.object (step_of w e) w ≡ Done tt w =
-    ap (λ (s : Step). check (without_functions m) e.object s w) (sym c.step_of-step.ensures) ∙ c.in_ok-planned.ensures.ends in
+    let done : check world e.object (step_of w e) w ≡ Done tt w =
+    ap (λ (s : Step). check world e.object s w) (sym c.step_of-step.ensures) ∙ c.in_ok-planned.ensures.ends in
     let more : c.match-branch-2.plan ≡ before ++ option_to_list o =
     elim c.match-branch-2.branch [
       | in-Some+in_ok-push v ↦ v.plan-is ∙ v.in_ok-push.ensures.ok ∙ ap (λ (q : Option Planned). before ++ option_to_list q) (sym v.in-Some.is)
@@ -51,5 +53,5 @@ loop-entry-preserved c =
     record {
       planned = plan_round m w i e before c.match-branch-2.plan o l read c.loop-entry.invariant.planned this more;
       objects = within_round m w e before c.match-branch-2.plan o within c.loop-entry.invariant.objects this more;
-      rest = check_done m c.requires.flat w i e c.requires.plain l read within done ∙ c.loop-entry.invariant.rest;
+      rest = check_done world c.requires.flat w i e c.requires.plain l read within done ∙ c.loop-entry.invariant.rest;
     }

@@ -1,7 +1,7 @@
 use Rattle.std.proofs.Common.{◌∙◌, ap, List, [], ◌∷◌, ◌++◌}
 use Rattle.std.specs.Prelude.{Option, Some}
 use Rattle.jpa_value.specs.declared.value.Identity.{Identity}
-use Rattle.jpa_behaviour.specs.Behaviour.{without_functions}
+use Rattle.jpa_behaviour.specs.Registered.{world_of}
 use Rattle.jpa_heap.specs.declared.LiveObject.{LiveObject}
 use Rattle.jpa_context.specs.declared.Lock.{Lock}
 use Rattle.jpa_context.specs.Undo.{now}
@@ -10,12 +10,12 @@ use Rattle.jpa_ops.proofs.finding.load.Goals as goal
 
 -- an object and its entry stand last, and PostLoad is told
 pub returns-clause-meets : goal.returns-clause-meets
-returns-clause-meets c =
+returns-clause-meets g c =
     let w = now c.args.work.now in
     let n = c.len-place.result in
     let objects = c.in_ok-push.ensures.pushed ∙ ap (λ (x : LiveObject). w.objects ++ x ∷ []) c.in_ok-object.ensures.ok in
     let entries =
     c.in_ok-push-2.ensures.pushed
     ∙ ap (λ (ids : List (Option (List Identity))). w.context ++ record { object = n; lock = Lock.Unlocked; base = Some (record { stored = c.args.row; members = ids }) } ∷ []) c.new.ensures in
-    loaded (without_functions c.args.metamodel.now) c.args.id c.args.row w n c.push.new.self.now c.push-2.new.self.now (now c.callback.new.work) c.requires.flat c.requires.placed.entries
+    loaded (world_of g.B.Behaviour.meaning c.args.metamodel.now c.args.registry.now) c.args.id c.args.row w n c.push.new.self.now c.push-2.new.self.now (now c.callback.new.work) c.requires.flat c.requires.placed.entries
     c.len-place.ensures c.if-place-ge-MOST_OBJECTS.false objects entries c.in_ok-callback.ensures.meets

@@ -1,24 +1,32 @@
-use Rattle.jpa_object_cells.specs.Objects.{HoldsObjects}
-use Rattle.jpa_program.proofs.Machines.{ended_ok, ended_err, ended_read, unit_kept, committed_held}
+use Rattle.std.proofs.Common.{subst}
+use Rattle.jpa_behaviour.proofs.Regular.{regular_of}
+use Rattle.jpa_rows.specs.declared.schema.Schema.{Schema}
+use Rattle.jpa_object_rows.specs.Sets.{rows_of}
+use Rattle.jpa_rowspace.specs.Space.{HoldsRows}
+use Rattle.jpa_provider.specs.Provided.{world_in}
+use Rattle.jpa_program.proofs.Machines.{ended_ok, ended_err, ended_read, of_first}
+use Rattle.jpa_program.proofs.Standing.{rows_held}
 use Rattle.jpa_program.proofs.running.run.Goals as goal
 
 pub returns-clause-ok : goal.returns-clause-ok
-returns-clause-ok g c =
-    ended_ok (λ o set next. HoldsObjects g.S.Store o.unit o.store.conn set next) c.args.provider.now c.run-ran.new.provider _ _ _ c.run-ran.result c.run-ran.ensures.ok
+returns-clause-ok g c = ended_ok _ _ _ c.args.provider.now c.run-ran.new.provider _ _ _ c.run-ran.result c.run-ran.ensures.ok
 
 pub returns-clause-err : goal.returns-clause-err
-returns-clause-err g c =
-    ended_err (λ o set next. HoldsObjects g.S.Store o.unit o.store.conn set next) c.args.provider.now c.run-ran.new.provider _ _ _ c.run-ran.result c.run-ran.ensures.err
+returns-clause-err g c = ended_err _ _ _ c.args.provider.now c.run-ran.new.provider _ _ _ c.run-ran.result c.run-ran.ensures.err
 
 pub returns-clause-read : goal.returns-clause-read
-returns-clause-read g c =
-    ended_read (λ o set next. HoldsObjects g.S.Store o.unit o.store.conn set next) c.args.provider.now c.run-ran.new.provider _ _ _ _ c.run-ran.result c.run-ran.ensures.read
+returns-clause-read g c = ended_read _ _ _ c.args.provider.now c.run-ran.new.provider _ _ _ _ c.run-ran.result c.run-ran.ensures.read
 
-pub returns-clause-unit : goal.returns-clause-unit
-returns-clause-unit g c =
-    unit_kept (λ o set next. HoldsObjects g.S.Store o.unit o.store.conn set next) c.args.provider.now c.run-ran.new.provider _ _ _ c.run-ran.result c.run-ran.ensures.ok c.run-ran.ensures.err
+pub returns-clause-model : goal.returns-clause-model
+returns-clause-model g c = (of_first _ _ _ c.args.provider.now c.run-ran.new.provider _ _ _ c.run-ran.result c.run-ran.ensures.ok c.run-ran.ensures.err).model
+
+pub returns-clause-registry : goal.returns-clause-registry
+returns-clause-registry g c = (of_first _ _ _ c.args.provider.now c.run-ran.new.provider _ _ _ c.run-ran.result c.run-ran.ensures.ok c.run-ran.ensures.err).registry
 
 pub returns-clause-cells : goal.returns-clause-cells
 returns-clause-cells g c =
+    let p = c.run-ran.new.provider in
     let l = c.stands.ensures in
-    committed_held g.S.Store c.run-ran.new.provider c.cells_law.ensures l.stands l.unit l.served l.objects l.numbers
+    rows_held g.S.Store (world_in g.B.Behaviour.meaning p) l.described (regular_of g.B.Behaviour.meaning g.met.B.Behaviour.inverse g.met.B.Behaviour.representable p.model p.registry) l.discriminators
+    (p.rows).store.conn (p.machine).committed (p.machine).stored_numbers l.held
+    (λ clean. subst (λ (schema : Schema). HoldsRows g.S.Store schema (p.rows).store.conn (rows_of (world_in g.B.Behaviour.meaning p) (p.machine).committed (p.machine).stored_numbers)) l.schema (l.stands clean))

@@ -1,76 +1,114 @@
-use Rattle.std.proofs.Common.{◌≡◌, length, pos, refl, ap, sym, subst, ◌∙◌, true}
-use Rattle.std.specs.Prelude.{is_some}
-use Rattle.jpa_model.specs.Chains.{root_of}
-use Rattle.jpa_context.specs.Undo.{now, view_before}
-use Rattle.jpa_rows.specs.Cells.{are_numbers}
-use Rattle.jpa_object_store.specs.Served.{AreOfUnit, is_next_number, put_all}
+use Rattle.std.proofs.Common.{◌≡◌, List, length, refl, ap, sym, subst, ◌∙◌}
+use Rattle.std.specs.Prelude.{true, nat_le}
+use Rattle.std.specs.List.{AllByRecursion}
+use Rattle.jpa_value.specs.declared.value.Identity.{Identity}
+use Rattle.jpa_value.specs.Value.{same_identity}
+use Rattle.jpa_behaviour.specs.Registered.{world_of}
+use Rattle.jpa_stored.specs.declared.stored.Stored.{Stored}
+use Rattle.jpa_stored.specs.Sets.{StoredSet, all_distinct, each_fits}
+use Rattle.jpa_object_rows.specs.Sets.{rows_of}
+use Rattle.jpa_view.specs.View.{AreStorable}
+use Rattle.jpa_context.specs.Work.{Work}
+use Rattle.jpa_context.specs.Steps.{Done, IsRefusedAs}
+use Rattle.jpa_context.specs.Undo.{now}
+use Rattle.jpa_flush.specs.Flush.{flush}
+use Rattle.jpa_flush.specs.Writes as flushed
+use Rattle.jpa_object_store.specs.Written.{put_all}
 use Rattle.jpa_provider.specs.declared.session.Session.{Session}
-use Rattle.jpa_provider.specs.Serving.{own}
-use Rattle.jpa_provider.proofs.Called.{serving_placed}
-use Rattle.jpa_provider.proofs.ServedUnits.{next_of_unit, same_puts}
-use Rattle.jpa_provider.proofs.Commits.{IsMid, refused_serves, refused_serving, stored_serves, stored_serving, flushed_work, one_number, written_of_unit, set_is_of_unit}
+use Rattle.jpa_provider.specs.Serving.{machine_of}
+use Rattle.jpa_provider.proofs.Active.{begun_active, flushed_storable, flushed_distinct, flushed_numbers, flushed_rising, refused_steady, stored_plain}
+use Rattle.jpa_provider.proofs.Commits.{refused_step, stored_step}
+use Rattle.jpa_provider.proofs.Puts.{same_puts}
+use Rattle.jpa_provider.proofs.Worked.{still_working}
 use Rattle.jpa_provider.proofs.committing.commit_active.Goals as goal
 
-pub flush-requires-clause-placed : goal.flush-requires-clause-placed
-flush-requires-clause-placed g c = serving_placed c.args.metamodel.now c.args.session.now 0 c.requires.serving
+pub store_commit-requires-clause-storable : goal.store_commit-requires-clause-storable
+store_commit-requires-clause-storable g c =
+    let s = c.args.session.now in
+    let m = c.args.manager in
+    let model = c.args.metamodel.now in
+    let world = world_of g.B.Behaviour.meaning model c.args.registry.now in
+    let w : Work = now c.flush.new.work in
+    let done = subst (λ (v : Work). flush world v ≡ Done tt w) c.take_work.ensures.work c.in-Ok.ensures.ends in
+    subst (AreStorable world) (sym (c.as_slice.ensures ∙ c.in-Ok.ensures.written ∙ ap (flushed.writes model) c.take_work.ensures.work)) (flushed_storable world s m c.requires.within c.requires.serving w done)
 
-pub next_number-next-requires : goal.next_number-next-requires
-next_number-next-requires g c =
-    ap length c.as_slice.ensures ∙ one_number c.args.metamodel.now c.args.session.now c.requires.serving c.requires.active (now c.flush.new.work) c.in-Ok.ensures.ends
+pub store_commit-requires-clause-distinct : goal.store_commit-requires-clause-distinct
+store_commit-requires-clause-distinct g c =
+    let s = c.args.session.now in
+    let m = c.args.manager in
+    let model = c.args.metamodel.now in
+    let world = world_of g.B.Behaviour.meaning model c.args.registry.now in
+    let w : Work = now c.flush.new.work in
+    let done = subst (λ (v : Work). flush world v ≡ Done tt w) c.take_work.ensures.work c.in-Ok.ensures.ends in
+    subst (λ ws. all_distinct (λ (a b : Identity × Stored). same_identity a.0 b.0) ws ≡ true) (sym (c.as_slice.ensures ∙ c.in-Ok.ensures.written ∙ ap (flushed.writes model) c.take_work.ensures.work))
+    (flushed_distinct world s m c.requires.within c.requires.serving w done)
 
-pub store_commit-requires-clause-objects : goal.store_commit-requires-clause-objects
-store_commit-requires-clause-objects g c =
-    subst (λ u. AreOfUnit u c.as_slice-in-Ok.result.now) (sym c.requires.unit)
-    (subst (AreOfUnit c.args.metamodel.now) (sym (c.as_slice-in-Ok.ensures ∙ c.in-Ok.ensures.written)) (written_of_unit c.args.metamodel.now c.args.session.now c.requires.serving c.requires.active))
+pub store_commit-requires-clause-numbers : goal.store_commit-requires-clause-numbers
+store_commit-requires-clause-numbers g c =
+    let world = world_of g.B.Behaviour.meaning c.args.metamodel.now c.args.registry.now in
+    let w : Work = now c.flush.new.work in
+    let done = subst (λ (v : Work). flush world v ≡ Done tt w) c.take_work.ensures.work c.in-Ok.ensures.ends in
+    flushed_numbers world c.args.session.now c.args.manager c.requires.within c.requires.serving w done
 
-pub store_commit-requires-clause-next : goal.store_commit-requires-clause-next
-store_commit-requires-clause-next g c =
-    subst (λ u. is_next_number (root_of u 0) c.next_number-next.result ≡ true) (sym c.requires.unit)
-    (next_of_unit c.args.metamodel.now c.next_number-next.result c.requires.served
-    (subst (λ ns. are_numbers c.args.metamodel.now ns ≡ true) (sym c.as_slice.ensures ∙ c.next_number-next.ensures)
-    (flushed_work c.args.metamodel.now c.args.session.now c.requires.serving c.requires.active (now c.flush.new.work) c.in-Ok.ensures.ends).numbered))
+pub store_commit-requires-clause-rising : goal.store_commit-requires-clause-rising
+store_commit-requires-clause-rising g c =
+    let world = world_of g.B.Behaviour.meaning c.args.metamodel.now c.args.registry.now in
+    let w : Work = now c.flush.new.work in
+    let done = subst (λ (v : Work). flush world v ≡ Done tt w) c.take_work.ensures.work c.in-Ok.ensures.ends in
+    subst (λ ns. each_fits nat_le ns w.numbers ≡ true) (sym (c.take_work.ensures.working).stored) (flushed_rising world c.args.session.now c.args.manager c.requires.within c.requires.serving w done)
 
 pub returns-in-Err-clause-step : goal.returns-in-Err-clause-step
-returns-in-Err-clause-step g c em named =
+returns-in-Err-clause-step g c = λ em named.
     let s = c.args.session.now in
-    let mid : Session = record { manager = s.manager; work = c.flush.new.work; stored = s.stored } in
-    let d : IsMid s mid c.refuse_commit.new.session = record { manager = refl; stored = refl; since = c.flush.ensures.since; kept = c.refuse_commit.ensures.kept } in
-    refused_serves c.args.metamodel.now s mid c.refuse_commit.new.session em c.requires.serving c.requires.active named d c.in-Err.cause c.refuse_commit.result c.in-Err.ensures.ends
-    c.refuse_commit.ensures.refuses c.refuse_commit.ensures.stored
+    let m = c.args.manager in
+    let world = world_of g.B.Behaviour.meaning c.args.metamodel.now c.args.registry.now in
+    let u = c.flush.new.work in
+    let working = still_working c.take_work.new.session u c.take_work.ensures.working c.flush.ensures.since in
+    let refused = subst (λ (v : Work). IsRefusedAs c.in-Err.cause u.events (flush world v)) c.take_work.ensures.work c.in-Err.ensures.ends in
+    refused_step world s c.refuse_commit.new.session em m named c.requires.within c.requires.active c.in-Err.cause u.events c.refuse_commit.result refused (c.refuse_commit.ensures.refuses (machine_of s) working)
 
-pub returns-in-Err-clause-serving : goal.returns-in-Err-clause-serving
-returns-in-Err-clause-serving g c =
+pub returns-in-Err-clause-plain : goal.returns-in-Err-clause-plain
+returns-in-Err-clause-plain g c =
     let s = c.args.session.now in
-    let mid : Session = record { manager = s.manager; work = c.flush.new.work; stored = s.stored } in
-    let d : IsMid s mid c.refuse_commit.new.session = record { manager = refl; stored = refl; since = c.flush.ensures.since; kept = c.refuse_commit.ensures.kept } in
-    let named : is_some (own s.manager (pos 1)) ≡ true = ap (λ st. is_some (own st (pos 1))) c.requires.active in
-    refused_serving c.args.metamodel.now s mid c.refuse_commit.new.session (pos 1) c.requires.serving c.requires.active named d c.in-Err.cause c.refuse_commit.result
-    c.refuse_commit.ensures.refuses c.refuse_commit.ensures.stored
-    (refused_serves c.args.metamodel.now s mid c.refuse_commit.new.session (pos 1) c.requires.serving c.requires.active named d c.in-Err.cause c.refuse_commit.result c.in-Err.ensures.ends
-    c.refuse_commit.ensures.refuses c.refuse_commit.ensures.stored)
+    let u = c.flush.new.work in
+    let working = still_working c.take_work.new.session u c.take_work.ensures.working c.flush.ensures.since in
+    (refused_steady c.args.manager c.in-Err.cause u.events c.refuse_commit.result (c.requires.serving).plain (c.refuse_commit.ensures.refuses (machine_of s) working)).0
+
+pub returns-in-Err-clause-holds : goal.returns-in-Err-clause-holds
+returns-in-Err-clause-holds g c = λ clean.
+    let s = c.args.session.now in
+    let world = world_of g.B.Behaviour.meaning c.args.metamodel.now c.args.registry.now in
+    let u = c.flush.new.work in
+    let working = still_working c.take_work.new.session u c.take_work.ensures.working c.flush.ensures.since in
+    let kept = (refused_steady c.args.manager c.in-Err.cause u.events c.refuse_commit.result (c.requires.serving).plain (c.refuse_commit.ensures.refuses (machine_of s) working)).1 in
+    let holds = g.R.RowSource.holds c.args.rows.now in
+    subst (λ (set : StoredSet). holds (rows_of world set c.refuse_commit.new.session.stored)) (sym kept.committed) (subst (λ ns. holds (rows_of world s.work.view ns)) (sym kept.numbers) (c.requires.holds clean))
 
 pub returns-in-Ok-clause-step : goal.returns-in-Ok-clause-step
-returns-in-Ok-clause-step g c em named =
+returns-in-Ok-clause-step g c = λ em named.
     let s = c.args.session.now in
-    let mid : Session = record { manager = s.manager; work = c.flush.new.work; stored = s.stored } in
-    let d : IsMid s mid c.store_commit.new.session = record { manager = refl; stored = refl; since = c.flush.ensures.since; kept = c.store_commit.ensures.kept } in
-    stored_serves c.args.metamodel.now s mid c.store_commit.new.session em c.requires.serving c.requires.active named d c.next_number-next.result c.store_commit.result c.in-Ok.ensures.ends c.in-Ok.ensures.plain
-    (sym c.as_slice.ensures ∙ c.next_number-next.ensures) c.store_commit.ensures.stores
+    let m = c.args.manager in
+    let world = world_of g.B.Behaviour.meaning c.args.metamodel.now c.args.registry.now in
+    let u = c.flush.new.work in
+    let working = still_working c.take_work.new.session u c.take_work.ensures.working c.flush.ensures.since in
+    let done = subst (λ (v : Work). flush world v ≡ Done tt (now u)) c.take_work.ensures.work c.in-Ok.ensures.ends in
+    stored_step world s c.store_commit.new.session em m named c.requires.within c.requires.active (now u) c.store_commit.result done c.in-Ok.ensures.plain
+    (c.store_commit.ensures.stores (machine_of s) working (c.requires.serving).one (begun_active s m c.requires.within c.requires.active))
 
-pub returns-in-Ok-clause-serving : goal.returns-in-Ok-clause-serving
-returns-in-Ok-clause-serving g c =
+pub returns-in-Ok-clause-plain : goal.returns-in-Ok-clause-plain
+returns-in-Ok-clause-plain g c =
     let s = c.args.session.now in
-    let mid : Session = record { manager = s.manager; work = c.flush.new.work; stored = s.stored } in
-    let d : IsMid s mid c.store_commit.new.session = record { manager = refl; stored = refl; since = c.flush.ensures.since; kept = c.store_commit.ensures.kept } in
-    let named : is_some (own s.manager (pos 1)) ≡ true = ap (λ st. is_some (own st (pos 1))) c.requires.active in
-    stored_serving c.args.metamodel.now s mid c.store_commit.new.session (pos 1) c.requires.serving c.requires.active named d c.next_number-next.result c.store_commit.result c.in-Ok.ensures.plain
-    c.store_commit.ensures.stores
-    (stored_serves c.args.metamodel.now s mid c.store_commit.new.session (pos 1) c.requires.serving c.requires.active named d c.next_number-next.result c.store_commit.result c.in-Ok.ensures.ends c.in-Ok.ensures.plain
-    (sym c.as_slice.ensures ∙ c.next_number-next.ensures) c.store_commit.ensures.stores)
+    let m = c.args.manager in
+    let u = c.flush.new.work in
+    let working = still_working c.take_work.new.session u c.take_work.ensures.working c.flush.ensures.since in
+    stored_plain m (now u) c.store_commit.result (c.requires.serving).plain c.in-Ok.ensures.plain
+    (c.store_commit.ensures.stores (machine_of s) working (c.requires.serving).one (begun_active s m c.requires.within c.requires.active))
 
 pub returns-in-Ok-clause-holds : goal.returns-in-Ok-clause-holds
-returns-in-Ok-clause-holds g c =
+returns-in-Ok-clause-holds g c = λ clean.
     let s = c.args.session.now in
-    c.store_commit.ensures.holds s.work.view (subst (λ u. AreOfUnit u s.work.view) (sym c.requires.unit) (set_is_of_unit c.args.metamodel.now s c.requires.serving)) c.requires.holds
-    (c.in-Ok.ensures.view ∙ same_puts c.in-Ok.written s.work.view ∙ ap (λ ws. put_all ws s.work.view) (sym c.as_slice-in-Ok.ensures))
-    (ap (λ x. x.view) c.flush.ensures.since ∙ ap (λ o. view_before o s.work.view) (c.requires.serving).kept.3)
+    let m = c.args.manager in
+    let u = c.flush.new.work in
+    let working = still_working c.take_work.new.session u c.take_work.ensures.working c.flush.ensures.since in
+    let view = c.in-Ok.ensures.view ∙ ap (flushed.put_all c.in-Ok.written) c.take_work.ensures.view ∙ same_puts c.in-Ok.written s.work.view ∙ ap (λ ws. put_all ws s.work.view) (sym c.as_slice.ensures) in
+    c.store_commit.ensures.holds (machine_of s) working (c.requires.serving).one (begun_active s m c.requires.within c.requires.active) view (c.requires.holds (c.store_commit.ensures.was_clean clean))

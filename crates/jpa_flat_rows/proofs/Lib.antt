@@ -1,9 +1,0 @@
-pub mod After
-pub mod Elements
-pub mod FlatAfter
-pub mod FlatRows
-pub mod Numbers
-pub mod Put
-pub mod Stands
-pub mod Written
-pub mod Zips

@@ -1,4 +1,0 @@
-pub mod Flat
-pub mod Named
-pub mod Changes
-pub mod Holding

@@ -1,0 +1,18 @@
+use Rattle.std.proofs.Common.{sym, subst, take}
+use Rattle.jpa_behaviour.specs.Registered.{world_of}
+use Rattle.jpa_object_store.specs.Written.{put_all}
+use Rattle.jpa_object_store.specs.Shown.{Show}
+use Rattle.jpa_object_store.proofs.Written.{put_more, still_committed}
+use Rattle.jpa_object_store.proofs.objects.change_objects.Goals as goal
+
+pub loop-id-preserved : goal.loop-id-preserved
+loop-id-preserved g c = λ base numbers s.
+    let world = world_of g.B.Behaviour.meaning c.args.metamodel.now c.args.registry.now in
+    let committed = c.args.committed.now in
+    let written = c.args.written.now in
+    let i = c.loop-id.id-index in
+    let entry = c.loop-id-item.result in
+    let set = put_all (take i written) committed in
+    let at = still_committed written i entry committed c.requires.distinct c.loop-id-test.true c.loop-id-item.is in
+    subst (λ set. Show world base c.change_object.new.overlay set numbers) (sym (put_more written i entry committed c.loop-id-test.true c.loop-id-item.is))
+    (c.in_ok-change_object.ensures.ok base set numbers at (c.loop-id.invariant base numbers s))

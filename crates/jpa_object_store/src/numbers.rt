@@ -1,0 +1,66 @@
+//! The changes of next numbers.
+ghost use Rattle.std.specs.Prelude.{◌≡◌, ◌<◌, ℕ, true, length, nat_le, OnOk, IfErr};
+ghost use Rattle.jpa_value.specs.declared.refusal.Cause.{Cause};
+ghost use Rattle.jpa_model.specs.Chains as chains;
+ghost use Rattle.jpa_behaviour.specs.Behaviour.{World, IsRegular};
+ghost use Rattle.jpa_stored.specs.Sets.{StoredSet, each_fits};
+ghost use Rattle.jpa_rows.specs.Cells.{is_next, are_numbers};
+ghost use Rattle.jpa_rows.specs.Numbers.{IsNarrowOrigin};
+ghost use Rattle.jpa_rows.specs.Rows.{Rows};
+ghost use Rattle.jpa_object_store.specs.Shown.{with_next, Show};
+
+use jpa_mapper::{discriminator_law, number_row};
+use jpa_model::{Metamodel, Origin};
+use jpa_overlay::Overlay;
+use jpa_value::Cause;
+use std::alloc::Global;
+
+/// Where a class stands in its hierarchy; a root's table fits 32 bits.
+fn origin_of(metamodel: &Metamodel, class: usize) -> &Origin
+    requires { class < length metamodel.now.entities }
+    ensures origin { result.now ≡ (chains.entity_at metamodel.now class).origin }
+    ensures narrow { IsNarrowOrigin result.now }
+{
+    &metamodel.unit().entities.as_slice()[class].origin
+}
+
+/// Puts the row of a root's next number.
+fn put_number(overlay: &mut Overlay, alloc: Global, origin: &Origin, next: u64) -> Result<(), Cause>
+    requires narrow { IsNarrowOrigin origin.now }
+    requires next { is_next origin.now next ≡ true }
+    ensures ok { OnOk result (overlay.new ≡ with_next origin.now next overlay.old) }
+    ensures err { IfErr result (λ cause. cause ≡ Cause.OutOfMemory) }
+{
+    match origin {
+        Origin::Root(root) => {
+            let (id, row) = number_row(alloc, root.table as u32, next)?;
+            overlay.put(id, row)
+        }
+        Origin::Extends(_) => Ok(()),
+    }
+}
+
+/// Puts the row of each next number that is another than before.
+pub(crate) fn change_numbers(
+    overlay: &mut Overlay,
+    alloc: Global,
+    metamodel: &Metamodel,
+    before: &[u64],
+    next: &[u64],
+) -> Result<(), Cause>
+    requires before { are_numbers metamodel.now before.now ≡ true }
+    requires numbers { are_numbers metamodel.now next.now ≡ true }
+    requires rising { each_fits nat_le before.now next.now ≡ true }
+    ensures ok { OnOk result ((world : World) (base : Rows) (set : StoredSet) → world.model ≡ metamodel.now → IsRegular world → Show world base overlay.old set before.now → Show world base overlay.new set next.now) }
+    ensures err { IfErr result (λ cause. cause ≡ Cause.OutOfMemory) }
+{
+    // what the rows of a unit rest on
+    metamodel.unit();
+    discriminator_law(metamodel);
+    for class in 0..next.len() {
+        if before[class] != next[class] {
+            put_number(overlay, alloc, origin_of(metamodel, class), next[class])?;
+        }
+    }
+    Ok(())
+}

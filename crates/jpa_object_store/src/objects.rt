@@ -1,0 +1,101 @@
+//! The changes of written objects.
+ghost use Rattle.std.specs.Prelude.{◌≡◌, ℕ, List, true, OnOk, IfOk, IfErr};
+ghost use Rattle.std.specs.List.{AllByRecursion};
+ghost use Rattle.jpa_value.specs.declared.refusal.Cause.{Cause};
+ghost use Rattle.jpa_value.specs.Value.{same_identity};
+ghost use Rattle.jpa_behaviour.specs.Registered.{world_of};
+ghost use Rattle.jpa_stored.specs.Sets as sets;
+ghost use Rattle.jpa_rows.specs.Rows.{Rows};
+ghost use Rattle.jpa_view.specs.View.{is_storable, AreStorable};
+ghost use Rattle.jpa_object_rows.specs.Objects.{object_entries};
+ghost use Rattle.jpa_object_store.specs.Written.{put_all};
+ghost use Rattle.jpa_object_store.specs.Shown.{without_old, Show};
+
+use crate::rows::{drop_rows, put_rows};
+use jpa_behaviour::{Behaviour, Registry};
+use jpa_mapper::{discriminator_law, to_rows};
+use jpa_model::Metamodel;
+use jpa_overlay::Overlay;
+use jpa_rows::{Row, RowId};
+use jpa_stored::{Stored, StoredSet};
+use jpa_value::{Cause, Identity, Seq};
+use std::alloc::Global;
+
+/// The rows of an object that can be stored, for which no converter throws.
+fn rows_of<B: Behaviour>(
+    alloc: Global,
+    metamodel: &Metamodel,
+    registry: &Registry<B>,
+    id: &Identity,
+    object: &Stored,
+) -> Result<Seq<(RowId, Row)>, Cause>
+    requires { is_storable (world_of B.meaning metamodel.now registry.now) id.now object.now ≡ true }
+    ensures ok { IfOk result (λ rows. rows ≡ object_entries (world_of B.meaning metamodel.now registry.now) id.now object.now) }
+    ensures err { IfErr result (λ cause. cause ≡ Cause.OutOfMemory) }
+{
+    to_rows(alloc, metamodel, registry, id, object)
+}
+
+/// Drops the rows of the object that is committed under an identity, if there is one.
+fn drop_old<B: Behaviour>(
+    overlay: &mut Overlay,
+    alloc: Global,
+    metamodel: &Metamodel,
+    registry: &Registry<B>,
+    committed: &StoredSet,
+    id: &Identity,
+) -> Result<(), Cause>
+    requires { AreStorable (world_of B.meaning metamodel.now registry.now) committed.now }
+    ensures ok { OnOk result (overlay.new ≡ without_old (world_of B.meaning metamodel.now registry.now) id.now (sets.stored_at committed.now id.now) overlay.old) }
+    ensures err { IfErr result (λ cause. cause ≡ Cause.OutOfMemory) }
+{
+    match committed.get(id) {
+        None => Ok(()),
+        Some(old) => drop_rows(overlay, rows_of(alloc, metamodel, registry, id, old)?),
+    }
+}
+
+/// Puts an object in the place of the one that is committed under its identity, if there is one.
+fn change_object<B: Behaviour>(
+    overlay: &mut Overlay,
+    alloc: Global,
+    metamodel: &Metamodel,
+    registry: &Registry<B>,
+    committed: &StoredSet,
+    id: &Identity,
+    object: &Stored,
+) -> Result<(), Cause>
+    requires committed { AreStorable (world_of B.meaning metamodel.now registry.now) committed.now }
+    requires storable { is_storable (world_of B.meaning metamodel.now registry.now) id.now object.now ≡ true }
+    ensures ok { OnOk result ((base : Rows) (set : sets.StoredSet) (numbers : List ℕ) → sets.stored_at set id.now ≡ sets.stored_at committed.now id.now → Show (world_of B.meaning metamodel.now registry.now) base overlay.old set numbers → Show (world_of B.meaning metamodel.now registry.now) base overlay.new (sets.with_stored id.now object.now set) numbers) }
+    ensures err { IfErr result (λ cause. cause ≡ Cause.OutOfMemory) }
+{
+    // what the rows of a unit rest on
+    metamodel.unit();
+    registry.laws();
+    discriminator_law(metamodel);
+    drop_old(overlay, alloc, metamodel, registry, committed, id)?;
+    let rows = rows_of(alloc, metamodel, registry, id, object)?;
+    put_rows(overlay, rows)
+}
+
+/// Puts each written object in the place of the one that is committed under its identity.
+pub(crate) fn change_objects<B: Behaviour>(
+    overlay: &mut Overlay,
+    alloc: Global,
+    metamodel: &Metamodel,
+    registry: &Registry<B>,
+    committed: &StoredSet,
+    written: &[(Identity, Stored)],
+) -> Result<(), Cause>
+    requires committed { AreStorable (world_of B.meaning metamodel.now registry.now) committed.now }
+    requires storable { AllByRecursion (λ e. is_storable (world_of B.meaning metamodel.now registry.now) e.0 e.1 ≡ true) written.now }
+    requires distinct { sets.all_distinct (λ a b. same_identity a.0 b.0) written.now ≡ true }
+    ensures ok { OnOk result ((base : Rows) (numbers : List ℕ) → Show (world_of B.meaning metamodel.now registry.now) base overlay.old committed.now numbers → Show (world_of B.meaning metamodel.now registry.now) base overlay.new (put_all written.now committed.now) numbers) }
+    ensures err { IfErr result (λ cause. cause ≡ Cause.OutOfMemory) }
+{
+    for (id, object) in written {
+        change_object(overlay, alloc, metamodel, registry, committed, id, object)?;
+    }
+    Ok(())
+}

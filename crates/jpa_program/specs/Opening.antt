@@ -1,0 +1,33 @@
+-- What the opening of a store finds in it, and what it leaves of the connection.
+use Rattle.std.specs.Prelude.{◌≡◌, ◌⊎◌, ℕ, List, []}
+use Rattle.sqlite_trees.specs.declared.store.Store.{Ghosts}
+use Rattle.sqlite.specs.Held.{Held, state}
+use Rattle.jpa_value.specs.declared.refusal.Cause.{Cause}
+use Rattle.jpa_behaviour.specs.Behaviour.{World}
+use Rattle.jpa_stored.specs.Sets.{StoredSet}
+use Rattle.jpa_rows.specs.Cells.{StandFor}
+use Rattle.jpa_cells_meaning.specs.Schema.{no_schema}
+use Rattle.jpa_cells_meaning.specs.Store.{IsClean, IsOpen, Keeps, Endures, tables_in}
+use Rattle.jpa_rowspace.specs.Space.{IsStoreCause}
+use Rattle.jpa_judgment.specs.Damage.{cells_in, AreDamagedAt}
+
+module _ {S : Type 0} (g : Ghosts S) where
+  -- the tables are as they were, or the database was empty and has the empty table now
+  abbrev pub KeepsOrMakes : Held S → Held S → Type 0
+  KeepsOrMakes old new = Keeps g old new ⊎ (((state g old).now.schema ≡ no_schema) × (IsClean g new → IsOpen g new → tables_in g new ≡ (λ t. [])))
+
+  -- a crash leaves what it left before, or the empty table
+  abbrev pub EnduresMaking : Held S → Held S → Type 0
+  EnduresMaking old new = Endures g old new (λ tables. tables ≡ (λ t. []))
+
+  -- over a clean disk an open connection has cells that stand for the set and the next numbers
+  abbrev pub HoldsCells : World → Held S → StoredSet → List ℕ → Type 0
+  HoldsCells world conn set numbers = IsClean g conn → IsOpen g conn → StandFor world (cells_in world (tables_in g conn)) set numbers
+
+  -- over a clean disk the cells stand for no set and next numbers, and this is the place that is told of them
+  abbrev pub IsDamage : World → Held S → Cause → Type 0
+  IsDamage world conn cause = (t : ℕ) × (bytes : List ℕ) × (cause ≡ Cause.Damaged t bytes) × (IsClean g conn → AreDamagedAt world (tables_in g conn) t bytes)
+
+  -- want of memory, a fault of the store, or damaged cells
+  abbrev pub IsOpenCause : World → Held S → Cause → Type 0
+  IsOpenCause world conn cause = IsStoreCause cause ⊎ IsDamage world conn cause

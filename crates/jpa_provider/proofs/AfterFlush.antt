@@ -1,0 +1,22 @@
+-- What holds once a flush ended, of the set and the next numbers that are stored then.
+use Rattle.std.proofs.Common.{◌≡◌, ℕ, true, subst}
+use Rattle.std.specs.Prelude.{nat_le}
+use Rattle.jpa_behaviour.specs.Behaviour.{World, AnswersConvertible}
+use Rattle.jpa_stored.specs.Sets.{each_fits}
+use Rattle.jpa_context.specs.Work.{Work}
+use Rattle.jpa_context.specs.Steps.{Done}
+use Rattle.jpa_lifecycle.specs.Flat.{IsFlat}
+use Rattle.jpa_flush.specs.Flush.{flush}
+use Rattle.jpa_provider.specs.Machine.{Machine}
+use Rattle.jpa_provider.specs.Invariant.{IsMachine}
+use Rattle.jpa_provider.proofs.Facts.{numbers_trans}
+use Rattle.jpa_provider.proofs.AtWork.{HoldsAfter, IsAtWork}
+use Rattle.jpa_provider.proofs.Flushed.{flush_holds}
+
+pub still_at_work : {world : World} {M : Machine} {m : ℕ} {w : Work} (w' : Work) → IsFlat world.model → AnswersConvertible world → IsAtWork world M m w → flush world w ≡ Done tt w' →
+    IsAtWork world M m w'
+still_at_work {world} {M} {m} w' flat convertible h e = subst (HoldsAfter (λ u v. IsAtWork world M m v)) e (flush_holds flat convertible h)
+
+-- no next number falls below the stored one
+pub numbers_rise : {world : World} {M : Machine} {m : ℕ} {w : Work} → IsMachine world M → IsAtWork world M m w → each_fits nat_le M.stored_numbers w.numbers ≡ true
+numbers_rise {world} {M} {m} {w} h at = numbers_trans M.stored_numbers M.numbers w.numbers h.stored at.raised

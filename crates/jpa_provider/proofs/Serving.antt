@@ -1,0 +1,98 @@
+-- What holds between calls holds after each step.
+use Rattle.std.proofs.Common.{◌≡◌, ◌<◌, ◌≤◌, ◌⊎◌, inl, inr, ℕ, zero, suc, Bool, true, false, List, [], ◌∷◌, length, refl, sym, subst, arith}
+use Rattle.std.specs.Prelude.{All}
+use Rattle.std.proofs.lemmas.Bool.{cases_lt, false≢true}
+use Rattle.std.proofs.lemmas.List.Elements.{All-nil, All-weaker}
+use Rattle.jpa_behaviour.specs.Behaviour.{World, AnswersConvertible}
+use Rattle.jpa_stored.specs.Sets.{StoredSet}
+use Rattle.jpa_rows.specs.Cells.{CanBeHeld}
+use Rattle.jpa_heap.specs.Shape.{HasShape}
+use Rattle.jpa_context.specs.declared.Entry.{Entry}
+use Rattle.jpa_lifecycle.specs.Flat.{IsFlat}
+use Rattle.jpa_provider.specs.declared.session.EntityManager.{EntityManager}
+use Rattle.jpa_protocol.specs.declared.call.Call.{Call}
+use Rattle.jpa_protocol.specs.declared.reply.Reply.{Reply}
+use Rattle.jpa_provider.specs.declared.session.Session.{Session}
+use Rattle.jpa_provider.specs.Machine.{Manager, manager_at, opened}
+use Rattle.jpa_provider.specs.Invariant.{HasOneTransaction, IsEntry, IsMachine, hands_representable}
+use Rattle.jpa_provider.specs.Serving.{machine_of, manager_in, nobody, is_commit, IsPlainMachine, IsServing, IsSettled, Serves}
+use Rattle.jpa_provider.proofs.OneTransaction.{step_one}
+use Rattle.jpa_provider.proofs.Placed.{work_placed}
+use Rattle.jpa_provider.proofs.Sessions.{manager_there, managers_count}
+use Rattle.jpa_provider.proofs.Settled.{opened_holds}
+use Rattle.jpa_provider.proofs.Outcome.{step_keeps}
+use Rattle.jpa_provider.proofs.Steady.{step_steady, IsStoredAs}
+
+pub serves_on : (world : World) (s t : Session) (call : Call) (reply : Reply) → IsServing world s → hands_representable call ≡ true → Serves world s call reply t → IsPlainMachine (machine_of t) → IsSettled t → IsServing world t
+serves_on world s t call reply h rep step plain settled =
+    record {
+      flat = h.flat;
+      convertible = h.convertible;
+      machine = step_keeps h.flat h.convertible call rep h.machine step;
+      one = step_one world call h.one step;
+      plain = plain;
+      settled = settled;
+    }
+
+-- after each call but commit
+pub serves_other : (world : World) (s t : Session) (call : Call) (reply : Reply) → IsServing world s → hands_representable call ≡ true → is_commit call ≡ false → Serves world s call reply t → IsSettled t → IsServing world t
+serves_other world s t call reply h rep other step settled = serves_on world s t call reply h rep step (step_steady world h.flat call other h.plain step).0 settled
+
+pub stored_other : (world : World) (s t : Session) (call : Call) (reply : Reply) → IsServing world s → is_commit call ≡ false → Serves world s call reply t → IsStoredAs (machine_of s) (machine_of t)
+stored_other world s t call reply h other step = (step_steady world h.flat call other h.plain step).1
+
+-- whichever call it was
+pub serves_all : (world : World) (s t : Session) (call : Call) (reply : Reply) → IsServing world s → hands_representable call ≡ true → Serves world s call reply t → IsSettled t →
+    (is_commit call ≡ true → IsPlainMachine (machine_of t)) → IsServing world t
+serves_all world s t call reply h rep step settled plain = by_case (is_commit call) refl
+  where
+    by_case : (b : Bool) → is_commit call ≡ b → IsServing world t
+    by_case true e = serves_on world s t call reply h rep step (plain e) settled
+    by_case false e = serves_other world s t call reply h rep e step settled
+
+pub stores_all : (world : World) (s t : Session) (call : Call) (reply : Reply) (P : StoredSet → List ℕ → Type 0) → IsServing world s → Serves world s call reply t →
+    (is_commit call ≡ true → P (machine_of t).committed (machine_of t).stored_numbers) → (is_commit call ≡ false → P (machine_of s).committed (machine_of s).stored_numbers) →
+    P (machine_of t).committed (machine_of t).stored_numbers
+stores_all world s t call reply P h step stored kept = by_case (is_commit call) refl
+  where
+    by_case : (b : Bool) → is_commit call ≡ b → P (machine_of t).committed (machine_of t).stored_numbers
+    by_case true e = stored e
+    by_case false e =
+        let same = stored_other world s t call reply h e step in
+        subst (λ (set : StoredSet). P set (machine_of t).stored_numbers) (sym same.committed) (subst (P (machine_of s).committed) (sym same.numbers) (kept e))
+
+-- ---- what calls stand on
+
+past : (xs : List EntityManager) (k : ℕ) → length xs ≤ k → manager_in xs k ≡ nobody
+past [] k l = refl
+past (x ∷ xs) zero l = absurd (omega (arith, l))
+past (x ∷ xs) (suc k) l = past xs k (omega (arith, l))
+
+abbrev IsWithin : Session → Entry → Type 0
+IsWithin s e = e.object < length s.work.objects.now
+
+pub entries_in : {world : World} (s : Session) → IsMachine world (machine_of s) → (k : ℕ) → All (λ (e : Entry). e.object < length s.work.objects.now) (manager_in s.managers.items k).context.now
+entries_in {world} s h k = by_place (cases_lt k (length s.managers.items))
+  where
+    by_place : (k < length s.managers.items) ⊎ (length s.managers.items ≤ k) → All (IsWithin s) (manager_in s.managers.items k).context.now
+    by_place (inl l) =
+        subst (λ (x : Manager). All (IsWithin s) x.context) (manager_there s k l)
+        (All-weaker (IsEntry world.model s.work.objects.now s.work.numbers.now k) (IsWithin s) (λ e i. i.within) (manager_at (machine_of s) k).context
+        (h.managers k (subst (λ n. k < n) (sym (managers_count s)) l)).entries)
+    by_place (inr l) = subst (λ (x : EntityManager). All (IsWithin s) x.context.now) (sym (past s.managers.items k l)) (All-nil (IsWithin s))
+
+pub objects_shaped : {world : World} (s : Session) → IsMachine world (machine_of s) → All (HasShape world.model) s.work.objects.now
+objects_shaped {world} s h = (work_placed {M = machine_of s} 0 h).objects
+
+-- ---- as it is opened
+
+pub opened_serving : (world : World) (s : Session) (set : StoredSet) (numbers : List ℕ) → IsFlat world.model → AnswersConvertible world → CanBeHeld world set numbers → machine_of s ≡ opened set numbers → IsSettled s → IsServing world s
+opened_serving world s set numbers flat convertible held e settled =
+    record {
+      flat = flat;
+      convertible = convertible;
+      machine = subst (IsMachine world) (sym e) (opened_holds held);
+      one = subst HasOneTransaction (sym e) (λ m k a b. absurd (false≢true a));
+      plain = subst IsPlainMachine (sym e) (record { objects = All-nil _; contexts = λ k. All-nil _ });
+      settled = settled;
+    }

@@ -1,0 +1,20 @@
+use Rattle.std.proofs.Common.{ℕ, List, sym, subst}
+use Rattle.jpa_behaviour.specs.Registered.{world_of}
+use Rattle.jpa_stored.specs.Sets.{StoredSet}
+use Rattle.jpa_object_rows.specs.Sets.{rows_of}
+use Rattle.jpa_provider.specs.Serving.{machine_of}
+use Rattle.jpa_provider.proofs.Serving.{serves_all, stores_all}
+use Rattle.jpa_provider.proofs.provider.serve.Goals as goal
+
+pub returns-clause-serving : goal.returns-clause-serving
+returns-clause-serving g c =
+    serves_all (world_of g.B.Behaviour.meaning c.args.metamodel.now c.args.registry.now) c.args.session.now c.served.new.session c.args.call c.served.result c.requires.serving c.hands_representable.ensures c.served.ensures.step
+    c.served.ensures.settled c.served.ensures.plain
+
+pub returns-clause-holds : goal.returns-clause-holds
+returns-clause-holds g c = λ clean.
+    let world = world_of g.B.Behaviour.meaning c.args.metamodel.now c.args.registry.now in
+    let s = c.args.session.now in
+    let Holds : StoredSet → List ℕ → Type 0 = λ set numbers. g.R.RowSource.holds c.served.new.rows (rows_of world set numbers) in
+    stores_all world s c.served.new.session c.args.call c.served.result Holds c.requires.serving c.served.ensures.step (λ commits. c.served.ensures.holds commits clean)
+    (λ other. subst (λ rows. g.R.RowSource.holds rows (rows_of world (machine_of s).committed (machine_of s).stored_numbers)) (sym (c.served.ensures.others other)) (c.requires.holds (c.served.ensures.was_clean clean)))
