@@ -236,7 +236,11 @@ fn row_on(alloc: Global, line: &str) -> Result<CellChange, Fail> {
     Ok(CellChange { table, row, cells })
 }
 
-fn write_rows(alloc: Global, store: &mut CellStore<MemStore>, rows: &str) -> Result<(), Fail> {
+pub(super) fn write_rows(
+    alloc: Global,
+    store: &mut CellStore<MemStore>,
+    rows: &str,
+) -> Result<(), Fail> {
     let lines: Vec<&str> = rows.lines().collect(alloc)?;
     for line in lines.as_slice() {
         let change = row_on(alloc, line)?;

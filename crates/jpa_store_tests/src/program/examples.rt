@@ -152,7 +152,7 @@ fn first_run_counts(rt: HostRuntime) -> Result<(), Fail> {
     let mut writer = Vec::with_capacity(a, 4096)?;
     let mut provider = opened(a)?;
     let ended = run(a, &mut input.as_bytes(), &mut writer, &mut provider);
-    let store = provider.into_store();
+    let store = provider.into_rows().store;
     let counts = [store.selects(), store.writes(), store.statements()];
     drop(store);
     ended?;

@@ -235,7 +235,7 @@ fn calls_made_again(rt: HostRuntime) -> Result<(), Fail> {
     let a = rt.alloc();
     let mut provider = opened(a)?;
     let replies = first_replies(a, &mut provider);
-    let cells = cells_in(a, provider.into_store().into_connection())?;
+    let cells = cells_in(a, provider.into_rows().store.into_connection())?;
     let want = joined(a, &FIRST_REPLIES)?;
     assert_eq!(rt; replies?.as_slice(), want.as_bytes());
     assert_eq!(rt; cells, joined(a, &FIRST_CELLS)?);
