@@ -1,6 +1,7 @@
 //! The program: it serves the entities of a mapping over a store in memory or in a file, by the calls on standard input,
 //! and writes the replies to standard output.
 #![tactic(auto)]
+
 ghost use Rattle.jpa_cells_meaning.specs.Store.{IsOrderedIfFound};
 
 use jpa_behaviour::Registry;

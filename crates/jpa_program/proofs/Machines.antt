@@ -24,7 +24,7 @@ module _ {R L C : Type 0} (meaning : Meaning L C) (clean : R → Type 0) (holds 
       → Step (world_in meaning first) old.machine call reply new.machine × IsOf first new
   stepped first old call reply new s e = (
     subst (λ (r : Registered L C). Step (world_of meaning first.model r) old.machine call reply new.machine) e.registry
-    (subst (λ (m : PersistenceUnit). Step (world_of meaning m old.registry) old.machine call reply new.machine) e.model s.step),
+        (subst (λ (m : PersistenceUnit). Step (world_of meaning m old.registry) old.machine call reply new.machine) e.model s.step),
     record { model = s.model ∙ e.model; registry = s.registry ∙ e.registry },
   )
 
