@@ -114,16 +114,14 @@ fn shows(
     Ok(())
 }
 
-/// A database in memory with these rows.
-fn database_of(alloc: Global, rows: &str) -> Result<Connection<MemStore>, Fail>
-    ensures { IfOk result (λ conn. IsOrderedIfFound MemStore.Store conn) }
-{
+/// A store in memory with these rows.
+fn store_of(alloc: Global, rows: &str) -> Result<CellStore<MemStore>, Fail> {
     let mut store = match CellStore::open(alloc, Connection::open_in_memory(alloc)?) {
         Ok(store) => store,
         Err((cause, _)) => return Err(Fail::from(cause)),
     };
     write_rows(alloc, &mut store, rows)?;
-    Ok(store.into_connection())
+    Ok(store)
 }
 
 /// A provider of a mapping's unit over the cells of a database.

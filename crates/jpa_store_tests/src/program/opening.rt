@@ -3,13 +3,13 @@ ghost use Rattle.std.specs.Prelude.{◌≡◌, IfOk};
 ghost use Rattle.jpa_cells_meaning.specs.Store.{IsOrderedIfFound};
 
 use super::examples::{FIRST_CALLS, FIRST_CELLS};
-use super::{FLAT, cells_in, database_of, joined, ran_over, shows_over};
+use super::{FLAT, cells_in, joined, ran_over, shows_over, store_of};
 use jpa_behaviour::Registry;
 use jpa_functions::ProgramFunctions;
 use jpa_mapping::read_mapping;
 use jpa_program::open;
 use jpa_value::{Cause, MappingFault};
-use sqlite::{Connection, MemStore};
+use sqlite::{Alter, Connection, MemStore};
 use std::alloc::Global;
 use std::test::Fail;
 
@@ -57,13 +57,13 @@ const WITH_A_CONVERTER: &str =
     r#"{"revision":1,"entities":[{"name":"Order","table":2,"key":[{"name":"number","type":"int"}],"attributes":[{"name":"amount","type":"int","column":1,"converter":"flip"}]}]}"#;
 
 /// Why a mapping's unit without functions is refused over a database, and the database; none where it is opened.
-fn refusal(
+fn refusal<S: Alter + Drop>(
     alloc: Global,
     mapping: &str,
-    conn: Connection<MemStore>,
-) -> Result<(Option<Cause>, Connection<MemStore>), Fail>
-    requires { IsOrderedIfFound MemStore.Store conn }
-    ensures { IfOk result (λ refused. IsOrderedIfFound MemStore.Store refused.1) }
+    conn: Connection<S>,
+) -> Result<(Option<Cause>, Connection<S>), Fail>
+    requires { IsOrderedIfFound S.Store conn }
+    ensures { IfOk result (λ refused. IsOrderedIfFound S.Store refused.1) }
 {
     let metamodel = read_mapping(alloc, mapping.as_bytes())?;
     let registry: Registry<ProgramFunctions> = Registry::new(alloc);
@@ -98,7 +98,7 @@ fn a_store_of_one_run_is_opened_by_the_next(rt: HostRuntime) -> Result<(), Fail>
 #[test]
 fn a_damaged_store_is_refused(rt: HostRuntime) -> Result<(), Fail> {
     let a = rt.alloc();
-    let conn = database_of(a, "1 018000000000000001 2:02ff")?;
+    let conn = store_of(a, "1 018000000000000001 2:02ff")?.into_connection();
     let (cause, left) = refusal(a, FLAT, conn)?;
     let cells = cells_in(a, left)?;
     assert!(rt; matches!(cause, Some(Cause::Damaged(1, _))));
@@ -109,7 +109,7 @@ fn a_damaged_store_is_refused(rt: HostRuntime) -> Result<(), Fail> {
 // A unit that is not served is refused before the store is looked at.
 #[test]
 fn a_unit_with_a_listener_is_refused(rt: HostRuntime) -> Result<(), Fail> {
-    let conn = Connection::open_in_memory(rt.alloc())?;
+    let conn: Connection<MemStore> = Connection::open_in_memory(rt.alloc())?;
     let (cause, _) = refusal(rt.alloc(), WITH_A_LISTENER, conn)?;
     assert!(rt; matches!(cause, Some(Cause::Mapping(MappingFault::Model))));
     Ok(())
@@ -118,7 +118,7 @@ fn a_unit_with_a_listener_is_refused(rt: HostRuntime) -> Result<(), Fail> {
 // So is one with a converter that the registry lacks.
 #[test]
 fn a_converter_that_is_lacking_is_refused(rt: HostRuntime) -> Result<(), Fail> {
-    let conn = Connection::open_in_memory(rt.alloc())?;
+    let conn: Connection<MemStore> = Connection::open_in_memory(rt.alloc())?;
     let (cause, _) = refusal(rt.alloc(), WITH_A_CONVERTER, conn)?;
     assert!(rt; matches!(cause, Some(Cause::Mapping(MappingFault::Function))));
     Ok(())

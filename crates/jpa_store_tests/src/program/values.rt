@@ -1,5 +1,5 @@
 //! Values as the store has them: by their converters, and at their limits.
-use super::{FLAT, database_of, joined, ran_over, shows_of, shows_over};
+use super::{FLAT, joined, ran_over, shows_of, shows_over, store_of};
 use sqlite::{Connection, MemStore};
 use std::test::Fail;
 
@@ -194,7 +194,7 @@ fn the_least_key(rt: HostRuntime) -> Result<(), Fail> {
 fn a_version_that_cannot_rise(rt: HostRuntime) -> Result<(), Fail> {
     let a = rt.alloc();
     let input = joined(a, &GREATEST_CALLS)?;
-    let conn = database_of(a, GREATEST_ROWS)?;
+    let conn = store_of(a, GREATEST_ROWS)?.into_connection();
     shows_over(
         &rt,
         a,
