@@ -226,7 +226,7 @@ impl<S: Alter> CellStore<S> {
         ensures counted { 0 < length changes.now → Counts result self.old.writes self.new.writes (sum_by statements_of changes.now) }
         ensures told { Tells result self.old.faults self.new.faults }
         ensures others { self.new ≡ record self.old { conn = self.new.conn; writes = self.new.writes; faults = self.new.faults } }
-        ensures crash { Endures S.Store self.old.conn self.new.conn (λ tables. tables ≡ tables_after changes.now (tables_in S.Store self.old.conn)) }
+        ensures crash { Endures S.Store self.old.conn self.new.conn (λ tables. IsOpen S.Store self.old.conn × (tables ≡ tables_after changes.now (tables_in S.Store self.old.conn))) }
     {
         if changes.is_empty() {
             return Ok(());

@@ -141,7 +141,7 @@ pub fn apply_all<S: Alter>(
     ensures idle { conn.new.in_transaction ≡ false }
     ensures applied { HasCleanDisk (state S.Store conn.new) → OnOk result (Applied (state S.Store conn.old) (state S.Store conn.new) changes.now) }
     ensures kept { OnErr result (KeepsContent (state S.Store conn.old) (state S.Store conn.new)) }
-    ensures crash { Survives (state S.Store conn.old) (state S.Store conn.new) (Leaves (λ tables. tables ≡ tables_after changes.now (tables_of (state S.Store conn.old).now))) }
+    ensures crash { Survives (state S.Store conn.old) (state S.Store conn.new) (Leaves (λ tables. IsTrue (state S.Store conn.old).is_open × (tables ≡ tables_after changes.now (tables_of (state S.Store conn.old).now)))) }
     ensures counted { Counts result writes.old writes.new (sum_by statements_of changes.now) }
 {
     let _idle = conn.is_autocommit();

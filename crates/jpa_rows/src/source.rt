@@ -1,11 +1,12 @@
 //! Where committed rows stand: what changes over rows ask of their store.
-ghost use Rattle.std.specs.Prelude.{◌≡◌, ◌⊎◌, ℕ, OnOk, OnErr, IfOk, IfErr};
+ghost use Rattle.std.specs.Prelude.{◌≡◌, ◌⊎◌, ℕ, Ok, [], OnOk, OnErr, IfOk, IfErr, sum_by};
 ghost use Rattle.std.specs.FinMap.{find};
 ghost use Rattle.jpa_value.specs.Value.{identity_cmp};
 ghost use Rattle.jpa_value.specs.declared.refusal.Cause.{Cause};
 ghost use Rattle.jpa_rows.specs.declared.schema.Schema.{Schema};
 ghost use Rattle.jpa_rows.specs.Faults.{faults_after};
 ghost use Rattle.jpa_rows.specs.Rows.{Rows, table_rows, rows_after, AreChanges};
+ghost use Rattle.jpa_rows.specs.Statements.{Counts, statements_of};
 
 use crate::row::{Row, RowChange, RowId};
 use jpa_value::{Cause, Seq};
@@ -25,6 +26,18 @@ pub trait RowSource {
     /// one that it counts.
     ghost faults: { Self → ℕ };
 
+    /// How many statements that read it has run, up to the greatest u64.
+    ghost reads: { Self → ℕ };
+
+    /// How many statements that write it has run, up to the greatest u64.
+    ghost writes: { Self → ℕ };
+
+    /// What a crash may leave of the second is what it could leave of the first, or rows of which this holds.
+    ghost endures: { Self → Self → (Rows → Type 0) → Type 0 };
+
+    /// What holds of the rows may be said more weakly.
+    ghost wider: { (old new : Self) (P Q : Rows → Type 0) → ((rows : Rows) → P rows → Q rows) → endures old new P → endures old new Q };
+
     /// The row under an id. While the store holds rows, it refuses with `OutOfMemory` and `StoreFault` alone.
     fn get(&mut self, id: &RowId) -> Result<Option<Row>, Cause>
         ensures ok { clean self.new → IfOk result (λ row. (rows : Rows) → holds self.old rows → row ≡ find identity_cmp id.now rows) }
@@ -32,6 +45,7 @@ pub trait RowSource {
         ensures kept { (rows : Rows) → holds self.old rows → holds self.new rows }
         ensures told { faults self.new ≡ faults_after result (faults self.old) }
         ensures was_clean { clean self.new → clean self.old }
+        ensures crash { endures self.old self.new (λ _. ⊥) }
         ensures schema { schema self.new ≡ schema self.old };
 
     /// The rows of a table, in the order of their ids. It refuses as `get` does.
@@ -41,6 +55,7 @@ pub trait RowSource {
         ensures kept { (rows : Rows) → holds self.old rows → holds self.new rows }
         ensures told { faults self.new ≡ faults_after result (faults self.old) }
         ensures was_clean { clean self.new → clean self.old }
+        ensures crash { endures self.old self.new (λ _. ⊥) }
         ensures schema { schema self.new ≡ schema self.old };
 
     /// Makes these changes in their order, all or none.
@@ -50,6 +65,13 @@ pub trait RowSource {
         ensures err { OnErr result ((rows : Rows) → holds self.old rows → holds self.new rows) }
         ensures cause { IfErr result (λ cause. (cause ≡ Cause.OutOfMemory) ⊎ (cause ≡ Cause.StoreFault)) }
         ensures told { faults self.new ≡ faults_after result (faults self.old) }
+        ensures nothing { changes.now ≡ [] → (result ≡ Ok tt) × (self.new ≡ self.old) }
+        ensures counted { Counts result (writes self.old) (writes self.new) (sum_by statements_of changes.now) }
+        ensures unread { reads self.new ≡ reads self.old }
         ensures was_clean { clean self.new → clean self.old }
+        ensures crash { (rows : Rows) → holds self.old rows → endures self.old self.new (λ left. left ≡ rows_after changes.now rows) }
         ensures schema { schema self.new ≡ schema self.old };
+
+    /// Where nothing happened, a crash leaves what it could leave before.
+    ghost still: { (source : Self) → endures source source (λ _. ⊥) };
 }

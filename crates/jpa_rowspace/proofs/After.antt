@@ -1,11 +1,12 @@
 -- What the changes of a commit make of the rows that the store's tables hold.
-use Rattle.std.proofs.Common.{◌≡◌, ◌∙◌, refl, sym, ap, subst, ℕ, ℤ, pos, negsuc, Bool, true, false, cond, not, T, List, [], ◌∷◌, map, ◌+◌, Ordering, Less, Equal, Greater, eqb→eq, eq-eqb, ◌==◌, int_cmp, int_lt, nat_lt, fold}
+use Rattle.std.proofs.Common.{◌≡◌, ◌∙◌, refl, sym, ap, subst, ℕ, ℤ, pos, negsuc, Bool, true, false, cond, not, T, List, [], ◌∷◌, map, ◌+◌, Ordering, Less, Equal, Greater, eqb→eq, eq-eqb, ◌==◌, int_cmp, int_lt, nat_lt, fold, length}
 use Rattle.std.specs.Prelude.{Option, Some, None, ◌≢◌, IfSome, sum_by, is_some}
 use Rattle.std.specs.List.{AllByRecursion}
 use Rattle.std.specs.FinMap.{find, put, is_sorted, int_cmp-IsAntisymmetric}
 use Rattle.std.specs.FinMap.Entries.{find-where_key, is_sorted-where_key, below_all, by_order}
 use Rattle.std.specs.Cmp.{tied_itself, int_cmp_total}
 use Rattle.std.specs.Ordering.{nat_cmp, eq_by_cmp, is_eq, ordering_reverse, match_ordering}
+use Rattle.std.proofs.lemmas.List.{length-map}
 use Rattle.std.proofs.lemmas.List.Elements.{recursion_from_All}
 use Rattle.sqlite.specs.Tree.{IsAscending}
 use Rattle.jpa_value.specs.Value.{identity_cmp}
@@ -15,6 +16,7 @@ use Rattle.jpa_rows.specs.declared.row.RowChange.{RowChange}
 use Rattle.jpa_rows.specs.declared.schema.TableRule.{TableRule}
 use Rattle.jpa_rows.specs.declared.schema.Schema.{Schema}
 use Rattle.jpa_rows.specs.Rows.{RowId, Row, Rows, is_key, table_of, table_rows, IsRowOf, AreRising, entry_of, rows_after, IsChangeIn, IsChangeBy, AreChanges}
+use Rattle.jpa_rows.specs.Statements.{columns_in, statements_of}
 use Rattle.jpa_row_laws.specs.Changes.{dropped, changed as put_or_dropped, seen, over}
 use Rattle.jpa_row_laws.proofs.Maps.{absent_below, same_answers, same_key}
 use Rattle.jpa_row_laws.proofs.Overlay.{changed_rises, seen_rises, found_changed, found_seen}
@@ -23,7 +25,7 @@ use Rattle.jpa_cells_meaning.specs.declared.CellRow.{CellRow}
 use Rattle.jpa_cells_meaning.specs.Tables.{Tables, row_of, placed, key_cmp, cell_cmp, with_row, without_row, rows_after as cells_rows_after, changed, tables_after}
 use Rattle.jpa_cells_meaning.specs.Tables as cells
 use Rattle.jpa_cells_meaning.proofs.Placing.{placed_rising}
-use Rattle.jpa_rowspace.specs.Stored.{cell_of, stored_row, stored_rows, cells_in, cell_change, cell_changes, statements_of, IsEntryBy, AreRowsOf, AreStored}
+use Rattle.jpa_rowspace.specs.Stored.{cell_of, stored_row, stored_rows, cells_in, cell_change, cell_changes, IsEntryBy, AreRowsOf, AreStored}
 use Rattle.jpa_rowspace.proofs.Ids.{id_order, ids_order, numbered, IsIn, in_table}
 
 -- ---- the cells of a row are in rising columns
@@ -270,9 +272,14 @@ module _ (schema : Schema) where
 
 -- ---- the statements
 
+columns_counted : (row : Option Row) → length (cells_in row) ≡ length (columns_in row)
+columns_counted None = refl
+columns_counted (Some row) = length-map row cell_of
+
 added_from : (n : ℕ) (changes : List RowChange) → fold (λ a x. a + cells.statements_of x) n (cell_changes changes) ≡ fold (λ a x. a + statements_of x) n changes
 added_from n [] = refl
-added_from n (c ∷ changes) = added_from (n + statements_of c) changes
+added_from n (c ∷ changes) =
+    ap (λ columns. fold (λ a x. a + cells.statements_of x) (n + (columns + 1)) (cell_changes changes)) (columns_counted c.row) ∙ added_from (n + statements_of c) changes
 
 pub same_statements : (changes : List RowChange) → sum_by cells.statements_of (cell_changes changes) ≡ sum_by statements_of changes
 same_statements changes = added_from 0 changes

@@ -6,7 +6,8 @@ use Rattle.jpa_rows.specs.declared.row.RowChange.{RowChange}
 use Rattle.jpa_cells_meaning.specs.declared.CellChange.{CellChange}
 use Rattle.jpa_cells_meaning.specs.Tables as cells
 use Rattle.jpa_cells_meaning.specs.Store.{Counts}
-use Rattle.jpa_rowspace.specs.Stored.{cell_changes, statements_of}
+use Rattle.jpa_rows.specs.Statements.{statements_of}
+use Rattle.jpa_rowspace.specs.Stored.{cell_changes}
 use Rattle.jpa_rowspace.proofs.After.{same_statements}
 
 none_counted : (old : ℕ) → old < 2 ^ 64 → Counts {T = ⊤} {E = Cause} (Ok tt) old old 0

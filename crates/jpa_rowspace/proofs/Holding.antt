@@ -21,6 +21,8 @@ use Rattle.jpa_cells_meaning.specs.Store.{IsClean, IsOpen, tables_in, Keeps, Bec
 use Rattle.jpa_rowspace.specs.Stored.{cells_in, cell_changes, stored_rows, table_if, table_for, IsEntryBy, AreRowsOf, AreStored}
 use Rattle.jpa_rowspace.specs.Reading.{IsFound, IsIllFormed, AreRead}
 use Rattle.jpa_rowspace.specs.Space.{HoldsRows, IsStoreCause}
+use Rattle.jpa_rowspace.specs.Enduring.{EnduresRows, endures_weaker}
+pub use Rattle.jpa_rowspace.specs.Enduring.{endures_self}
 use Rattle.jpa_rowspace.proofs.Ids.{numbered, in_table, sought, absent, cells_found, found_in}
 use Rattle.jpa_rowspace.proofs.Readings.{found_is, well_formed, entries_are, whole_read}
 use Rattle.jpa_rowspace.proofs.After.{whole_after, stored_after}
@@ -63,23 +65,6 @@ module _ {S : Type 0} (g : Ghosts S) where
   -- no fault is forgotten
   pub clean_before : (old new : Held S) (Commits : Tables → Type 0) → Endures g old new Commits → IsClean g new → IsClean g old
   clean_before old new Commits e clean = let le = e.clean in omega (arith, le, clean)
-
-  -- nothing was done
-  pub endures_self : (conn : Held S) (Commits : Tables → Type 0) → Endures g conn conn Commits
-  endures_self conn Commits = record { clean = omega arith; shield = λ s. s; counts = omega arith; limit = refl; closes = λ _ o. inl o; crash = λ _ db l. inl l }
-
-  pub endures_weaker : (old new : Held S) (P Q : Tables → Type 0) → (IsClean g new → (tables : Tables) → P tables → Q tables) → Endures g old new P → Endures g old new Q
-  endures_weaker old new P Q weaker e = record {
-    clean = e.clean;
-    shield = e.shield;
-    counts = e.counts;
-    limit = e.limit;
-    closes = e.closes;
-    crash = λ clean db l. elim (e.crash clean db l) [
-      | inl before ↦ inl before
-      | inr made ↦ inr (made.0, made.1, weaker clean _ made.2, made.3)
-    ];
-  }
 
   pub keeps_rows : (schema : Schema) (old new : Held S) (Commits : Tables → Type 0) → Keeps g old new → Endures g old new Commits → (rows : Rows) → HoldsRows g schema old rows → HoldsRows g schema new rows
   keeps_rows schema old new Commits kept e rows held = record {
@@ -207,12 +192,21 @@ module _ {S : Type 0} (g : Ghosts S) where
   keeps_err (Ok _) schema old new Commits kept e = tt
   keeps_err (Err _) schema old new Commits kept e = keeps_rows schema old new Commits kept e
 
+  -- a crash leaves what it left before, or the rows after the changes
   pub crash_rows : (schema : Schema) (changes : List RowChange) → AreChanges schema changes → (old new : Held S)
-      → Endures g old new (λ tables. tables ≡ tables_after (cell_changes changes) (tables_in g old))
-      → (rows : Rows) → HoldsRows g schema old rows → IsOpen g old → Endures g old new (λ tables. AreStored schema tables (rows_after changes rows))
-  crash_rows schema changes h old new e rows held open_ =
-      endures_weaker old new (λ tables. tables ≡ tables_after (cell_changes changes) (tables_in g old)) (λ tables. AreStored schema tables (rows_after changes rows))
-      (λ clean tables is.
-      subst (λ ts. AreStored schema ts (rows_after changes rows)) (sym is)
-      (stored_after schema changes h rows (held.whole (clean_before old new (λ tables. tables ≡ tables_after (cell_changes changes) (tables_in g old)) e clean)) (tables_in g old) (held.stored (clean_before old new (λ tables. tables ≡ tables_after (cell_changes changes) (tables_in g old)) e clean) open_)))
+      → Endures g old new (λ tables. IsOpen g old × (tables ≡ tables_after (cell_changes changes) (tables_in g old)))
+      → (rows : Rows) → HoldsRows g schema old rows → Endures g old new (λ tables. AreStored schema tables (rows_after changes rows))
+  crash_rows schema changes h old new e rows held =
+      let Made : Tables → Type 0 = λ tables. IsOpen g old × (tables ≡ tables_after (cell_changes changes) (tables_in g old)) in
+      endures_weaker g old new Made (λ tables. AreStored schema tables (rows_after changes rows))
+      (λ clean tables made.
+      let before = clean_before old new Made e clean in
+      subst (λ ts. AreStored schema ts (rows_after changes rows)) (sym made.1) (stored_after schema changes h rows (held.whole before) (tables_in g old) (held.stored before made.0)))
       e
+
+  pub crash_left : (schema : Schema) (after : Rows) (old new : Held S) → Endures g old new (λ tables. AreStored schema tables after) → EnduresRows g schema old new (λ left. left ≡ after)
+  crash_left schema after old new e =
+      endures_weaker g old new (λ tables. AreStored schema tables after) (λ tables. (rows : Rows) × AreStored schema tables rows × (rows ≡ after)) (λ clean tables stored. (after, stored, refl)) e
+
+  pub crash_none : (schema : Schema) (old new : Held S) → Endures g old new (λ _. ⊥) → EnduresRows g schema old new (λ _. ⊥)
+  crash_none schema old new e = endures_weaker g old new (λ _. ⊥) (λ tables. (rows : Rows) × AreStored schema tables rows × ⊥) (λ clean tables none. absurd none) e

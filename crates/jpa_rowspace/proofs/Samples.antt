@@ -4,7 +4,8 @@ use Rattle.std.specs.Str.{is_utf8, chars}
 use Rattle.std.proofs.lemmas.List.Elements.{All-cons, All-nil}
 use Rattle.jpa_rows.specs.declared.row.RowChange.{RowChange}
 use Rattle.jpa_rows.specs.Rows.{table_of, IsChangeBy, AreChanges}
-use Rattle.jpa_rowspace.specs.Stored.{stored_row, stored_rows, cell_change, statements_of}
+use Rattle.jpa_rows.specs.Statements.{statements_of}
+use Rattle.jpa_rowspace.specs.Stored.{stored_row, stored_rows, cell_change}
 use Rattle.jpa_rowspace.specs.Samples.{numbers, first, seven, adds_seven, shop, puts, number_row, person_row, order_row, first_rows}
 
 row_is : stored_row (first, seven) ≡ record { row = 1 ∷ 128 ∷ 0 ∷ 0 ∷ 0 ∷ 0 ∷ 0 ∷ 0 ∷ 1 ∷ []; cells = record { column = pos 0; value = 1 ∷ 128 ∷ 0 ∷ 0 ∷ 0 ∷ 0 ∷ 0 ∷ 0 ∷ 7 ∷ [] } ∷ [] }

@@ -1,4 +1,5 @@
 pub mod Stored
 pub mod Reading
 pub mod Space
+pub mod Enduring
 pub mod Samples

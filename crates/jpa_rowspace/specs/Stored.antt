@@ -1,5 +1,5 @@
 -- Rows as a store of cells keeps them, and the changes of cells that make them.
-use Rattle.std.specs.Prelude.{◌≡◌, ◌≢◌, ◌+◌, ℕ, pos, true, List, [], map, length, Option, Some, None, IsSome, if◌then◌else◌}
+use Rattle.std.specs.Prelude.{◌≡◌, ◌≢◌, ℕ, pos, true, List, [], map, Option, Some, None, IsSome, if◌then◌else◌}
 use Rattle.std.specs.List.{AllByRecursion}
 use Rattle.jpa_value.specs.declared.value.Value.{Value}
 use Rattle.jpa_key.specs.Keys.{key_bytes}
@@ -33,10 +33,6 @@ cell_change change = record { table = pos (change.id).table; row = key_bytes (ch
 
 abbrev pub cell_changes : List RowChange → List CellChange
 cell_changes = map cell_change
-
--- one DELETE for the row, and one INSERT for each column of the new one
-abbrev pub statements_of : RowChange → ℕ
-statements_of change = length (cells_in change.row) + 1
 
 -- ---- the rows of a schema
 

@@ -3,6 +3,7 @@ ghost use Rattle.std.specs.Prelude.{◌≡◌, ◌≢◌, ◌⊎◌, ◌+◌, �
 ghost use Rattle.jpa_value.specs.declared.refusal.Cause.{Cause};
 ghost use Rattle.jpa_key.specs.Keys.{key_bytes};
 ghost use Rattle.jpa_rows.specs.Rows.{Rows, AreRising, AreChanges, rows_after, table_of};
+ghost use Rattle.jpa_rows.specs.Statements.{statements_of};
 ghost use Rattle.jpa_cells_meaning.specs.Tables.{AreRows, cells_at, tables_after};
 ghost use Rattle.jpa_cells_meaning.specs.Store.{up_to_greatest, Counts, Tells, faults_after, IsClean, IsOpen, tables_in, Keeps, Becomes, Endures, HasFault};
 ghost use Rattle.jpa_rowspace.specs.Stored as stored;
@@ -137,11 +138,11 @@ impl<S: Alter> RowSpace<S> {
         ensures holds { OnOk result ((rows : Rows) → HoldsRows S.Store self.old.schema self.old.store.conn rows → HoldsRows S.Store self.old.schema self.new.store.conn (rows_after changes.now rows)) }
         ensures nothing { length changes.now ≡ 0 → (result ≡ Ok tt) × (self.new ≡ self.old) }
         ensures kept { OnErr result (Keeps S.Store self.old.store.conn self.new.store.conn) }
-        ensures counted { Counts result self.old.store.writes self.new.store.writes (sum_by stored.statements_of changes.now) }
+        ensures counted { Counts result self.old.store.writes self.new.store.writes (sum_by statements_of changes.now) }
         ensures told { Tells result self.old.store.faults self.new.store.faults }
         ensures others { self.new ≡ record self.old { store = record self.old.store { conn = self.new.store.conn; writes = self.new.store.writes; faults = self.new.store.faults } } }
-        ensures crash { Endures S.Store self.old.store.conn self.new.store.conn (λ tables. tables ≡ tables_after (stored.cell_changes changes.now) (tables_in S.Store self.old.store.conn)) }
-        ensures crash_rows { (rows : Rows) → HoldsRows S.Store self.old.schema self.old.store.conn rows → IsOpen S.Store self.old.store.conn → Endures S.Store self.old.store.conn self.new.store.conn (λ tables. stored.AreStored self.old.schema tables (rows_after changes.now rows)) }
+        ensures crash { Endures S.Store self.old.store.conn self.new.store.conn (λ tables. IsOpen S.Store self.old.store.conn × (tables ≡ tables_after (stored.cell_changes changes.now) (tables_in S.Store self.old.store.conn))) }
+        ensures crash_rows { (rows : Rows) → HoldsRows S.Store self.old.schema self.old.store.conn rows → Endures S.Store self.old.store.conn self.new.store.conn (λ tables. stored.AreStored self.old.schema tables (rows_after changes.now rows)) }
     {
         let _writes = self.store.writes();
         let made = cell_changes(self.alloc, &self.schema, changes)?;
@@ -150,8 +151,10 @@ impl<S: Alter> RowSpace<S> {
 }
 
 impl<S: Alter> RowSource for RowSpace<S> {
-    ghost use Rattle.jpa_cells_meaning.specs.Store.{IsClean};
+    ghost use Rattle.std.specs.Prelude.{◌+◌};
+    ghost use Rattle.jpa_cells_meaning.specs.Store.{up_to_greatest, IsClean};
     ghost use Rattle.jpa_rowspace.specs.Space.{HoldsRows};
+    ghost use Rattle.jpa_rowspace.specs.Enduring.{EnduresRows, survives_self, rows_wider};
 
     ghost schema = { λ space. space.schema };
 
@@ -160,6 +163,14 @@ impl<S: Alter> RowSource for RowSpace<S> {
     ghost clean = { λ space. IsClean S.Store space.store.conn };
 
     ghost faults = { λ space. space.store.faults };
+
+    ghost reads = { λ space. up_to_greatest (space.store.row_selects + space.store.table_selects) };
+
+    ghost writes = { λ space. space.store.writes };
+
+    ghost endures = { λ old new Holds. EnduresRows S.Store old.schema old.store.conn new.store.conn Holds };
+
+    ghost wider = { λ old new P Q weaker e. rows_wider S.Store old.schema old.store.conn new.store.conn P Q weaker e };
 
     fn get(&mut self, id: &RowId) -> Result<Option<Row>, Cause> {
         RowSpace::get(self, id)
@@ -172,4 +183,6 @@ impl<S: Alter> RowSource for RowSpace<S> {
     fn commit(&mut self, changes: &[RowChange]) -> Result<(), Cause> {
         RowSpace::commit(self, changes)
     }
+
+    ghost still = { λ space. survives_self _ _ };
 }

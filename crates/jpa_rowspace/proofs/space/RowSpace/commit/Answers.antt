@@ -3,7 +3,8 @@ use Rattle.std.specs.Prelude.{OnOk, sum_by}
 use Rattle.jpa_rows.specs.Rows.{Rows, AreChanges, rows_after}
 use Rattle.jpa_cells_meaning.specs.Tables.{tables_after}
 use Rattle.jpa_cells_meaning.specs.Store.{Stored, Counts, IsOpen, tables_in, Becomes, Endures}
-use Rattle.jpa_rowspace.specs.Stored.{AreStored, cell_changes, statements_of}
+use Rattle.jpa_rows.specs.Statements.{statements_of}
+use Rattle.jpa_rowspace.specs.Stored.{AreStored, cell_changes}
 use Rattle.jpa_rowspace.specs.Space.{Space, HoldsRows}
 use Rattle.jpa_rowspace.proofs.Holding.{applied, nothing_made, commits_ok, crash_rows}
 use Rattle.jpa_rowspace.proofs.Counts.{counts}
@@ -26,7 +27,7 @@ returns-clause-holds g c =
     let is : made ≡ cell_changes changes = c.as_slice.ensures ∙ c.in_ok-made.ensures.ok in
     let h : AreChanges schema changes = subst (λ (o : Space g.row.S.Denot). AreChanges o.schema changes) (sym c.self.view_is) c.requires in
     subst (λ (o : Space g.row.S.Denot). OnOk c.apply.result ((rows : Rows) → HoldsRows g.S.Store o.schema o.store.conn rows → HoldsRows g.S.Store o.schema new (rows_after changes rows))) c.self.view_is
-    (commits_ok g.S.Store schema old new (λ tables. tables ≡ tables_after made (tables_in g.S.Store old)) c.apply.ensures.crash c.apply.result changes h
+    (commits_ok g.S.Store schema old new (λ tables. IsOpen g.S.Store old × (tables ≡ tables_after made (tables_in g.S.Store old))) c.apply.ensures.crash c.apply.result changes h
     (applied g.S.Store made changes is old new c.apply.result c.apply.ensures.applied)
     (nothing_made g.S.Store made changes is (λ none. ap (λ (s : Stored g.row.S.Denot). s.conn) (c.apply.ensures.nothing none).1)))
 
@@ -50,7 +51,7 @@ returns-clause-crash_rows g c =
     let schema = c.self.inside.schema in
     let is : made ≡ cell_changes changes = c.as_slice.ensures ∙ c.in_ok-made.ensures.ok in
     let h : AreChanges schema changes = subst (λ (o : Space g.row.S.Denot). AreChanges o.schema changes) (sym c.self.view_is) c.requires in
-    let e : Endures g.S.Store old new (λ tables. tables ≡ tables_after (cell_changes changes) (tables_in g.S.Store old)) =
-    subst (λ cs. Endures g.S.Store old new (λ tables. tables ≡ tables_after cs (tables_in g.S.Store old))) is c.apply.ensures.crash in
-    subst (λ (o : Space g.row.S.Denot). (rows : Rows) → HoldsRows g.S.Store o.schema o.store.conn rows → IsOpen g.S.Store o.store.conn → Endures g.S.Store o.store.conn new (λ tables. AreStored o.schema tables (rows_after changes rows))) c.self.view_is
+    let e : Endures g.S.Store old new (λ tables. IsOpen g.S.Store old × (tables ≡ tables_after (cell_changes changes) (tables_in g.S.Store old))) =
+    subst (λ cs. Endures g.S.Store old new (λ tables. IsOpen g.S.Store old × (tables ≡ tables_after cs (tables_in g.S.Store old)))) is c.apply.ensures.crash in
+    subst (λ (o : Space g.row.S.Denot). (rows : Rows) → HoldsRows g.S.Store o.schema o.store.conn rows → Endures g.S.Store o.store.conn new (λ tables. AreStored o.schema tables (rows_after changes rows))) c.self.view_is
     (crash_rows g.S.Store schema changes h old new e)

@@ -1,7 +1,7 @@
 use Rattle.std.proofs.Common.{◌≡◌, sym, ap, subst}
 use Rattle.jpa_rows.specs.declared.schema.Schema.{Schema}
 use Rattle.jpa_rowspace.specs.Space.{Space, HoldsRows}
-use Rattle.jpa_rowspace.proofs.Holding.{clean_before, keeps_rows, gets, gets_err}
+use Rattle.jpa_rowspace.proofs.Holding.{clean_before, keeps_rows, gets, gets_err, crash_none}
 use Rattle.jpa_rowspace.proofs.Told.{counted}
 use Rattle.jpa_rowspace.proofs.space.RowSpaceRowSource.get.Goals as goal
 
@@ -28,3 +28,6 @@ returns-clause-kept g c rows held =
 
 pub returns-clause-told : goal.returns-clause-told
 returns-clause-told g c = counted c.args.self.now.store.faults c.get.new.self.store.faults c.get.result c.get.ensures.told
+
+pub returns-clause-crash : goal.returns-clause-crash
+returns-clause-crash g c = crash_none g.S.Store c.args.self.now.schema c.args.self.now.store.conn c.get.new.self.store.conn c.get.ensures.crash
