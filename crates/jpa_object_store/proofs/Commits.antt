@@ -1,5 +1,5 @@
 -- Changes under which the rows of a set are seen are such that a store makes.
-use Rattle.std.specs.Prelude.{◌≡◌, ◌≢◌, ℕ, true, T, All, List, [], map, Option, Some, None}
+use Rattle.std.specs.Prelude.{◌≡◌, ◌≢◌, ℕ, true, T, All, List, [], ◌∷◌, map, Option, Some, None}
 use Rattle.std.proofs.Common.{refl, sym, ap, ◌∙◌, get_or}
 use Rattle.std.specs.FinMap.{find, is_sorted}
 use Rattle.jpa_value.specs.Value.{identity_cmp}
@@ -14,8 +14,8 @@ use Rattle.jpa_rows.specs.Tables.{schema_of}
 use Rattle.jpa_row_laws.specs.Changes.{over}
 use Rattle.jpa_row_laws.proofs.Elements.{Has, found_has}
 use Rattle.jpa_row_laws.proofs.Lists.{all_each}
-use Rattle.jpa_row_laws.proofs.Facts.{true_false}
-use Rattle.jpa_row_laws.proofs.Overlay.{found_seen}
+use Rattle.jpa_row_laws.proofs.Facts.{some_none, true_false}
+use Rattle.jpa_row_laws.proofs.Overlay.{found_seen, one_difference}
 use Rattle.jpa_view.specs.Unambiguous.{is_class}
 use Rattle.jpa_view.proofs.Mapped.{IsMapped}
 use Rattle.jpa_view.proofs.Orders.{identities}
@@ -25,7 +25,8 @@ use Rattle.jpa_object_rows.specs.Objects.{is_discriminator}
 use Rattle.jpa_object_rows.specs.Sets.{AreUnitRows, rows_of}
 use Rattle.jpa_object_rows.proofs.Exact.{rows_of_unit}
 use Rattle.jpa_overlay.specs.Overlay.{Changes}
-use Rattle.jpa_object_store.specs.Shown.{Show}
+use Rattle.jpa_object_store.specs.Shown.{Show, Recall}
+use Rattle.jpa_object_store.specs.Written.{IsDifference}
 
 -- a change by a table
 
@@ -53,6 +54,21 @@ begins world mapped regular named set numbers held = record {
   numbered = held.numbered;
   seen = refl;
 }
+
+-- and nothing noted
+pub begins_noted : (base : Rows) → Recall base [] []
+begins_noted base = record { own = λ id is. absurd (true_false (sym is)); changed = λ id is. absurd (true_false (sym is)) }
+
+-- where the rows stay as they are, nothing is to be made, and nothing else is
+pub no_difference : (base : Rows) → IsDifference base base []
+no_difference base = (record { rising = tt; real = λ id row e. absurd (some_none row (sym e)) }, refl)
+
+pub none_made : (base : Rows) (made : List RowChange) → IsDifference base base made → made ≡ []
+none_made base made d = nothing made (one_difference identities base (map entry_of made) [] d.0 (no_difference base).0 d.1)
+  where
+    nothing : (made : List RowChange) → map entry_of made ≡ [] → made ≡ []
+    nothing [] e = refl
+    nothing (change ∷ made) e = cc
 
 -- ---- the changes that are made in the store
 

@@ -2,4 +2,7 @@ pub mod Over
 pub mod Replaced
 pub mod Written
 pub mod Stepped
+pub mod Stood
+pub mod StoodObjects
+pub mod StoodNumbers
 pub mod Commits

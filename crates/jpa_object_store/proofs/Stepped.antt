@@ -39,7 +39,7 @@ stepped (suc i) (n ∷ next) [] = []
 stepped (suc i) (n ∷ next) (b ∷ before) = n ∷ stepped i next before
 
 module _ {A B : Type 0} (ok : A → B → Bool) where
-  fits_length : (xs : List A) (ys : List B) → each_fits ok xs ys ≡ true → length xs ≡ length ys
+  pub fits_length : (xs : List A) (ys : List B) → each_fits ok xs ys ≡ true → length xs ≡ length ys
   fits_length [] [] h = refl
   fits_length [] (y ∷ ys) h = absurd (true_false (sym h))
   fits_length (x ∷ xs) [] h = absurd (true_false (sym h))

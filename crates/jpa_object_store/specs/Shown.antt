@@ -1,5 +1,5 @@
 -- Changes over rows, and the set and the next numbers whose rows are seen under them.
-use Rattle.std.specs.Prelude.{◌≡◌, ℕ, true, T, List, [], ◌∷◌, Option, Some, None}
+use Rattle.std.specs.Prelude.{◌≡◌, ◌==◌, if◌then◌else◌, ℕ, true, T, List, [], ◌∷◌, Option, Some, None}
 use Rattle.std.specs.List.{AllByRecursion}
 use Rattle.std.specs.FinMap.{is_sorted}
 use Rattle.jpa_value.specs.declared.value.Identity.{Identity}
@@ -16,7 +16,7 @@ use Rattle.jpa_view.specs.View.{AreStorable}
 use Rattle.jpa_object_rows.specs.Raw.{is_id_of}
 use Rattle.jpa_object_rows.specs.Objects.{number_id, number_row, object_entries}
 use Rattle.jpa_object_rows.specs.Sets.{rows_of}
-use Rattle.jpa_overlay.specs.Overlay.{Changes, with_change, rows_under}
+use Rattle.jpa_overlay.specs.Overlay.{Changes, Recalls, with_change, rows_under}
 
 -- ---- more changes: rows put, or dropped
 
@@ -33,10 +33,19 @@ abbrev pub without_old : World → Identity → Option Stored → Changes → Ch
 without_old world id None changes = changes
 without_old world id (Some x) changes = with_drops (object_entries world id x) changes
 
+-- and the same rows put, to say that they stood
+abbrev pub with_old : World → Identity → Option Stored → Changes → Changes
+with_old world id None stood = stood
+with_old world id (Some x) stood = with_puts (object_entries world id x) stood
+
 -- the row of a root's next number, put
 abbrev pub with_next : Origin → ℕ → Changes → Changes
 with_next (Origin.Root root) k changes = with_change (number_id root.table) (Some (number_row k)) changes
 with_next (Origin.Extends parent) k changes = changes
+
+-- the same, to say that it stood, where 1 has no row
+abbrev pub with_old_next : Origin → ℕ → Changes → Changes
+with_old_next origin k stood = if k == 1 then stood else with_next origin k stood
 
 -- ---- what is seen
 
@@ -52,3 +61,8 @@ pub record Show (world : World) (base : Rows) (changes : Changes) (set : StoredS
   pub storable : AreStorable world set
   pub numbered : are_numbers world.model numbers ≡ true
   pub seen : rows_under changes base ≡ rows_of world set numbers
+
+-- what the first say stood under an id does stand there, and so it does under each id that is changed
+pub record Recall (base : Rows) (stood changes : Changes) : Type 0 where
+  pub own : Recalls stood stood base
+  pub changed : Recalls stood changes base

@@ -1,5 +1,5 @@
 //! What a commit writes.
-ghost use Rattle.std.specs.Prelude.{◌≡◌, ◌⊎◌, [], true, nat_le, Ok, OnOk, OnErr, IfOk, IfErr};
+ghost use Rattle.std.specs.Prelude.{◌≡◌, ◌⊎◌, ◌+◌, List, [], true, nat_le, sum_by, Ok, OnOk, OnErr, IfOk, IfErr};
 ghost use Rattle.std.specs.List.{AllByRecursion};
 ghost use Rattle.jpa_value.specs.declared.refusal.Cause.{Cause};
 ghost use Rattle.jpa_value.specs.Value.{same_identity};
@@ -7,12 +7,13 @@ ghost use Rattle.jpa_behaviour.specs.Registered.{world_of};
 ghost use Rattle.jpa_stored.specs.Sets.{all_distinct, each_fits};
 ghost use Rattle.jpa_rows.specs.Cells.{are_numbers, CanBeHeld};
 ghost use Rattle.jpa_rows.specs.Faults.{faults_after};
-ghost use Rattle.jpa_rows.specs.Rows.{Rows};
+ghost use Rattle.jpa_rows.specs.declared.row.RowChange.{RowChange};
+ghost use Rattle.jpa_rows.specs.Rows.{Rows, AreChanges};
+ghost use Rattle.jpa_rows.specs.Statements.{statements_of, up_to_greatest};
 ghost use Rattle.jpa_rows.specs.Tables.{schema_of};
 ghost use Rattle.jpa_view.specs.View.{is_storable};
 ghost use Rattle.jpa_object_rows.specs.Sets.{rows_of};
-ghost use Rattle.jpa_object_store.specs.Written.{put_all};
-ghost use Rattle.jpa_object_store.specs.Shown.{Show};
+ghost use Rattle.jpa_object_store.specs.Written.{put_all, IsDifference};
 
 use crate::numbers::change_numbers;
 use crate::objects::change_objects;
@@ -20,14 +21,14 @@ use jpa_behaviour::{Behaviour, Registry};
 use jpa_mapper::discriminator_law;
 use jpa_model::Metamodel;
 use jpa_overlay::Overlay;
-use jpa_rows::RowSource;
+use jpa_rows::{RowChange, RowSource};
 use jpa_stored::{Stored, StoredSet};
-use jpa_value::{Cause, Identity};
+use jpa_value::{Cause, Identity, Seq};
 use std::alloc::Global;
 
-/// The changes over the rows of a committed set and its next numbers under which those of the set with the written objects,
-/// and of the new next numbers, are seen.
-fn overlay_of<B: Behaviour>(
+/// The difference of the rows of a committed set and its next numbers from those of the set with the written objects and of the
+/// new next numbers. The committed set says what stands, so no store is read.
+fn difference_of<B: Behaviour>(
     alloc: Global,
     metamodel: &Metamodel,
     registry: &Registry<B>,
@@ -35,13 +36,14 @@ fn overlay_of<B: Behaviour>(
     before: &[u64],
     written: &[(Identity, Stored)],
     next: &[u64],
-) -> Result<Overlay, Cause>
+) -> Result<Seq<RowChange>, Cause>
     requires committed { CanBeHeld (world_of B.meaning metamodel.now registry.now) committed.now before.now }
     requires storable { AllByRecursion (λ e. is_storable (world_of B.meaning metamodel.now registry.now) e.0 e.1 ≡ true) written.now }
     requires distinct { all_distinct (λ a b. same_identity a.0 b.0) written.now ≡ true }
     requires numbers { are_numbers metamodel.now next.now ≡ true }
     requires rising { each_fits nat_le before.now next.now ≡ true }
-    ensures ok { IfOk result (λ overlay. Show (world_of B.meaning metamodel.now registry.now) (rows_of (world_of B.meaning metamodel.now registry.now) committed.now before.now) overlay (put_all written.now committed.now) next.now) }
+    ensures ok { IfOk result (λ changes. IsDifference (rows_of (world_of B.meaning metamodel.now registry.now) committed.now before.now) (rows_of (world_of B.meaning metamodel.now registry.now) (put_all written.now committed.now) next.now) changes) }
+    ensures whole { IfOk result (AreChanges (schema_of metamodel.now)) }
     ensures err { IfErr result (λ cause. cause ≡ Cause.OutOfMemory) }
 {
     // what the rows of a unit rest on
@@ -49,19 +51,30 @@ fn overlay_of<B: Behaviour>(
     registry.laws();
     discriminator_law(metamodel);
     let mut overlay = Overlay::new(alloc);
-    change_objects(&mut overlay, alloc, metamodel, registry, committed, written)?;
-    change_numbers(&mut overlay, alloc, metamodel, before, next)?;
-    Ok(overlay)
+    let mut stood = Overlay::new(alloc);
+    change_objects(
+        &mut overlay,
+        &mut stood,
+        alloc,
+        metamodel,
+        registry,
+        committed,
+        written,
+    )?;
+    change_numbers(&mut overlay, &mut stood, alloc, metamodel, before, next)?;
+    overlay.into_difference(&stood)
 }
 
 /// Writes the objects that a flush wrote, each under its identity and no identity twice, over the committed set that the store
 /// holds, and the next numbers of generated keys in the place of those before, none of which falls: all or nothing, as one
 /// transaction of the store (Jakarta Persistence 3.1, chapters 2.4, 2.10, 2.12 and 3.2.4).
 ///
-/// An object of an identity that the set has takes the place of the old one, whose pairs go with it. Nothing is read; where no
-/// object was written and no next number rose, nothing is written.
+/// An object of an identity that the set has takes the place of the old one, whose pairs go with it. What is written is exactly
+/// the difference of the rows: none that stands as it is to stand, so nothing where no row changes. Nothing is read.
 ///
 /// It refuses with `OutOfMemory`, and with `StoreFault` as the store does. Then the store holds what it held.
+///
+/// However it ends, a crash leaves what it could leave before, or the rows of the set and the next numbers that it writes.
 pub fn write<R: RowSource, B: Behaviour>(
     alloc: Global,
     metamodel: &Metamodel,
@@ -84,16 +97,16 @@ pub fn write<R: RowSource, B: Behaviour>(
     ensures told { R.faults source.new ≡ faults_after result (R.faults source.old) }
     ensures was_clean { R.clean source.new → R.clean source.old }
     ensures schema { R.schema source.new ≡ R.schema source.old }
+    ensures unread { R.reads source.new ≡ R.reads source.old }
+    ensures crash { R.holds source.old (rows_of (world_of B.meaning metamodel.now registry.now) committed.now before.now) → R.endures source.old source.new (λ left. left ≡ rows_of (world_of B.meaning metamodel.now registry.now) (put_all written.now committed.now) next.now) }
+    ensures counted { OnOk result ((changes : List RowChange) × IsDifference (rows_of (world_of B.meaning metamodel.now registry.now) committed.now before.now) (rows_of (world_of B.meaning metamodel.now registry.now) (put_all written.now committed.now) next.now) changes × (R.writes source.new ≡ up_to_greatest (R.writes source.old + sum_by statements_of changes))) }
+    ensures unchanged { rows_of (world_of B.meaning metamodel.now registry.now) committed.now before.now ≡ rows_of (world_of B.meaning metamodel.now registry.now) (put_all written.now committed.now) next.now → source.new ≡ source.old }
     ensures nothing { written.now ≡ [] → next.now ≡ before.now → (result ≡ Ok tt) × (source.new ≡ source.old) }
 {
     if written.is_empty() && before == next {
-        return Ok(());
+        // takes no memory
+        return source.commit(&[]);
     }
-    // what the rows of a unit rest on
-    metamodel.unit();
-    registry.laws();
-    discriminator_law(metamodel);
-    let overlay = overlay_of(alloc, metamodel, registry, committed, before, written, next)?;
-    let changes = overlay.into_changes()?;
+    let changes = difference_of(alloc, metamodel, registry, committed, before, written, next)?;
     source.commit(changes.as_slice())
 }

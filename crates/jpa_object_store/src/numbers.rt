@@ -7,7 +7,9 @@ ghost use Rattle.jpa_stored.specs.Sets.{StoredSet, each_fits};
 ghost use Rattle.jpa_rows.specs.Cells.{is_next, are_numbers};
 ghost use Rattle.jpa_rows.specs.Numbers.{IsNarrowOrigin};
 ghost use Rattle.jpa_rows.specs.Rows.{Rows};
-ghost use Rattle.jpa_object_store.specs.Shown.{with_next, Show};
+ghost use Rattle.jpa_view.specs.View.{AreStorable};
+ghost use Rattle.jpa_object_rows.specs.Sets.{rows_of};
+ghost use Rattle.jpa_object_store.specs.Shown.{with_next, with_old_next, Show, Recall};
 
 use jpa_mapper::{discriminator_law, number_row};
 use jpa_model::{Metamodel, Origin};
@@ -40,9 +42,32 @@ fn put_number(overlay: &mut Overlay, alloc: Global, origin: &Origin, next: u64) 
     }
 }
 
-/// Puts the row of each next number that is another than before.
+/// Puts the row of a root's next number, and notes the row of the one before. A number that is 1 has none.
+fn change_number(
+    overlay: &mut Overlay,
+    stood: &mut Overlay,
+    alloc: Global,
+    origin: &Origin,
+    before: u64,
+    next: u64,
+) -> Result<(), Cause>
+    requires narrow { IsNarrowOrigin origin.now }
+    requires before { is_next origin.now before ≡ true }
+    requires next { is_next origin.now next ≡ true }
+    ensures ok { OnOk result (overlay.new ≡ with_next origin.now next overlay.old) }
+    ensures noted { OnOk result (stood.new ≡ with_old_next origin.now before stood.old) }
+    ensures err { IfErr result (λ cause. cause ≡ Cause.OutOfMemory) }
+{
+    if before != 1 {
+        put_number(stood, alloc, origin, before)?;
+    }
+    put_number(overlay, alloc, origin, next)
+}
+
+/// Puts the row of each next number that is another than before, and notes what stood.
 pub(crate) fn change_numbers(
     overlay: &mut Overlay,
+    stood: &mut Overlay,
     alloc: Global,
     metamodel: &Metamodel,
     before: &[u64],
@@ -52,6 +77,7 @@ pub(crate) fn change_numbers(
     requires numbers { are_numbers metamodel.now next.now ≡ true }
     requires rising { each_fits nat_le before.now next.now ≡ true }
     ensures ok { OnOk result ((world : World) (base : Rows) (set : StoredSet) → world.model ≡ metamodel.now → IsRegular world → Show world base overlay.old set before.now → Show world base overlay.new set next.now) }
+    ensures noted { OnOk result ((world : World) (set : StoredSet) → world.model ≡ metamodel.now → IsRegular world → AreStorable world set → Recall (rows_of world set before.now) stood.old overlay.old → Recall (rows_of world set before.now) stood.new overlay.new) }
     ensures err { IfErr result (λ cause. cause ≡ Cause.OutOfMemory) }
 {
     // what the rows of a unit rest on
@@ -59,7 +85,14 @@ pub(crate) fn change_numbers(
     discriminator_law(metamodel);
     for class in 0..next.len() {
         if before[class] != next[class] {
-            put_number(overlay, alloc, origin_of(metamodel, class), next[class])?;
+            change_number(
+                overlay,
+                stood,
+                alloc,
+                origin_of(metamodel, class),
+                before[class],
+                next[class],
+            )?;
         }
     }
     Ok(())

@@ -5,11 +5,13 @@ ghost use Rattle.jpa_value.specs.declared.refusal.Cause.{Cause};
 ghost use Rattle.jpa_value.specs.Value.{same_identity};
 ghost use Rattle.jpa_behaviour.specs.Registered.{world_of};
 ghost use Rattle.jpa_stored.specs.Sets as sets;
+ghost use Rattle.jpa_rows.specs.Cells.{CanBeHeld};
 ghost use Rattle.jpa_rows.specs.Rows.{Rows};
 ghost use Rattle.jpa_view.specs.View.{is_storable, AreStorable};
 ghost use Rattle.jpa_object_rows.specs.Objects.{object_entries};
+ghost use Rattle.jpa_object_rows.specs.Sets as set_rows;
 ghost use Rattle.jpa_object_store.specs.Written.{put_all};
-ghost use Rattle.jpa_object_store.specs.Shown.{without_old, Show};
+ghost use Rattle.jpa_object_store.specs.Shown.{without_old, with_old, Show, Recall};
 
 use crate::rows::{drop_rows, put_rows};
 use jpa_behaviour::{Behaviour, Registry};
@@ -36,9 +38,10 @@ fn rows_of<B: Behaviour>(
     to_rows(alloc, metamodel, registry, id, object)
 }
 
-/// Drops the rows of the object that is committed under an identity, if there is one.
+/// Drops the rows of the object that is committed under an identity, if there is one, and notes that they stood.
 fn drop_old<B: Behaviour>(
     overlay: &mut Overlay,
+    stood: &mut Overlay,
     alloc: Global,
     metamodel: &Metamodel,
     registry: &Registry<B>,
@@ -47,17 +50,23 @@ fn drop_old<B: Behaviour>(
 ) -> Result<(), Cause>
     requires { AreStorable (world_of B.meaning metamodel.now registry.now) committed.now }
     ensures ok { OnOk result (overlay.new ≡ without_old (world_of B.meaning metamodel.now registry.now) id.now (sets.stored_at committed.now id.now) overlay.old) }
+    ensures noted { OnOk result (stood.new ≡ with_old (world_of B.meaning metamodel.now registry.now) id.now (sets.stored_at committed.now id.now) stood.old) }
     ensures err { IfErr result (λ cause. cause ≡ Cause.OutOfMemory) }
 {
     match committed.get(id) {
         None => Ok(()),
-        Some(old) => drop_rows(overlay, rows_of(alloc, metamodel, registry, id, old)?),
+        Some(old) => drop_rows(
+            overlay,
+            stood,
+            rows_of(alloc, metamodel, registry, id, old)?,
+        ),
     }
 }
 
-/// Puts an object in the place of the one that is committed under its identity, if there is one.
+/// Puts an object in the place of the one that is committed under its identity, if there is one, and notes what stood.
 fn change_object<B: Behaviour>(
     overlay: &mut Overlay,
+    stood: &mut Overlay,
     alloc: Global,
     metamodel: &Metamodel,
     registry: &Registry<B>,
@@ -68,20 +77,22 @@ fn change_object<B: Behaviour>(
     requires committed { AreStorable (world_of B.meaning metamodel.now registry.now) committed.now }
     requires storable { is_storable (world_of B.meaning metamodel.now registry.now) id.now object.now ≡ true }
     ensures ok { OnOk result ((base : Rows) (set : sets.StoredSet) (numbers : List ℕ) → sets.stored_at set id.now ≡ sets.stored_at committed.now id.now → Show (world_of B.meaning metamodel.now registry.now) base overlay.old set numbers → Show (world_of B.meaning metamodel.now registry.now) base overlay.new (sets.with_stored id.now object.now set) numbers) }
+    ensures noted { OnOk result ((before : List ℕ) → CanBeHeld (world_of B.meaning metamodel.now registry.now) committed.now before → Recall (set_rows.rows_of (world_of B.meaning metamodel.now registry.now) committed.now before) stood.old overlay.old → Recall (set_rows.rows_of (world_of B.meaning metamodel.now registry.now) committed.now before) stood.new overlay.new) }
     ensures err { IfErr result (λ cause. cause ≡ Cause.OutOfMemory) }
 {
     // what the rows of a unit rest on
     metamodel.unit();
     registry.laws();
     discriminator_law(metamodel);
-    drop_old(overlay, alloc, metamodel, registry, committed, id)?;
+    drop_old(overlay, stood, alloc, metamodel, registry, committed, id)?;
     let rows = rows_of(alloc, metamodel, registry, id, object)?;
     put_rows(overlay, rows)
 }
 
-/// Puts each written object in the place of the one that is committed under its identity.
+/// Puts each written object in the place of the one that is committed under its identity, and notes what stood.
 pub(crate) fn change_objects<B: Behaviour>(
     overlay: &mut Overlay,
+    stood: &mut Overlay,
     alloc: Global,
     metamodel: &Metamodel,
     registry: &Registry<B>,
@@ -92,10 +103,13 @@ pub(crate) fn change_objects<B: Behaviour>(
     requires storable { AllByRecursion (λ e. is_storable (world_of B.meaning metamodel.now registry.now) e.0 e.1 ≡ true) written.now }
     requires distinct { sets.all_distinct (λ a b. same_identity a.0 b.0) written.now ≡ true }
     ensures ok { OnOk result ((base : Rows) (numbers : List ℕ) → Show (world_of B.meaning metamodel.now registry.now) base overlay.old committed.now numbers → Show (world_of B.meaning metamodel.now registry.now) base overlay.new (put_all written.now committed.now) numbers) }
+    ensures noted { OnOk result ((before : List ℕ) → CanBeHeld (world_of B.meaning metamodel.now registry.now) committed.now before → Recall (set_rows.rows_of (world_of B.meaning metamodel.now registry.now) committed.now before) stood.old overlay.old → Recall (set_rows.rows_of (world_of B.meaning metamodel.now registry.now) committed.now before) stood.new overlay.new) }
     ensures err { IfErr result (λ cause. cause ≡ Cause.OutOfMemory) }
 {
     for (id, object) in written {
-        change_object(overlay, alloc, metamodel, registry, committed, id, object)?;
+        change_object(
+            overlay, stood, alloc, metamodel, registry, committed, id, object,
+        )?;
     }
     Ok(())
 }

@@ -5,7 +5,7 @@ ghost use Rattle.jpa_object_store.specs.Shown.{with_puts, with_drops};
 
 use jpa_overlay::Overlay;
 use jpa_rows::{Row, RowId};
-use jpa_value::{Cause, Seq};
+use jpa_value::{Cause, Seq, TryCopy};
 
 /// Puts rows, from the last to the first.
 pub(crate) fn put_rows(overlay: &mut Overlay, rows: Seq<(RowId, Row)>) -> Result<(), Cause>
@@ -19,14 +19,20 @@ pub(crate) fn put_rows(overlay: &mut Overlay, rows: Seq<(RowId, Row)>) -> Result
     Ok(())
 }
 
-/// Drops rows, from the last to the first.
-pub(crate) fn drop_rows(overlay: &mut Overlay, rows: Seq<(RowId, Row)>) -> Result<(), Cause>
+/// Drops rows, from the last to the first, and notes in a second overlay that they stood.
+pub(crate) fn drop_rows(
+    overlay: &mut Overlay,
+    stood: &mut Overlay,
+    rows: Seq<(RowId, Row)>,
+) -> Result<(), Cause>
     ensures ok { OnOk result (overlay.new ≡ with_drops rows overlay.old) }
+    ensures noted { OnOk result (stood.new ≡ with_puts rows stood.old) }
     ensures err { IfErr result (λ cause. cause ≡ Cause.OutOfMemory) }
 {
     let mut left = rows.into_vec();
-    while let Some((id, _row)) = left.pop() {
-        overlay.drop_row(id)?;
+    while let Some((id, row)) = left.pop() {
+        overlay.drop_row(id.try_copy()?)?;
+        stood.put(id, row)?;
     }
     Ok(())
 }

@@ -37,7 +37,7 @@ below_differing rows x (c ∷ cs) h =
     let rest = below_differing rows x cs (second_holds _ _ h) in
     elim (differs rows c) as (λ b. T (below_all identity_cmp x (cond b (c ∷ differing rows cs) (differing rows cs)))) [ true ↦ both_hold _ _ (first_holds _ _ h) rest | false ↦ rest ]
 
-differing_rises : (rows : Rows) (cs : Changes) → T (is_sorted identity_cmp cs) → T (is_sorted identity_cmp (differing rows cs))
+pub differing_rises : (rows : Rows) (cs : Changes) → T (is_sorted identity_cmp cs) → T (is_sorted identity_cmp (differing rows cs))
 differing_rises rows [] h = tt
 differing_rises rows (c ∷ cs) h =
     let rest = differing_rises rows cs (second_holds _ _ h) in
@@ -49,7 +49,7 @@ differing_rises rows (c ∷ cs) h =
 -- ---- what is found among them
 
 -- a change, unless it is what stands there
-abbrev unless_same : Option Row → Option (Option Row) → Option (Option Row)
+abbrev pub unless_same : Option Row → Option (Option Row) → Option (Option Row)
 unless_same below None = None
 unless_same below (Some row) = cond (not (same_row row below)) (Some row) None
 
@@ -67,7 +67,7 @@ found_later rows q c cs e =
       | false ↦ refl
     ]
 
-found_differing : (rows : Rows) (q : RowId) (cs : Changes) → T (is_sorted identity_cmp cs) → find identity_cmp q (differing rows cs) ≡ unless_same (find identity_cmp q rows) (find identity_cmp q cs)
+pub found_differing : (rows : Rows) (q : RowId) (cs : Changes) → T (is_sorted identity_cmp cs) → find identity_cmp q (differing rows cs) ≡ unless_same (find identity_cmp q rows) (find identity_cmp q cs)
 found_differing rows q [] h = refl
 found_differing rows q (c ∷ cs) h =
     elim (eq_by_cmp identity_cmp q c.0) as (λ t. eq_by_cmp identity_cmp q c.0 ≡ t → find identity_cmp q (differing rows (c ∷ cs)) ≡ unless_same (find identity_cmp q rows) (cond t (Some c.1) (find identity_cmp q cs))) [

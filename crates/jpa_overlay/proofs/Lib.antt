@@ -3,4 +3,5 @@ pub mod Splits
 pub mod Merged
 pub mod SameRows
 pub mod Difference
+pub mod Recalled
 pub mod Samples

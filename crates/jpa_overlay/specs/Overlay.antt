@@ -1,7 +1,7 @@
 -- Changes over rows, as an overlay has them.
-use Rattle.std.specs.Prelude.{Bool, false, List, [], ◌∷◌, Option, Some, None}
+use Rattle.std.specs.Prelude.{◌≡◌, Bool, false, List, [], ◌∷◌, Option, Some, None, IsSome}
 use Rattle.std.specs.List.{flat_map}
-use Rattle.std.specs.FinMap.{put}
+use Rattle.std.specs.FinMap.{find, put}
 use Rattle.jpa_value.specs.Value.{identity_cmp, same_identity}
 use Rattle.jpa_rows.specs.Rows.{RowId, Row, Rows}
 use Rattle.jpa_row_laws.specs.Changes.{changed, seen}
@@ -20,6 +20,10 @@ rows_under changes rows = seen identity_cmp rows changes
 -- the rows with this one, or none, under the id
 abbrev pub with_row : RowId → Option Row → Rows → Rows
 with_row id row rows = changed identity_cmp id row rows
+
+-- the first, over no rows, say of each row that the second change what stands there
+abbrev pub Recalls : Changes → Changes → Rows → Type 0
+Recalls stood changes rows = (id : RowId) → IsSome (find identity_cmp id changes) → find identity_cmp id (rows_under stood []) ≡ find identity_cmp id rows
 
 -- ---- the changes alone
 

@@ -8,7 +8,8 @@ ghost use Rattle.jpa_stored.specs.Places.{IsAt, IsGap};
 ghost use Rattle.jpa_rows.specs.Faults.{faults_after};
 ghost use Rattle.jpa_rows.specs.Rows.{Rows, AreRising, table_rows, entry_of, rows_after};
 ghost use Rattle.jpa_row_laws.specs.Changes.{AreDifference};
-ghost use Rattle.jpa_overlay.specs.Overlay.{rows_under, with_change, with_row};
+ghost use Rattle.jpa_overlay.specs.Overlay.{Recalls, rows_under, with_change, with_row};
+ghost use Rattle.jpa_overlay.specs.Same.{same_row};
 
 use crate::change::Change;
 use crate::merge::merge;
@@ -121,12 +122,12 @@ impl Overlay {
         Ok(changes)
     }
 
-    /// All changes in the order of their ids, also those that leave a row as it is in the store. Made in a store, they give
-    /// the rows that are seen here. It reads no store and copies no row, and refuses with `OutOfMemory` alone.
-    #[tactic(auto, using(crate::proofs::Difference::each_found))]
-    pub fn into_changes(self) -> Result<Seq<RowChange>, Cause>
-        ensures ok { IfOk result (λ changes. map entry_of changes ≡ self) }
-        ensures seen { IfOk result (λ changes. (rows : Rows) → rows_after changes rows ≡ rows_under self rows) }
+    /// The difference from rows of which `stood` says what stands under each id that is changed here: the changes in the order of
+    /// their ids, without those that leave a row as it stood. Made in a store of such rows, they give the rows that are seen here.
+    /// It reads no store and copies no row, and refuses with `OutOfMemory` alone.
+    pub fn into_difference(self, stood: &Overlay) -> Result<Seq<RowChange>, Cause>
+        ensures difference { IfOk result (λ changes. (rows : Rows) → Recalls stood.now self rows → AreDifference identity_cmp rows (map entry_of changes)) }
+        ensures seen { IfOk result (λ changes. (rows : Rows) → AreRising rows → Recalls stood.now self rows → rows_after changes rows ≡ rows_under self rows) }
         ensures rising { IfOk result (λ changes. T (is_sorted identity_cmp (map entry_of changes))) }
         ensures among { IfOk result (λ changes. All (λ change. find identity_cmp change.id self ≡ Some change.row) changes) }
         ensures err { IfErr result (λ cause. cause ≡ Cause.OutOfMemory) }
@@ -135,7 +136,9 @@ impl Overlay {
         let Overlay { entries } = self;
         for entry in entries {
             let (id, row) = entry.open();
-            changes.push(RowChange { id, row })?;
+            if !stood.puts(&id, &row) {
+                changes.push(RowChange { id, row })?;
+            }
         }
         Ok(changes)
     }
@@ -183,6 +186,16 @@ impl Overlay {
             Err(at) => self.entries.insert(at, entry)?,
         }
         Ok(())
+    }
+
+    /// Whether it puts this row, or none, under the id: whether it has the row, or no change of it where there is to be none.
+    fn puts(&self, id: &RowId, row: &Option<Row>) -> bool
+        ensures { result ≡ same_row row.now (find identity_cmp id.now (rows_under self.now [])) }
+    {
+        match self.search(id) {
+            Ok(at) => is_same(row, &self.entries[at].get().1),
+            Err(_) => row.is_none(),
+        }
     }
 
     /// The allocator that it grows by.

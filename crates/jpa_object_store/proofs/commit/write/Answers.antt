@@ -1,31 +1,74 @@
-use Rattle.std.proofs.Common.{◌≡◌, ◌∙◌, sym, subst, [], length}
+use Rattle.std.specs.Prelude.{Result, Ok, Err, OnOk}
+use Rattle.std.proofs.Common.{◌≡◌, ◌∙◌, ap, refl, sym, subst, [], length}
 use Rattle.std.proofs.lemmas.List.{nil_from_length}
 use Rattle.std.specs.Cmp.Lexicographic.{same_text}
 use Rattle.jpa_behaviour.specs.Registered.{world_of}
-use Rattle.jpa_rows.specs.Rows.{AreChanges}
-use Rattle.jpa_view.proofs.Described.{described_mapped}
+use Rattle.jpa_rows.specs.Rows.{Rows, rows_after}
 use Rattle.jpa_view.proofs.Orders.{are_same_numbers}
 use Rattle.jpa_object_rows.specs.Sets.{rows_of}
-use Rattle.jpa_object_store.specs.Written.{put_all}
-use Rattle.jpa_object_store.proofs.Commits.{are_changes}
+use Rattle.jpa_object_store.specs.Written.{put_all, IsDifference}
+use Rattle.jpa_object_store.proofs.Commits.{no_difference, none_made}
 use Rattle.jpa_object_store.proofs.commit.write.Goals as goal
 
+abbrev RowsOf : Type 1
+RowsOf = Rows → Type 0
+
+then_so : {A E : Type 0} (r : Result A E) {P Q : Type 0} → OnOk r P → (P → Q) → OnOk r Q
+then_so (Ok a) h f = f h
+then_so (Err e) h f = tt
+
+if_ok : {A E : Type 0} (r : Result A E) {P : Type 0} → P → OnOk r P
+if_ok (Ok a) p = p
+if_ok (Err e) p = tt
+
+-- nothing was written, so the rows are to stay
 pub returns-then-eq-clause-ok : goal.returns-then-eq-clause-ok
-returns-then-eq-clause-ok g c = λ held.
+returns-then-eq-clause-ok g c =
     let world = world_of g.B.Behaviour.meaning c.args.metamodel.now c.args.registry.now in
     let committed = c.args.committed.now in
     let written = c.args.written.now in
     let none : [] ≡ written = sym (nil_from_length written (are_same_numbers (length written) 0 (sym c.is_empty.ensures ∙ c.if-is_empty.true))) in
     let same = same_text c.args.before.now c.args.next.now (sym c.if-eq.true ∙ c.eq.ensures) in
-    subst (g.R.RowSource.holds c.args.source.now) (λ i. rows_of world (put_all (none i) committed) (same i)) held
+    let stays = sym ((c.commit.ensures.nothing refl).1) in
+    if_ok c.commit.result
+    (λ held. subst (λ source. g.R.RowSource.holds source (rows_of world (put_all written committed) c.args.next.now)) stays (subst (g.R.RowSource.holds c.args.source.now) (λ i. rows_of world (put_all (none i) committed) (same i)) held))
 
-pub commit-requires : goal.commit-requires
-commit-requires g c =
-    let m = c.args.metamodel.now in
-    let world = world_of g.B.Behaviour.meaning m c.args.registry.now in
+pub returns-then-eq-clause-counted : goal.returns-then-eq-clause-counted
+returns-then-eq-clause-counted g c =
+    let world = world_of g.B.Behaviour.meaning c.args.metamodel.now c.args.registry.now in
     let committed = c.args.committed.now in
+    let written = c.args.written.now in
+    let base = rows_of world committed c.args.before.now in
+    let none : [] ≡ written = sym (nil_from_length written (are_same_numbers (length written) 0 (sym c.is_empty.ensures ∙ c.if-is_empty.true))) in
+    let same = same_text c.args.before.now c.args.next.now (sym c.if-eq.true ∙ c.eq.ensures) in
+    let stays : base ≡ rows_of world (put_all written committed) c.args.next.now = λ i. rows_of world (put_all (none i) committed) (same i) in
+    then_so c.commit.result c.commit.ensures.counted.0 (λ counted. ([], subst (λ rows. IsDifference base rows []) stays (no_difference base), counted))
+
+pub returns-clause-unchanged : goal.returns-clause-unchanged
+returns-clause-unchanged g c = λ same.
+    let world = world_of g.B.Behaviour.meaning c.args.metamodel.now c.args.registry.now in
+    let base = rows_of world c.args.committed.now c.args.before.now in
     let made = c.in_ok-changes.changes in
-    subst (AreChanges (g.R.RowSource.schema c.args.source.now)) (sym c.as_slice.ensures)
-    (subst (λ schema. AreChanges schema made) (sym c.requires.schema)
-    (are_changes world (described_mapped m c.unit.ensures.described) (c.laws.ensures.regular m) c.discriminator_law.ensures (rows_of world committed c.args.before.now) c.in_ok-overlay.overlay
-    (put_all c.args.written.now committed) c.args.next.now c.in_ok-overlay.ensures.ok made c.in_ok-changes.ensures.rising c.in_ok-changes.ensures.among))
+    (c.commit-2.ensures.nothing (c.as_slice.ensures ∙ none_made base made (subst (λ (rows : Rows). IsDifference base rows made) (sym same) c.in_ok-changes.ensures.ok))).1
+
+-- ---- what a crash leaves
+
+pub returns-then-eq-clause-crash : goal.returns-then-eq-clause-crash
+returns-then-eq-clause-crash g c = λ held.
+    let world = world_of g.B.Behaviour.meaning c.args.metamodel.now c.args.registry.now in
+    let source = c.args.source.now in
+    let stands : RowsOf = λ left. left ≡ rows_of world (put_all c.args.written.now c.args.committed.now) c.args.next.now in
+    subst (λ new. g.R.RowSource.endures source new stands) (sym ((c.commit.ensures.nothing refl).1)) (g.R.RowSource.wider source source _ _ (λ left none. absurd none) (g.met.R.RowSource.still source))
+
+pub returns-in_err-changes-clause-crash : goal.returns-in_err-changes-clause-crash
+returns-in_err-changes-clause-crash g c = λ held.
+    let source = c.args.source.now in
+    g.R.RowSource.wider source source _ _ (λ left none. absurd none) (g.met.R.RowSource.still source)
+
+pub returns-clause-crash : goal.returns-clause-crash
+returns-clause-crash g c = λ held.
+    let world = world_of g.B.Behaviour.meaning c.args.metamodel.now c.args.registry.now in
+    let base = rows_of world c.args.committed.now c.args.before.now in
+    let made : rows_after c.as_slice.result.now base ≡ rows_of world (put_all c.args.written.now c.args.committed.now) c.args.next.now =
+    ap (λ cs. rows_after cs base) c.as_slice.ensures ∙ c.in_ok-changes.ensures.ok.1 in
+    subst (λ (rows : Rows). g.R.RowSource.endures c.args.source.now c.commit-2.new.self (λ left. left ≡ rows)) made (c.commit-2.ensures.crash base held)

@@ -1,0 +1,213 @@
+-- The row of a next number in the rows of a set: where the number is not 1 it stands, and else none does.
+use Rattle.std.specs.Prelude.{◌≡◌, ◌≢◌, ℕ, zero, suc, pos, ◌<◌, nat_le, Bool, true, false, cond, ◌==◌, ◌&&◌, nat_lt, not, is_some, List, [], ◌∷◌, length, slice_set, Option, Some, None}
+use Rattle.std.proofs.Common.{refl, sym, ap, subst, ◌∙◌, inl, arith, get_or}
+use Rattle.std.proofs.Math.ListN.{get_or-map}
+use Rattle.std.specs.List.{flat_map, zip}
+use Rattle.std.proofs.lemmas.Bool.Decides.{nat_tests}
+use Rattle.std.specs.FinMap.{find, put}
+use Rattle.std.specs.Ordering.{eq_by_cmp}
+use Rattle.jpa_value.specs.declared.value.Identity.{Identity}
+use Rattle.jpa_value.specs.Value.{identity_cmp, is_i64}
+use Rattle.jpa_model.specs.declared.unit.Entity.{Entity}
+use Rattle.jpa_model.specs.declared.unit.Origin.{Origin}
+use Rattle.jpa_model.specs.declared.unit.PersistenceUnit.{PersistenceUnit}
+use Rattle.jpa_model.specs.declared.unit.Relation.{Relation}
+use Rattle.jpa_model.specs.declared.unit.Root.{Root}
+use Rattle.jpa_model.specs.Chains.{entity_at, root_of, relations_of, no_entity}
+use Rattle.jpa_model.specs.Kept.{IsDescribed}
+use Rattle.jpa_behaviour.specs.Behaviour.{World, IsRegular}
+use Rattle.jpa_stored.specs.declared.stored.Stored.{Stored}
+use Rattle.jpa_stored.specs.Sets.{StoredSet, each_fits}
+use Rattle.jpa_rows.specs.Cells.{is_next, are_numbers, join_tables}
+use Rattle.jpa_rows.specs.Rows.{RowId, Row, Rows}
+use Rattle.jpa_row_laws.proofs.Each.{Each, each_put}
+use Rattle.jpa_row_laws.proofs.Elements.{Has, found_has, into_flat_map}
+use Rattle.jpa_row_laws.proofs.Facts.{and_first, and_second, some_none, true_false, value_in}
+use Rattle.jpa_row_laws.proofs.Lists.{all_each}
+use Rattle.jpa_row_laws.proofs.Maps.{found_put, same_key, ties_itself}
+use Rattle.jpa_view.specs.Identities.{root_at, declarer_at, is_within}
+use Rattle.jpa_view.specs.Unambiguous.{IsUnambiguous, is_class}
+use Rattle.jpa_view.specs.View.{is_storable, AreStorable}
+use Rattle.jpa_view.proofs.Described.{described_mapped}
+use Rattle.jpa_view.proofs.Keys.{table_is}
+use Rattle.jpa_view.proofs.Mapped.{IsMapped}
+use Rattle.jpa_view.proofs.MappedClasses.{unambiguous_mapped}
+use Rattle.jpa_view.proofs.Orders.{identities, are_same_numbers}
+use Rattle.jpa_view.proofs.Reading.{storable}
+use Rattle.jpa_view.proofs.Tables.{zero_root, zero_join}
+use Rattle.jpa_object_rows.specs.Objects.{is_discriminator, number_id, number_row, object_entries, object_rows}
+use Rattle.jpa_object_rows.specs.Sets.{number_in, next_at, with_number, with_next, with_numbers, with_set, rows_of}
+use Rattle.jpa_object_rows.proofs.Exact.{rows_numbered_in, numbers_read_in}
+use Rattle.jpa_object_rows.proofs.Kept.{over_each, along_each, join_of_class}
+use Rattle.jpa_overlay.specs.Overlay.{Changes}
+use Rattle.jpa_object_store.specs.Shown.{with_puts, Recall, with_old_next}
+use Rattle.jpa_object_store.specs.Shown as shown
+use Rattle.jpa_object_store.proofs.Stepped.{fits_length, is_number}
+use Rattle.jpa_object_store.proofs.Stood.{past_puts, Replaces, recalled}
+
+-- ---- no row of table 0 says that a next number is 1
+
+abbrev SaysMore : RowId → Row → Type 0
+SaysMore id row = id.table ≡ 0 → number_in (Some row) == 1 ≡ false
+
+number_says : (table k : ℕ) (rows : Rows) → Each SaysMore rows → Each SaysMore (with_number table k rows)
+number_says table k rows h =
+    elim (k == 1) as (λ b. k == 1 ≡ b → Each SaysMore (cond b rows (put identity_cmp (number_id table) (number_row k) rows))) [
+      | true ↦ λ e. h
+      | false ↦ λ more. each_put identities SaysMore (number_id table) (number_row k) rows (λ zero. more) h
+    ] refl
+
+next_says : (origin : Origin) (k : ℕ) (rows : Rows) → Each SaysMore rows → Each SaysMore (with_next origin k rows)
+next_says (Origin.Extends parent) k rows h = h
+next_says (Origin.Root root) k rows h = elim root.generated as (λ b. Each SaysMore (cond b (with_number root.table k rows) rows)) [ true ↦ number_says root.table k rows h | false ↦ h ]
+
+numbers_say : (ps : List (Entity × ℕ)) → Each SaysMore (with_numbers ps [])
+numbers_say [] = tt
+numbers_say (p ∷ ps) = next_says (p.0).origin p.1 (with_numbers ps []) (numbers_say ps)
+
+module _ (world : World) (clear : IsUnambiguous world.model) where
+  -- an object's rows stand in other tables
+  entries_say : (id : Identity) (x : Stored) → is_storable world id x ≡ true → Each SaysMore (object_entries world id x)
+  entries_say id x g =
+      let m = world.model in
+      let s = storable world id x g in
+      let root = root_of m x.class in (
+        λ none. absurd (some_none root (sym (ap (root_at m) (table_is root id s.of_root) ∙ clear.root x.class s.class) ∙ ap (root_at m) none ∙ zero_root m clear.tables)),
+        along_each SaysMore id (relations_of m x.class) x.owned
+            (λ r k join side t none.
+            let has : Has (flat_map (λ (r : Relation). join_tables r.side) (relations_of m x.class)) join = into_flat_map (λ (s : Relation). join_tables s.side) (relations_of m x.class) r join k (subst (λ s. Has (join_tables s) join) (sym side) (inl refl)) in
+            absurd (true_false (sym (and_second (not (is_some (root_at m join))) _ (join_of_class m clear x.class s.class join has))
+            ∙ ap (λ j. is_within m root.table (declarer_at m j)) none ∙ ap (is_within m root.table) (zero_join m clear.tables)))),
+      )
+
+  set_says : (set : StoredSet) → AreStorable world set → (base : Rows) → Each SaysMore base → Each SaysMore (with_set world set base)
+  set_says [] h base g = g
+  set_says (e ∷ set) h base g =
+      over_each SaysMore (object_rows world e.0 e.1) (with_set world set base) (over_each SaysMore (object_entries world e.0 e.1) [] (entries_say e.0 e.1 h.0) tt) (set_says set h.1 base g)
+
+  rows_say : (set : StoredSet) → AreStorable world set → (numbers : List ℕ) → Each SaysMore (rows_of world set numbers)
+  rows_say set h numbers = set_says set h (with_numbers (zip (world.model).entities numbers) []) (numbers_say (zip (world.model).entities numbers))
+
+-- ---- the row of one number
+
+set_again : (ns : List ℕ) (i d : ℕ) → i < length ns → slice_set ns i (get_or ns i d) ≡ ns
+set_again [] i d l = absurd (omega arith)
+set_again (n ∷ ns) zero d l = refl
+set_again (n ∷ ns) (suc i) d l = ap (λ r. n ∷ r) (set_again ns i d (omega arith))
+
+any_default : (ns : List ℕ) (i d e : ℕ) → i < length ns → get_or ns i d ≡ get_or ns i e
+any_default [] i d e l = absurd (omega arith)
+any_default (n ∷ ns) zero d e l = refl
+any_default (n ∷ ns) (suc i) d e l = any_default ns i d e (omega arith)
+
+-- the id of one row, and the row
+one_found : (id q : RowId) (r row : Row) → find identity_cmp q ((id, r) ∷ []) ≡ Some row → (q ≡ id) × (r ≡ row)
+one_found id q r row e =
+    elim (eq_by_cmp identity_cmp q id) as (λ b. eq_by_cmp identity_cmp q id ≡ b → cond b (Some r) None ≡ Some row → (q ≡ id) × (r ≡ row)) [
+      | true ↦ λ t k. (same_key identities q id t, value_in r row k)
+      | false ↦ λ t k. absurd (some_none row (sym k))
+    ] refl e
+
+module _ (world : World) (mapped : IsMapped world.model) (regular : IsRegular world) (named : (class : ℕ) → is_class world.model class ≡ true → is_discriminator (entity_at world.model class) ≡ true)
+    (set : StoredSet) (h : AreStorable world set) (numbers : List ℕ) (are : are_numbers world.model numbers ≡ true) (class : ℕ) (within : is_class world.model class ≡ true) (less : class < length numbers)
+    (long : nat_lt class (length numbers) ≡ true) (root : Root) (is : (entity_at world.model class).origin ≡ Origin.Root root) (generated : root.generated ≡ true)
+    (k : ℕ) (at : get_or numbers class 0 ≡ k) (positive : nat_lt 0 k ≡ true) (small : is_i64 (pos k) ≡ true) where
+  number_there : k == 1 ≡ false → find identity_cmp (number_id root.table) (rows_of world set numbers) ≡ Some (number_row k)
+  number_there more =
+      let again : slice_set numbers class k ≡ numbers = ap (slice_set numbers class) (sym at) ∙ set_again numbers class 0 less in
+      ap (λ ns. find identity_cmp (number_id root.table) (rows_of world set ns)) (sym again)
+      ∙ ap (find identity_cmp (number_id root.table)) (sym (rows_numbered_in world mapped regular named set h numbers are class k root within long is generated more positive small))
+      ∙ found_put identities (number_id root.table) (number_row k) (rows_of world set numbers)
+
+  -- it is read again
+  number_read : number_in (find identity_cmp (number_id root.table) (rows_of world set numbers)) ≡ k
+  number_read =
+      let rows = rows_of world set numbers in
+      let none = next_at rows no_entity.origin in
+      sym (ap (λ b. cond b (number_in (find identity_cmp (number_id root.table) rows)) 1) generated)
+      ∙ sym (ap (next_at rows) is)
+      ∙ sym (get_or-map (λ (e : Entity). next_at rows e.origin) (world.model).entities class no_entity)
+      ∙ ap (λ ns. get_or ns class none) (numbers_read_in world mapped regular named numbers are set h)
+      ∙ any_default numbers class none 0 less ∙ at
+
+  number_absent : k == 1 ≡ true → find identity_cmp (number_id root.table) (rows_of world set numbers) ≡ None
+  number_absent one = by_row (find identity_cmp (number_id root.table) (rows_of world set numbers)) refl
+    where
+      by_row : (o : Option Row) → find identity_cmp (number_id root.table) (rows_of world set numbers) ≡ o → o ≡ None
+      by_row None e = refl
+      by_row (Some row) e =
+          let rows = rows_of world set numbers in
+          let says = all_each (λ (e : RowId × Row). SaysMore e.0 e.1) rows (rows_say world (unambiguous_mapped world.model mapped) set h numbers) (number_id root.table, row)
+          (found_has identities (number_id root.table) row rows e) refl in
+          absurd (true_false (sym one ∙ ap (λ n. n == 1) (sym number_read ∙ ap number_in e) ∙ says))
+
+  -- the row that stands, if any
+  abbrev old_number : Bool → Rows
+  old_number b = cond b [] ((number_id root.table, number_row k) ∷ [])
+
+  number_replaces : (n : ℕ) → Replaces (rows_of world set numbers) (old_number (k == 1)) ((number_id root.table, number_row n) ∷ [])
+  number_replaces n = record { there = by_there (k == 1) refl; new = λ q row none e. by_new (k == 1) refl q row none (one_found (number_id root.table) q (number_row n) row e).0 }
+    where
+      by_there : (b : Bool) → k == 1 ≡ b → (q : RowId) (row : Row) → find identity_cmp q (old_number b) ≡ Some row → find identity_cmp q (rows_of world set numbers) ≡ Some row
+      by_there true t q row e = absurd (some_none row (sym e))
+      by_there false t q row e =
+          let same = one_found (number_id root.table) q (number_row k) row e in
+          ap (λ i. find identity_cmp i (rows_of world set numbers)) same.0 ∙ number_there t ∙ ap Some same.1
+
+      by_new : (b : Bool) → k == 1 ≡ b → (q : RowId) (row : Row) → find identity_cmp q (old_number b) ≡ None → q ≡ number_id root.table → find identity_cmp q (rows_of world set numbers) ≡ None
+      by_new true t q row none same = ap (λ i. find identity_cmp i (rows_of world set numbers)) same ∙ number_absent t
+      by_new false t q row none same =
+          absurd (some_none (number_row k)
+          (sym (ap (λ b. cond b (Some (number_row k)) None) (ap (λ i. eq_by_cmp identity_cmp i (number_id root.table)) same ∙ ties_itself identities (number_id root.table))) ∙ none))
+
+  number_recalled : (n : ℕ) (stood changes : Changes) → Recall (rows_of world set numbers) stood changes
+      → Recall (rows_of world set numbers) (with_old_next (Origin.Root root) k stood) (shown.with_next (Origin.Root root) n changes)
+  number_recalled n stood changes r =
+      let news = (number_id root.table, number_row n) ∷ [] in
+      subst (λ noted. Recall (rows_of world set numbers) noted (with_puts news changes)) (by_test (k == 1))
+      (recalled (rows_of world set numbers) (old_number (k == 1)) news (number_replaces n) stood changes r (with_puts news changes) (λ q none fresh. past_puts q news changes fresh))
+    where
+      by_test : (b : Bool) → with_puts (old_number b) stood ≡ cond b stood (shown.with_next (Origin.Root root) k stood)
+      by_test true = refl
+      by_test false = refl
+
+-- ---- a turn of the loop over them
+
+is_below : (i n : ℕ) → i < n → nat_lt i n ≡ true
+is_below i n l = grind (arith, nat_tests)
+
+module _ (m : PersistenceUnit) (described : IsDescribed m) (named : (class : ℕ) → is_class m class ≡ true → is_discriminator (entity_at m class) ≡ true) (before next : List ℕ) (are : are_numbers m before ≡ true)
+    (are_next : are_numbers m next ≡ true) (rising : each_fits nat_le before next ≡ true) (world : World) (model : world.model ≡ m) (regular : IsRegular world) (set : StoredSet) (h : AreStorable world set) where
+  module _ (stood changes : Changes) (i : ℕ) (l : i < length next) (apart : get_or before i 0 ≢ get_or next i 0) where
+    back : m ≡ world.model
+    back = sym model
+
+    less : i < length before
+    less = subst (λ n. i < n) (sym (fits_length nat_le before next rising)) l
+
+    within : is_class m i ≡ true
+    within = is_below i (length m.entities) (subst (λ n. i < n) (sym (fits_length (λ (e : Entity) (k : ℕ). is_next e.origin k) m.entities next are_next)) l)
+
+    by_origin : (origin : Origin) → (entity_at world.model i).origin ≡ origin → is_next origin (get_or before i 0) ≡ true → is_next origin (get_or next i 0) ≡ true → Recall (rows_of world set before) stood changes
+        → Recall (rows_of world set before) (with_old_next origin (get_or before i 0) stood) (shown.with_next origin (get_or next i 0) changes)
+    by_origin (Origin.Extends parent) is hb hn r = absurd (apart (are_same_numbers (get_or before i 0) 1 hb ∙ sym (are_same_numbers (get_or next i 0) 1 hn)))
+    by_origin (Origin.Root root) is hb hn r =
+        let b = get_or before i 0 in
+        let n = get_or next i 0 in
+        elim root.generated as (λ t. root.generated ≡ t → cond t (nat_lt 0 b && is_i64 (pos b)) (b == 1) ≡ true → cond t (nat_lt 0 n && is_i64 (pos n)) (n == 1) ≡ true
+        → Recall (rows_of world set before) (with_old_next (Origin.Root root) b stood) (shown.with_next (Origin.Root root) n changes)) [
+          | true ↦ λ generated h_b h_n.
+              number_recalled world (described_mapped world.model (subst IsDescribed back described)) regular
+              (subst (λ (n : PersistenceUnit). (class : ℕ) → is_class n class ≡ true → is_discriminator (entity_at n class) ≡ true) back named) set h before
+              (subst (λ (n : PersistenceUnit). are_numbers n before ≡ true) back are) i (subst (λ (n : PersistenceUnit). is_class n i ≡ true) back within) less (is_below i (length before) less) root is generated
+              b refl (and_first (nat_lt 0 b) _ h_b) (and_second (nat_lt 0 b) _ h_b) n stood changes r
+          | false ↦ λ generated h_b h_n. absurd (apart (are_same_numbers b 1 h_b ∙ sym (are_same_numbers n 1 h_n)))
+        ] refl hb hn
+
+    pub noted_more : (new_stood new_changes : Changes) (origin : Origin) → origin ≡ (entity_at m i).origin → new_changes ≡ shown.with_next origin (get_or next i 0) changes
+        → new_stood ≡ with_old_next origin (get_or before i 0) stood → Recall (rows_of world set before) stood changes → Recall (rows_of world set before) new_stood new_changes
+    noted_more new_stood new_changes origin is e f r =
+        subst (λ cs. Recall (rows_of world set before) new_stood cs) (sym e)
+        (subst (λ cs. Recall (rows_of world set before) cs (shown.with_next origin (get_or next i 0) changes)) (sym f)
+        (by_origin origin (sym (is ∙ ap (λ (n : PersistenceUnit). (entity_at n i).origin) back))
+        (subst (λ o. is_next o (get_or before i 0) ≡ true) (sym is) (is_number m before i are less)) (subst (λ o. is_next o (get_or next i 0) ≡ true) (sym is) (is_number m next i are_next l)) r))
