@@ -1,3 +1,6 @@
 pub mod Work
 pub mod Steps
+pub mod Near
+pub mod Places
+pub mod Indexed
 pub mod Undo

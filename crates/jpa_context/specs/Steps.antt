@@ -51,10 +51,10 @@ each f (x ∷ xs) w = after (f x w) (λ _. each f xs)
 
 -- ---- what code says of an operation
 
--- a refusal that a definition never gives: want of memory, or a fault of the store
+-- want of memory is a refusal that a definition never gives; a fault of the store is none, since an operation looks at no store
 abbrev pub IsRefusedAs : {A : Type 0} → Cause → List Told → Outcome A → Type 0
 IsRefusedAs Cause.OutOfMemory events o = Unit {0}
-IsRefusedAs Cause.StoreFault events o = Unit {0}
+IsRefusedAs Cause.StoreFault events o = ⊥
 IsRefusedAs r events o = o ≡ Refused r events
 
 -- what code returned, and the work that it left, are the operation's outcome, unless it gave up

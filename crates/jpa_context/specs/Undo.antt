@@ -4,6 +4,7 @@ use Rattle.jpa_model.specs.declared.unit.PersistenceUnit.{PersistenceUnit}
 use Rattle.jpa_stored.specs.Sets.{StoredSet, all_shaped}
 use Rattle.jpa_heap.specs.declared.Life.{Life}
 use Rattle.jpa_heap.specs.declared.LiveObject.{LiveObject}
+use Rattle.jpa_heap.specs.Objects.{object_at, is_whole}
 use Rattle.jpa_heap.specs.Shape.{HasShape}
 use Rattle.jpa_context.specs.declared.Entry.{Entry}
 use Rattle.jpa_context.specs.declared.Lock.{Lock}
@@ -33,11 +34,17 @@ since u = record { objects = u.objects.since; context = u.context.since; numbers
 abbrev pub IsKept : UnitOfWork → Type 0
 IsKept u = (u.objects.since ≡ u.objects.now) × (u.context.since ≡ u.context.now) × (u.numbers.since ≡ u.numbers.now) × (u.replaced ≡ None)
 
--- what code that goes by places stands on: objects have the shape of their classes, entries name objects, there is a next
--- number for each class, and the set has the shape of its classes
+-- an entry's object has the key under which it entered, which is whole
+pub record IsKeyed (objects : List LiveObject) (e : Entry) : Type 0 where
+  pub same : (object_at objects e.object).key ≡ e.key
+  pub whole : is_whole e.key ≡ true
+
+-- what code that goes by places stands on: objects have the shape of their classes, entries name objects and know their keys,
+-- there is a next number for each class, and the set has the shape of its classes
 pub record IsPlaced (m : PersistenceUnit) (w : Work) : Type 0 where
   pub objects : All (HasShape m) w.objects
   pub entries : All (λ e. e.object < length w.objects) w.context
+  pub keyed : All (IsKeyed w.objects) w.context
   pub numbers : length w.numbers ≡ length m.entities
   pub view : all_shaped m w.view ≡ true
 

@@ -84,9 +84,9 @@ with_object n x w = record w { objects = slice_set w.objects n x }
 abbrev pub with_life_of : ℕ → Life → Work → Work
 with_life_of n life w = with_object n (with_life (object w n) life) w
 
--- the object enters the context as its last entry, without a lock and a base
+-- the object enters the context as its last entry, under its key, without a lock and a base
 abbrev pub entered : ℕ → Work → Work
-entered n w = record w { context = w.context ++ record { object = n; lock = Lock.Unlocked; base = None } ∷ [] }
+entered n w = record w { context = w.context ++ record { object = n; key = (object w n).key; lock = Lock.Unlocked; base = None } ∷ [] }
 
 abbrev pub with_entry : ℕ → (Entry → Entry) → Work → Work
 with_entry n f w = record w { context = map (λ e. if e.object == n then f e else e) w.context }

@@ -5,10 +5,16 @@
 //! `specs/Steps.antt` says what an operation on a work is. The crate stands on live objects and stored sets.
 #![tactic(auto)]
 
+mod entries;
+mod fingerprint;
+mod index;
+mod laws;
 mod work;
 
+pub use entries::PersistenceContext;
 use jpa_stored::Stored;
-use jpa_value::{Identity, Seq};
+use jpa_value::{Identity, Key, Seq};
+pub use laws::near_laws;
 pub use work::UnitOfWork;
 
 /// The optimistic lock of an entry (Jakarta Persistence 3.1, chapter 3.4).
@@ -27,10 +33,12 @@ pub struct Base {
     pub members: Seq<Option<Seq<Identity>>>,
 }
 
-/// An entry of a context: an object by its place in the heap. An object that was not written yet has no base.
+/// An entry of a context: an object by its place in the heap, and the primary key under which it entered. An object that was
+/// not written yet has no base.
 #[derive(Drop)]
 pub struct Entry {
     pub object: usize,
+    pub key: Key,
     pub lock: Lock,
     pub base: Option<Base>,
 }

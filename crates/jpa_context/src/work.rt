@@ -2,7 +2,7 @@
 ghost use Rattle.std.specs.Prelude.{◌≡◌, []};
 ghost use Rattle.jpa_context.specs.Undo.{IsKept, now, since};
 
-use crate::Entry;
+use crate::PersistenceContext;
 use jpa_heap::LiveObject;
 use jpa_protocol::Told;
 use jpa_stored::StoredSet;
@@ -21,7 +21,7 @@ pub struct UnitOfWork {
     /// The live objects.
     pub objects: UndoList<LiveObject>,
     /// The manager's persistence context, in the order in which objects entered it (chapter 3.3).
-    pub context: UndoList<Entry>,
+    pub context: PersistenceContext,
     /// The next number of each class that is a root with generated keys (chapter 2.4); 1 for any other.
     pub numbers: UndoList<u64>,
     /// The stored objects that the manager sees.

@@ -5,6 +5,7 @@ use Rattle.std.specs.List.{AllByRecursion, enumerate_from}
 use Rattle.std.specs.Option.{unwrap_or}
 use Rattle.std.specs.Ordering.{is_eq}
 use Rattle.std.specs.FinMap.Entries.{find as entry_found}
+use Rattle.std.proofs.lemmas.List.{get_or_push}
 use Rattle.std.proofs.lemmas.List.Elements.{recursion_from_All}
 use Rattle.std.proofs.lemmas.Bool.{true≢false, ltb-true, lt-ltb, eq-eqb, ne_eqb, and_parts}
 use Rattle.jpa_value.specs.declared.value.Identity.{Identity}
@@ -19,11 +20,12 @@ use Rattle.jpa_stored.specs.declared.stored.Stored.{Stored}
 use Rattle.jpa_stored.specs.Sets.{StoredSet, stored_at, all_shaped, members}
 use Rattle.jpa_heap.specs.declared.Life.{Life}
 use Rattle.jpa_heap.specs.declared.LiveObject.{LiveObject}
+use Rattle.jpa_heap.specs.Objects.{no_object}
 use Rattle.jpa_context.specs.declared.Base.{Base}
 use Rattle.jpa_context.specs.declared.Lock.{Lock}
 use Rattle.jpa_context.specs.declared.Entry.{Entry}
 use Rattle.jpa_context.specs.Steps.{◌>>◌, Op, Done, after, change, give, require}
-use Rattle.jpa_context.specs.Work.{Work, entered, with_base}
+use Rattle.jpa_context.specs.Work.{Work, object, entered, with_base}
 use Rattle.jpa_lifecycle.specs.Callbacks.{callback}
 use Rattle.jpa_lifecycle.specs.Flat.{IsFlat}
 use Rattle.jpa_ops.specs.Load.{most_objects, object_loaded, base_loaded, held_loaded, made, load, known, unread}
@@ -65,8 +67,8 @@ based n b (x ∷ xs) y h e =
 
 -- no entry before it has its place
 entered_based : (n : ℕ) (b : Option Base) (w : Work) → All (λ (e : Entry). e.object < n) w.context →
-    with_base n b (entered n w) ≡ record w { context = w.context ++ record { object = n; lock = Lock.Unlocked; base = b } ∷ [] }
-entered_based n b w h = ap (λ (es : List Entry). record w { context = es }) (based n b w.context (record { object = n; lock = Lock.Unlocked; base = None }) (recursion_from_All _ w.context h) (eq-eqb n n refl))
+    with_base n b (entered n w) ≡ record w { context = w.context ++ record { object = n; key = (object w n).key; lock = Lock.Unlocked; base = b } ∷ [] }
+entered_based n b w h = ap (λ (es : List Entry). record w { context = es }) (based n b w.context (record { object = n; key = (object w n).key; lock = Lock.Unlocked; base = None }) (recursion_from_All _ w.context h) (eq-eqb n n refl))
 
 -- ---- no relations
 
@@ -86,18 +88,18 @@ abbrev with_row : Identity → Stored → Work → Work
 with_row id x w =
     record w {
       objects = w.objects ++ object_of_row w.manager id x ∷ [];
-      context = w.context ++ record { object = length w.objects; lock = Lock.Unlocked; base = Some (record { stored = x; members = [] }) } ∷ [];
+      context = w.context ++ record { object = length w.objects; key = id.key; lock = Lock.Unlocked; base = Some (record { stored = x; members = [] }) } ∷ [];
     }
 
 entered_row : (m : PersistenceUnit) (id : Identity) (x : Stored) (w : Work) → relations_of m x.class ≡ [] → All (λ (e : Entry). e.object < length w.objects) w.context →
     with_base (length w.objects) (Some (base_loaded m w.view id x)) (entered (length w.objects) (made (object_loaded m w.manager w.view id x) w)) ≡ with_row id x w
 entered_row m id x w e h =
     let n = length w.objects in
-    let object = object_loaded m w.manager w.view id x in
-    entered_based n (Some (base_loaded m w.view id x)) (made object w) h
+    let own = object_loaded m w.manager w.view id x in
+    entered_based n (Some (base_loaded m w.view id x)) (made own w) h
     ∙ (λ i. record w {
       objects = w.objects ++ record { class = x.class; key = id.key; version = x.version; values = x.values; relations = no_held m w.view id x e i; life = Life.Managed w.manager } ∷ [];
-      context = w.context ++ record { object = n; lock = Lock.Unlocked; base = Some (record { stored = x; members = no_members m w.view id x e i }) } ∷ [];
+      context = w.context ++ record { object = n; key = ap (λ (o : LiveObject). o.key) (get_or_push w.objects own no_object n refl) i; lock = Lock.Unlocked; base = Some (record { stored = x; members = no_members m w.view id x e i }) } ∷ [];
     })
 
 -- what load does once there is room
@@ -118,10 +120,10 @@ loads world id x w flat h e =
 pub loaded : (world : World) (id : Identity) (x : Stored) (w : Work) (n : ℕ) (objects : List LiveObject) (context : List Entry) (new : Work) →
     IsFlat world.model → All (λ (e : Entry). e.object < length w.objects) w.context → n ≡ length w.objects → n < most_objects →
     objects ≡ w.objects ++ object_of_row w.manager id x ∷ [] →
-    context ≡ w.context ++ record { object = n; lock = Lock.Unlocked; base = Some (record { stored = x; members = [] }) } ∷ [] →
+    context ≡ w.context ++ record { object = n; key = id.key; lock = Lock.Unlocked; base = Some (record { stored = x; members = [] }) } ∷ [] →
     callback world LifecycleEvent.PostLoad n (record w { objects = objects; context = context }) ≡ Done tt new → load world id x w ≡ Done n new
 loaded world id x w n objects context new flat h place room os es told =
-    let entry : ℕ → Entry = λ k. record { object = k; lock = Lock.Unlocked; base = Some (record { stored = x; members = [] }) } in
+    let entry : ℕ → Entry = λ k. record { object = k; key = id.key; lock = Lock.Unlocked; base = Some (record { stored = x; members = [] }) } in
     let entries : w.context ++ entry (length w.objects) ∷ [] ≡ context = ap (λ k. w.context ++ entry k ∷ []) (sym place) ∙ sym es in
     loads world id x w flat h (lt-ltb (length w.objects) most_objects (omega (arith, place, room)))
     ∙ (λ i. after (callback world LifecycleEvent.PostLoad (sym place i) (record w { objects = sym os i; context = entries i })) (λ _. give (sym place i)))

@@ -1,15 +1,18 @@
 //! What an operation reads of the persistence context.
-ghost use Rattle.std.specs.Prelude.{◌≡◌, ◌<◌, length, IfOk, IfErr, IfSome, is_some};
+ghost use Rattle.std.specs.Prelude.{◌≡◌, ◌<◌, All, length, IfOk, IfErr, IfSome, is_some};
+ghost use Rattle.std.specs.List.{find};
 ghost use Rattle.jpa_value.specs.declared.refusal.Cause.{Cause};
 ghost use Rattle.jpa_context.specs.Undo.{now, IsPlaced};
+ghost use Rattle.jpa_context.specs.Near.{places_near};
 ghost use Rattle.jpa_context.specs.Work as works;
-ghost use Rattle.jpa_heap.specs.Objects.{identity_of};
+ghost use Rattle.jpa_heap.specs.Objects.{identity_of, object_at};
+ghost use Rattle.jpa_heap.specs.Shape.{HasShape};
 ghost use Rattle.jpa_ops.specs.States as states;
 
 use jpa_context::{EntityState, UnitOfWork};
 use jpa_heap::{Life, LiveObject, identity_of, is_whole};
 use jpa_model::Metamodel;
-use jpa_value::{Cause, Identity, order_keys};
+use jpa_value::{Cause, Identity, Value, order_keys};
 use std::cmp::Ordering;
 
 /// Whether an object has this identity. Takes no memory.
@@ -23,19 +26,44 @@ fn is_named(metamodel: &Metamodel, object: &LiveObject, id: &Identity) -> bool
         && order_keys(key, id.key.as_slice()) == Ordering::Equal
 }
 
-/// The place of the context's object with this identity. Takes no memory.
+/// The places of the objects that entered the context under a key, and perhaps of some others, in the order in which they
+/// entered. Takes no memory, and looks at no entry.
+fn near<'a>(_metamodel: &Metamodel, work: &'a UnitOfWork, key: &[Value]) -> &'a [usize]
+    requires placed { IsPlaced _metamodel.now (now work.now) }
+    ensures near { result.now ≡ places_near key.now work.now.context.now }
+    ensures within { All (λ n. n < length work.now.objects.now) result.now }
+{
+    work.context.near(key)
+}
+
+/// The first of these places whose object has this identity. Takes no memory.
+fn first_named(
+    metamodel: &Metamodel,
+    objects: &[LiveObject],
+    places: &[usize],
+    id: &Identity,
+) -> Option<usize>
+    requires objects { All (HasShape metamodel.now) objects.now }
+    requires within { All (λ n. n < length objects.now) places.now }
+    ensures first { result ≡ find (λ n. works.has_identity (identity_of metamodel.now (object_at objects.now n)) id.now) places.now }
+    ensures within { IfSome result (λ n. n < length objects.now) }
+{
+    for place in places {
+        if is_named(metamodel, &objects[*place], id) {
+            return Some(*place);
+        }
+    }
+    None
+}
+
+/// The place of the context's object with this identity, found by its key. Takes no memory.
 pub fn instance(metamodel: &Metamodel, work: &UnitOfWork, id: &Identity) -> Option<usize>
     requires placed { IsPlaced metamodel.now (now work.now) }
     ensures instance { result ≡ works.instance metamodel.now (now work.now) id.now }
     ensures within { IfSome result (λ n. n < length work.now.objects.now) }
 {
-    let objects = work.objects.as_slice();
-    for entry in work.context.as_slice() {
-        if is_named(metamodel, &objects[entry.object], id) {
-            return Some(entry.object);
-        }
-    }
-    None
+    let places = near(metamodel, work, id.key.as_slice());
+    first_named(metamodel, work.objects.as_slice(), places, id)
 }
 
 /// Whether an object of the context has the identity of this one. Fails for want of memory alone, with `OutOfMemory`.

@@ -64,6 +64,7 @@ fn load<B: Behaviour>(
         return Err(Cause::Limit);
     }
     let object = object_loaded(alloc, work.manager, id, &row)?;
+    let key = object.key.try_copy()?;
     work.objects.push(object)?;
     let base = Base {
         stored: row,
@@ -71,6 +72,7 @@ fn load<B: Behaviour>(
     };
     work.context.push(Entry {
         object: place,
+        key,
         lock: Lock::Unlocked,
         base: Some(base),
     })?;

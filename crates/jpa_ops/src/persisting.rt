@@ -146,8 +146,10 @@ fn become_managed(
         return Err(Cause::EntityExists);
     }
     manage(work, object)?;
+    let key = work.objects.as_slice()[object].key.try_copy()?;
     work.context.push(Entry {
         object,
+        key,
         lock: Lock::Unlocked,
         base: None,
     })?;

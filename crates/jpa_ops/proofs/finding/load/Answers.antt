@@ -1,6 +1,7 @@
 use Rattle.std.proofs.Common.{◌∙◌, ap, List, [], ◌∷◌, ◌++◌}
 use Rattle.std.specs.Prelude.{Option, Some}
 use Rattle.jpa_value.specs.declared.value.Identity.{Identity}
+use Rattle.jpa_value.specs.declared.value.Value.{Value}
 use Rattle.jpa_behaviour.specs.Registered.{world_of}
 use Rattle.jpa_heap.specs.declared.LiveObject.{LiveObject}
 use Rattle.jpa_context.specs.declared.Lock.{Lock}
@@ -16,6 +17,7 @@ returns-clause-meets g c =
     let objects = c.in_ok-push.ensures.pushed ∙ ap (λ (x : LiveObject). w.objects ++ x ∷ []) c.in_ok-object.ensures.ok in
     let entries =
     c.in_ok-push-2.ensures.pushed
-    ∙ ap (λ (ids : List (Option (List Identity))). w.context ++ record { object = n; lock = Lock.Unlocked; base = Some (record { stored = c.args.row; members = ids }) } ∷ []) c.new.ensures in
+    ∙ ap (λ (ids : List (Option (List Identity))). w.context ++ record { object = n; key = c.in_ok-key.key; lock = Lock.Unlocked; base = Some (record { stored = c.args.row; members = ids }) } ∷ []) c.new.ensures
+    ∙ ap (λ (key : List Value). w.context ++ record { object = n; key = key; lock = Lock.Unlocked; base = Some (record { stored = c.args.row; members = [] }) } ∷ []) (c.in_ok-key.ensures.equal ∙ ap (λ (x : LiveObject). x.key) c.in_ok-object.ensures.ok) in
     loaded (world_of g.B.Behaviour.meaning c.args.metamodel.now c.args.registry.now) c.args.id c.args.row w n c.push.new.self.now c.push-2.new.self.now (now c.callback.new.work) c.requires.flat c.requires.placed.entries
     c.len-place.ensures c.if-place-ge-MOST_OBJECTS.false objects entries c.in_ok-callback.ensures.meets

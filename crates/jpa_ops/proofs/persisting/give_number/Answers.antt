@@ -1,6 +1,10 @@
 use Rattle.std.proofs.Common.{◌≡◌, ◌∙◌, ap, length, get_or}
 use Rattle.std.proofs.lemmas.List.{get_or_default, length-set}
+use Rattle.std.proofs.Common.{true, sym}
+use Rattle.std.specs.List.{list_all}
+use Rattle.jpa_value.specs.Value.{is_null}
 use Rattle.jpa_heap.specs.Objects.{no_object}
+use Rattle.jpa_heap.specs.declared.LiveObject.{LiveObject}
 use Rattle.jpa_context.specs.Undo.{now}
 use Rattle.jpa_context.specs.Work.{object}
 use Rattle.jpa_ops.proofs.Persisted.{numbered_places}
@@ -13,7 +17,8 @@ returns-in_err-set-2-clause-placed c =
     let n = c.args.object in
     let x = c.index-as_slice-object.result in
     let own : x ≡ object w n = c.index-as_slice-object.is ∙ ap (λ xs. get_or xs n x) c.as_slice.ensures ∙ get_or_default w.objects n x no_object c.requires.object in
-    numbered_places c.args.metamodel.now w n _ x c.in_ok-keyed.keyed c.set.new.self.now c.set-2.new.self.now c.requires.flat c.requires.placed c.requires.object c.requires.generated own
+    let unset : list_all is_null (object w n).key ≡ true = ap (λ (z : LiveObject). list_all is_null z.key) (sym own) ∙ ap (list_all is_null) (sym c.as_slice-2.ensures) ∙ sym c.is_unset.ensures ∙ c.if-not-is_unset.false in
+    numbered_places c.args.metamodel.now w n _ x c.in_ok-keyed.keyed c.set.new.self.now c.set-2.new.self.now c.requires.flat c.requires.placed c.requires.object c.requires.generated unset own
     c.in_ok-keyed.ensures.ok c.in_ok-set.ensures.changed (ap length c.in_err-set-2.ensures.refused)
 
 -- the key was given, and the number raised
@@ -23,5 +28,6 @@ returns-clause-placed c =
     let n = c.args.object in
     let x = c.index-as_slice-object.result in
     let own : x ≡ object w n = c.index-as_slice-object.is ∙ ap (λ xs. get_or xs n x) c.as_slice.ensures ∙ get_or_default w.objects n x no_object c.requires.object in
-    numbered_places c.args.metamodel.now w n _ x c.in_ok-keyed.keyed c.set.new.self.now c.set-2.new.self.now c.requires.flat c.requires.placed c.requires.object c.requires.generated own
+    let unset : list_all is_null (object w n).key ≡ true = ap (λ (z : LiveObject). list_all is_null z.key) (sym own) ∙ ap (list_all is_null) (sym c.as_slice-2.ensures) ∙ sym c.is_unset.ensures ∙ c.if-not-is_unset.false in
+    numbered_places c.args.metamodel.now w n _ x c.in_ok-keyed.keyed c.set.new.self.now c.set-2.new.self.now c.requires.flat c.requires.placed c.requires.object c.requires.generated unset own
     c.in_ok-keyed.ensures.ok c.in_ok-set.ensures.changed (ap length c.in_ok-set-2.ensures.changed ∙ length-set w.numbers c.root_class-root.result _)

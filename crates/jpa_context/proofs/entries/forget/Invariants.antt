@@ -1,0 +1,10 @@
+use Rattle.std.proofs.Common.{◌≡◌, ℕ, ◌≤◌, take}
+use Rattle.jpa_context.specs.Indexed.{under, places_with}
+use Rattle.jpa_context.proofs.entries.forget.Given as goal
+
+-- what stands under each fingerprint is of the entries that are left
+abbrev pub invariant-loop-i : goal.invariant-loop-i
+invariant-loop-i l = record {
+  within : l.kept ≤ l.i;
+  left : (print : ℕ) → under l.index print ≡ places_with print (take l.i l.entries);
+}

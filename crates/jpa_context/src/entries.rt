@@ -1,0 +1,129 @@
+//! The entries of a persistence context, found by key.
+ghost use Rattle.std.specs.Prelude.{◌≡◌, ◌<◌, ◌≤◌, [], ◌∷◌, ◌++◌, length, take, slice_set, OnOk, OnErr};
+ghost use Rattle.jpa_context.specs.Indexed as indexed;
+ghost use Rattle.jpa_context.specs.Near.{places_near};
+ghost use Rattle.jpa_context.specs.Places.{StaysAt};
+
+use crate::Entry;
+use crate::fingerprint::fingerprint;
+use crate::index::PlaceIndex;
+use jpa_undo::UndoList;
+use jpa_value::Value;
+use std::alloc::{AllocError, Global};
+use std::marker::Model;
+
+/// The entries of a context in the order in which they entered, with an index by key. Changes can be undone.
+///
+/// Contracts see it as they see an `UndoList`: `now`, the entries, and `since`, what undoing gives.
+#[derive(Drop)]
+pub struct PersistenceContext {
+    list: UndoList<Entry>,
+    // How many entries there were when the changes were last kept.
+    kept: usize,
+    // The places of the objects of `list`, each under the fingerprint of its entry's key.
+    index: PlaceIndex,
+}
+
+impl Model for PersistenceContext {
+    ghost use Rattle.jpa_undo.specs.Undo.{Changes};
+    ghost use Rattle.jpa_context.specs.declared.Entry.{Entry};
+
+    ghost Value = { Changes Entry };
+
+    ghost use Rattle.jpa_context.specs.Indexed.{IsIndexed};
+
+    ghost view = { λ c. c.list };
+
+    ghost invariant = { λ c. IsIndexed c.list c.kept c.index };
+}
+
+/// Takes the entries behind the first `kept` out of an index. Takes no memory, and time for these alone.
+fn forget(index: &mut PlaceIndex, entries: &[Entry], kept: usize)
+    requires within { kept ≤ length entries.now }
+    requires all { indexed.IsOf entries.now index.old }
+    ensures { indexed.IsOf (take kept entries.now) index.new }
+{
+    for i in (kept..entries.len()).rev() {
+        index.drop_last(fingerprint(entries[i].key.as_slice()));
+    }
+}
+
+impl PersistenceContext {
+    /// No entries. Takes no memory.
+    pub fn new(alloc: Global) -> PersistenceContext
+        ensures now { result.now ≡ [] }
+        ensures since { result.since ≡ [] }
+    {
+        PersistenceContext {
+            list: UndoList::new(alloc),
+            kept: 0,
+            index: PlaceIndex::new(alloc),
+        }
+    }
+
+    /// The entries, in the order in which they entered.
+    pub fn as_slice(&self) -> &[Entry]
+        ensures { result.now ≡ self.now.now }
+    {
+        self.list.as_slice()
+    }
+
+    /// How many entries there are.
+    pub fn len(&self) -> usize
+        ensures { result ≡ length self.now.now }
+    {
+        self.list.len()
+    }
+
+    /// The places of the objects that entered under a key, and perhaps of some under others, in the order in which they
+    /// entered. Takes no memory, and looks at no entry.
+    pub fn near(&self, key: &[Value]) -> &[usize]
+        ensures { result.now ≡ places_near key.now self.now.now }
+    {
+        self.index.under(fingerprint(key))
+    }
+
+    /// One more entry, at the end. For want of memory nothing changes.
+    pub fn push(&mut self, entry: Entry) -> Result<(), AllocError>
+        ensures pushed { OnOk result (self.new.now ≡ self.old.now ++ entry ∷ []) }
+        ensures refused { OnErr result (self.new.now ≡ self.old.now) }
+        ensures since { self.new.since ≡ self.old.since }
+    {
+        let print = fingerprint(entry.key.as_slice());
+        self.index.add(print, entry.object)?;
+        if let Err(refused) = self.list.push(entry) {
+            self.index.drop_last(print);
+            return Err(refused);
+        }
+        Ok(())
+    }
+
+    /// Another entry of the same object under the same key at a place, counted from 0. For want of memory nothing changes.
+    pub fn set(&mut self, at: usize, entry: Entry) -> Result<(), AllocError>
+        requires at { at < length self.old.now }
+        requires same { StaysAt self.old.now at entry }
+        ensures changed { OnOk result (self.new.now ≡ slice_set self.old.now at entry) }
+        ensures refused { OnErr result (self.new.now ≡ self.old.now) }
+        ensures since { self.new.since ≡ self.old.since }
+    {
+        self.list.set(at, entry)
+    }
+
+    /// Keeps the changes: from now on they are what undoing leads back to. Takes no memory.
+    pub fn keep(&mut self)
+        ensures now { self.new.now ≡ self.old.now }
+        ensures since { self.new.since ≡ self.old.now }
+    {
+        self.list.keep();
+        self.kept = self.list.len();
+    }
+
+    /// Undoes every change since they were last kept. Takes no memory, and time for what was changed alone.
+    pub fn undo(&mut self)
+        ensures now { self.new.now ≡ self.old.since }
+        ensures since { self.new.since ≡ self.old.since }
+    {
+        forget(&mut self.index, self.list.as_slice(), self.kept);
+        self.list.undo();
+    }
+}

@@ -1,0 +1,63 @@
+//! Places under fingerprints.
+ghost use Rattle.std.specs.Prelude.{◌≡◌, ℕ, [], OnOk, OnErr};
+ghost use Rattle.jpa_context.specs.Indexed as indexed;
+
+use std::alloc::{AllocError, Global};
+use std::collections::HashMap;
+
+/// Under each fingerprint a list of places.
+#[derive(Drop)]
+pub struct PlaceIndex {
+    places: HashMap<u64, Vec<usize>>,
+    alloc: Global,
+}
+
+impl PlaceIndex {
+    /// No places. Takes no memory.
+    pub fn new(alloc: Global) -> PlaceIndex
+        ensures { (print : ℕ) → indexed.under result print ≡ [] }
+    {
+        PlaceIndex {
+            places: HashMap::new(alloc),
+            alloc,
+        }
+    }
+
+    /// What stands under a fingerprint. Takes no memory.
+    pub fn under(&self, print: u64) -> &[usize]
+        ensures { result.now ≡ indexed.under self.now print }
+    {
+        match self.places.get(&print) {
+            Some(places) => places.as_slice(),
+            None => &[],
+        }
+    }
+
+    /// One more place under a fingerprint, at the end. For want of memory nothing changes.
+    pub fn add(&mut self, print: u64, place: usize) -> Result<(), AllocError>
+        ensures added { OnOk result (indexed.Adds print place self.old self.new) }
+        ensures refused { OnErr result (indexed.IsSame self.old self.new) }
+    {
+        if let Some(places) = self.places.get_mut(&print) {
+            places.push(place)?;
+            return Ok(());
+        }
+        let mut places = Vec::new(self.alloc);
+        places.push(place)?;
+        self.places.insert(print, places)?;
+        Ok(())
+    }
+
+    /// Without the last place under a fingerprint. Takes no memory.
+    pub fn drop_last(&mut self, print: u64)
+        ensures { indexed.DropsLast print self.old self.new }
+    {
+        if let Some(places) = self.places.get_mut(&print) {
+            places.pop();
+            // Else the fingerprints of what was undone would stay for ever.
+            if places.is_empty() {
+                self.places.remove(&print);
+            }
+        }
+    }
+}
