@@ -23,7 +23,7 @@ use Rattle.jpa_flush.proofs.Plain.{IsPlainEntry, plain_check, plain_update}
 
 pub refused_after : {A B : Type 0} (r : Cause) (events : List Told) (o : Outcome A) (f : A → Op B) → IsRefusedAs r events o → IsRefusedAs r events (after o f)
 refused_after Cause.OutOfMemory events o f h = tt
-refused_after Cause.StoreFault events o f h = tt
+refused_after Cause.StoreFault events o f h = h
 refused_after r events o f h = ap (λ p. after p f) h
 
 next : {X : Type 0} (f : X → Op (Unit {0})) (xs : List X) (i : ℕ) (x : X) (w : Work) → i < length xs → x ≡ get_or xs i x → each f (drop i xs) w ≡ after (f x w) (λ _. each f (drop (i + 1) xs))

@@ -31,6 +31,7 @@ fn settled_entry(alloc: Global, entry: &Entry, stored: &Stored) -> Result<Entry,
 {
     Ok(Entry {
         object: entry.object,
+        key: entry.key.try_copy()?,
         lock: lowered(entry.lock),
         base: Some(Base {
             stored: stored.try_copy()?,
@@ -116,6 +117,7 @@ fn without_members(alloc: Global, entry: &Entry) -> Result<Entry, Cause>
     };
     Ok(Entry {
         object: entry.object,
+        key: entry.key.try_copy()?,
         lock: entry.lock,
         base,
     })
