@@ -22,6 +22,7 @@ use Rattle.jpa_provider.specs.declared.session.Status.{Status}
 use Rattle.jpa_provider.specs.declared.session.EntityManager.{EntityManager}
 use Rattle.jpa_provider.specs.declared.session.Session.{Session}
 use Rattle.jpa_provider.specs.Machine.{Machine, Manager, Transaction, manager_at, no_manager, has_transaction, is_begun, with_manager, work_of, committed_after, rolled_back}
+use Rattle.jpa_provider.specs.Calls.{accepted}
 use Rattle.jpa_provider.specs.Transactions.{commit, commit_in, commit_of, commit_work}
 use Rattle.jpa_provider.specs.Step.{outcome, gives_up}
 use Rattle.jpa_provider.specs.Invariant.{HasOneTransaction}
@@ -57,7 +58,7 @@ gave_cases (Cause.Damaged t row) h = absurd (false≢true h)
 
 refused_by : {A : Type 0} (r : Cause) (events : List Told) (o : Outcome A) → gave_up r ≡ false → IsRefusedAs r events o → o ≡ Refused r events
 refused_by Cause.OutOfMemory events o g h = absurd (true≢false g)
-refused_by Cause.StoreFault events o g h = absurd (true≢false g)
+refused_by Cause.StoreFault events o g h = absurd h
 refused_by Cause.BadLine events o g h = h
 refused_by Cause.NoSuchManager events o g h = h
 refused_by Cause.NoSuchObject events o g h = h
@@ -102,6 +103,13 @@ gives r reply h e = either (gave_cases r h)
     either (inl x) = inl (e ∙ ap gives_up x)
     either (inr x) = inr (e ∙ ap gives_up x)
 
+-- what a commit makes whose flush was done
+pub stored_outcome : (world : World) (s : Session) (em : ℤ) (m : ℕ) → place_of (length s.managers.items) em ≡ Some m → m < length s.managers.items → (manager_in s.managers.items m).status ≡ Status.Active →
+    (w : Work) → flush world (work_of (machine_of s) m) ≡ Done tt w → IsPlain w → outcome world (machine_of s) (Call.Commit em) ≡ accepted w.events Answer.Null (committed_after (machine_of s) m w)
+stored_outcome world s em m e l active w o p =
+    let M = machine_of s in
+    commit_at world s em m Status.Active e l active ∙ ap (commit_of M m) (commit_done world (work_of M m) w o p)
+
 module _ (world : World) (s t : Session) (em : ℤ) (m : ℕ) (e : place_of (length s.managers.items) em ≡ Some m) (l : m < length s.managers.items) (active : (manager_in s.managers.items m).status ≡ Status.Active) where
   -- the flush was refused
   pub refused_step : (r : Cause) (events : List Told) (reply : Reply) → IsRefusedAs r events (flush world (work_of (machine_of s) m)) → Refuses (machine_of s) m events r reply (machine_of t) → Serves world s (Call.Commit em) reply t
@@ -113,8 +121,7 @@ module _ (world : World) (s t : Session) (em : ℤ) (m : ℕ) (e : place_of (len
   -- the flush was done
   pub stored_step : (w : Work) (reply : Reply) → flush world (work_of (machine_of s) m) ≡ Done tt w → IsPlain w → Stores (machine_of s) m w reply (machine_of t) → Serves world s (Call.Commit em) reply t
   stored_step w reply o p (inl g) =
-      let M = machine_of s in
-      inl (commit_at world s em m Status.Active e l active ∙ ap (commit_of M m) (commit_done world (work_of M m) w o p) ∙ (λ i. (sym g.0 i, sym g.1 i)))
+      inl (stored_outcome world s em m e l active w o p ∙ (λ i. (sym g.0 i, sym g.1 i)))
   stored_step w reply o p (inr g) = inr (refl, g.0, g.1)
 
 -- ---- the end of a commit: no manager has a transaction, so what was committed is nobody's view

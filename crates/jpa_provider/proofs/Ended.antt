@@ -214,13 +214,14 @@ distinct_unlocked m os (e ∷ es) =
     ∙ ap (λ b. not (list_any (are_one m os e) es) && b) (distinct_unlocked m os es)
 
 unlocked_entry : {m : PersistenceUnit} {os : List LiveObject} {ns : List ℕ} {k : ℕ} (e : Entry) → IsEntry m os ns k e → IsEntry m os ns k (unlocked e)
-unlocked_entry e h = record { within = h.within; held = h.held; whole = h.whole; given = h.given; base = h.base }
+unlocked_entry e h = record { within = h.within; keyed = h.keyed; held = h.held; whole = h.whole; given = h.given; base = h.base }
 
 -- an entry stays one where its own object is the same
 entry_stays : {m : PersistenceUnit} {os ps : List LiveObject} {ns : List ℕ} {k : ℕ} (e : Entry) → length os ≤ length ps → object_at ps e.object ≡ object_at os e.object → IsEntry m os ns k e → IsEntry m ps ns k e
 entry_stays {m} {os} {ps} {ns} {k} e more same h =
     record {
       within = let a = h.within in omega (arith, a, more);
+      keyed = ap (λ (x : LiveObject). x.key) same ∙ h.keyed;
       held = subst (λ (x : LiveObject). is_held_by k x.life ≡ true) (sym same) h.held;
       whole = subst (λ (x : LiveObject). is_key_of (root_of m x.class) x.key ≡ true) (sym same) h.whole;
       given = subst (λ (x : LiveObject). key_given_by ns (root_class m x.class) (root_of m x.class).generated x.key ≡ true) (sym same) h.given;

@@ -36,7 +36,7 @@ use Rattle.jpa_provider.specs.Calls.{object_numbered}
 use Rattle.jpa_provider.specs.Step.{persist_call}
 use Rattle.jpa_provider.specs.Invariant.{IsEntry, is_held_by, stands_in, context_of, are_one, name_of}
 use Rattle.jpa_lifecycle.specs.Flat.{IsFlat}
-use Rattle.jpa_provider.proofs.Facts.{numbers_same}
+use Rattle.jpa_provider.proofs.Facts.{numbers_same, key_is_whole}
 use Rattle.jpa_provider.proofs.AtWork.{HoldsAfter, after_holds, require_holds, IsAtWork, contexts}
 use Rattle.jpa_provider.proofs.Kept.{KeepsHeld, manager_kept, entry_kept, distinct_kept, names_kept}
 use Rattle.jpa_provider.proofs.Changed.{holds_set, holds_apart, live_set, placed_set, numbered_holds, InHeap}
@@ -62,17 +62,6 @@ find_step f false x o k h = (refl, h)
 pub none_found : (p : Entry → Bool) (xs : List Entry) → is_some (object_in (find p xs)) ≡ false → AllByRecursion (λ x. p x ≡ false) xs
 none_found p [] h = tt
 none_found p (x ∷ xs) h = let s = find_step object_in (p x) x (find p xs) refl h in (s.0, none_found p xs s.1)
-
-whole_part : (f null : Bool) → (f && not null) ≡ true → not null ≡ true
-whole_part f null h = (and_parts f (not null) h).1
-
-key_is_whole : (ps : List Part) (vs : List Value) → each_fits (λ (part : Part) v. fits part.kind v && not (is_null v)) ps vs ≡ true → is_whole vs ≡ true
-key_is_whole [] [] h = refl
-key_is_whole [] (v ∷ vs) h = absurd (false≢true h)
-key_is_whole (p ∷ ps) [] h = absurd (false≢true h)
-key_is_whole (p ∷ ps) (v ∷ vs) h =
-    let a = and_parts (fits p.kind v && not (is_null v)) (each_fits (λ (part : Part) u. fits part.kind u && not (is_null u)) ps vs) h in
-    and_from (not (is_null v)) (is_whole vs) (whole_part (fits p.kind v) (is_null v) a.0) (key_is_whole ps vs a.1)
 
 identity_whole : (m : PersistenceUnit) (x : LiveObject) → is_whole x.key ≡ true → identity_of m x ≡ Some (name_of m x)
 identity_whole m x h = ap (λ b. if b then Some (name_of m x) else None) h
@@ -113,8 +102,8 @@ pub stands_own : (M : Machine) (m : ℕ) (w : Work) (n : ℕ) → list_any (λ (
 stands_own M m w n h = subst (λ b. list_any (λ (e : Entry). e.object == n) (if b then w.context else context_of M m) ≡ true) (sym (eq-eqb m m refl)) h
 
 -- the entry of an object that enters without a base
-abbrev entry_at : ℕ → Entry
-entry_at n = record { object = n; lock = Lock.Unlocked; base = None }
+abbrev entry_at : List LiveObject → ℕ → Entry
+entry_at os n = record { object = n; key = (object_at os n).key; lock = Lock.Unlocked; base = None }
 
 abbrev managed_by : ℕ → LiveObject → LiveObject
 managed_by m x = record x { life = Life.Managed m }
@@ -123,7 +112,7 @@ managed_by m x = record x { life = Life.Managed m }
 pub names_apart : (m : PersistenceUnit) (os ps : List LiveObject) (ns : List ℕ) (k n : ℕ) (id : Identity) (xs : List Entry) → KeepsHeld k os ps → AllByRecursion (IsEntry m os ns k) xs →
     name_of m (object_at ps n) ≡ id →
     AllByRecursion (λ (e : Entry). same_identity (name_of m (object_at os e.object)) id ≡ false) xs →
-    AllByRecursion (λ (e : Entry). are_one m ps e (entry_at n) ≡ false) xs
+    AllByRecursion (λ (e : Entry). are_one m ps e (entry_at ps n) ≡ false) xs
 names_apart m os ps ns k n id [] keeps h same g = tt
 names_apart m os ps ns k n id (e ∷ es) keeps h same g = (
   ap (λ a. same_identity a (name_of m (object_at ps n))) (names_kept keeps e h.0) ∙ ap (same_identity (name_of m (object_at os e.object))) same ∙ g.0,
@@ -159,22 +148,23 @@ entered_at_work {world} {M} {m} {n} {w} h free =
             version_representable = live.version_representable;
             values_representable = live.values_representable;
           });
-      entries = All-push (IsEntry model ps w.numbers m) w.context (entry_at n)
+      entries = All-push (IsEntry model ps w.numbers m) w.context (entry_at ps n)
           (All-weaker (IsEntry model os w.numbers m) (IsEntry model ps w.numbers m) (λ e. entry_kept (keeps m) up) w.context at.entries)
           (record {
             within = let e = length-set os n y in omega (arith, e, l);
+            keyed = refl;
             held = subst (λ (z : LiveObject). is_held_by m z.life ≡ true) here (eq-eqb m m refl);
             whole = subst (λ (z : LiveObject). is_key_of (root_of model z.class) z.key ≡ true) here h.whole;
             given = subst (λ (z : LiveObject). key_given_by w.numbers (root_class model z.class) (root_of model z.class).generated z.key ≡ true) here h.given;
             base = refl;
           });
-      distinct = distinct_push (are_one model ps) w.context (entry_at n) (distinct_kept w.context (keeps m) at.entries at.distinct)
+      distinct = distinct_push (are_one model ps) w.context (entry_at ps n) (distinct_kept w.context (keeps m) at.entries at.distinct)
           (names_apart model os ps w.numbers m n (name_of model x) w.context (keeps m) old (ap (name_of model) (sym here))
           (apart_from model w m (name_of model x) w.context old (none_found (λ e. has_identity (identity_at model w e.object) (name_of model x)) w.context none)));
       others = λ k l' apart. manager_kept (keeps k) up at.numbered (at.others k l' apart);
-      placed = placed_set os n y l (contexts M m (record w { context = w.context ++ entry_at n ∷ [] }))
-          (λ k l'. stands_pushed M m w (entry_at n) k (object_at os k).life (at.placed k l'))
-          (stands_own M m (record w { context = w.context ++ entry_at n ∷ [] }) n (is_pushed (λ e. e.object == n) w.context (entry_at n) (eq-eqb n n refl)));
+      placed = placed_set os n y l (contexts M m (record w { context = w.context ++ entry_at ps n ∷ [] }))
+          (λ k l'. stands_pushed M m w (entry_at ps n) k (object_at os k).life (at.placed k l'))
+          (stands_own M m (record w { context = w.context ++ entry_at ps n ∷ [] }) n (is_pushed (λ e. e.object == n) w.context (entry_at ps n) (eq-eqb n n refl)));
       view = at.view;
       numbered = at.numbered;
       raised = at.raised;

@@ -1,12 +1,15 @@
 -- Facts of lists, and of sets under more numbers, for the lemmas on the machine.
 use Rattle.std.proofs.Common.{◌≡◌, ◌≤◌, ℕ, zero, suc, Bool, true, false, List, [], ◌∷◌, length, map, refl, ap, arith}
-use Rattle.std.specs.Prelude.{slice_index_or, slice_set, slice_get, nat_le, nat_lt, pos, negsuc, Some}
+use Rattle.std.specs.Prelude.{slice_index_or, slice_set, slice_get, nat_le, nat_lt, not, ◌&&◌, pos, negsuc, Some}
 use Rattle.std.specs.List.{list_all}
 use Rattle.std.proofs.lemmas.Bool.{false≢true, and_parts, and_from, leb-true, le-leb, ltb-true, lt-ltb}
 use Rattle.jpa_value.specs.declared.value.Value.{Value}
+use Rattle.jpa_value.specs.Value.{fits, is_null}
+use Rattle.jpa_model.specs.declared.unit.Part.{Part}
 use Rattle.jpa_model.specs.Chains.{root_of, root_class}
 use Rattle.jpa_behaviour.specs.Behaviour.{World}
 use Rattle.jpa_stored.specs.Sets.{StoredSet, each_fits}
+use Rattle.jpa_heap.specs.Objects.{is_whole}
 use Rattle.jpa_rows.specs.Cells.{CanBeHeld, are_numbers, is_given_before, key_given_by}
 
 -- ---- two lists, item by item
@@ -117,3 +120,17 @@ held_more {world} {set} {ns} ms h l n =
       converted = h.converted;
       given = list_all_weaker _ _ (λ e g. given_by_more ns ms (root_class world.model (e.1).class) (root_of world.model (e.1).class).generated (e.0).key l g) set h.given;
     }
+
+-- ---- keys
+
+whole_part : (f null : Bool) → (f && not null) ≡ true → not null ≡ true
+whole_part f null h = (and_parts f (not null) h).1
+
+-- a key of a root has no part that is null
+pub key_is_whole : (ps : List Part) (vs : List Value) → each_fits (λ (part : Part) v. fits part.kind v && not (is_null v)) ps vs ≡ true → is_whole vs ≡ true
+key_is_whole [] [] h = refl
+key_is_whole [] (v ∷ vs) h = absurd (false≢true h)
+key_is_whole (p ∷ ps) [] h = absurd (false≢true h)
+key_is_whole (p ∷ ps) (v ∷ vs) h =
+    let a = and_parts (fits p.kind v && not (is_null v)) (each_fits (λ (part : Part) u. fits part.kind u && not (is_null u)) ps vs) h in
+    and_from (not (is_null v)) (is_whole vs) (whole_part (fits p.kind v) (is_null v) a.0) (key_is_whole ps vs a.1)

@@ -96,6 +96,7 @@ settled_one {world} {M} {m} {before} {w} flat n (Some x) l h same at =
           (λ e k. cond_both (e.object == n) (settled_entry x e) e (IsEntry model ps w.numbers m)
           (λ q. record {
             within = k.within;
+            keyed = k.keyed;
             held = k.held;
             whole = k.whole;
             given = k.given;

@@ -104,6 +104,7 @@ entry_kept {m} {os} {ps} {ns} {ms} {k} {e} keeps l h =
     let b = keeps.more in
     record {
       within = omega (arith, a, b);
+      keyed = s ∙ h.keyed;
       held = keeps.held e.object h.within h.held;
       whole = whole_same x y c s h.whole;
       given = given_by_more ns ms (root_class m y.class) (root_of m y.class).generated y.key l (given_same x y c s h.given);

@@ -36,3 +36,5 @@ pub mod Commits
 pub mod Puts
 pub mod Active
 pub mod GetOf
+pub mod Crashed
+pub mod Told

@@ -152,13 +152,13 @@ loaded_base {m} {ns} {id} {x} flat manager s h =
 abbrev based : ℕ → Option Base → Entry → Entry
 based n b e = if e.object == n then record e { base = b } else e
 
-abbrev entry_with : ℕ → Option Base → Entry
-entry_with n b = record { object = n; lock = Lock.Unlocked; base = b }
+abbrev entry_with : ℕ → List Value → Option Base → Entry
+entry_with n key b = record { object = n; key = key; lock = Lock.Unlocked; base = b }
 
-based_last : (n : ℕ) (b : Option Base) (es : List Entry) → AllByRecursion (λ (e : Entry). (e.object == n) ≡ false) es →
-    map (based n b) (es ++ entry_with n None ∷ []) ≡ es ++ entry_with n b ∷ []
-based_last n b [] h = ap (λ t. (if t then entry_with n b else entry_with n None) ∷ []) (eq-eqb n n refl)
-based_last n b (e ∷ es) h = λ i. (ap (λ t. if t then record e { base = b } else e) h.0 i) ∷ (based_last n b es h.1 i)
+based_last : (n : ℕ) (key : List Value) (b : Option Base) (es : List Entry) → AllByRecursion (λ (e : Entry). (e.object == n) ≡ false) es →
+    map (based n b) (es ++ entry_with n key None ∷ []) ≡ es ++ entry_with n key b ∷ []
+based_last n key b [] h = ap (λ t. (if t then entry_with n key b else entry_with n key None) ∷ []) (eq-eqb n n refl)
+based_last n key b (e ∷ es) h = λ i. (ap (λ t. if t then record e { base = b } else e) h.0 i) ∷ (based_last n key b es h.1 i)
 
 earlier : (m : PersistenceUnit) (os : List LiveObject) (ns : List ℕ) (k : ℕ) (es : List Entry) → AllByRecursion (IsEntry m os ns k) es → AllByRecursion (λ (e : Entry). (e.object == length os) ≡ false) es
 earlier m os ns k [] h = tt
@@ -174,13 +174,14 @@ load_at_work {world} {M} {m} {w} flat id x h e free few =
     let obj = object_loaded model w.manager w.view id x in
     let ps = os ++ obj ∷ [] in
     let b = base_loaded model w.view id x in
-    let entry = entry_with n (Some b) in
+    let key = (object_at ps n).key in
+    let entry = entry_with n key (Some b) in
     let r = is_row id x w.view h.view e in
     let old = recursion_from_All (IsEntry model os w.numbers m) w.context h.entries in
     let up = numbers_same w.numbers in
     let here : obj ≡ object_at ps n = sym (get_or_push os obj no_object n refl) in
     let name : name_of model (object_at ps n) ≡ id = ap (name_of model) (sym here) ∙ name_loaded w.manager w.view r in
-    let context : w.context ++ entry ∷ [] ≡ map (based n (Some b)) (w.context ++ entry_with n None ∷ []) = sym (based_last n (Some b) w.context (earlier model os w.numbers m w.context old)) in
+    let context : w.context ++ entry ∷ [] ≡ map (based n (Some b)) (w.context ++ entry_with n key None ∷ []) = sym (based_last n key (Some b) w.context (earlier model os w.numbers m w.context old)) in
     let at : IsAtWork world M m (record w { objects = ps; context = w.context ++ entry ∷ [] }) =
     record {
       manager = h.manager;
@@ -189,6 +190,7 @@ load_at_work {world} {M} {m} {w} flat id x h e free few =
           (All-weaker (IsEntry model os w.numbers m) (IsEntry model ps w.numbers m) (λ e'. entry_kept (holds_more m os obj) up) w.context h.entries)
           (record {
             within = let s = length-append os (obj ∷ []) in omega (arith, s);
+            keyed = refl;
             held = subst (λ (z : LiveObject). is_held_by m z.life ≡ true) here (eq-eqb w.manager m h.manager);
             whole = subst (λ (z : LiveObject). is_key_of (root_of model z.class) z.key ≡ true) here r.key;
             given = subst (λ (z : LiveObject). key_given_by w.numbers (root_class model z.class) (root_of model z.class).generated z.key ≡ true) here r.given;

@@ -1,5 +1,5 @@
 -- What a manager works on goes by places: objects have the shape of their classes, entries name objects, and each class has its next number.
-use Rattle.std.proofs.Common.{◌≡◌, ◌<◌, ◌⊎◌, inl, inr, ℕ, zero, suc, true, List, [], ◌∷◌, length, refl, sym, subst, arith}
+use Rattle.std.proofs.Common.{◌≡◌, ◌<◌, ◌⊎◌, inl, inr, ℕ, zero, suc, true, List, [], ◌∷◌, length, refl, ap, sym, subst, ◌∙◌, arith}
 use Rattle.std.specs.Prelude.{slice_index_or, Option, Some, None}
 use Rattle.std.specs.List.{All}
 use Rattle.std.proofs.lemmas.Bool.{ltb-true}
@@ -9,12 +9,13 @@ use Rattle.jpa_model.specs.Chains.{root_of, attributes_of, relations_of}
 use Rattle.jpa_behaviour.specs.Behaviour.{World}
 use Rattle.jpa_stored.specs.Sets.{StoredSet, all_shaped}
 use Rattle.jpa_heap.specs.declared.LiveObject.{LiveObject}
+use Rattle.jpa_heap.specs.Objects.{object_at, is_whole}
 use Rattle.jpa_heap.specs.Shape.{HasShape}
 use Rattle.jpa_context.specs.declared.Entry.{Entry}
-use Rattle.jpa_context.specs.Undo.{IsPlaced}
+use Rattle.jpa_context.specs.Undo.{IsKeyed, IsPlaced}
 use Rattle.jpa_provider.specs.Machine.{Machine, Manager, Transaction, manager_at, no_manager, work_of, view_in}
 use Rattle.jpa_provider.specs.Invariant.{IsMachine, IsTransaction, IsLive, IsEntry}
-use Rattle.jpa_provider.proofs.Facts.{each_fits_length}
+use Rattle.jpa_provider.proofs.Facts.{each_fits_length, key_is_whole}
 
 live_shape : (m : PersistenceUnit) (os : List LiveObject) (x : LiveObject) → IsLive m os x → HasShape m x
 live_shape m os x h =
@@ -24,6 +25,12 @@ live_shape m os x h =
       values = sym (each_fits_length _ (attributes_of m x.class) x.values h.values);
       relations = sym (each_fits_length _ (relations_of m x.class) x.relations h.relations);
     }
+
+-- an entry's object has its key, which is whole
+entry_keyed : (m : PersistenceUnit) (os : List LiveObject) (ns : List ℕ) (k : ℕ) (e : Entry) → IsEntry m os ns k e → IsKeyed os e
+entry_keyed m os ns k e h =
+    let x = object_at os e.object in
+    record { same = h.keyed; whole = ap is_whole (sym h.keyed) ∙ key_is_whole (root_of m x.class).key x.key h.whole }
 
 nobody_at : (xs : List Manager) (m : ℕ) → (m < length xs) ⊎ (slice_index_or xs m no_manager ≡ no_manager)
 nobody_at [] m = inr refl
@@ -42,12 +49,13 @@ view_shaped world ns C (Some t) c h = (h.1).shaped
 pub work_placed : {world : World} {M : Machine} (m : ℕ) → IsMachine world M → IsPlaced world.model (work_of M m)
 work_placed {world} {M} m h = placed_by (nobody_at M.managers m)
   where
-    with_parts : All (λ (e : Entry). e.object < length M.objects) (manager_at M m).context → all_shaped world.model (view_in (manager_at M m).transaction M.committed) ≡ true →
+    with_parts : All (λ (e : Entry). e.object < length M.objects) (manager_at M m).context → All (IsKeyed M.objects) (manager_at M m).context → all_shaped world.model (view_in (manager_at M m).transaction M.committed) ≡ true →
         IsPlaced world.model (work_of M m)
-    with_parts entries view =
+    with_parts entries keyed view =
         record {
           objects = All-weaker (IsLive world.model M.objects) (HasShape world.model) (live_shape world.model M.objects) M.objects h.objects;
           entries = entries;
+          keyed = keyed;
           numbers = sym (each_fits_length _ (world.model).entities M.numbers h.numbered);
           view = view;
         }
@@ -57,8 +65,10 @@ work_placed {world} {M} m h = placed_by (nobody_at M.managers m)
         let x = manager_at M m in
         with_parts
         (All-weaker (IsEntry world.model M.objects M.numbers m) (λ (e : Entry). e.object < length M.objects) (λ e k. k.within) x.context (h.managers m l).entries)
+        (All-weaker (IsEntry world.model M.objects M.numbers m) (IsKeyed M.objects) (entry_keyed world.model M.objects M.numbers m) x.context (h.managers m l).entries)
         (view_shaped world M.numbers M.committed x.transaction (h.committed).shaped (h.managers m l).transaction)
     placed_by (inr e) =
         with_parts
         (subst (λ (x : Manager). All (λ (e' : Entry). e'.object < length M.objects) x.context) (sym e) (All-nil (λ (e' : Entry). e'.object < length M.objects)))
+        (subst (λ (x : Manager). All (IsKeyed M.objects) x.context) (sym e) (All-nil (IsKeyed M.objects)))
         (subst (λ (x : Manager). all_shaped world.model (view_in x.transaction M.committed) ≡ true) (sym e) (h.committed).shaped)

@@ -212,7 +212,7 @@ told_plain : (e : Told) (w : Work) → IsPlain w → IsPlain (told e w)
 told_plain e w h = record { objects = h.objects; context = h.context }
 
 entered_plain : (n : ℕ) (w : Work) → IsPlain w → IsPlain (entered n w)
-entered_plain n w h = record { objects = h.objects; context = All-push IsFree w.context (record { object = n; lock = Lock.Unlocked; base = None }) h.context refl }
+entered_plain n w h = record { objects = h.objects; context = All-push IsFree w.context (record { object = n; key = (object w n).key; lock = Lock.Unlocked; base = None }) h.context refl }
 
 pub persist_plain : (world : World) → IsFlat world.model → (number : ℤ) (w : Work) → IsPlain w → HoldsAfter (λ u w'. IsPlain w') (persist_call world number w)
 persist_plain =

@@ -209,7 +209,7 @@ mapped_at_work {world} {M} {m} {w} f same keeps h =
 -- an entry with another base of its object
 pub based_entry : {m : PersistenceUnit} {os : List LiveObject} {ns : List ℕ} {k : ℕ} (e : Entry) (b : Option Base) → base_fits m (object_at os e.object) b ≡ true → IsEntry m os ns k e →
     IsEntry m os ns k (record e { base = b })
-based_entry e b f h = record { within = h.within; held = h.held; whole = h.whole; given = h.given; base = f }
+based_entry e b f h = record { within = h.within; keyed = h.keyed; held = h.held; whole = h.whole; given = h.given; base = f }
 
 -- ---- the new versions and bases
 

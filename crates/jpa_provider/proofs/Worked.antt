@@ -28,7 +28,7 @@ IsEnd r events o = (((r ≡ Cause.OutOfMemory) ⊎ (r ≡ Cause.StoreFault)) × 
 
 pub ends : {A : Type 0} (r : Cause) (events : List Told) (o : Outcome A) → IsRefusedAs r events o → IsEnd r events o
 ends Cause.OutOfMemory events o h = inl (inl refl, refl, refl)
-ends Cause.StoreFault events o h = inl (inr refl, refl, refl)
+ends Cause.StoreFault events o h = absurd h
 ends Cause.BadLine events o h = inr (h, refl)
 ends Cause.NoSuchManager events o h = inr (h, refl)
 ends Cause.NoSuchObject events o h = inr (h, refl)

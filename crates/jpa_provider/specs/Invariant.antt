@@ -88,9 +88,11 @@ base_fits m x (Some b) =
     && (holds_representable b.stored
     && each_fits known_fits (relations_of m x.class) b.members))
 
--- an entry names an object that the manager holds, with a whole key of its hierarchy; a generated key was given
+-- an entry names an object that the manager holds, with the key under which it entered, a whole key of its hierarchy; a
+-- generated key was given
 pub record IsEntry (m : PersistenceUnit) (objects : List LiveObject) (numbers : List ℕ) (manager : ℕ) (e : Entry) : Type 0 where
   pub within : e.object < length objects
+  pub keyed : (object_at objects e.object).key ≡ e.key
   pub held : is_held_by manager (object_at objects e.object).life ≡ true
   pub whole : is_key_of (root_of m (object_at objects e.object).class) (object_at objects e.object).key ≡ true
   pub given : key_given_by numbers (root_class m (object_at objects e.object).class) (root_of m (object_at objects e.object).class).generated (object_at objects e.object).key ≡ true

@@ -4,5 +4,6 @@ pub mod Transactions
 pub mod Step
 pub mod Invariant
 pub mod Serving
+pub mod Faults
 pub mod Provided
 pub mod Served

@@ -1,14 +1,21 @@
 -- A provider, as its callers see it.
-use Rattle.std.specs.Prelude.{◌≡◌}
+use Rattle.std.specs.Prelude.{◌≡◌, ◌+◌, ℕ, true, false, List, OnOk}
+use Rattle.std.specs.List.{sum_by}
 use Rattle.jpa_model.specs.declared.unit.PersistenceUnit.{PersistenceUnit}
 use Rattle.jpa_behaviour.specs.Behaviour.{World}
 use Rattle.jpa_behaviour.specs.Registered.{Meaning, Registered, world_of}
 use Rattle.jpa_object_rows.specs.Sets.{rows_of}
 use Rattle.jpa_rows.specs.Rows.{Rows}
+use Rattle.jpa_rows.specs.Statements.{statements_of, up_to_greatest}
+use Rattle.jpa_rows.specs.declared.row.RowChange.{RowChange}
+use Rattle.jpa_rows.specs.declared.source.RowSource.{Ghosts}
+use Rattle.jpa_object_store.specs.Written.{IsDifference}
 use Rattle.jpa_protocol.specs.declared.call.Call.{Call}
 use Rattle.jpa_protocol.specs.declared.reply.Reply.{Reply}
 use Rattle.jpa_provider.specs.Machine.{Machine}
-use Rattle.jpa_provider.specs.Step.{Step}
+use Rattle.jpa_provider.specs.Step.{Step, outcome}
+use Rattle.jpa_provider.specs.Serving.{is_commit}
+use Rattle.jpa_provider.specs.Faults.{faults_after_reply}
 
 -- the unit that it serves with what is registered, the machine, and the store of rows
 pub record Provided (R L C : Type 0) : Type 0 where
@@ -25,10 +32,30 @@ world_in meaning p = world_of meaning p.model p.registry
 abbrev pub Stands : {R L C : Type 0} → Meaning L C → (R → Type 0) → (R → Rows → Type 0) → Provided R L C → Type 0
 Stands meaning clean holds p = clean p.rows → holds p.rows (rows_of (world_in meaning p) (p.machine).committed (p.machine).stored_numbers)
 
--- from the first to the second the reply to the call is that of a step of the machine, and the store holds what is committed then
-pub record Steps {R L C : Type 0} (meaning : Meaning L C) (clean : R → Type 0) (holds : R → Rows → Type 0) (old : Provided R L C) (call : Call) (reply : Reply) (new : Provided R L C) : Type 0 where
+-- the rows of what is committed
+abbrev pub rows_kept : World → Machine → Rows
+rows_kept world M = rows_of world M.committed M.stored_numbers
+
+-- the rows of what is committed once the call is served
+abbrev pub rows_made : World → Machine → Call → Rows
+rows_made world M call = rows_kept world (outcome world M call).1
+
+-- the statements that write the difference of the rows were run, and no others: for each row that changed one DELETE, and one
+-- INSERT for each column of the new one
+abbrev pub RunsDifference : Rows → Rows → ℕ → ℕ → Type 0
+RunsDifference before afterwards old new = (changes : List RowChange) × IsDifference before afterwards changes × (new ≡ up_to_greatest (old + sum_by statements_of changes))
+
+-- from the first to the second the reply to the call is that of a step of the machine, and the store holds what is committed
+-- then. A crash leaves what it could leave before the call, or what the call commits; a call reads nothing of the store, and a
+-- commit alone writes to it, where it is accepted just what changes; a fault of the store is told where it is one more
+pub record Steps {R L C : Type 0} (meaning : Meaning L C) (store : Ghosts R) (old : Provided R L C) (call : Call) (reply : Reply) (new : Provided R L C) : Type 0 where
   pub model : new.model ≡ old.model
   pub registry : new.registry ≡ old.registry
   pub step : Step (world_in meaning old) old.machine call reply new.machine
-  pub stands : Stands meaning clean holds new
-  pub was_clean : clean new.rows → clean old.rows
+  pub stands : Stands meaning store.clean store.holds new
+  pub was_clean : store.clean new.rows → store.clean old.rows
+  pub crash : store.clean new.rows → store.endures old.rows new.rows (λ left. left ≡ rows_made (world_in meaning old) old.machine call)
+  pub others : is_commit call ≡ false → new.rows ≡ old.rows
+  pub counted : is_commit call ≡ true → OnOk reply.answer (RunsDifference (rows_kept (world_in meaning old) old.machine) (rows_made (world_in meaning old) old.machine call) (store.writes old.rows) (store.writes new.rows))
+  pub told : store.faults new.rows ≡ faults_after_reply reply (store.faults old.rows)
+  pub unread : store.reads new.rows ≡ store.reads old.rows

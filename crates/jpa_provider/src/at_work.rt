@@ -1,7 +1,8 @@
 //! A manager at work: while a call of it is served, its context stands in the session's unit of work.
-ghost use Rattle.std.specs.Prelude.{◌≡◌, ◌<◌, length, IfSome};
+ghost use Rattle.std.specs.Prelude.{◌≡◌, ◌<◌, false, length, IfErr, IfSome};
 ghost use Rattle.jpa_context.specs.Undo.{now, since, IsKept};
 ghost use Rattle.jpa_heap.specs.Objects.{place_of};
+ghost use Rattle.jpa_provider.specs.Faults.{is_store_fault, tells_fault};
 ghost use Rattle.jpa_provider.specs.Machine.{Machine, kept, marked, work_of};
 ghost use Rattle.jpa_provider.specs.Serving as serving;
 ghost use Rattle.jpa_provider.specs.Serving.{machine_of, manager_in, IsSettled, IsWorking};
@@ -91,6 +92,7 @@ pub(crate) fn conclude(
     requires within { manager < length session.old.managers.items }
     ensures concludes { (M : Machine) → IsWorking M manager session.old → session.old.work.view ≡ M.committed → serving.Concludes M manager (now session.old.work) answered result (machine_of session.new) }
     ensures settled { IsSettled session.new }
+    ensures untold { IfErr answered (λ cause. is_store_fault cause ≡ false) → tells_fault result ≡ false }
 {
     let events = mem::replace(&mut session.work.events, Seq::new(alloc));
     match answered {

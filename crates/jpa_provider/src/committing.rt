@@ -1,5 +1,5 @@
 //! The call commit (Jakarta Persistence 3.1, chapters 7.5 and 3.4).
-ghost use Rattle.std.specs.Prelude.{◌≡◌, ◌<◌, [], All, ℤ, true, length, nat_le, IfOk, Some};
+ghost use Rattle.std.specs.Prelude.{◌≡◌, ◌<◌, [], All, ℤ, false, true, length, nat_le, IfOk, OnOk, Some};
 ghost use Rattle.std.specs.List.{AllByRecursion};
 ghost use Rattle.jpa_behaviour.specs.Registered.{world_of};
 ghost use Rattle.jpa_context.specs.Undo.{now, since, IsPlain};
@@ -7,8 +7,10 @@ ghost use Rattle.jpa_heap.specs.Objects.{place_of};
 ghost use Rattle.jpa_object_rows.specs.Sets.{rows_of};
 ghost use Rattle.jpa_object_store.specs.Written.{put_all};
 ghost use Rattle.jpa_protocol.specs.declared.call.Call.{Call};
+ghost use Rattle.jpa_provider.specs.Faults.{is_store_fault, tells_fault, faults_after_reply};
 ghost use Rattle.jpa_provider.specs.Machine.{Machine, committed_after, is_begun, manager_at};
 ghost use Rattle.jpa_provider.specs.Invariant.{HasOneTransaction};
+ghost use Rattle.jpa_provider.specs.Provided.{rows_kept, rows_made, RunsDifference};
 ghost use Rattle.jpa_provider.specs.declared.session.Status.{Status};
 ghost use Rattle.jpa_provider.specs.Serving as serving;
 ghost use Rattle.jpa_provider.specs.Serving.{machine_of, manager_in, IsPlainMachine, IsServing, IsSettled, IsWorking, Serves};
@@ -47,6 +49,7 @@ fn refuse_commit(alloc: Global, session: &mut Session, manager: usize, cause: Ca
     requires entries { All (λ e. e.object < length (since session.old.work).objects) (since session.old.work).context }
     ensures refuses { (M : Machine) → IsWorking M manager session.old → serving.Refuses M manager session.old.work.events cause result (machine_of session.new) }
     ensures settled { IsSettled session.new }
+    ensures untold { is_store_fault cause ≡ false → tells_fault result ≡ false }
 {
     let events = mem::replace(&mut session.work.events, Seq::new(alloc));
     restore(alloc, session, manager);
@@ -97,6 +100,7 @@ fn end_commit(session: &mut Session, manager: usize, next: Seq<u64>)
 }
 
 /// Stores what a flush wrote, and the next numbers; the transaction is committed then.
+#[tactic(auto, using(crate::proofs::Told::as_told))]
 fn store_commit<R: RowSource, B: Behaviour>(
     alloc: Global,
     metamodel: &Metamodel,
@@ -119,6 +123,10 @@ fn store_commit<R: RowSource, B: Behaviour>(
     ensures holds { (M : Machine) → IsWorking M manager session.old → HasOneTransaction M → is_begun (manager_at M manager).transaction ≡ true → session.old.work.view ≡ put_all written.now M.committed → R.holds rows.old (rows_of (world_of B.meaning metamodel.now registry.now) M.committed M.stored_numbers) → R.holds rows.new (rows_of (world_of B.meaning metamodel.now registry.now) (machine_of session.new).committed (machine_of session.new).stored_numbers) }
     ensures was_clean { R.clean rows.new → R.clean rows.old }
     ensures schema { R.schema rows.new ≡ R.schema rows.old }
+    ensures crash { R.holds rows.old (rows_of (world_of B.meaning metamodel.now registry.now) (since session.old.work).view session.old.stored) → R.endures rows.old rows.new (λ left. left ≡ rows_of (world_of B.meaning metamodel.now registry.now) (put_all written.now (since session.old.work).view) session.old.work.numbers.now) }
+    ensures counted { OnOk result.answer (RunsDifference (rows_of (world_of B.meaning metamodel.now registry.now) (since session.old.work).view session.old.stored) (rows_of (world_of B.meaning metamodel.now registry.now) (put_all written.now (since session.old.work).view) session.old.work.numbers.now) (R.writes rows.old) (R.writes rows.new)) }
+    ensures unread { R.reads rows.new ≡ R.reads rows.old }
+    ensures told { R.faults rows.new ≡ faults_after_reply result (R.faults rows.old) }
 {
     let next = match copied(alloc, session.work.numbers.as_slice()) {
         Ok(next) => next,
@@ -150,6 +158,7 @@ fn store_commit<R: RowSource, B: Behaviour>(
 }
 
 /// Commits the open transaction of the manager.
+#[tactic(auto, using(crate::proofs::Told::none_more, crate::proofs::Told::of_operation))]
 fn commit_active<R: RowSource, B: Behaviour>(
     alloc: Global,
     metamodel: &Metamodel,
@@ -169,6 +178,10 @@ fn commit_active<R: RowSource, B: Behaviour>(
     ensures holds { R.clean rows.new → R.holds rows.new (rows_of (world_of B.meaning metamodel.now registry.now) (machine_of session.new).committed (machine_of session.new).stored_numbers) }
     ensures was_clean { R.clean rows.new → R.clean rows.old }
     ensures schema { R.schema rows.new ≡ R.schema rows.old }
+    ensures crash { (em : ℤ) → place_of (length session.old.managers.items) em ≡ Some manager → R.clean rows.new → R.endures rows.old rows.new (λ left. left ≡ rows_made (world_of B.meaning metamodel.now registry.now) (machine_of session.old) (Call.Commit em)) }
+    ensures counted { (em : ℤ) → place_of (length session.old.managers.items) em ≡ Some manager → OnOk result.answer (RunsDifference (rows_kept (world_of B.meaning metamodel.now registry.now) (machine_of session.old)) (rows_made (world_of B.meaning metamodel.now registry.now) (machine_of session.old) (Call.Commit em)) (R.writes rows.old) (R.writes rows.new)) }
+    ensures unread { R.reads rows.new ≡ R.reads rows.old }
+    ensures told { R.faults rows.new ≡ faults_after_reply result (R.faults rows.old) }
 {
     take_work(session, manager);
     match flush(alloc, metamodel, registry, &mut session.work) {
@@ -186,6 +199,7 @@ fn commit_active<R: RowSource, B: Behaviour>(
 }
 
 /// The call commit.
+#[tactic(auto, using(crate::proofs::Told::none_more))]
 pub(crate) fn commit_call<R: RowSource, B: Behaviour>(
     alloc: Global,
     metamodel: &Metamodel,
@@ -203,6 +217,10 @@ pub(crate) fn commit_call<R: RowSource, B: Behaviour>(
     ensures holds { R.clean rows.new → R.holds rows.new (rows_of (world_of B.meaning metamodel.now registry.now) (machine_of session.new).committed (machine_of session.new).stored_numbers) }
     ensures was_clean { R.clean rows.new → R.clean rows.old }
     ensures schema { R.schema rows.new ≡ R.schema rows.old }
+    ensures crash { R.clean rows.new → R.endures rows.old rows.new (λ left. left ≡ rows_made (world_of B.meaning metamodel.now registry.now) (machine_of session.old) (Call.Commit em)) }
+    ensures counted { OnOk result.answer (RunsDifference (rows_kept (world_of B.meaning metamodel.now registry.now) (machine_of session.old)) (rows_made (world_of B.meaning metamodel.now registry.now) (machine_of session.old) (Call.Commit em)) (R.writes rows.old) (R.writes rows.new)) }
+    ensures unread { R.reads rows.new ≡ R.reads rows.old }
+    ensures told { R.faults rows.new ≡ faults_after_reply result (R.faults rows.old) }
 {
     let Some(manager) = manager_named(session, em) else {
         return because(alloc, Cause::NoSuchManager);

@@ -1,8 +1,9 @@
 //! The ends of transactions but for commit (Jakarta Persistence 3.1, chapter 7.5).
-ghost use Rattle.std.specs.Prelude.{◌≡◌, ◌<◌, ℕ, All, length};
+ghost use Rattle.std.specs.Prelude.{◌≡◌, ◌<◌, ℕ, All, false, length};
 ghost use Rattle.jpa_behaviour.specs.Registered.{world_of};
 ghost use Rattle.jpa_ops.specs.States.{detach_each};
 ghost use Rattle.jpa_protocol.specs.declared.call.Call.{Call};
+ghost use Rattle.jpa_provider.specs.Faults.{tells_fault};
 ghost use Rattle.jpa_provider.specs.Machine.{rolled_back};
 ghost use Rattle.jpa_provider.specs.Serving.{machine_of, manager_in, IsSettled, Serves};
 
@@ -10,7 +11,7 @@ use crate::at_work::{manager_named, mark};
 use crate::replies::{accepted, because};
 use crate::session::{Session, Status, context_of, exchange, set_status, status_of};
 use jpa_behaviour::{Behaviour, Registry};
-use jpa_context::Entry;
+use jpa_context::{Entry, PersistenceContext};
 use jpa_heap::{Life, LiveObject};
 use jpa_model::Metamodel;
 use jpa_protocol::{Answer, Reply};
@@ -57,7 +58,7 @@ pub(crate) fn release(alloc: Global, session: &mut Session, manager: usize)
         &mut session.work.objects,
         context_of(&session.managers, manager),
     );
-    let mut empty = UndoList::new(alloc);
+    let mut empty = PersistenceContext::new(alloc);
     exchange(&mut session.managers, manager, &mut empty);
     set_status(&mut session.managers, manager, Status::Inactive);
 }
@@ -74,6 +75,7 @@ pub(crate) fn rollback_call<B: Behaviour>(
     requires settled { IsSettled session.old }
     requires entries { (k : ℕ) → All (λ e. e.object < length session.old.work.objects.now) (manager_in session.old.managers.items k).context.now }
     ensures step { Serves (world_of B.meaning _metamodel.now _registry.now) session.old (Call.Rollback em) result session.new }
+    ensures untold { tells_fault result ≡ false }
     ensures settled { IsSettled session.new }
 {
     let Some(manager) = manager_named(session, em) else {
@@ -97,6 +99,7 @@ pub(crate) fn set_rollback_only_call<B: Behaviour>(
 ) -> Reply
     requires settled { IsSettled session.old }
     ensures step { Serves (world_of B.meaning _metamodel.now _registry.now) session.old (Call.SetRollbackOnly em) result session.new }
+    ensures untold { tells_fault result ≡ false }
     ensures settled { IsSettled session.new }
 {
     let Some(manager) = manager_named(session, em) else {

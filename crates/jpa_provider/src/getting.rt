@@ -1,5 +1,5 @@
 //! The call get (Jakarta Persistence 3.1, chapter 2.2).
-ghost use Rattle.std.specs.Prelude.{◌≡◌, All};
+ghost use Rattle.std.specs.Prelude.{◌≡◌, All, false};
 ghost use Rattle.jpa_behaviour.specs.Registered.{world_of};
 ghost use Rattle.jpa_heap.specs.Shape.{HasShape};
 ghost use Rattle.jpa_lifecycle.specs.Flat.{IsFlat};
@@ -7,6 +7,7 @@ ghost use Rattle.jpa_ops.specs.Members.{IsScalar};
 ghost use Rattle.jpa_ops.specs.declared.getting.Got.{Got};
 ghost use Rattle.jpa_protocol.specs.declared.call.Call.{Call};
 ghost use Rattle.jpa_provider.specs.Calls as calls;
+ghost use Rattle.jpa_provider.specs.Faults.{tells_fault};
 ghost use Rattle.jpa_provider.specs.Serving.{Serves};
 
 use crate::handing::place_of;
@@ -43,7 +44,7 @@ fn answered(got: Got) -> Answer
 }
 
 /// The call get: what a member of an object, by its name, holds.
-#[tactic(auto, using(crate::proofs::GetOf::get_nowhere))]
+#[tactic(auto, using(crate::proofs::GetOf::get_nowhere, crate::proofs::Told::of_operation))]
 pub(crate) fn get_call<B: Behaviour>(
     alloc: Global,
     metamodel: &Metamodel,
@@ -54,7 +55,8 @@ pub(crate) fn get_call<B: Behaviour>(
 ) -> Reply
     requires flat { IsFlat metamodel.now }
     requires shaped { All (HasShape metamodel.now) session.now.work.objects.now }
-    ensures { Serves (world_of B.meaning metamodel.now registry.now) session.now (Call.Get object name.now) result session.now }
+    ensures step { Serves (world_of B.meaning metamodel.now registry.now) session.now (Call.Get object name.now) result session.now }
+    ensures untold { tells_fault result ≡ false }
 {
     let Some(place) = place_of(session.work.objects.len(), object) else {
         return because(alloc, Cause::NoSuchObject);

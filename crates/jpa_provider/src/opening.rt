@@ -1,9 +1,10 @@
 //! Calls that make managers and objects, and begin transactions (Jakarta Persistence 3.1, chapters 3.1.1 and 7.5).
-ghost use Rattle.std.specs.Prelude.{◌≡◌};
+ghost use Rattle.std.specs.Prelude.{◌≡◌, false};
 ghost use Rattle.std.specs.List.{list_any};
 ghost use Rattle.jpa_stored.specs.Sets.{StoredSet};
 ghost use Rattle.jpa_behaviour.specs.Registered.{world_of};
 ghost use Rattle.jpa_protocol.specs.declared.call.Call.{Call};
+ghost use Rattle.jpa_provider.specs.Faults.{tells_fault};
 ghost use Rattle.jpa_provider.specs.Machine.{has_transaction};
 ghost use Rattle.jpa_provider.specs.Serving.{managers_of, IsSettled, Serves};
 
@@ -11,10 +12,10 @@ use crate::at_work::manager_named;
 use crate::replies::{accepted, because};
 use crate::session::{EntityManager, Session, Status, set_status, status_of};
 use jpa_behaviour::{Behaviour, Registry};
+use jpa_context::PersistenceContext;
 use jpa_heap::new_object;
 use jpa_model::Metamodel;
 use jpa_protocol::{Answer, Reply};
-use jpa_undo::UndoList;
 use jpa_value::{Argument, Cause, State};
 use std::alloc::Global;
 
@@ -33,6 +34,7 @@ pub(crate) fn create_call<B: Behaviour>(
     session: &mut Session,
 ) -> Reply
     ensures step { Serves (world_of B.meaning _metamodel.now _registry.now) session.old Call.CreateEntityManager result session.new }
+    ensures untold { tells_fault result ≡ false }
     ensures work { session.new.work ≡ session.old.work }
 {
     let count = session.managers.len();
@@ -41,7 +43,7 @@ pub(crate) fn create_call<B: Behaviour>(
     }
     let manager = EntityManager {
         status: Status::Inactive,
-        context: UndoList::new(alloc),
+        context: PersistenceContext::new(alloc),
     };
     match session.managers.push(manager) {
         Err(_) => because(alloc, Cause::OutOfMemory),
@@ -71,6 +73,7 @@ pub(crate) fn begin_call<B: Behaviour>(
     em: i64,
 ) -> Reply
     ensures step { Serves (world_of B.meaning _metamodel.now _registry.now) session.old (Call.Begin em) result session.new }
+    ensures untold { tells_fault result ≡ false }
     ensures work { session.new.work ≡ session.old.work }
 {
     let Some(manager) = manager_named(session, em) else {
@@ -96,6 +99,7 @@ pub(crate) fn new_call<B: Behaviour>(
 ) -> Reply
     requires settled { IsSettled session.old }
     ensures step { Serves (world_of B.meaning metamodel.now _registry.now) session.old (Call.NewObject entity.now) result session.new }
+    ensures untold { tells_fault result ≡ false }
     ensures settled { IsSettled session.new }
 {
     let count = session.work.objects.len();

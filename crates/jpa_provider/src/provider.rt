@@ -1,5 +1,5 @@
 //! The provider.
-ghost use Rattle.std.specs.Prelude.{◌≡◌, ℕ, IfOk, IfErr, true, false};
+ghost use Rattle.std.specs.Prelude.{◌≡◌, ℕ, IfOk, IfErr, OnOk, true, false};
 ghost use Rattle.jpa_value.specs.declared.refusal.Cause.{Cause};
 ghost use Rattle.jpa_behaviour.specs.Registered.{world_of};
 ghost use Rattle.jpa_model.specs.Chains.{entity_at};
@@ -10,8 +10,9 @@ ghost use Rattle.jpa_view.specs.Unambiguous.{is_class};
 ghost use Rattle.jpa_protocol.specs.declared.call.Call.{Call};
 ghost use Rattle.jpa_rows.specs.Cells.{CanBeHeld};
 ghost use Rattle.jpa_rows.specs.Tables.{schema_of};
+ghost use Rattle.jpa_provider.specs.Faults.{faults_after_reply};
 ghost use Rattle.jpa_provider.specs.Machine.{opened};
-ghost use Rattle.jpa_provider.specs.Provided.{world_in, Stands};
+ghost use Rattle.jpa_provider.specs.Provided.{rows_kept, rows_made, world_in, RunsDifference, Stands};
 ghost use Rattle.jpa_provider.specs.Served.{is_served};
 ghost use Rattle.jpa_provider.specs.Serving.{machine_of, is_commit, IsPlainMachine, IsServing, IsSettled, Serves};
 
@@ -24,7 +25,7 @@ use crate::session::Session;
 use crate::setting::set_call;
 use crate::working::{find_call, persist_call};
 use jpa_behaviour::{Behaviour, Registry};
-use jpa_context::UnitOfWork;
+use jpa_context::{PersistenceContext, UnitOfWork};
 use jpa_mapper::discriminator_law;
 use jpa_model::Metamodel;
 use jpa_protocol::{Call, PersistenceProvider, Reply};
@@ -155,7 +156,7 @@ fn opened(alloc: Global, committed: StoredSet, next: UndoList<u64>, numbers: Seq
         work: UnitOfWork {
             manager: 0,
             objects: UndoList::new(alloc),
-            context: UndoList::new(alloc),
+            context: PersistenceContext::new(alloc),
             numbers: next,
             view: committed,
             replaced: None,
@@ -166,6 +167,7 @@ fn opened(alloc: Global, committed: StoredSet, next: UndoList<u64>, numbers: Seq
 }
 
 /// Serves a call; what stands between calls is shown where it is called.
+#[tactic(auto, using(crate::proofs::Told::none_more))]
 fn served<R: RowSource, B: Behaviour>(
     alloc: Global,
     metamodel: &Metamodel,
@@ -183,6 +185,10 @@ fn served<R: RowSource, B: Behaviour>(
     ensures holds { is_commit call ≡ true → R.clean rows.new → R.holds rows.new (rows_of (world_of B.meaning metamodel.now registry.now) (machine_of session.new).committed (machine_of session.new).stored_numbers) }
     ensures others { is_commit call ≡ false → rows.new ≡ rows.old }
     ensures was_clean { R.clean rows.new → R.clean rows.old }
+    ensures crash { is_commit call ≡ true → R.clean rows.new → R.endures rows.old rows.new (λ left. left ≡ rows_made (world_of B.meaning metamodel.now registry.now) (machine_of session.old) call) }
+    ensures counted { is_commit call ≡ true → OnOk result.answer (RunsDifference (rows_kept (world_of B.meaning metamodel.now registry.now) (machine_of session.old)) (rows_made (world_of B.meaning metamodel.now registry.now) (machine_of session.old) call) (R.writes rows.old) (R.writes rows.new)) }
+    ensures unread { R.reads rows.new ≡ R.reads rows.old }
+    ensures told { R.faults rows.new ≡ faults_after_reply result (R.faults rows.old) }
     ensures schema { R.schema rows.new ≡ schema_of metamodel.now }
 {
     match call {
@@ -237,6 +243,11 @@ fn serve<R: RowSource, B: Behaviour>(
     ensures step { Serves (world_of B.meaning metamodel.now registry.now) session.old call result session.new }
     ensures holds { R.clean rows.new → R.holds rows.new (rows_of (world_of B.meaning metamodel.now registry.now) (machine_of session.new).committed (machine_of session.new).stored_numbers) }
     ensures was_clean { R.clean rows.new → R.clean rows.old }
+    ensures crash { R.clean rows.new → R.endures rows.old rows.new (λ left. left ≡ rows_made (world_of B.meaning metamodel.now registry.now) (machine_of session.old) call) }
+    ensures others { is_commit call ≡ false → rows.new ≡ rows.old }
+    ensures counted { is_commit call ≡ true → OnOk result.answer (RunsDifference (rows_kept (world_of B.meaning metamodel.now registry.now) (machine_of session.old)) (rows_made (world_of B.meaning metamodel.now registry.now) (machine_of session.old) call) (R.writes rows.old) (R.writes rows.new)) }
+    ensures unread { R.reads rows.new ≡ R.reads rows.old }
+    ensures told { R.faults rows.new ≡ faults_after_reply result (R.faults rows.old) }
     ensures schema { R.schema rows.new ≡ schema_of metamodel.now }
 {
     hands_representable(&call);
@@ -246,7 +257,7 @@ fn serve<R: RowSource, B: Behaviour>(
 impl<R: RowSource, B: Behaviour> PersistenceProvider for Provider<R, B> {
     ghost use Rattle.jpa_provider.specs.Provided.{Steps, Stands};
 
-    ghost steps = { λ old call reply new. Steps B.meaning R.clean R.holds old call reply new };
+    ghost steps = { λ old call reply new. Steps B.meaning R.RowSource old call reply new };
 
     ghost stands = { λ provider. Stands B.meaning R.clean R.holds provider };
 

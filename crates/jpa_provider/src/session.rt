@@ -2,8 +2,7 @@
 ghost use Rattle.std.specs.Prelude.{◌≡◌, ◌<◌, length, slice_set};
 ghost use Rattle.jpa_provider.specs.Serving.{manager_in};
 
-use jpa_context::{Entry, UnitOfWork};
-use jpa_undo::UndoList;
+use jpa_context::{Entry, PersistenceContext, UnitOfWork};
 use jpa_value::Seq;
 use std::mem;
 
@@ -36,7 +35,7 @@ impl Status {
 #[derive(Drop)]
 pub struct EntityManager {
     pub status: Status,
-    pub context: UndoList<Entry>,
+    pub context: PersistenceContext,
 }
 
 /// The managers, what they work on, and the next numbers that were last stored. Contracts see the machine that it stands for.
@@ -67,7 +66,7 @@ pub(crate) fn context_of(managers: &Vec<EntityManager>, manager: usize) -> &[Ent
 pub(crate) fn exchange(
     managers: &mut Vec<EntityManager>,
     manager: usize,
-    context: &mut UndoList<Entry>,
+    context: &mut PersistenceContext,
 )
     requires { manager < length managers.old.items }
     ensures managers { managers.new.items ≡ slice_set managers.old.items manager (record (manager_in managers.old.items manager) { context = context.old }) }

@@ -1,10 +1,11 @@
 //! The call set (Jakarta Persistence 3.1, chapter 3.2).
-ghost use Rattle.std.specs.Prelude.{◌≡◌, ◌<◌, All, OnOk, OnErr, IfErr, length, slice_set, true, ℕ};
+ghost use Rattle.std.specs.Prelude.{◌≡◌, ◌<◌, All, OnOk, OnErr, IfErr, length, slice_set, false, true, ℕ};
 ghost use Rattle.jpa_value.specs.declared.refusal.Cause.{Cause};
 ghost use Rattle.jpa_behaviour.specs.Registered.{world_of};
 ghost use Rattle.jpa_protocol.specs.declared.call.Call.{Call};
 ghost use Rattle.jpa_heap.specs.Assign.{set_in};
 ghost use Rattle.jpa_heap.specs.Shape.{HasShape, IsInHeap};
+ghost use Rattle.jpa_provider.specs.Faults.{is_store_fault, tells_fault};
 ghost use Rattle.jpa_provider.specs.Serving as serving;
 ghost use Rattle.jpa_provider.specs.Serving.{IsSettled, Serves};
 
@@ -20,6 +21,7 @@ use jpa_value::Cause;
 use std::alloc::Global;
 
 /// A member of the object at this place takes what was handed in, and the change is kept; refused, nothing changes.
+#[tactic(auto, using(crate::proofs::Told::of_assignment))]
 fn set_member(
     metamodel: &Metamodel,
     objects: &mut UndoList<LiveObject>,
@@ -31,6 +33,7 @@ fn set_member(
     requires shaped { All (HasShape metamodel.now) objects.old.now }
     requires handed { IsInHeap objects.old.now handed }
     ensures sets { serving.SetsMember (set_in metamodel.now objects.old.now place name.now handed) objects.old.now place result objects.new.now }
+    ensures cause { IfErr result (λ cause. is_store_fault cause ≡ false) }
     ensures kept { objects.old.since ≡ objects.old.now → objects.new.since ≡ objects.new.now }
 {
     let changed = assign(metamodel, objects.as_slice(), place, name, handed)?;
@@ -52,6 +55,7 @@ pub(crate) fn set_call<B: Behaviour>(
     requires shaped { All (HasShape metamodel.now) session.old.work.objects.now }
     requires settled { IsSettled session.old }
     ensures step { Serves (world_of B.meaning metamodel.now _registry.now) session.old (Call.SetValue object name.now value) result session.new }
+    ensures untold { tells_fault result ≡ false }
     ensures settled { IsSettled session.new }
 {
     let count = session.work.objects.len();

@@ -1,11 +1,12 @@
 //! Calls that work on the manager's context: persist and find (Jakarta Persistence 3.1, chapter 3.1.1).
-ghost use Rattle.std.specs.Prelude.{◌≡◌, true};
+ghost use Rattle.std.specs.Prelude.{◌≡◌, IfErr, false, true};
 ghost use Rattle.std.specs.List.{list_all};
 ghost use Rattle.jpa_behaviour.specs.Registered.{world_of};
 ghost use Rattle.jpa_context.specs.Undo.{now, since, IsPlaced};
 ghost use Rattle.jpa_lifecycle.specs.Flat.{IsFlat};
 ghost use Rattle.jpa_protocol.specs.declared.call.Call.{Call};
 ghost use Rattle.jpa_provider.specs.Calls as calls;
+ghost use Rattle.jpa_provider.specs.Faults.{is_store_fault, tells_fault};
 ghost use Rattle.jpa_provider.specs.Serving.{Answers, IsServing, IsSettled, Serves};
 ghost use Rattle.jpa_provider.specs.Step as step;
 
@@ -22,7 +23,7 @@ use jpa_value::{Argument, Cause, Seq, Text};
 use std::alloc::Global;
 
 /// Makes an object managed, by its number.
-#[tactic(auto, using(crate::proofs::Called::persist_named, crate::proofs::Called::persist_unnamed))]
+#[tactic(auto, using(crate::proofs::Called::persist_named, crate::proofs::Called::persist_unnamed, crate::proofs::Told::of_operation))]
 fn persist_numbered<B: Behaviour>(
     alloc: Global,
     metamodel: &Metamodel,
@@ -33,6 +34,7 @@ fn persist_numbered<B: Behaviour>(
     requires flat { IsFlat metamodel.now }
     requires placed { IsPlaced metamodel.now (now work.old) }
     ensures answers { Answers calls.nothing result (now work.new) (step.persist_call (world_of B.meaning metamodel.now registry.now) object (now work.old)) }
+    ensures cause { IfErr result (λ cause. is_store_fault cause ≡ false) }
     ensures view { work.new.view ≡ work.old.view }
     ensures since { since work.new ≡ since work.old }
 {
@@ -44,6 +46,7 @@ fn persist_numbered<B: Behaviour>(
 }
 
 /// Finds an object by the name of its entity and the parts of its key.
+#[tactic(auto, using(crate::proofs::Told::of_operation))]
 fn find_by_key<B: Behaviour>(
     alloc: Global,
     metamodel: &Metamodel,
@@ -55,6 +58,7 @@ fn find_by_key<B: Behaviour>(
     requires flat { IsFlat metamodel.now }
     requires placed { IsPlaced metamodel.now (now work.old) }
     ensures answers { Answers calls.object_or_null result (now work.new) (step.find_call (world_of B.meaning metamodel.now registry.now) entity.now key.now (now work.old)) }
+    ensures cause { IfErr result (λ cause. is_store_fault cause ≡ false) }
     ensures view { work.new.view ≡ work.old.view }
     ensures since { since work.new ≡ since work.old }
 {
@@ -87,6 +91,7 @@ pub(crate) fn persist_call<B: Behaviour>(
 ) -> Reply
     requires serving { IsServing (world_of B.meaning metamodel.now registry.now) session.old }
     ensures step { Serves (world_of B.meaning metamodel.now registry.now) session.old (Call.Persist em object) result session.new }
+    ensures untold { tells_fault result ≡ false }
     ensures settled { IsSettled session.new }
 {
     let Some(manager) = manager_named(session, em) else {
@@ -110,6 +115,7 @@ fn find_slices<B: Behaviour>(
 ) -> Reply
     requires serving { IsServing (world_of B.meaning metamodel.now registry.now) session.old }
     ensures step { Serves (world_of B.meaning metamodel.now registry.now) session.old (Call.Find em entity.now key.now) result session.new }
+    ensures untold { tells_fault result ≡ false }
     ensures settled { IsSettled session.new }
 {
     let Some(manager) = manager_named(session, em) else {
@@ -132,6 +138,7 @@ pub(crate) fn find_call<B: Behaviour>(
 ) -> Reply
     requires serving { IsServing (world_of B.meaning metamodel.now registry.now) session.old }
     ensures step { Serves (world_of B.meaning metamodel.now registry.now) session.old (Call.Find em entity.now key.now) result session.new }
+    ensures untold { tells_fault result ≡ false }
     ensures settled { IsSettled session.new }
 {
     find_slices(

@@ -9,19 +9,19 @@ use Rattle.jpa_program.proofs.Standing.{rows_held}
 use Rattle.jpa_program.proofs.running.run.Goals as goal
 
 pub returns-clause-ok : goal.returns-clause-ok
-returns-clause-ok g c = ended_ok _ _ _ c.args.provider.now c.run-ran.new.provider _ _ _ c.run-ran.result c.run-ran.ensures.ok
+returns-clause-ok g c = ended_ok _ _ c.args.provider.now c.run-ran.new.provider _ _ _ c.run-ran.result c.run-ran.ensures.ok
 
 pub returns-clause-err : goal.returns-clause-err
-returns-clause-err g c = ended_err _ _ _ c.args.provider.now c.run-ran.new.provider _ _ _ c.run-ran.result c.run-ran.ensures.err
+returns-clause-err g c = ended_err _ _ c.args.provider.now c.run-ran.new.provider _ _ _ c.run-ran.result c.run-ran.ensures.err
 
 pub returns-clause-read : goal.returns-clause-read
-returns-clause-read g c = ended_read _ _ _ c.args.provider.now c.run-ran.new.provider _ _ _ _ c.run-ran.result c.run-ran.ensures.read
+returns-clause-read g c = ended_read _ _ c.args.provider.now c.run-ran.new.provider _ _ _ _ c.run-ran.result c.run-ran.ensures.read
 
 pub returns-clause-model : goal.returns-clause-model
-returns-clause-model g c = (of_first _ _ _ c.args.provider.now c.run-ran.new.provider _ _ _ c.run-ran.result c.run-ran.ensures.ok c.run-ran.ensures.err).model
+returns-clause-model g c = (of_first _ _ c.args.provider.now c.run-ran.new.provider _ _ _ c.run-ran.result c.run-ran.ensures.ok c.run-ran.ensures.err).model
 
 pub returns-clause-registry : goal.returns-clause-registry
-returns-clause-registry g c = (of_first _ _ _ c.args.provider.now c.run-ran.new.provider _ _ _ c.run-ran.result c.run-ran.ensures.ok c.run-ran.ensures.err).registry
+returns-clause-registry g c = (of_first _ _ c.args.provider.now c.run-ran.new.provider _ _ _ c.run-ran.result c.run-ran.ensures.ok c.run-ran.ensures.err).registry
 
 pub returns-clause-cells : goal.returns-clause-cells
 returns-clause-cells g c =

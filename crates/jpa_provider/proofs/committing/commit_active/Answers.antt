@@ -1,5 +1,5 @@
 use Rattle.std.proofs.Common.{◌≡◌, List, length, refl, ap, sym, subst, ◌∙◌}
-use Rattle.std.specs.Prelude.{true, nat_le}
+use Rattle.std.specs.Prelude.{true, nat_le, OnOk}
 use Rattle.std.specs.List.{AllByRecursion}
 use Rattle.jpa_value.specs.declared.value.Identity.{Identity}
 use Rattle.jpa_value.specs.Value.{same_identity}
@@ -10,17 +10,25 @@ use Rattle.jpa_object_rows.specs.Sets.{rows_of}
 use Rattle.jpa_view.specs.View.{AreStorable}
 use Rattle.jpa_context.specs.Work.{Work}
 use Rattle.jpa_context.specs.Steps.{Done, IsRefusedAs}
-use Rattle.jpa_context.specs.Undo.{now}
+use Rattle.jpa_context.specs.Undo.{now, since, IsPlaced, Since}
 use Rattle.jpa_flush.specs.Flush.{flush}
 use Rattle.jpa_flush.specs.Writes as flushed
 use Rattle.jpa_object_store.specs.Written.{put_all}
 use Rattle.jpa_provider.specs.declared.session.Session.{Session}
+use Rattle.jpa_protocol.specs.declared.call.Call.{Call}
+use Rattle.jpa_rows.specs.Rows.{Rows}
+use Rattle.jpa_provider.specs.Provided.{rows_made, RunsDifference}
 use Rattle.jpa_provider.specs.Serving.{machine_of}
 use Rattle.jpa_provider.proofs.Active.{begun_active, flushed_storable, flushed_distinct, flushed_numbers, flushed_rising, refused_steady, stored_plain}
 use Rattle.jpa_provider.proofs.Commits.{refused_step, stored_step}
+use Rattle.jpa_provider.proofs.Crashed.{made_by, not_accepted}
+use Rattle.jpa_provider.proofs.Placed.{work_placed}
 use Rattle.jpa_provider.proofs.Puts.{same_puts}
 use Rattle.jpa_provider.proofs.Worked.{still_working}
 use Rattle.jpa_provider.proofs.committing.commit_active.Goals as goal
+
+pub flush-requires-clause-placed : goal.flush-requires-clause-placed
+flush-requires-clause-placed g c = subst (IsPlaced c.args.metamodel.now) (sym c.take_work.ensures.work) (work_placed c.args.manager (c.requires.serving).machine)
 
 pub store_commit-requires-clause-storable : goal.store_commit-requires-clause-storable
 store_commit-requires-clause-storable g c =
@@ -112,3 +120,50 @@ returns-in-Ok-clause-holds g c = λ clean.
     let working = still_working c.take_work.new.session u c.take_work.ensures.working c.flush.ensures.since in
     let view = c.in-Ok.ensures.view ∙ ap (flushed.put_all c.in-Ok.written) c.take_work.ensures.view ∙ same_puts c.in-Ok.written s.work.view ∙ ap (λ ws. put_all ws s.work.view) (sym c.as_slice.ensures) in
     c.store_commit.ensures.holds (machine_of s) working (c.requires.serving).one (begun_active s m c.requires.within c.requires.active) view (c.requires.holds (c.store_commit.ensures.was_clean clean))
+
+pub returns-in-Err-clause-crash : goal.returns-in-Err-clause-crash
+returns-in-Err-clause-crash g c = λ em named clean.
+    let rows = c.args.rows.now in
+    g.R.RowSource.wider rows rows _ _ (λ left none. absurd none) (g.met.R.RowSource.still rows)
+
+pub returns-in-Ok-clause-crash : goal.returns-in-Ok-clause-crash
+returns-in-Ok-clause-crash g c = λ em named clean.
+    let s = c.args.session.now in
+    let m = c.args.manager in
+    let world = world_of g.B.Behaviour.meaning c.args.metamodel.now c.args.registry.now in
+    let rows = c.args.rows.now in
+    let u = c.flush.new.work in
+    let written = c.as_slice.result.now in
+    let working = still_working c.take_work.new.session u c.take_work.ensures.working c.flush.ensures.since in
+    let done = subst (λ (v : Work). flush world v ≡ Done tt (now u)) c.take_work.ensures.work c.in-Ok.ensures.ends in
+    let seen : (since u).view ≡ s.work.view = ap (λ (x : Since). x.view) working.since in
+    let view = c.in-Ok.ensures.view ∙ ap (flushed.put_all c.in-Ok.written) c.take_work.ensures.view ∙ same_puts c.in-Ok.written s.work.view ∙ ap (λ ws. put_all ws s.work.view) (sym c.as_slice.ensures) in
+    let held = subst (g.R.RowSource.holds rows) (λ i. rows_of world (sym seen i) (sym working.stored i)) (c.requires.holds (c.store_commit.ensures.was_clean clean)) in
+    let made : rows_of world (put_all written (since u).view) (now u).numbers ≡ rows_made world (machine_of s) (Call.Commit em) =
+    ap (λ (set : StoredSet). rows_of world set (now u).numbers) (ap (put_all written) seen ∙ sym view)
+    ∙ sym (made_by world s em m named c.requires.within c.requires.active (now u) done c.in-Ok.ensures.plain) in
+    subst (λ (stood : Rows). g.R.RowSource.endures rows c.store_commit.new.rows (λ left. left ≡ stood)) made (c.store_commit.ensures.crash held)
+
+pub returns-in-Err-clause-counted : goal.returns-in-Err-clause-counted
+returns-in-Err-clause-counted g c = λ em named.
+    let u = c.flush.new.work in
+    let working = still_working c.take_work.new.session u c.take_work.ensures.working c.flush.ensures.since in
+    let M = machine_of c.args.session.now in
+    not_accepted _ M (machine_of c.refuse_commit.new.session) c.args.manager u.events c.in-Err.cause c.refuse_commit.result (c.refuse_commit.ensures.refuses M working)
+
+pub returns-in-Ok-clause-counted : goal.returns-in-Ok-clause-counted
+returns-in-Ok-clause-counted g c = λ em named.
+    let s = c.args.session.now in
+    let m = c.args.manager in
+    let world = world_of g.B.Behaviour.meaning c.args.metamodel.now c.args.registry.now in
+    let u = c.flush.new.work in
+    let written = c.as_slice.result.now in
+    let working = still_working c.take_work.new.session u c.take_work.ensures.working c.flush.ensures.since in
+    let done = subst (λ (v : Work). flush world v ≡ Done tt (now u)) c.take_work.ensures.work c.in-Ok.ensures.ends in
+    let seen : (since u).view ≡ s.work.view = ap (λ (x : Since). x.view) working.since in
+    let view = c.in-Ok.ensures.view ∙ ap (flushed.put_all c.in-Ok.written) c.take_work.ensures.view ∙ same_puts c.in-Ok.written s.work.view ∙ ap (λ ws. put_all ws s.work.view) (sym c.as_slice.ensures) in
+    let made : rows_of world (put_all written (since u).view) (now u).numbers ≡ rows_made world (machine_of s) (Call.Commit em) =
+    ap (λ (set : StoredSet). rows_of world set (now u).numbers) (ap (put_all written) seen ∙ sym view)
+    ∙ sym (made_by world s em m named c.requires.within c.requires.active (now u) done c.in-Ok.ensures.plain) in
+    subst (λ (p : Rows × Rows). OnOk c.store_commit.result.answer (RunsDifference p.0 p.1 (g.R.RowSource.writes c.args.rows.now) (g.R.RowSource.writes c.store_commit.new.rows)))
+    (λ i. (rows_of world (seen i) (working.stored i), made i)) c.store_commit.ensures.counted

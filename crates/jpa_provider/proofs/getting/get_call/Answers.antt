@@ -11,8 +11,8 @@ use Rattle.jpa_provider.proofs.GetOf.{get_serves}
 use Rattle.jpa_provider.proofs.Opened.{told}
 use Rattle.jpa_provider.proofs.getting.get_call.Goals as goal
 
-pub returns-in-Ok : goal.returns-in-Ok
-returns-in-Ok g c =
+pub returns-in-Ok-clause-step : goal.returns-in-Ok-clause-step
+returns-in-Ok-clause-step g c =
     let s = c.args.session.now in
     let world = world_of g.B.Behaviour.meaning c.args.metamodel.now c.args.registry.now in
     let place : place_of (length s.work.objects.now) c.args.object ≡ Some c.in-Some.place =
@@ -20,8 +20,8 @@ returns-in-Ok g c =
     subst (λ x. Serves world s (Call.Get c.args.object c.args.name.now) x s) (sym (c.accepted.ensures ∙ ap told c.answered.ensures))
     (get_serves world c.requires.flat s c.args.object c.args.name.now c.in-Some.place (now s.work) refl place (Ok c.in-Ok.got) c.in-Ok.ensures.meets)
 
-pub returns-in-Err : goal.returns-in-Err
-returns-in-Err g c =
+pub returns-in-Err-clause-step : goal.returns-in-Err-clause-step
+returns-in-Err-clause-step g c =
     let s = c.args.session.now in
     let world = world_of g.B.Behaviour.meaning c.args.metamodel.now c.args.registry.now in
     let place : place_of (length s.work.objects.now) c.args.object ≡ Some c.in-Some.place =

@@ -1,8 +1,10 @@
-use Rattle.std.proofs.Common.{ℕ, List, sym, subst}
+use Rattle.std.proofs.Common.{◌≡◌, ℕ, List, sym, subst}
 use Rattle.jpa_behaviour.specs.Registered.{world_of}
 use Rattle.jpa_stored.specs.Sets.{StoredSet}
 use Rattle.jpa_object_rows.specs.Sets.{rows_of}
-use Rattle.jpa_provider.specs.Serving.{machine_of}
+use Rattle.jpa_provider.specs.Provided.{rows_made}
+use Rattle.jpa_provider.specs.Serving.{machine_of, is_commit}
+use Rattle.jpa_provider.proofs.Crashed.{either_way}
 use Rattle.jpa_provider.proofs.Serving.{serves_all, stores_all}
 use Rattle.jpa_provider.proofs.provider.serve.Goals as goal
 
@@ -18,3 +20,13 @@ returns-clause-holds g c = λ clean.
     let Holds : StoredSet → List ℕ → Type 0 = λ set numbers. g.R.RowSource.holds c.served.new.rows (rows_of world set numbers) in
     stores_all world s c.served.new.session c.args.call c.served.result Holds c.requires.serving c.served.ensures.step (λ commits. c.served.ensures.holds commits clean)
     (λ other. subst (λ rows. g.R.RowSource.holds rows (rows_of world (machine_of s).committed (machine_of s).stored_numbers)) (sym (c.served.ensures.others other)) (c.requires.holds (c.served.ensures.was_clean clean)))
+
+pub returns-clause-crash : goal.returns-clause-crash
+returns-clause-crash g c = λ clean.
+    let world = world_of g.B.Behaviour.meaning c.args.metamodel.now c.args.registry.now in
+    let s = c.args.session.now in
+    let rows = c.args.rows.now in
+    let call = c.args.call in
+    either_way (is_commit call) (λ commits. c.served.ensures.crash commits clean)
+    (λ other. subst (λ new. g.R.RowSource.endures rows new (λ left. left ≡ rows_made world (machine_of s) call)) (sym (c.served.ensures.others other))
+    (g.R.RowSource.wider rows rows _ _ (λ left none. absurd none) (g.met.R.RowSource.still rows)))
