@@ -40,7 +40,7 @@ impl Listed {
 }
 
 impl RowSource for Listed {
-    ghost use Rattle.std.specs.Prelude.{◌≡◌, []};
+    ghost use Rattle.std.specs.Prelude.{◌≡◌, [], refl};
     ghost use Rattle.jpa_rows.specs.declared.schema.Schema.{Schema};
 
     ghost schema = { λ _. record { tables = [] } };
@@ -50,6 +50,14 @@ impl RowSource for Listed {
     ghost clean = { λ _. Unit {0} };
 
     ghost faults = { λ s. s.faults };
+
+    ghost reads = { λ _. 0 };
+
+    ghost writes = { λ _. 0 };
+
+    ghost endures = { λ old new _. new.rows ≡ old.rows };
+
+    ghost wider = { λ old new P Q weaker same. same };
 
     fn get(&mut self, id: &RowId) -> Result<Option<Row>, Cause> {
         if self.is_broken {
@@ -76,9 +84,14 @@ impl RowSource for Listed {
         Ok(found)
     }
 
-    fn commit(&mut self, _changes: &[RowChange]) -> Result<(), Cause> {
+    fn commit(&mut self, changes: &[RowChange]) -> Result<(), Cause> {
+        if changes.is_empty() {
+            return Ok(());
+        }
         Err(self.fault())
     }
+
+    ghost still = { λ _. refl };
 }
 
 fn key(alloc: Global, number: i64) -> Result<Seq<Value>, Cause> {
@@ -188,6 +201,13 @@ fn see_change(rt: &impl Abort, change: &RowChange, want: &Told) {
     assert_eq!(rt; amount_of(&change.row), amount, "{number}");
 }
 
+fn see_changes(rt: &impl Abort, changes: &[RowChange], want: &[Told]) {
+    assert_eq!(rt; changes.len(), want.len());
+    for (change, want) in changes.iter().zip(want.iter()) {
+        see_change(rt, change, want);
+    }
+}
+
 fn see_difference(
     rt: &impl Abort,
     overlay: &Overlay,
@@ -195,10 +215,7 @@ fn see_difference(
     want: &[Told],
 ) -> Result<(), Cause> {
     let changes = overlay.changes(source)?;
-    assert_eq!(rt; changes.len(), want.len());
-    for (change, want) in changes.as_slice().iter().zip(want.iter()) {
-        see_change(rt, change, want);
-    }
+    see_changes(rt, changes.as_slice(), want);
     Ok(())
 }
 
@@ -278,6 +295,33 @@ fn difference_has_no_equal_row(rt: HostRuntime) -> Result<(), Fail> {
         (ORDER, 11, None),
     ];
     see_difference(&rt, &overlay, &mut source, &want)?;
+    Ok(())
+}
+
+/// The same without a look at the store, where a second overlay says what stood.
+#[test]
+fn difference_from_what_stood(rt: HostRuntime) -> Result<(), Fail> {
+    let alloc = rt.alloc();
+    let mut stood = Overlay::new(alloc);
+    change(
+        alloc,
+        &mut stood,
+        &[(ORDER, 10, Some(5)), (ORDER, 11, Some(6))],
+    )?;
+    let mut overlay = Overlay::new(alloc);
+    let changes = [
+        (ORDER, 11, None),
+        (ORDER, 12, None),
+        (ORDER, 10, Some(5)),
+        (PERSON, 1, Some(8)),
+    ];
+    change(alloc, &mut overlay, &changes)?;
+    let made = overlay.into_difference(&stood)?;
+    see_changes(
+        &rt,
+        made.as_slice(),
+        &[(PERSON, 1, Some(8)), (ORDER, 11, None)],
+    );
     Ok(())
 }
 
