@@ -1,0 +1,305 @@
+"""Lines for tests/hostile-lines and tests/hostile-stores: calls over a unit with members at their limits, mutations of their bytes, and
+the cells of a store's file."""
+import json, os, random, re, sqlite3
+
+from hostile_model import DEPTH, GREATEST, LEAST, LENGTH, LINE, Machine, Number, Unit, lines_of
+
+HERE = os.path.dirname(os.path.abspath(__file__))
+MAPPINGS = [None, "flat.json", "wide.json"]
+TABLE = ("CREATE TABLE cell (t INTEGER NOT NULL, r BLOB NOT NULL, c INTEGER NOT NULL,\n"
+         "  v BLOB NOT NULL, PRIMARY KEY (t, r, c)) STRICT")
+PERSONS = {"entities": [{"name": "Person", "table": 1, "key": [{"name": "id", "type": "int"}], "generated": True,
+                         "version": {"name": "version", "column": 1}, "attributes": [{"name": "name", "type": "text", "column": 2}]}]}
+
+INTEGERS = [0, 1, 2, -1, 7, 255, 2**31, 2**53 + 1, GREATEST, GREATEST - 1, LEAST, LEAST + 1]
+TEXTS = ["", "a", "Ada", "Bob", "glad", "sad", "\0", "a\0b", "\"\\/", "\n\r\t\b\f\x1f\x7f", "é", "\u2028", "\U0001f600", "\ufeff", "{\"hex\":\"00\"}", "0aff"]
+BYTES = [b"", b"\0", b"\0\xff", b"\x0a\xff", b"\x80", bytes(range(256))]
+LONG_TEXTS = ["a" * LENGTH, "a" * (LENGTH + 1), "é" * (LENGTH // 2), "é" * (LENGTH // 2 + 1), "\0" * LENGTH, "\U0001f600" * (LENGTH // 4 + 1)]
+LONG_BYTES = [b"\0" * LENGTH, b"\xff" * (LENGTH + 1), b"\xab" * (LENGTH // 2), b"\xab" * (LENGTH // 2 + 1)]
+NUMBERS_TEXTS = ["-0", "1.0", "1e0", "0.5", "1e400", "-1e400", "1e308", "01", "+1", "-", "0x1", "9223372036854775808", "-9223372036854775809",
+                 "18446744073709551615", "18446744073709551616", "9" * 400, "1e", ".1", "1.", "NaN", "Infinity", "true", "[]", "{}", "null"]
+OTHERS = ["close", "remove", "merge", "flush", "query", "x", "", "Begin", "begin ", "call"]
+
+
+class Calls:
+    """Makes calls over a machine, mostly such as it accepts."""
+
+    def __init__(self, random, machine):
+        self.random, self.machine = random, machine
+
+    def line(self):
+        word = self.word()
+        members = list({"call": word, **getattr(self, word)()}.items())
+        if self.random.random() < 0.1:
+            self.random.shuffle(members)
+        return self.written(dict(members))
+
+    def word(self):
+        """The word of a call, the likelier where it makes sense now."""
+        managers = self.machine.managers
+        begun = any(manager.is_begun for manager in managers)
+        weights = {"createEntityManager": 0.6 if len(managers) > 2 else 9, "new": 9, "set": 26, "get": 8, "begin": 1 if begun else 14, "persist": 14,
+                   "find": 16, "commit": 11 if begun else 0.7, "rollback": 1 if begun else 0.4, "setRollbackOnly": 0.5 if begun else 0.2}
+        return self.random.choices(list(weights), weights.values())[0]
+
+    def written(self, members):
+        roll = self.random.random()
+        text = json.dumps(members, ensure_ascii=roll < 0.1, separators=(", ", " : ") if roll > 0.9 else (",", ":"))
+        if roll > 0.9975:
+            text += " " * (LINE - len(text.encode()) + self.random.choice([-1, 0, 0, 1]))
+        return text.encode()
+
+    # -- members
+
+    def em(self, most=0.4):
+        """A manager's number: that of the open transaction so often at least, and rarely none."""
+        count = len(self.machine.managers)
+        if self.random.random() < 0.02 or not count:
+            return self.random.choice([0, -1, count + 1, GREATEST, LEAST])
+        begun = [n for n in range(1, count + 1) if self.machine.managers[n - 1].is_begun]
+        if begun and self.random.random() < most:
+            return begun[0]
+        return self.random.randint(1, min(count, 3) if self.random.random() < 0.9 else count)
+
+    def object(self, wanted=lambda live: True):
+        """An object's number: mostly of one that is wanted, and rarely none."""
+        count = len(self.machine.objects)
+        if self.random.random() < 0.02 or not count:
+            return self.random.choice([0, -1, count + 1, GREATEST, LEAST])
+        chosen = [live.number for live in self.machine.objects[-30:] if wanted(live)]
+        return self.random.choice(chosen) if chosen and self.random.random() < 0.85 else self.random.randint(1, count)
+
+    def live(self, number):
+        return self.machine.objects[number - 1] if 1 <= number <= len(self.machine.objects) else None
+
+    def entity(self):
+        if self.random.random() < 0.03:
+            return self.random.choice(["", "person", "Nobody", "Person\0", *TEXTS])
+        return self.random.choice(list(self.machine.unit.entities))
+
+    def value(self, kind):
+        """A value of the kind, or rarely of another one."""
+        if self.random.random() < 0.05:
+            kind = self.random.choice([int, str, bytes])
+        if self.random.random() < 0.04:
+            return None
+        if self.random.random() < 0.02:
+            return Number(self.object())
+        if kind is int:
+            return self.random.choice(INTEGERS if self.random.random() < 0.4 else range(1, 20))
+        rare = self.random.random() < 0.004
+        return self.random.choice((LONG_TEXTS if rare else TEXTS) if kind is str else LONG_BYTES if rare else BYTES)
+
+    def given(self, value):
+        if isinstance(value, bytes):
+            return {"hex": value.hex().upper() if self.random.random() < 0.3 else value.hex()}
+        return {"object": value.number} if isinstance(value, Number) else value
+
+    def member(self, entity, key_too):
+        names = [*(entity.key if key_too else []), *entity.attributes]
+        if self.random.random() < 0.05 or not names:
+            names = [*entity.key, "", "at", "at.", "version", "turn", "Name", "name "]
+        return self.random.choice(names)
+
+    def kind(self, entity, name):
+        return entity.key.get(name) or {"int": int, "text": str, "bytes": bytes}[entity.attributes.get(name, {"type": "int"})["type"]]
+
+    # -- calls
+
+    def createEntityManager(self):
+        return {}
+
+    def new(self):
+        return {"entity": self.entity()}
+
+    def get(self):
+        number = self.object()
+        live = self.live(number)
+        return {"object": number, "name": self.random.choice(list(live.values)) if live and self.random.random() < 0.95 else "name"}
+
+    def set(self):
+        number = self.object(lambda live: live.held != "detached")
+        live = self.live(number)
+        if not live:
+            return {"object": number, "name": "name", "value": "x"}
+        lacking = [name for name in live.entity.key if live.values[name] is None and live.held == "new" and not live.entity.generated]
+        name = lacking[0] if lacking and self.random.random() < 0.8 else self.member(live.entity, live.held == "new" and not live.entity.generated)
+        return {"object": number, "name": name, "value": self.given(self.value(self.kind(live.entity, name)))}
+
+    def persist(self):
+        return {"em": self.em(), "object": self.object(lambda live: live.held == "new" and (live.entity.generated or None not in live.key()))}
+
+    def begin(self):
+        return {"em": self.em()}
+
+    def commit(self):
+        return {"em": self.em(0.95)}
+
+    rollback = setRollbackOnly = commit
+
+    def find(self):
+        stored = list(self.machine.committed.objects)
+        if stored and self.random.random() < 0.75:
+            name, key = self.random.choice(stored[-5:] if self.random.random() < 0.7 else stored)
+        else:
+            name = self.entity()
+            entity = self.machine.unit.entities.get(name)
+            key = [self.value(kind) for kind in entity.key.values()] if entity else [1]
+        key = list(key) + ([1] if self.random.random() < 0.01 else [])
+        return {"em": self.em(), "entity": name, "key": [self.given(part) for part in key]}
+
+
+# ---- mutations
+
+def cut(random, line):
+    at = random.randrange(len(line) + 1)
+    return line[:at] if random.random() < 0.7 else line[at:]
+
+
+def doubled(random, line):
+    return line + random.choice([b"", b" ", b",", b"\r"]) + line
+
+
+def flipped(random, line):
+    bytes_ = bytearray(line or b"x")
+    for _ in range(random.choice([1, 1, 2, 9])):
+        bytes_[random.randrange(len(bytes_))] ^= 1 << random.randrange(8)
+    return bytes(bytes_)
+
+
+def inserted(random, line):
+    at = random.randrange(len(line) + 1)
+    odd = random.choice([b"\xff", b"\xc0\x80", b"\xed\xa0\x80", b"\xf4\x90\x80\x80", b"\xe2\x28", b"\xef\xbb\xbf", b"\0", b"\x0b", b"\xc2\xa0", b"\r", b"\n",
+                         b"\n\n", b"\\ud800", b"\\u0000", b"\\x", b"'", b"//", b"/**/", b",", b"}", b"{", b"]", b"[", b'"', b":", b"\t", b"\x7f"])
+    return line[:at] + odd + line[at:]
+
+
+def nested(random, line):
+    depth = random.choice([1, 2, 10, DEPTH - 2, DEPTH - 1, DEPTH, DEPTH + 1, 200, 5000])
+    opened, closed = random.choice([(b"[", b"]"), (b'{"a":', b"}")])
+    deep = opened * depth + b"1" + closed * depth
+    return swapped(random, line, deep) if random.random() < 0.7 else line[:1] + b'"em":' + deep + b"," + line[1:]
+
+
+def swapped(random, line, other):
+    """With other in the place of a number or a text of the line."""
+    places = list(re.finditer(rb'(?<=:)(-?[0-9]+|"[^"]*"|null)', line[:4096]))
+    if not places:
+        return line
+    place = random.choice(places)
+    return line[:place.start()] + other + line[place.end():]
+
+
+def numbered(random, line):
+    return swapped(random, line, random.choice(NUMBERS_TEXTS).encode())
+
+
+def worded(random, line):
+    return swapped(random, line, json.dumps(random.choice(OTHERS + TEXTS)).encode())
+
+
+def longer(random, line):
+    length = random.choice([LENGTH, LENGTH + 1, LINE - len(line), LINE - len(line) + 1, LINE, 2 * LINE])
+    return random.choice([lambda: swapped(random, line, b'"' + b"a" * length + b'"'), lambda: b" " * length + line, lambda: line + b"\t" * length])()
+
+
+def more_members(random, line):
+    more = random.choice([b'"em":1', b'"x":null', b'"call":"begin"', b'"object":1', b'"em":1e400', b'"value":"\\ud83d\\ude00"', b'"":{}', b'"key":[1]',
+                          b'"hex":"00"'])
+    return line[:1] + more + b"," + line[1:] if random.random() < 0.5 else line[:-1] + b"," + more + line[-1:]
+
+
+def fewer_members(random, line):
+    places = list(re.finditer(rb',?"[a-z]+" ?: ?(-?[0-9]+|"[^"]*"|null),?', line[:4096]))
+    if not places:
+        return b""
+    place = random.choice(places)
+    return line[:place.start()] + line[place.end():]
+
+
+def escaped(random, line):
+    """The same text in other words: letters of names and texts as escapes."""
+    letters = [place.start() for place in re.finditer(rb"[a-zA-Z](?=[a-zA-Z]*\")", line[:4096])]
+    if not letters:
+        return line
+    at = random.choice(letters)
+    return line[:at] + b"\\u%04x" % line[at] + line[at + 1:]
+
+
+def odd_hex(random, line):
+    digits = random.choice(["", "0", "0g", "0A", "aF", "00 ", " 00", "0aff0", "é", "0x00"])
+    return swapped(random, line, json.dumps({"hex": digits}, ensure_ascii=False).encode())
+
+
+MUTATIONS = [cut, doubled, flipped, inserted, nested, numbered, worded, more_members, fewer_members, escaped, odd_hex]
+WEIGHTS = [4, 1, 4, 4, 2, 4, 2, 3, 2, 2, 2]
+
+
+def mutated(random, line):
+    if random.random() < 0.01:
+        return longer(random, line)
+    if random.random() < 0.03:
+        noise = bytes(random.randrange(256) for _ in range(40))
+        return random.choice([b"", b" ", b"\r", b"\t", b"{}", b"[]", b"null", b"\xff", b'"call"', b"{", b'{"call"', noise])
+    for _ in range(random.choice([1, 1, 1, 2, 3])):
+        line = random.choices(MUTATIONS, WEIGHTS)[0](random, line)
+    return line
+
+
+# ---- cases
+
+def unit_of(mapping):
+    if mapping is None:
+        return Unit(PERSONS)
+    with open(os.path.join(HERE, mapping), "rb") as file:
+        return Unit(json.load(file))
+
+
+class Case:
+    """A run: a unit, what is committed before, and the lines."""
+
+    def __init__(self, mapping, unit, state, lines):
+        self.mapping, self.unit, self.state, self.lines = mapping, unit, state, lines
+        self.known = None
+
+    def predicted(self):
+        """The replies, and the state afterwards."""
+        if self.known is None:
+            machine = Machine(self.unit, self.state)
+            self.known = [machine.answer(line) for line in lines_of(b"".join(self.lines))], machine.committed
+        return self.known
+
+    def with_lines(self, lines):
+        return Case(self.mapping, self.unit, self.state, lines)
+
+
+def made(seed, mapping, unit, state, count):
+    """A case of so many lines, of which some hold line feeds by mutation."""
+    chance, machine, lines = random.Random(seed), Machine(unit, state), []
+    calls = Calls(chance, machine)
+    for _ in range(count):
+        line = calls.line()
+        if chance.random() < 0.3:
+            line = mutated(chance, line)
+        lines.append(line + b"\n")
+        for each in lines_of(lines[-1]):
+            machine.answer(each)
+    if chance.random() < 0.5:
+        lines[-1] = lines[-1].removesuffix(b"\n")
+    return Case(mapping, unit, state, lines)
+
+
+def fill(store, cells):
+    with sqlite3.connect(store) as open_store:
+        open_store.execute(TABLE)
+        open_store.executemany("INSERT INTO cell VALUES (?, ?, ?, ?)", cells)
+    open_store.close()
+
+
+def cells_in(store):
+    open_store = sqlite3.connect(store)
+    try:
+        sound = open_store.execute("PRAGMA integrity_check").fetchone()[0]
+        return sorted(open_store.execute("SELECT t, r, c, v FROM cell")) if sound == "ok" else sound
+    finally:
+        open_store.close()
