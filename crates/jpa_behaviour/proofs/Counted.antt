@@ -3,7 +3,7 @@ use Rattle.std.specs.Prelude.{◌≡◌, ℕ, suc, ◌<◌, true, nat_lt, List, 
 use Rattle.std.specs.List.{list_all}
 use Rattle.std.proofs.Common.{refl, arith, get_or, Fits, w8}
 use Rattle.std.proofs.lemmas.Bool.Decides.{nat_tests}
-use Rattle.jpa_behaviour.proofs.Facts.{and_both}
+use Rattle.std.specs.Cmp.Derive.{both_true}
 
 byte_below : (n : ℕ) → Fits w8 n → n < 256
 byte_below n h = omega arith
@@ -13,4 +13,4 @@ below_number n h = grind (arith, nat_tests)
 
 pub bytes_fit : (bytes : List ℕ) → ((i : ℕ) → Fits w8 (get_or bytes i 0)) → list_all (λ b. nat_lt b 256) bytes ≡ true
 bytes_fit [] h = refl
-bytes_fit (b ∷ bytes) h = and_both (nat_lt b 256) _ (below_number b (byte_below b (h 0))) (bytes_fit bytes (λ i. h (suc i)))
+bytes_fit (b ∷ bytes) h = both_true (below_number b (byte_below b (h 0))) (bytes_fit bytes (λ i. h (suc i)))

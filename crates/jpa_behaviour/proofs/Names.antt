@@ -8,11 +8,14 @@ use Rattle.std.proofs.lemmas.List.{map-append}
 use Rattle.std.proofs.lemmas.List.Folds.{list_any-append}
 use Rattle.std.proofs.lemmas.Map.Text.{is_eq-slice_cmp}
 use Rattle.std.proofs.lemmas.Slice.Eq.{bytes_eq-Decides}
+use Rattle.std.specs.Cmp.Derive.{both_true}
+use Rattle.std.specs.Cmp.{first_so, second_so}
+use Rattle.std.proofs.lemmas.Option.{none-some}
 use Rattle.jpa_model.specs.Chains.{same_name}
 use Rattle.jpa_model.specs.WellFormed.{are_distinct_by}
 use Rattle.jpa_behaviour.specs.Registered.{Known, has_name, known_as}
 use Rattle.jpa_behaviour.specs.Entries.{known_in}
-use Rattle.jpa_behaviour.proofs.Facts.{some_none, and_first, and_second, and_both, not_either, by_cases}
+use Rattle.jpa_behaviour.proofs.Facts.{not_either, by_cases}
 
 same_bytes : (xs ys : List ℕ) → bytes_eq xs ys ≡ bytes_eq ys xs
 same_bytes xs ys =
@@ -34,7 +37,7 @@ found {Z} {W} name (e ∷ es) =
 
 -- a name that nothing stands under
 none_first : {W : Type 0} (b : Bool) (k : Known W) (o : Option (Known W)) → option_map (λ k. k.what) (cond b (Some k) o) ≡ None → (b ≡ false) × (option_map (λ k. k.what) o ≡ None)
-none_first true k o e = absurd (some_none k.what (sym e))
+none_first true k o e = absurd (none-some k.what (sym e))
 none_first false k o e = (refl, e)
 
 -- may be added: no name stands twice then
@@ -44,10 +47,10 @@ distinct_added [] k h none = refl
 distinct_added {W} (x ∷ xs) k h none =
     let apart = none_first (has_name k.name x) x (find (has_name k.name) xs) none in
     let is_x : Known W → Bool = λ y. same_name x.name y.name in
-    and_both (not (list_any is_x (xs ++ k ∷ []))) _
+    both_true
     (ap not (list_any-append is_x xs (k ∷ []))
-    ∙ not_either (list_any is_x xs) (is_x k || false) (and_first (not (list_any is_x xs)) _ h) (ap (λ b. b || false) apart.0))
-    (distinct_added xs k (and_second (not (list_any is_x xs)) _ h) apart.1)
+    ∙ not_either (list_any is_x xs) (is_x k || false) (first_so (not (list_any is_x xs)) _ h) (ap (λ b. b || false) apart.0))
+    (distinct_added xs k (second_so (not (list_any is_x xs)) _ h) apart.1)
 
 -- one more entry of the map
 pub known_put : {Z W : Type 0} (es : List (String Z × W)) (key : String Z) (what : W)

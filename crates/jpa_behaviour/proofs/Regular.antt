@@ -2,12 +2,12 @@
 use Rattle.std.proofs.Common.{◌≡◌, ◌∙◌, ap, sym, refl, Bool, true, false, Option, Some, None}
 use Rattle.std.specs.Prelude.{◌↔◌, is_some, if◌then◌else◌}
 use Rattle.std.proofs.lemmas.Bool.{false≢true}
+use Rattle.std.proofs.lemmas.Option.{none-some, same_Some}
 use Rattle.jpa_value.specs.declared.value.Value.{Value}
 use Rattle.jpa_model.specs.declared.unit.PersistenceUnit.{PersistenceUnit}
 use Rattle.jpa_behaviour.specs.declared.Image.{Image}
 use Rattle.jpa_behaviour.specs.Behaviour.{AnswersConvertible, IsRegular, is_convertible, sees_representable, answers_representable, without_functions}
 use Rattle.jpa_behaviour.specs.Registered.{Registered, Meaning, ConvertersAreInverse, ListenersAnswerRepresentable, counted, known_as, heard_by, column_by, attribute_by, world_of}
-use Rattle.jpa_behaviour.proofs.Facts.{some_none, some_in}
 
 no_answer : (v : Value) → None ≡ Some v → ⊥
 no_answer v e = false≢true (ap is_some e)
@@ -30,11 +30,11 @@ record Counts (o : Option Value) (v : Value) : Type 0 where
   convertible : is_convertible v ≡ true
 
 counts_if : (b : Bool) (u v : Value) → is_convertible u ≡ b → (if b then Some u else None) ≡ Some v → Counts (Some u) v
-counts_if true u v h e = let same = some_in u v e in record { given = e; convertible = sym (ap is_convertible same) ∙ h }
-counts_if false u v h e = absurd (some_none v e)
+counts_if true u v h e = let same = same_Some u v e in record { given = e; convertible = sym (ap is_convertible same) ∙ h }
+counts_if false u v h e = absurd (none-some v e)
 
 counts : (o : Option Value) (v : Value) → counted o ≡ Some v → Counts o v
-counts None v e = absurd (some_none v e)
+counts None v e = absurd (none-some v e)
 counts (Some u) v e = counts_if (is_convertible u) u v refl e
 
 counted_if : (b : Bool) (v : Value) → b ≡ true → (if b then Some v else None) ≡ Some v
@@ -47,16 +47,16 @@ as_given o v e h = ap counted e ∙ counted_if (is_convertible v) v h
 
 module _ {L C : Type 0} (f : Meaning L C) where
   column_convertible : (c : Option C) (v d : Value) → column_by f c v ≡ Some d → is_convertible d ≡ true
-  column_convertible None v d e = absurd (some_none d e)
+  column_convertible None v d e = absurd (none-some d e)
   column_convertible (Some c) v d e = (counts (f.column c v) d e).convertible
 
   attribute_convertible : (c : Option C) (d v : Value) → attribute_by f c d ≡ Some v → is_convertible v ≡ true
-  attribute_convertible None d v e = absurd (some_none v e)
+  attribute_convertible None d v e = absurd (none-some v e)
   attribute_convertible (Some c) d v e = (counts (f.attribute c d) v e).convertible
 
   both_inverse : ConvertersAreInverse f → (c : Option C) (v d : Value) → is_convertible v ≡ true → is_convertible d ≡ true
       → (column_by f c v ≡ Some d) ↔ (attribute_by f c d ≡ Some v)
-  both_inverse inverse None v d h g = (λ e. absurd (some_none d e), λ e. absurd (some_none v e))
+  both_inverse inverse None v d h g = (λ e. absurd (none-some d e), λ e. absurd (none-some v e))
   both_inverse inverse (Some c) v d h g = (
     λ e. as_given (f.attribute c d) v ((inverse c v d h g).0 (counts (f.column c v) d e).given) h,
     λ e. as_given (f.column c v) d ((inverse c v d h g).1 (counts (f.attribute c d) v e).given) g,

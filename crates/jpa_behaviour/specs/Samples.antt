@@ -2,6 +2,7 @@
 use Rattle.std.specs.Prelude.{◌≡◌, ◌↔◌, ℕ, ℤ, pos, negsuc, true, ◌&&◌, List, [], ◌∷◌, Option, Some, None}
 use Rattle.std.specs.Str.{is_utf8}
 use Rattle.std.proofs.Common.{refl, sym, ap, ◌∙◌}
+use Rattle.std.proofs.lemmas.Option.{none-some, same_Some}
 use Rattle.jpa_value.specs.declared.value.Value.{Value}
 use Rattle.jpa_behaviour.specs.declared.Heard.{Heard}
 use Rattle.jpa_behaviour.specs.Behaviour.{answers_representable}
@@ -23,12 +24,6 @@ flip (Value.Bytes bytes) = None
 
 -- ---- their laws
 
-none_some : {A : Type 0} (x : A) → None ≡ Some x → ⊥
-none_some x e = cc
-
-some_in : {A : Type 0} (x y : A) → Some x ≡ Some y → x ≡ y
-some_in x y e = cc
-
 pub sets_representable : (attribute text : List ℕ) → is_utf8 text ≡ true → answers_representable (sets attribute text) ≡ true
 sets_representable attribute text h = ap (λ b. b && true) h
 
@@ -37,10 +32,10 @@ twice (pos n) = refl
 twice (negsuc n) = refl
 
 turned_back : (v d : Value) → flip v ≡ Some d → flip d ≡ Some v
-turned_back Value.Null d e = absurd (none_some d e)
-turned_back (Value.Int n) d e = ap flip (sym (some_in (Value.Int (flipped n)) d e)) ∙ ap (λ m. Some (Value.Int m)) (twice n)
-turned_back (Value.Text bytes) d e = absurd (none_some d e)
-turned_back (Value.Bytes bytes) d e = absurd (none_some d e)
+turned_back Value.Null d e = absurd (none-some d e)
+turned_back (Value.Int n) d e = ap flip (sym (same_Some (Value.Int (flipped n)) d e)) ∙ ap (λ m. Some (Value.Int m)) (twice n)
+turned_back (Value.Text bytes) d e = absurd (none-some d e)
+turned_back (Value.Bytes bytes) d e = absurd (none-some d e)
 
 pub flip_inverse : (v d : Value) → (flip v ≡ Some d) ↔ (flip d ≡ Some v)
 flip_inverse v d = (turned_back v d, turned_back d v)

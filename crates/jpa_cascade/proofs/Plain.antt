@@ -14,7 +14,7 @@ nothing_more [] = refl
 nothing_more (x ∷ xs) = ap (λ ys. x ∷ ys) (nothing_more xs)
 
 -- an empty wave is the end
-waves_ended : (next : Node → List Node) (k : ℕ) (before : List Node) → waves_by next k before [] ≡ before
+pub waves_ended : (next : Node → List Node) (k : ℕ) (before : List Node) → waves_by next k before [] ≡ before
 waves_ended next zero before = nothing_more before
 waves_ended next (suc k) before = refl
 

@@ -96,15 +96,15 @@ abbrev pub unseen : List Node → List Node → List Node
 unseen seen [] = []
 unseen seen (x ∷ xs) = if list_any (same_node x) seen then unseen seen xs else x ∷ unseen (seen ++ x ∷ []) xs
 
--- the nodes so far, then this wave, then the later ones: the targets of a wave that were not seen are the next.
--- Each later wave has such nodes, so where the bound is the number of nodes it is never met
+-- the nodes so far, then this wave, then the later ones: the targets of a wave that were not seen are the next. A bound of
+-- the number of nodes that lead on cuts none off: `cascade_laws` proves it, and that each node that is reached stands here once
 abbrev pub waves_by : (Node → List Node) → ℕ → List Node → List Node → List Node
 waves_by next zero before wave = before ++ wave
 waves_by next (suc bound) before [] = before
 waves_by next (suc bound) before (x ∷ xs) =
     waves_by next bound (before ++ x ∷ xs) (unseen (before ++ x ∷ xs) (flat_map next (x ∷ xs)))
 
--- there are no more nodes than objects and rows
+-- no more nodes lead on than there are objects and rows
 abbrev pub most_nodes : Work → ℕ
 most_nodes w = length w.objects + length w.view
 

@@ -1,10 +1,14 @@
 //! Cascades: which objects an operation reaches along relations, in which order.
 //!
-//! The definitions stand in `specs/Waves.antt`: the targets of a node, and the waves of a cascade, breadth first. The
-//! crate stands on persistence contexts.
+//! The definitions stand in `specs/Waves.antt`: the targets of a node, and the waves of a cascade, breadth first.
+//! `specs/Reached.antt` says what a cascade is, and `cascade_laws` that the waves are one. The crate stands on persistence
+//! contexts.
 #![tactic(auto)]
 
+mod laws;
+
 use jpa_value::Identity;
+pub use laws::cascade_laws;
 
 /// The operations that go along relations (Jakarta Persistence 3.1, chapter 3.2).
 #[derive(Clone, Copy)]

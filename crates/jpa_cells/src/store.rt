@@ -4,8 +4,8 @@ ghost use Rattle.std.specs.Prelude.{◌≡◌, ◌≢◌, ◌⊎◌, ◌+◌, �
 ghost use Rattle.std.specs.Result.{IsOk};
 ghost use Rattle.sqlite.specs.Held.{state};
 ghost use Rattle.jpa_cells_meaning.specs.Schema.{no_schema};
-ghost use Rattle.jpa_cells_meaning.specs.Tables.{cells_at, tables_after, statements_of, AreRows, HandsOn, HandsSome};
-ghost use Rattle.jpa_cells_meaning.specs.Store.{up_to_greatest, Counts, Tells, TellsOf, faults_after, new_store, IsClean, IsOpen, tables_in, HoldsTable, IsOrderedIfFound, IsReady, Keeps, Becomes, Opens, Endures, HasFault};
+ghost use Rattle.jpa_cells_meaning.specs.Tables.{cells_at, tables_after, statements_of, AreRows, NameColumnsOnce, HandsOn, HandsSome};
+ghost use Rattle.jpa_cells_meaning.specs.Store.{up_to_greatest, Counts, Tells, TellsOf, faults_after, new_store, IsClean, IsOpen, tables_in, HoldsTable, IsOrderedIfFound, IsReady, Keeps, Becomes, Opens, Endures, Allows, HasFault};
 
 use crate::found;
 use crate::make::create;
@@ -198,12 +198,13 @@ impl<S: Alter> CellStore<S> {
         }
     }
 
-    /// Hands the rows of a table on, in rising order, by one SELECT: all of them, or up to the one after which the sink wants
-    /// no more. A refusal of the sink is the answer; the rows before it were taken.
+    /// Hands the rows of a table on, in rising order, by one SELECT: up to the first after which the sink wants no more,
+    /// or else all of them. A refusal of the sink is the answer; the rows before it were taken.
     pub fn each<K: RowSink>(&mut self, table: i64, sink: &mut K) -> Result<(), Cause>
-        ensures taken { IsClean S.Store self.new.conn → OnOk result (HandsOn (tables_in S.Store self.old.conn table) (K.taken sink.old) (K.taken sink.new) (K.is_done sink.new)) }
-        ensures refused { IsClean S.Store self.new.conn → OnErr result (HandsSome (tables_in S.Store self.old.conn table) (K.taken sink.old) (K.taken sink.new)) }
+        ensures taken { IsClean S.Store self.new.conn → OnOk result (HandsOn (K.stops sink.old) (tables_in S.Store self.old.conn table) (K.taken sink.old) (K.taken sink.new)) }
+        ensures refused { IsClean S.Store self.new.conn → OnErr result (HandsSome (K.stops sink.old) (tables_in S.Store self.old.conn table) (K.taken sink.old) (K.taken sink.new)) }
         ensures own { IfErr result (λ cause. (cause ≡ Cause.OutOfMemory) ⊎ (cause ≡ Cause.StoreFault) ⊎ K.refuses cause) }
+        ensures steady { K.stops sink.new ≡ K.stops sink.old }
         ensures open { IsClean S.Store self.new.conn → OnOk result (IsOpen S.Store self.old.conn × IsOpen S.Store self.new.conn) }
         ensures kept { Keeps S.Store self.old.conn self.new.conn }
         ensures counted { self.new.table_selects ≡ up_to_greatest (self.old.table_selects + 1) }
@@ -217,14 +218,17 @@ impl<S: Alter> CellStore<S> {
     }
 
     /// Makes the changes in turn, all in one transaction or none: a row's cells are replaced by one DELETE and by one
-    /// INSERT for each new cell, and without cells the row is dropped. An empty list runs no statement. A change that
-    /// names a column twice is a `StoreFault`.
+    /// INSERT for each new cell, and without cells the row is dropped. An empty list runs no statement. A list in which
+    /// a change names a column twice is refused. Where none does, where the database takes the bytes of each cell and
+    /// where rowids are left for all of them, a `StoreFault` has a fault as its cause.
     pub fn apply(&mut self, changes: &[CellChange]) -> Result<(), Cause>
         ensures applied { 0 < length changes.now → OnOk result (Becomes S.Store self.old.conn self.new.conn (tables_after changes.now)) }
         ensures nothing { length changes.now ≡ 0 → (result ≡ Ok tt) × (self.new ≡ self.old) }
         ensures kept { OnErr result (Keeps S.Store self.old.conn self.new.conn) }
         ensures counted { 0 < length changes.now → Counts result self.old.writes self.new.writes (sum_by statements_of changes.now) }
+        ensures once { IsClean S.Store self.new.conn → OnOk result (NameColumnsOnce changes.now) }
         ensures told { Tells result self.old.faults self.new.faults }
+        ensures cause { IsClean S.Store self.new.conn → Allows S.Store self.old.conn changes.now → result ≡ Err Cause.StoreFault → HasFault S.Store self.old.conn self.new.conn }
         ensures others { self.new ≡ record self.old { conn = self.new.conn; writes = self.new.writes; faults = self.new.faults } }
         ensures crash { Endures S.Store self.old.conn self.new.conn (λ tables. IsOpen S.Store self.old.conn × (tables ≡ tables_after changes.now (tables_in S.Store self.old.conn))) }
     {

@@ -1,11 +1,11 @@
 //! The DELETE and the INSERT, and the transaction that makes a list of changes.
 
-ghost use Rattle.std.specs.Prelude.{◌≡◌, ◌+◌, ◌<◌, ◌≤◌, false, length, sum_by, IsTrue, OnOk, OnErr};
+ghost use Rattle.std.specs.Prelude.{◌≡◌, ◌+◌, ◌<◌, ◌≤◌, [], ◌∷◌, false, length, sum_by, IsTrue, IfErr, OnOk, OnErr};
 ghost use Rattle.sqlite.specs.Held.{state};
 ghost use Rattle.sqlite.specs.State.{HasCleanDisk, KeepsCommit, Survives};
-ghost use Rattle.jpa_cells_meaning.specs.Tables.{statements_of, tables_after};
+ghost use Rattle.jpa_cells_meaning.specs.Tables.{statements_of, tables_after, ColumnsDiffer, NameColumnsOnce};
 ghost use Rattle.jpa_cells_meaning.specs.Store.{Counts, up_to_greatest};
-ghost use Rattle.jpa_cells_meaning.specs.Content.{IsCellStore, KeepsContent, Steps, Turns, Applied, Leaves, tables_of, with_cell, with_cells, without_cells, replaced};
+ghost use Rattle.jpa_cells_meaning.specs.Content.{IsCellStore, KeepsContent, IsExcused, Steps, Turns, Applied, Leaves, TakesRowids, CanAdd, CanTake, tables_of, with_cell, with_cells, without_cells, replaced};
 
 use jpa_cells_meaning::{Cell, CellChange};
 use sqlite::{Alter, Connection, Error, Transaction, params};
@@ -30,6 +30,8 @@ fn insert<S: Alter>(
     ensures survives { Survives (state S.Store tx.old.conn.now) (state S.Store tx.new.conn.now) (λ _. ⊥) }
     ensures counted { writes.new ≡ up_to_greatest (writes.old + 1) }
     ensures grown { writes.old ≤ writes.new }
+    ensures takes { HasCleanDisk (state S.Store tx.new.conn.now) → OnOk result (TakesRowids (state S.Store tx.old.conn.now) (state S.Store tx.new.conn.now) 1) }
+    ensures cause { HasCleanDisk (state S.Store tx.new.conn.now) → CanAdd (state S.Store tx.old.conn.now) table row.now (cell.now ∷ []) → IfErr result (IsExcused (state S.Store tx.old.conn.now) (state S.Store tx.new.conn.now)) }
 {
     *writes = writes.saturating_add(1);
     tx.execute(
@@ -53,6 +55,8 @@ fn delete<S: Alter>(
     ensures survives { Survives (state S.Store tx.old.conn.now) (state S.Store tx.new.conn.now) (λ _. ⊥) }
     ensures counted { writes.new ≡ up_to_greatest (writes.old + 1) }
     ensures grown { writes.old ≤ writes.new }
+    ensures takes { HasCleanDisk (state S.Store tx.new.conn.now) → OnOk result (TakesRowids (state S.Store tx.old.conn.now) (state S.Store tx.new.conn.now) 0) }
+    ensures cause { HasCleanDisk (state S.Store tx.new.conn.now) → IfErr result (IsExcused (state S.Store tx.old.conn.now) (state S.Store tx.new.conn.now)) }
 {
     *writes = writes.saturating_add(1);
     tx.execute(DELETE, params![table, row])
@@ -74,6 +78,8 @@ fn insert_all<S: Alter>(
     ensures kept { HasCleanDisk (state S.Store tx.new.conn.now) → OnErr result (KeepsCommit (state S.Store tx.old.conn.now) (state S.Store tx.new.conn.now)) }
     ensures survives { Survives (state S.Store tx.old.conn.now) (state S.Store tx.new.conn.now) (λ _. ⊥) }
     ensures counted { Counts result writes.old writes.new (length cells.now) }
+    ensures takes { HasCleanDisk (state S.Store tx.new.conn.now) → OnOk result (TakesRowids (state S.Store tx.old.conn.now) (state S.Store tx.new.conn.now) (length cells.now)) }
+    ensures cause { HasCleanDisk (state S.Store tx.new.conn.now) → CanAdd (state S.Store tx.old.conn.now) table row.now cells.now → IfErr result (IsExcused (state S.Store tx.old.conn.now) (state S.Store tx.new.conn.now)) }
 {
     let _writes = *writes;
     'cells: for cell in cells {
@@ -95,6 +101,9 @@ fn put<S: Alter>(
     ensures kept { HasCleanDisk (state S.Store tx.new.conn.now) → OnErr result (KeepsCommit (state S.Store tx.old.conn.now) (state S.Store tx.new.conn.now)) }
     ensures survives { Survives (state S.Store tx.old.conn.now) (state S.Store tx.new.conn.now) (λ _. ⊥) }
     ensures counted { Counts result writes.old writes.new (statements_of change.now) }
+    ensures takes { HasCleanDisk (state S.Store tx.new.conn.now) → OnOk result (TakesRowids (state S.Store tx.old.conn.now) (state S.Store tx.new.conn.now) (length change.now.cells)) }
+    ensures once { HasCleanDisk (state S.Store tx.new.conn.now) → OnOk result (ColumnsDiffer change.now.cells) }
+    ensures cause { HasCleanDisk (state S.Store tx.new.conn.now) → CanTake (state S.Store tx.old.conn.now).now (change.now ∷ []) → IfErr result (IsExcused (state S.Store tx.old.conn.now) (state S.Store tx.new.conn.now)) }
 {
     delete(tx, change.table, change.row.as_slice(), writes)?;
     insert_all(
@@ -121,6 +130,8 @@ fn put_all<S: Alter>(
     ensures kept { HasCleanDisk (state S.Store tx.new.conn.now) → OnErr result (KeepsCommit (state S.Store tx.old.conn.now) (state S.Store tx.new.conn.now)) }
     ensures survives { Survives (state S.Store tx.old.conn.now) (state S.Store tx.new.conn.now) (λ _. ⊥) }
     ensures counted { Counts result writes.old writes.new (sum_by statements_of changes.now) }
+    ensures once { HasCleanDisk (state S.Store tx.new.conn.now) → OnOk result (NameColumnsOnce changes.now) }
+    ensures cause { HasCleanDisk (state S.Store tx.new.conn.now) → CanTake (state S.Store tx.old.conn.now).now changes.now → IfErr result (IsExcused (state S.Store tx.old.conn.now) (state S.Store tx.new.conn.now)) }
 {
     let _writes = *writes;
     'changes: for change in changes {
@@ -143,6 +154,8 @@ pub fn apply_all<S: Alter>(
     ensures kept { OnErr result (KeepsContent (state S.Store conn.old) (state S.Store conn.new)) }
     ensures crash { Survives (state S.Store conn.old) (state S.Store conn.new) (Leaves (λ tables. IsTrue (state S.Store conn.old).is_open × (tables ≡ tables_after changes.now (tables_of (state S.Store conn.old).now)))) }
     ensures counted { Counts result writes.old writes.new (sum_by statements_of changes.now) }
+    ensures once { HasCleanDisk (state S.Store conn.new) → OnOk result (NameColumnsOnce changes.now) }
+    ensures cause { HasCleanDisk (state S.Store conn.new) → CanTake (state S.Store conn.old).now changes.now → IfErr result (IsExcused (state S.Store conn.old) (state S.Store conn.new)) }
 {
     let _idle = conn.is_autocommit();
     let mut tx = conn.transaction();

@@ -26,7 +26,7 @@ use Rattle.jpa_cells_meaning.specs.Content.{HoldsCells, IsCellStore, IsExcused}
 use Rattle.jpa_cells_meaning.proofs.Texts.{row_query, row_is, row_plain, table_query, table_is, table_plain}
 
 -- the text is one statement with so many parameters, and does not read the time
-abbrev Takes : List ℕ → ℕ → Result Compiled CompileError → Type 0
+abbrev pub Takes : List ℕ → ℕ → Result Compiled CompileError → Type 0
 Takes sql n (Ok c) = (length sql ≤ c.tail) × (n ≡ length c.names) × (c.formats ≡ [])
 Takes sql n (Err e) = ⊥
 
@@ -44,7 +44,7 @@ row_typed table key = refl
 table_typed : (table : ℤ) → accepts_program cell_schema [] table_query (Int table ∷ []) ≡ true
 table_typed table = refl
 
-fails_excused : (old new : State) (e : Error) → Fails old new ⊥ e → IsExcused old new e
+pub fails_excused : (old new : State) (e : Error) → Fails old new ⊥ e → IsExcused old new e
 fails_excused old new e h = go h.0 h.1 h.2
   where
     go : (cause : StoreError) → e ≡ store_error cause → HasCause old new ⊥ cause → IsExcused old new e

@@ -47,10 +47,10 @@ same_keys table key t k h =
 pub same_itself : (table : ℤ) (key : List ℕ) → is_same table key table key ≡ true
 same_itself table key = and_from _ _ (ap is_eq (tied_itself int_cmp_total table)) (ap is_eq (tied_itself nat_list_cmp_total key))
 
-abbrev NoTies : List Cell → Type 0
+abbrev pub NoTies : List Cell → Type 0
 NoTies = IsAscending (λ a b. is_eq (cell_cmp a b) ≡ false)
 
-ties_permuted : (xs ys : List Cell) → IsPermutation xs ys → NoTies xs → NoTies ys
+pub ties_permuted : (xs ys : List Cell) → IsPermutation xs ys → NoTies xs → NoTies ys
 unfolding IsDistinct
 ties_permuted xs ys same apart = IsDistinct-IsPermutation (λ a b. is_eq (cell_cmp a b)) (λ a b. sym (ap is_eq (cell_cmp_total.antisymm b a) ∙ turned (cell_cmp a b))) xs ys same apart
 

@@ -22,7 +22,7 @@ use Rattle.sqlite.specs.Values.{IsInt}
 abbrev Put : Ordering → Row → Row → List Row → List Row
 Put o new r rows = match_ordering o (r ∷ put_row new rows) (new ∷ rows) (new ∷ r ∷ rows)
 
-all-put : (P : Row → Type 0) (new : Row) (rows : List Row) → P new → AllByRecursion P rows → AllByRecursion P (put_row new rows)
+pub all-put : (P : Row → Type 0) (new : Row) (rows : List Row) → P new → AllByRecursion P rows → AllByRecursion P (put_row new rows)
 all-put P new [] h all = (h, tt)
 all-put P new (r ∷ rows) h all =
     elim (value_cmp (rowid r) (rowid new)) as (λ o. AllByRecursion P (Put o new r rows)) [ Less ↦ (all.0, all-put P new rows h all.1) | Equal ↦ (h, all.1) | Greater ↦ (h, all) ]
@@ -71,7 +71,7 @@ bool_same : (a b : Bool) → (b ≡ true → a ≡ true) → (b ≡ false → a 
 bool_same a true f g = f refl
 bool_same a false f g = g refl
 
-without_filter : (ids : List ℤ) (rows : List Row) → without_all rows ids ≡ filter (λ r. not (list_any (λ id. has_rowid id r) ids)) rows
+pub without_filter : (ids : List ℤ) (rows : List Row) → without_all rows ids ≡ filter (λ r. not (list_any (λ id. has_rowid id r) ids)) rows
 without_filter [] rows = sym (filter_all (λ r. true) rows (all_from _ rows (λ r h. refl)))
 without_filter (id ∷ ids) rows = without_filter ids (without_rowid id rows) ∙ filter_twice (λ r. list_any (λ id. has_rowid id r) ids) (has_rowid id) rows
 

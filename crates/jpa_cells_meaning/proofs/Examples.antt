@@ -1,9 +1,14 @@
 -- The definitions on worked examples, and in the words of a layer above.
-use Rattle.std.proofs.Common.{◌≡◌, ℕ, ℤ, pos, negsuc, List, [], ◌∷◌, codes, refl}
+use Rattle.std.proofs.Common.{◌≡◌, ℕ, ℤ, pos, negsuc, Bool, false, not, nat_lt, length, List, [], ◌∷◌, codes, refl, sym, lit≤, true≢false, arith}
 use Rattle.std.specs.List.{AllByRecursion}
 use Rattle.jpa_cells_meaning.specs.declared.Cell.{Cell}
+use Rattle.jpa_cells_meaning.specs.declared.CellRow.{CellRow}
 use Rattle.jpa_cells_meaning.specs.declared.CellChange.{CellChange}
-use Rattle.jpa_cells_meaning.specs.Tables.{Tables, row_of, cells_at, tables_after, statements_of}
+use Rattle.jpa_cells_meaning.specs.Tables.{Tables, row_of, cells_at, tables_after, ColumnsDiffer, AreShort, wanted, HandsOn, statements_of}
+use Rattle.sqlite.specs.declared.types.Value.TheVariants.{Int, Blob}
+use Rattle.sqlite.specs.Order.{Row}
+use Rattle.jpa_cells_meaning.specs.Content.{IsFollowed, HasRowids, CanTake}
+use Rattle.jpa_cells_meaning.specs.Schema.{cell_schema}
 
 abbrev none : Tables
 none t = []
@@ -53,6 +58,62 @@ third = record { table = negsuc 0; row = 2 ∷ []; cells = discriminator ∷ [] 
 
 ordered : tables_after (first ∷ second ∷ third ∷ []) none (negsuc 0) ≡ row_of (1 ∷ 255 ∷ []) (name ∷ []) ∷ row_of (2 ∷ []) (discriminator ∷ []) ∷ []
 ordered = refl
+
+-- ---- a sink that wants two rows
+
+abbrev two : List CellRow → Bool
+two taken = not (nat_lt (length taken) 2)
+
+abbrev row_at : ℕ → CellRow
+row_at key = row_of (key ∷ []) (name ∷ [])
+
+two_wanted : wanted two [] (row_at 1 ∷ row_at 2 ∷ row_at 3 ∷ []) ≡ row_at 1 ∷ row_at 2 ∷ []
+two_wanted = refl
+
+-- it has one already
+one_wanted : wanted two (row_at 0 ∷ []) (row_at 1 ∷ row_at 2 ∷ row_at 3 ∷ []) ≡ row_at 1 ∷ []
+one_wanted = refl
+
+handed : HandsOn two (row_at 1 ∷ row_at 2 ∷ row_at 3 ∷ []) (row_at 0 ∷ []) (row_at 0 ∷ row_at 1 ∷ [])
+handed = refl
+
+-- a sink that never stops gets all of them
+all_wanted : wanted (λ _. false) [] (row_at 1 ∷ row_at 2 ∷ row_at 3 ∷ []) ≡ row_at 1 ∷ row_at 2 ∷ row_at 3 ∷ []
+all_wanted = refl
+
+-- one that wants two and has two takes one more before it can say so
+one_too_many : wanted two (row_at 0 ∷ row_at 1 ∷ []) (row_at 2 ∷ row_at 3 ∷ []) ≡ row_at 2 ∷ []
+one_too_many = refl
+
+-- ---- what can be written
+
+differ : ColumnsDiffer person.cells
+differ = ((λ same. cc, tt), (tt, tt))
+
+twice : ColumnsDiffer (name ∷ discriminator ∷ name ∷ []) → ⊥
+twice h = h.0.1.0 refl
+
+short : AreShort one person.cells
+short = (lit≤ tt, (lit≤ tt, tt))
+
+-- nothing but a fault stands against the first row of an empty table
+possible : CanTake (record { schema = cell_schema; trees = λ t. [] }) (person ∷ [])
+possible = record { differ = (differ, tt); short = (short, tt); rowids = (λ n within. grind arith, tt) }
+
+-- a row with this rowid
+abbrev numbered : ℤ → Row
+numbered id = Int id ∷ Int (pos 1) ∷ Blob one ∷ Int (pos 2) ∷ Blob [] ∷ []
+
+-- at the greatest rowid none is left
+full : HasRowids 1 (numbered (pos 9223372036854775807) ∷ []) → ⊥
+full h = true≢false (sym (h.1.0 1 (lit≤ tt)))
+
+-- one below it one is left, and no second
+one_left : IsFollowed 1 (pos 9223372036854775806)
+one_left n within = grind arith
+
+one_alone : IsFollowed 2 (pos 9223372036854775806) → ⊥
+one_alone h = true≢false (sym (h 2 (lit≤ tt)))
 
 -- What a layer above says: the cells of these tables are exactly these.
 abbrev Hold : List ℤ → Tables → Tables → Type 0

@@ -19,5 +19,11 @@ pub mod Turning
 pub mod Adding
 pub mod Counting
 pub mod Found
+pub mod Uniqueness
+pub mod Stops
+pub mod Refusals
+pub mod Room
+pub mod Taking
+pub mod Handing
 pub mod Examples
 pub mod Placing

@@ -1,18 +1,17 @@
 -- An INSERT and a DELETE, from what a connection says of them.
-use Rattle.std.proofs.Common.{◌≡◌, ◌⊎◌, inl, inr, ℕ, ℤ, List, [], ◌∷◌, not, Bool, true, false, cond, None, Ok, Err, Result, refl, sym, ap, subst, ◌∙◌}
+use Rattle.std.proofs.Common.{◌≡◌, ℕ, ℤ, List, [], ◌∷◌, filter, not, Bool, true, false, cond, None, Ok, refl, sym, ap, subst, ◌∙◌}
 use Rattle.sqlite.specs.declared.types.Value.{Value}
 use Rattle.sqlite.specs.declared.types.Value.TheVariants.{Null, Int, Blob}
 use Rattle.sqlite.specs.Order.{Row, column}
 use Rattle.sqlite.specs.Ops.{unary}
-use Rattle.sqlite.specs.Query.{Query, IsAnswer, IsSureAnswer}
+use Rattle.sqlite.specs.Query.{IsAnswer}
 use Rattle.sqlite.specs.Program.{overlay}
-use Rattle.sqlite.specs.Schema.{Schema}
 use Rattle.sqlite.specs.Kind.TheVariants.{Integer}
 use Rattle.sqlite.specs.Source.TheVariants.{Values}
 use Rattle.sqlite.specs.Command.TheVariants.{Insert, Delete}
-use Rattle.sqlite.specs.Edit.{Edit, edit_of, edited, next_rowid, is_taken, without_all}
+use Rattle.sqlite.specs.Edit.{Edit, edit_of, next_rowid, is_taken, without_all}
 use Rattle.sqlite.specs.Values.{IsInt}
-use Rattle.sqlite.specs.Cast.{cast, cast_row}
+use Rattle.sqlite.specs.Cast.{cast}
 use Rattle.sqlite.specs.Rowids.TheVariants.{Chosen, Given}
 use Rattle.sqlite.specs.Does.{Tally, Does}
 use Rattle.sqlite.specs.Rows.{Written}
@@ -21,7 +20,6 @@ use Rattle.sqlite.specs.Listing.{understood}
 use Rattle.sqlite.specs.Effect.{Database}
 use Rattle.sqlite.specs.State.{State, mode_of, Executes}
 use Rattle.sqlite.proofs.Callers.{statement_of, runs_as, one_step}
-use Rattle.sqlite_rules.specs.Edit.{Applies}
 use Rattle.sqlite_rules.specs.Calls.{ids_of}
 use Rattle.sqlite_rules.proofs.ProbeLemmas.{found_rowids, rowid_query}
 use Rattle.sqlite_schema.specs.declared.program.Program.{Program}
@@ -35,26 +33,19 @@ use Rattle.jpa_cells_meaning.proofs.RowMeaning.{params, tests}
 use Rattle.jpa_cells_meaning.proofs.Edits.{order_put, left_rows}
 use Rattle.jpa_cells_meaning.proofs.Laws.{cells_in, obeys}
 use Rattle.jpa_cells_meaning.proofs.Contents.{new_row, cell_added, row_dropped}
+use Rattle.jpa_cells_meaning.proofs.Making.{went, same_value}
 
 either : (b : Bool) (x : Value) → cond b x x ≡ x
 either true x = refl
 either false x = refl
 
-cast_null : cast Integer Null ≡ Null
+pub cast_null : cast Integer Null ≡ Null
 unfolding unary
 cast_null = either _ Null
 
-cast_int : (n : ℤ) → cast Integer (Int n) ≡ Int n
+pub cast_int : (n : ℤ) → cast Integer (Int n) ≡ Int n
 unfolding unary
 cast_int n = either _ (Int n)
-
--- a part that gave a value did not stop on the way
-went : {B E R : Type 0} {b : B} {Stops : E → Type 0} → ((stop : E) × Stops stop × (Ok b ≡ Err stop)) ⊎ R → R
-went (inl stopped) = absurd (let e = stopped.2 in cc)
-went (inr on) = on
-
-same_value : {B E : Type 0} {a b : B} → ◌≡◌ {A = Result B E} (Ok a) (Ok b) → a ≡ b
-same_value e = cc
 
 module _ (old new : State) (holds : HoldsCells old.now) (table : ℤ) (key : List ℕ) where
   module _ (col : ℤ) (value : List ℕ) where
@@ -65,7 +56,7 @@ module _ (old new : State) (holds : HoldsCells old.now) (table : ℤ) (key : Lis
     fresh_row = new_row (next_rowid (old.now.trees 0)) table key col value
 
     pub inserts : (count : ℕ) → Executes insert_text given_row old new (Ok count)
-        → HoldsCells new.now × ((t : ℤ) (k : List ℕ) → content new.now t k ≡ with_cell table key (record { column = col; value = value }) (content old.now) t k)
+        → HoldsCells new.now × ((t : ℤ) (k : List ℕ) → content new.now t k ≡ with_cell table key (record { column = col; value = value }) (content old.now) t k) × (new.now.trees 0 ≡ put_row fresh_row (old.now.trees 0))
     inserts count h =
         let db = old.now.trees in
         let command = Insert 0 (Values insert_terms 5) in
@@ -84,10 +75,10 @@ module _ (old new : State) (holds : HoldsCells old.now) (table : ℤ) (key : Lis
         let free : is_taken (db 0) fresh_row ≡ false = not-true _ (and_parts _ _ (subst (λ l. Rattle.sqlite.specs.Edit.are_fresh (db 0) l ≡ true) news step.fresh)).0 in
         let ordered : AreInOrder (new.now.trees 0) = subst AreInOrder (sym after) (order_put fresh_row (db 0) (next_rowid (db 0), refl) holds.ordered) in
         let it : HoldsCells new.now = record { schema = ap (λ (d : Database). d.schema) now; sound = w.sound; ordered = ordered } in
-        (it, cell_added (next_rowid (db 0)) table key col value db new.now.trees after free (cells_in new.now it) (obeys new.now it Unique))
+        (it, cell_added (next_rowid (db 0)) table key col value db new.now.trees after free (cells_in new.now it) (obeys new.now it Unique), after)
 
   pub deletes : (count : ℕ) → Executes delete_text (params table key) old new (Ok count)
-      → HoldsCells new.now × ((t : ℤ) (k : List ℕ) → content new.now t k ≡ without_cells table key (content old.now) t k)
+      → HoldsCells new.now × ((t : ℤ) (k : List ℕ) → content new.now t k ≡ without_cells table key (content old.now) t k) × (new.now.trees 0 ≡ filter (λ r. not (is_of table key r)) (old.now.trees 0))
   deletes count h =
       let db = old.now.trees in
       let kept = cells_in old.now holds in
@@ -112,4 +103,4 @@ module _ (old new : State) (holds : HoldsCells old.now) (table : ℤ) (key : Lis
       (λ x h. let r = those.sound x h in (r.0, r.1, sym (tests table key r.0) ∙ r.2, r.3)) (λ r h passes. those.complete r h (tests table key r ∙ passes)) in
       let rows = after ∙ left in
       let ordered : AreInOrder (new.now.trees 0) = subst AreInOrder (sym rows) (record { rise = ascending-filter _ (λ r. not (is_of table key r)) (db 0) holds.ordered.rise; numbered = all-filter (λ r. IsInt (rowid r)) (λ r. not (is_of table key r)) (db 0) holds.ordered.numbered }) in
-      (record { schema = ap (λ (d : Database). d.schema) now; sound = w.sound; ordered = ordered }, λ t k. ap (cells_of t k) rows ∙ row_dropped table key (db 0) kept t k)
+      (record { schema = ap (λ (d : Database). d.schema) now; sound = w.sound; ordered = ordered }, λ t k. ap (cells_of t k) rows ∙ row_dropped table key (db 0) kept t k, rows)

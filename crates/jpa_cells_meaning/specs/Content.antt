@@ -1,5 +1,5 @@
 -- How the rows of the one table of the database stand for tables of rows of cells, and what a connection over it keeps.
-use Rattle.std.specs.Prelude.{◌≡◌, ◌⊎◌, ◌&&◌, ℕ, ℤ, pos, Bool, false, IsTrue, IsSome, List, [], ◌∷◌, ◌++◌, map, filter, if◌then◌else◌}
+use Rattle.std.specs.Prelude.{◌≡◌, ◌⊎◌, ◌&&◌, ℕ, ◌+◌, ◌≤◌, ℤ, pos, ◌+ℤ◌, Bool, true, false, IsTrue, IsSome, List, [], ◌∷◌, ◌++◌, length, sum_by, map, filter, if◌then◌else◌}
 use Rattle.std.specs.List.{All, AllByRecursion}
 use Rattle.std.specs.declared.cmp.Ordering.{Ordering}
 use Rattle.std.specs.Ordering.{on, then_cmp, is_eq, nat_cmp, int_cmp}
@@ -8,6 +8,8 @@ use Rattle.sqlite.specs.declared.types.Value.TheVariants.{Null, Int, Real, Text,
 use Rattle.sqlite.specs.Order.{Row, column, value_cmp, bytes}
 use Rattle.sqlite.specs.Tree.{Trees, IsTable, rowid}
 use Rattle.sqlite.specs.Values.{IsInt}
+use Rattle.sqlite.specs.Ops.{fits_i64}
+use Rattle.sqlite.specs.Edit.{id_in}
 use Rattle.sqlite_keyed.specs.Lists.{insert_sorted, sort_by}
 use Rattle.std.specs.Cmp.Lexicographic.{slice_cmp}
 use Rattle.sqlite.specs.Effect.{Database, IsDatabase}
@@ -19,7 +21,7 @@ use Rattle.sqlite.specs.declared.error.ErrorCode.TheVariants as code
 use Rattle.jpa_cells_meaning.specs.declared.Cell.{Cell}
 use Rattle.jpa_cells_meaning.specs.declared.CellRow.{CellRow}
 use Rattle.jpa_cells_meaning.specs.declared.CellChange.{CellChange}
-use Rattle.jpa_cells_meaning.specs.Tables.{Tables, AreRows, row_of, cells_at, cell_cmp, placed, tables_after}
+use Rattle.jpa_cells_meaning.specs.Tables.{Tables, AreRows, row_of, cells_at, cell_cmp, placed, tables_after, ColumnsDiffer, NameColumnsOnce, AreShort}
 use Rattle.jpa_cells_meaning.specs.Schema.{cell_schema}
 
 -- the number, and 0 at a value of another kind
@@ -235,3 +237,32 @@ IsFault old new = MoreFaults old.faults new.faults ⊎ ((old.is_open ≡ false) 
 
 abbrev pub IsExcused : State → State → Error → Type 0
 IsExcused old new e = (e ≡ SqliteFailure code.OutOfMemory) ⊎ IsFault old new
+
+-- ---- when a write has no cause to fail
+
+-- this rowid and so many after it are numbers of 64 bits
+abbrev pub IsFollowed : ℕ → ℤ → Type 0
+IsFollowed count id = (n : ℕ) → n ≤ count → fits_i64 (id +ℤ pos n) ≡ true
+
+-- so many new rows each find a rowid, which is one above the last, or 1 where there is no row
+abbrev pub HasRowids : ℕ → List Row → Type 0
+HasRowids count rows = IsFollowed count (pos 0) × AllByRecursion (λ r. IsFollowed count (id_in (rowid r))) rows
+
+-- no more rowids than so many are gone
+abbrev pub TakesRowids : State → State → ℕ → Type 0
+TakesRowids old new count = (more : ℕ) → HasRowids (more + count) (old.now.trees 0) → HasRowids more (new.now.trees 0)
+
+-- the row takes these cells beside those that it has
+pub record CanAdd (s : State) (table : ℤ) (key : List ℕ) (cells : List Cell) : Type 0 where
+  pub differ : ColumnsDiffer (content s.now table key ++ cells)
+  pub short : AreShort key cells
+  pub rowids : HasRowids (length cells) (s.now.trees 0)
+
+abbrev pub cells_in_all : List CellChange → ℕ
+cells_in_all = sum_by (λ (c : CellChange). length c.cells)
+
+-- no change names a column twice, the database takes their bytes, and each of their cells finds a rowid
+pub record CanTake (db : Database) (changes : List CellChange) : Type 0 where
+  pub differ : NameColumnsOnce changes
+  pub short : AllByRecursion (λ (c : CellChange). AreShort c.row c.cells) changes
+  pub rowids : HasRowids (cells_in_all changes) (db.trees 0)

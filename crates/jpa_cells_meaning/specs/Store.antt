@@ -1,14 +1,15 @@
 -- A store of cells, in the words of the layers above it: which tables a connection stands for, and what a call leaves of them.
-use Rattle.std.specs.Prelude.{◌≡◌, ◌⊎◌, ◌+◌, ◌-◌, ◌^◌, ◌≤◌, min, ℕ, [], IsTrue, Result, Ok, Err, OnOk, refl}
+use Rattle.std.specs.Prelude.{◌≡◌, ◌⊎◌, ◌+◌, ◌-◌, ◌^◌, ◌≤◌, min, ℕ, List, [], IsTrue, Result, Ok, Err, OnOk, refl}
 use Rattle.std.specs.Coded.{Coded, code_by, coded×, coded_ℕ}
 use Rattle.sqlite_trees.specs.declared.store.Store.{Ghosts}
 use Rattle.sqlite.specs.Held.{Held, held_code, state}
 use Rattle.sqlite.specs.State.{HasCleanDisk, Survives}
 use Rattle.jpa_value.specs.declared.refusal.Cause.{Cause}
 use Rattle.jpa_value.specs.declared.refusal.Cause.TheVariants as cause
+use Rattle.jpa_cells_meaning.specs.declared.CellChange.{CellChange}
 use Rattle.jpa_cells_meaning.specs.Tables.{Tables}
 use Rattle.jpa_cells_meaning.specs.Schema.{cell_schema, no_schema}
-use Rattle.jpa_cells_meaning.specs.Content.{AreInOrder, IsCellStore, IsFault as Faults, Leaves, tables_of}
+use Rattle.jpa_cells_meaning.specs.Content.{AreInOrder, IsCellStore, CanTake, IsFault as Faults, Leaves, tables_of}
 
 -- the connection, and how often each kind of statement was run and a statement was refused
 pub record Stored (S : Type 0) : Type 0 where
@@ -102,3 +103,7 @@ module _ {S : Type 0} (g : Ghosts S) where
   -- a fault of the disk, a connection that was shut, or a limit on steps that the caller set
   abbrev pub HasFault : Held S → Held S → Type 0
   HasFault old new = Faults (state g old) (state g new)
+
+  -- nothing but a fault stands against these changes
+  abbrev pub Allows : Held S → List CellChange → Type 0
+  Allows conn changes = CanTake (state g conn).now changes

@@ -1,5 +1,5 @@
 -- Tables of rows of cells, and what changes make of them.
-use Rattle.std.specs.Prelude.{◌≡◌, ◌⊎◌, ◌+◌, ◌++◌, Bool, IsTrue, ℕ, ℤ, not, List, [], ◌∷◌, length, filter, fold, if◌then◌else◌}
+use Rattle.std.specs.Prelude.{◌≡◌, ◌≢◌, ◌+◌, ◌^◌, ◌≤◌, ◌++◌, Bool, ℕ, ℤ, not, List, [], ◌∷◌, length, filter, fold, if◌then◌else◌}
 use Rattle.std.specs.List.{AllByRecursion}
 use Rattle.std.specs.declared.cmp.Ordering.{Ordering}
 use Rattle.std.specs.declared.cmp.Ordering.TheVariants.{Less}
@@ -42,6 +42,18 @@ cells_at key (row ∷ rows) = if is_eq (key_cmp key row.row) then row.cells else
 abbrev pub placed : List Cell → List Cell
 placed cells = fold (λ sorted cell. insert_sorted cell_cmp cell sorted) [] cells
 
+-- no column comes twice
+abbrev pub ColumnsDiffer : List Cell → Type 0
+ColumnsDiffer = IsAscending (λ (a b : Cell). a.column ≢ b.column)
+
+-- no change names a column twice
+abbrev pub NameColumnsOnce : List CellChange → Type 0
+NameColumnsOnce = AllByRecursion (λ (c : CellChange). ColumnsDiffer c.cells)
+
+-- The database takes a billion bytes in a row, with 18 for each of its five values.
+abbrev pub AreShort : List ℕ → List Cell → Type 0
+AreShort key = AllByRecursion (λ (c : Cell). 90 + length key + length c.value ≤ 10 ^ 9)
+
 -- the rows with this one in its place, and in place of the one that has its bytes
 abbrev pub with_row : CellRow → List CellRow → List CellRow
 with_row new [] = new ∷ []
@@ -63,13 +75,18 @@ abbrev pub tables_after : List CellChange → Tables → Tables
 tables_after [] tables = tables
 tables_after (change ∷ changes) tables = tables_after changes (changed change tables)
 
--- some of the rows were handed on in their order, from the first
-abbrev pub HandsSome : List CellRow → List CellRow → List CellRow → Type 0
-HandsSome rows before after = (handed left : List CellRow) × (rows ≡ handed ++ left) × (after ≡ before ++ handed)
+-- the rows up to the first after which no more are wanted, with that one, where these were taken before
+abbrev pub wanted : (List CellRow → Bool) → List CellRow → List CellRow → List CellRow
+wanted stops taken [] = []
+wanted stops taken (row ∷ rows) = row ∷ (if stops (taken ++ row ∷ []) then [] else wanted stops (taken ++ row ∷ []) rows)
 
--- all of them were, or those up to the one after which no more were wanted
-abbrev pub HandsOn : List CellRow → List CellRow → List CellRow → Bool → Type 0
-HandsOn rows before after done = (handed left : List CellRow) × (rows ≡ handed ++ left) × (after ≡ before ++ handed) × ((left ≡ []) ⊎ IsTrue done)
+-- the rows that are wanted were handed on, and no other
+abbrev pub HandsOn : (List CellRow → Bool) → List CellRow → List CellRow → List CellRow → Type 0
+HandsOn stops rows before after = after ≡ before ++ wanted stops before rows
+
+-- some of them were, from the first, but not the last
+abbrev pub HandsSome : (List CellRow → Bool) → List CellRow → List CellRow → List CellRow → Type 0
+HandsSome stops rows before after = (handed left : List CellRow) × (wanted stops before rows ≡ handed ++ left) × (after ≡ before ++ handed) × (left ≡ [] → handed ≡ [])
 
 -- one DELETE for the row, and one INSERT for each cell
 abbrev pub statements_of : CellChange → ℕ

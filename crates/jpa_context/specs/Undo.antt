@@ -1,5 +1,5 @@
 -- What a manager at work keeps so that it can undo: what it works on now, and what undoing gives.
-use Rattle.std.specs.Prelude.{◌≡◌, ◌<◌, ℕ, All, Bool, List, length, Option, Some, None, true, false}
+use Rattle.std.specs.Prelude.{◌≡◌, ◌<◌, ℕ, All, Bool, List, length, true, false}
 use Rattle.jpa_model.specs.declared.unit.PersistenceUnit.{PersistenceUnit}
 use Rattle.jpa_stored.specs.Sets.{StoredSet, all_shaped}
 use Rattle.jpa_heap.specs.declared.Life.{Life}
@@ -13,12 +13,7 @@ use Rattle.jpa_context.specs.Work.{Work}
 
 -- the work as it is
 abbrev pub now : UnitOfWork → Work
-now u = record { manager = u.manager; objects = u.objects.now; context = u.context.now; numbers = u.numbers.now; view = u.view; events = u.events }
-
--- the set that it saw before another took its place
-abbrev pub view_before : Option StoredSet → StoredSet → StoredSet
-view_before None view = view
-view_before (Some set) view = set
+now u = record { manager = u.manager; objects = u.objects.now; context = u.context.now; numbers = u.numbers.now; view = u.view.now; events = u.events }
 
 -- what undoing gives
 pub record Since : Type 0 where
@@ -28,11 +23,11 @@ pub record Since : Type 0 where
   pub view : StoredSet
 
 abbrev pub since : UnitOfWork → Since
-since u = record { objects = u.objects.since; context = u.context.since; numbers = u.numbers.since; view = view_before u.replaced u.view }
+since u = record { objects = u.objects.since; context = u.context.since; numbers = u.numbers.since; view = u.view.since }
 
 -- nothing is to be undone
 abbrev pub IsKept : UnitOfWork → Type 0
-IsKept u = (u.objects.since ≡ u.objects.now) × (u.context.since ≡ u.context.now) × (u.numbers.since ≡ u.numbers.now) × (u.replaced ≡ None)
+IsKept u = (u.objects.since ≡ u.objects.now) × (u.context.since ≡ u.context.now) × (u.numbers.since ≡ u.numbers.now) × (u.view.since ≡ u.view.now)
 
 -- an entry's object has the key under which it entered, which is whole
 pub record IsKeyed (objects : List LiveObject) (e : Entry) : Type 0 where

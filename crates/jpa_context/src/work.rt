@@ -5,11 +5,10 @@ ghost use Rattle.jpa_context.specs.Undo.{IsKept, now, since};
 use crate::PersistenceContext;
 use jpa_heap::LiveObject;
 use jpa_protocol::Told;
-use jpa_stored::StoredSet;
+use jpa_stored::OpenSet;
 use jpa_undo::UndoList;
 use jpa_value::Seq;
 use std::alloc::Global;
-use std::mem;
 
 /// What an operation of a manager works on, in place: a refused call undoes what it changed.
 ///
@@ -25,25 +24,12 @@ pub struct UnitOfWork {
     /// The next number of each class that is a root with generated keys (chapter 2.4); 1 for any other.
     pub numbers: UndoList<u64>,
     /// The stored objects that the manager sees.
-    pub view: StoredSet,
-    /// Those that it saw before, where a flush made others of them.
-    pub replaced: Option<StoredSet>,
+    pub view: OpenSet,
     /// What was told so far (chapter 3.5).
     pub events: Seq<Told>,
 }
 
 impl UnitOfWork {
-    /// Another set of stored objects to see. Takes no memory.
-    pub fn replace_view(&mut self, view: StoredSet)
-        ensures now { now self.new ≡ record (now self.old) { view = view } }
-        ensures since { since self.new ≡ since self.old }
-    {
-        let old = mem::replace(&mut self.view, view);
-        if self.replaced.is_none() {
-            self.replaced = Some(old);
-        }
-    }
-
     /// Keeps what was changed: from now on it is what undoing leads back to. Takes no memory.
     pub fn keep(&mut self)
         ensures now { now self.new ≡ now self.old }
@@ -52,7 +38,7 @@ impl UnitOfWork {
         self.objects.keep();
         self.context.keep();
         self.numbers.keep();
-        self.replaced = None;
+        self.view.keep();
     }
 
     /// Undoes what was changed since it was last kept; the events are let go. Takes no memory.
@@ -63,9 +49,7 @@ impl UnitOfWork {
         self.objects.undo();
         self.context.undo();
         self.numbers.undo();
-        if let Some(view) = self.replaced.take() {
-            self.view = view;
-        }
+        self.view.undo();
         self.events = Seq::new(alloc);
     }
 }

@@ -1,6 +1,6 @@
 -- What holds of a work after a plan is written.
 use Rattle.std.proofs.Common.{◌≡◌, ◌∙◌, ◌<◌, List, [], ◌∷◌, length, refl, ap, sym, subst, arith, get_or, false}
-use Rattle.std.specs.Prelude.{All}
+use Rattle.std.specs.Prelude.{All, Some}
 use Rattle.std.proofs.lemmas.Bool.{cond_both}
 use Rattle.std.proofs.lemmas.List.Elements.{All-map}
 use Rattle.jpa_model.specs.declared.unit.PersistenceUnit.{PersistenceUnit}
@@ -10,11 +10,11 @@ use Rattle.jpa_heap.specs.declared.LiveObject.{LiveObject}
 use Rattle.jpa_heap.specs.Shape.{HasShape}
 use Rattle.jpa_context.specs.declared.Entry.{Entry}
 use Rattle.jpa_context.specs.declared.Lock.{Lock}
-use Rattle.jpa_context.specs.Undo.{IsPlaced, IsPlain, is_removed_life}
+use Rattle.jpa_context.specs.Undo.{IsPlain, is_removed_life}
 use Rattle.jpa_context.specs.Work.{Work, state_of, is_managed}
 use Rattle.jpa_lifecycle.specs.Flat.{IsFlat}
 use Rattle.jpa_flush.specs.declared.planning.Planned.{Planned}
-use Rattle.jpa_flush.specs.Flush.{lowered, members_held, remembered_in, remembered}
+use Rattle.jpa_flush.specs.Flush.{settled, lowered, members_held, remembered_in, remembered, all_remembered}
 use Rattle.jpa_flush.specs.Plan.{settled_by, applied}
 use Rattle.jpa_flush.proofs.Settled.{same_count, objects_keep, entries_keep}
 use Rattle.jpa_flush.proofs.Remembered.{AreBare}
@@ -27,15 +27,15 @@ none_of : {X : Type 0} (xs : List X) → length xs ≡ 0 → xs ≡ []
 none_of [] h = refl
 none_of (x ∷ xs) h = absurd (omega arith)
 
-pub bare_after : (m : PersistenceUnit) → IsFlat m → (plan : List Planned) (w : Work) → IsPlaced m w → AreBare (settled_by plan w).objects
+pub bare_after : (m : PersistenceUnit) → IsFlat m → (plan : List Planned) (w : Work) → All (HasShape m) w.objects → AreBare (settled_by plan w).objects
 bare_after m flat plan w h =
-    objects_keep (λ x. x.relations ≡ []) refl (λ x v k. k) plan w (λ k d l. bare (get_or w.objects k d) (h.objects k d l))
+    objects_keep (λ x. x.relations ≡ []) refl (λ x v k. k) plan w (λ k d l. bare (get_or w.objects k d) (h k d l))
   where
     bare : (x : LiveObject) → HasShape m x → x.relations ≡ []
     bare x k = none_of x.relations (k.relations ∙ ap (λ (rs : List Relation). length rs) (flat.relations x.class))
 
-pub plain_after : (m : PersistenceUnit) (plan : List Planned) (set : StoredSet) (w : Work) → IsPlain w → IsPlain (applied m plan set w)
-plain_after m plan set w h =
+pub plain_after : (m : PersistenceUnit) (plan : List Planned) (w : Work) → IsPlain w → IsPlain (all_remembered m (settled_by plan w))
+plain_after m plan w h =
     let v = settled_by plan w in
     let locks = entries_keep (λ (e : Entry). e.lock ≡ Lock.Unlocked) (λ x e k. ap lowered k) plan w h.context in
     record {
@@ -45,3 +45,17 @@ plain_after m plan set w h =
           (λ k d l. let e = get_or v.context k d in
           cond_both (is_managed (state_of v e.object)) (record e { base = remembered_in (members_held m v e.object) e.base }) e (λ (x : Entry). x.lock ≡ Lock.Unlocked) (λ q. locks k d l) (λ q. locks k d l));
     }
+
+-- an object is settled alike over another set
+settled_over : (plan : List Planned) (set : StoredSet) (w : Work) → settled_by plan (record w { view = set }) ≡ record (settled_by plan w) { view = set }
+settled_over [] set w = refl
+settled_over (p ∷ ps) set w = settled_over ps set (settled p.object (Some p.stored) w)
+
+-- what is settled and remembered over the new set is the plan applied
+pub applied_over : (m : PersistenceUnit) (plan : List Planned) (set : StoredSet) (w : Work) → all_remembered m (settled_by plan (record w { view = set })) ≡ applied m plan set w
+applied_over m plan set w = ap (all_remembered m) (settled_over plan set w)
+
+-- what is settled sees the set that it saw
+pub view_kept : (plan : List Planned) (w : Work) → (settled_by plan w).view ≡ w.view
+view_kept [] w = refl
+view_kept (p ∷ ps) w = view_kept ps (settled p.object (Some p.stored) w)

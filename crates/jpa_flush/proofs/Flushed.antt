@@ -17,7 +17,7 @@ use Rattle.jpa_model.specs.declared.unit.Relation.{Relation}
 use Rattle.jpa_model.specs.Chains.{is_versioned}
 use Rattle.jpa_behaviour.specs.Behaviour.{World}
 use Rattle.jpa_stored.specs.declared.stored.Stored.{Stored}
-use Rattle.jpa_stored.specs.Sets.{StoredSet, without, fault_of}
+use Rattle.jpa_stored.specs.Sets.{StoredSet, without, put_all, fault_of}
 use Rattle.jpa_context.specs.declared.Entry.{Entry}
 use Rattle.jpa_context.specs.declared.EntityState.{EntityState}
 use Rattle.jpa_context.specs.Undo.{IsPlain}
@@ -30,7 +30,7 @@ use Rattle.jpa_lifecycle.specs.Flat.{IsFlat}
 use Rattle.jpa_ops.specs.States.{persist}
 use Rattle.jpa_flush.specs.declared.planning.Planned.{Planned}
 use Rattle.jpa_flush.specs.Flush.{Action, Insert, Replace, Drop, persist_targets, persist_behind, persist_from, orphans_of, orphans_along, remove_orphan, remove_orphans_of, remove_orphans, links_along, links_stored, check_links, pre_update, check_actions, first_version, raised, stored_of, written, actions, listed, replaces_row, joined, joined_all, flushed, sound_or, settled, settled_all, all_remembered, after_flush, post, write_all, flush}
-use Rattle.jpa_flush.specs.Writes.{paired, writes, put_all}
+use Rattle.jpa_flush.specs.Writes.{paired, writes}
 use Rattle.jpa_flush.specs.Plan.{plan_of, writes_of, settled_by, told_by, applied}
 use Rattle.jpa_flush.proofs.Plain.{IsPlainEntry, IsKept, drops, item, items, plan_is, all_kept, plain_entries, plain_stored_of}
 use Rattle.jpa_flush.proofs.Joined.{is_written, AreWritten, put_over}
@@ -80,10 +80,10 @@ all_linked m flat w (e ∷ es) =
     and_from (links_stored m w e) (list_all (links_stored m w) es) one (all_linked m flat w es)
 
 -- the flush from its last part back
-abbrev writing : World → Op (Unit {0})
+abbrev pub writing : World → Op (Unit {0})
 writing world = check_actions world >> write_all world
 
-abbrev updating : World → Op (Unit {0})
+abbrev pub updating : World → Op (Unit {0})
 updating world = pre_update world >> writing world
 
 abbrev linking : World → Op (Unit {0})
@@ -95,7 +95,7 @@ orphaning world = remove_orphans world >> linking world
 linked : (world : World) (b : Bool) (w : Work) → b ≡ true → after (require b (Cause.IllegalState State.Reference) w) (λ _. updating world) ≡ updating world w
 linked world b w h = ap (λ c. after (require c (Cause.IllegalState State.Reference) w) (λ _. updating world)) h
 
-flat_flush : (world : World) → IsFlat world.model → (w : Work) → flush world w ≡ updating world w
+pub flat_flush : (world : World) → IsFlat world.model → (w : Work) → flush world w ≡ updating world w
 flat_flush world flat w =
     ap (λ o. after o (λ _. orphaning world)) (nothing_from world flat (length w.objects) 0 w)
     ∙ ap (λ o. after o (λ _. linking world)) (no_orphan world flat w.context w)

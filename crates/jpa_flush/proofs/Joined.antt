@@ -3,14 +3,14 @@ use Rattle.std.proofs.Common.{◌≡◌, ◌∙◌, Bool, true, false, List, [],
 use Rattle.std.specs.Prelude.{not, ◌||◌, Option, Some, None, if◌then◌else◌}
 use Rattle.std.specs.List.{list_any}
 use Rattle.std.specs.declared.cmp.Ordering.{Ordering}
-use Rattle.std.specs.FinMap.Entries.{find, is_sorted, find-put, find-where_key, is_sorted-put, is_sorted-where_key, same_entries}
+use Rattle.std.specs.FinMap.Entries.{find, is_sorted, find-put, find-where_key, is_sorted-where_key, same_entries}
 use Rattle.std.proofs.lemmas.Bool.{false≢true}
 use Rattle.jpa_value.specs.declared.value.Identity.{Identity}
 use Rattle.jpa_value.specs.Value.{identity_cmp, same_identity}
 use Rattle.jpa_value.proofs.Orders.{identity_total, identity_exact}
 use Rattle.jpa_stored.specs.declared.stored.Stored.{Stored}
-use Rattle.jpa_stored.specs.Sets.{StoredSet, with_stored, without}
-use Rattle.jpa_flush.specs.Writes.{put_all}
+use Rattle.jpa_stored.specs.Sets.{StoredSet, with_stored, without, put_all}
+use Rattle.jpa_stored.proofs.Puts.{rises}
 
 -- what is found after the writes, where before them o was found
 abbrev found : Identity → List (Identity × Stored) → Option Stored → Option Stored
@@ -33,10 +33,6 @@ found_anyway q (e ∷ es) o p h = by_first (λ k. found_anyway q es o p k) (same
     by_first rest true h = refl
     by_first rest false h = rest h
 
-sorted_all : (es : List (Identity × Stored)) (s : StoredSet) → T (is_sorted identity_cmp s) → T (is_sorted identity_cmp (put_all es s))
-sorted_all [] s h = h
-sorted_all (e ∷ es) s h = sorted_all es (with_stored e.0 e.1 s) (is_sorted-put identity_cmp identity_total e.0 e.1 s h)
-
 -- each of these identities is written
 abbrev pub AreWritten : List Identity → List (Identity × Stored) → Type 0
 AreWritten ids es = (q : Identity) → list_any (same_identity q) ids ≡ true → is_written q es ≡ true
@@ -52,7 +48,7 @@ found_over q ids es false o e h = refl
 pub put_over : (ids : List Identity) (es : List (Identity × Stored)) (s : StoredSet) → AreWritten ids es → T (is_sorted identity_cmp s) → put_all es (without ids s) ≡ put_all es s
 put_over ids es s h sorted =
     same_entries identity_cmp identity_total identity_exact (put_all es (without ids s)) (put_all es s)
-    (sorted_all es (without ids s) (is_sorted-where_key identity_cmp (λ id. not (list_any (same_identity id) ids)) s sorted)) (sorted_all es s sorted)
+    (rises es (without ids s) (is_sorted-where_key identity_cmp (λ id. not (list_any (same_identity id) ids)) s sorted)) (rises es s sorted)
     (λ q. found_in q es (without ids s)
     ∙ ap (found q es) (find-where_key identity_cmp (λ id. not (list_any (same_identity id) ids)) q (λ x e. tied_alike ids q x e) s)
     ∙ found_over q ids es (list_any (same_identity q) ids) (find identity_cmp q s) refl h

@@ -1,7 +1,9 @@
 pub mod Applied
 pub mod Converts
 pub mod Flushed
+pub mod InOrder
 pub mod Joined
+pub mod Judged
 pub mod Plain
 pub mod Remembered
 pub mod Rounds

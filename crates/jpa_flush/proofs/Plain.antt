@@ -49,7 +49,7 @@ not_removed manager (Life.Managed k) h = not_removed_if (k == manager)
 not_removed manager (Life.Removed k) h = absurd (true≢false h)
 not_removed manager Life.Detached h = refl
 
-and_true : (b : Bool) → (b && true) ≡ b
+pub and_true : (b : Bool) → (b && true) ≡ b
 and_true true = refl
 and_true false = refl
 

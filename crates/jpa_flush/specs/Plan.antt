@@ -1,7 +1,7 @@
 -- The flush of a unit without relations and listeners, with no object removed and no entry locked: what it does with each
 -- entry of the context, and what it writes.
 use Rattle.std.specs.Prelude.{ℕ, ℤ, Bool, true, false, not, ◌&&◌, is_some, List, [], ◌∷◌, Option, Some, None}
-use Rattle.std.specs.List.{flat_map}
+use Rattle.std.specs.List.{flat_map, zip}
 use Rattle.std.specs.Option.{option_to_list}
 use Rattle.jpa_value.specs.declared.value.Value.{Value}
 use Rattle.jpa_value.specs.declared.value.Identity.{Identity}
@@ -9,10 +9,10 @@ use Rattle.jpa_value.specs.declared.refusal.Cause.{Cause}
 use Rattle.jpa_value.specs.declared.refusal.Persist.{Persist}
 use Rattle.jpa_value.specs.declared.event.LifecycleEvent.{LifecycleEvent}
 use Rattle.jpa_model.specs.declared.unit.PersistenceUnit.{PersistenceUnit}
-use Rattle.jpa_model.specs.Chains.{is_versioned}
+use Rattle.jpa_model.specs.Chains.{attributes_of, is_versioned}
 use Rattle.jpa_behaviour.specs.Behaviour.{World}
 use Rattle.jpa_stored.specs.declared.stored.Stored.{Stored}
-use Rattle.jpa_stored.specs.Sets.{StoredSet}
+use Rattle.jpa_stored.specs.Sets.{StoredSet, values_there}
 use Rattle.jpa_heap.specs.declared.LiveObject.{LiveObject}
 use Rattle.jpa_context.specs.declared.Base.{Base}
 use Rattle.jpa_context.specs.declared.Entry.{Entry}
@@ -43,6 +43,11 @@ abbrev pub update : World → ℕ → Step → Op (Unit {0})
 update world n Step.Keep = done
 update world n Step.Insert = done
 update world n (Step.Replace version) = callback world LifecycleEvent.PreUpdate n
+
+-- ---- the values that a class requires are there
+
+abbrev pub has_required : PersistenceUnit → Stored → Bool
+has_required m x = values_there (zip (attributes_of m x.class) x.values)
 
 -- ---- the checks
 

@@ -4,7 +4,6 @@ use Rattle.std.specs.List.{flat_map}
 use Rattle.jpa_value.specs.declared.value.Identity.{Identity}
 use Rattle.jpa_model.specs.declared.unit.PersistenceUnit.{PersistenceUnit}
 use Rattle.jpa_stored.specs.declared.stored.Stored.{Stored}
-use Rattle.jpa_stored.specs.Sets.{StoredSet, with_stored}
 use Rattle.jpa_context.specs.Work.{Work, identity_at}
 use Rattle.jpa_flush.specs.Flush.{actions, written}
 
@@ -16,8 +15,3 @@ paired (Some id) (Some x) = (id, x) ∷ []
 
 abbrev pub writes : PersistenceUnit → Work → List (Identity × Stored)
 writes m w = flat_map (λ a. paired (identity_at m w a.0) (written m w a.0 a.1)) (actions m w)
-
--- the objects put into a set, one after another
-abbrev pub put_all : List (Identity × Stored) → StoredSet → StoredSet
-put_all [] set = set
-put_all (e ∷ es) set = put_all es (with_stored e.0 e.1 set)

@@ -1,46 +1,50 @@
 //! The flush of a manager's context.
-ghost use Rattle.std.specs.Prelude.{◌≡◌, ◌<◌, All, length, IfOk, OnOk};
+ghost use Rattle.std.specs.Prelude.{◌≡◌, ◌<◌, ◌==◌, true, All, length, IfOk, OnOk};
 ghost use Rattle.jpa_behaviour.specs.Registered.{world_of};
 ghost use Rattle.jpa_context.specs.Steps.{Ends, Meets};
 ghost use Rattle.jpa_context.specs.Undo.{now, since, IsPlaced, IsPlain};
 ghost use Rattle.jpa_lifecycle.specs.Flat.{IsFlat};
 ghost use Rattle.jpa_flush.specs.Flush as flushes;
+ghost use Rattle.jpa_flush.specs.Order.{is_in_order};
 ghost use Rattle.jpa_flush.specs.Plan as plans;
-ghost use Rattle.jpa_flush.specs.Writes.{writes, put_all};
+ghost use Rattle.jpa_flush.specs.Writes.{writes};
+ghost use Rattle.jpa_heap.specs.Shape.{HasShape};
+ghost use Rattle.jpa_stored.specs.Sets.{IsSound, all_distinct, put_all};
 
+use crate::judging::judge;
 use crate::planning::{Planned, plan};
 use crate::settling::{remember, settle};
 use crate::telling::{tell_updates, tell_written};
-use crate::writing::{with_writes, writes_of};
+use crate::writing::{write_all, writes_of};
 use jpa_behaviour::{Behaviour, Registry};
 use jpa_context::UnitOfWork;
 use jpa_model::Metamodel;
-use jpa_stored::{Stored, StoredSet, integrity};
+use jpa_stored::Stored;
 use jpa_value::{Cause, Identity, Seq};
 use std::alloc::Global;
 
-/// The work after a plan is written: the objects have their versions and bases, the work sees the new set, and what was
-/// written is told.
+/// The work after a plan is written: the objects have their versions and bases, and what was written is told.
 fn apply<B: Behaviour>(
     alloc: Global,
     metamodel: &Metamodel,
     registry: &Registry<B>,
     work: &mut UnitOfWork,
     plan: &[Planned],
-    view: StoredSet,
 ) -> Result<(), Cause>
     requires flat { IsFlat metamodel.now }
-    requires placed { IsPlaced metamodel.now (now work.old) }
+    requires shaped { All (HasShape metamodel.now) (now work.old).objects }
+    requires entries { All (λ e. e.object < length work.old.objects.now) work.old.context.now }
     requires plain { IsPlain (now work.old) }
     requires objects { All (λ p. p.object < length work.old.objects.now) plan.now }
-    ensures meets { Meets result (now work.new) (plans.told_by (world_of B.meaning metamodel.now registry.now) plan.now (plans.applied metamodel.now plan.now view (now work.old))) }
+    requires distinct { all_distinct (λ a b. a.object == b.object) work.old.context.now ≡ true }
+    requires order { is_in_order plan.now work.old.context.now ≡ true }
+    ensures meets { Meets result (now work.new) (plans.told_by (world_of B.meaning metamodel.now registry.now) plan.now (flushes.all_remembered metamodel.now (plans.settled_by plan.now (now work.old)))) }
     ensures plain { OnOk result (IsPlain (now work.new)) }
-    ensures view { OnOk result (work.new.view ≡ view) }
+    ensures view { OnOk result ((now work.new).view ≡ (now work.old).view) }
     ensures since { since work.new ≡ since work.old }
 {
     settle(alloc, work, plan)?;
     remember(alloc, metamodel, work)?;
-    work.replace_view(view);
     tell_written(alloc, metamodel, registry, work, plan)?;
     Ok(())
 }
@@ -51,8 +55,10 @@ fn apply<B: Behaviour>(
 ///
 /// `EntityExists` where an object that is new to the set has the identity of one in it; `OptimisticLock` where the set
 /// has not the version that an object was loaded with; `Persistence(version)` where a version can't rise;
-/// `Persistence(converter)` where a converter throws; `Persistence(null)`, `(reference)` or `(unique)` where the new set
-/// isn't sound; `OutOfMemory` where a growth was refused. What a refused call changed is undone by `UnitOfWork::undo`.
+/// `Persistence(converter)` where a converter throws; `Persistence(null)` where a value is not there that its class
+/// requires; `OutOfMemory` where a growth was refused. What a refused call changed is undone by `UnitOfWork::undo`.
+///
+/// It looks at each entry of the context once, and of the set at what it writes alone.
 pub fn flush<B: Behaviour>(
     alloc: Global,
     metamodel: &Metamodel,
@@ -62,17 +68,19 @@ pub fn flush<B: Behaviour>(
     requires flat { IsFlat metamodel.now }
     requires placed { IsPlaced metamodel.now (now work.old) }
     requires plain { IsPlain (now work.old) }
+    requires sound { IsSound metamodel.now (since work.old).view }
+    requires distinct { all_distinct (λ a b. a.object == b.object) work.old.context.now ≡ true }
     ensures ends { Ends result (now work.new) (flushes.flush (world_of B.meaning metamodel.now registry.now) (now work.old)) }
     ensures written { IfOk result (λ objects. objects ≡ writes metamodel.now (now work.old)) }
-    ensures view { IfOk result (λ objects. work.new.view ≡ put_all objects work.old.view) }
+    ensures view { IfOk result (λ objects. work.new.view.now ≡ put_all objects work.old.view.now) }
     ensures plain { OnOk result (IsPlain (now work.new)) }
     ensures since { since work.new ≡ since work.old }
 {
     tell_updates(alloc, metamodel, registry, work)?;
     let plan = plan(alloc, metamodel, registry, work)?;
     let writes = writes_of(alloc, plan.as_slice())?;
-    let view = with_writes(&work.view, writes.as_slice())?;
-    integrity(metamodel.unit(), &view)?;
-    apply(alloc, metamodel, registry, work, plan.as_slice(), view)?;
+    write_all(work, writes.as_slice())?;
+    judge(metamodel, &work.view)?;
+    apply(alloc, metamodel, registry, work, plan.as_slice())?;
     Ok(writes)
 }

@@ -6,6 +6,7 @@
 
 mod checking;
 mod flushing;
+mod judging;
 mod planning;
 mod settling;
 mod steps;

@@ -1,9 +1,11 @@
 //! The objects and their bases after a write.
-ghost use Rattle.std.specs.Prelude.{◌≡◌, ◌<◌, [], All, length, IfOk, IfErr, OnOk};
+ghost use Rattle.std.specs.Prelude.{◌≡◌, ◌<◌, ◌==◌, true, Some, [], All, length, map, slice_get, IfOk, IfErr, OnOk};
 ghost use Rattle.jpa_context.specs.Undo.{now, since};
 ghost use Rattle.jpa_context.specs.Work as works;
+ghost use Rattle.jpa_stored.specs.Sets.{all_distinct};
 ghost use Rattle.jpa_value.specs.declared.refusal.Cause.{Cause};
 ghost use Rattle.jpa_flush.specs.Flush as flushes;
+ghost use Rattle.jpa_flush.specs.Order.{is_in_order};
 ghost use Rattle.jpa_flush.specs.Plan as plans;
 
 use crate::planning::Planned;
@@ -40,27 +42,6 @@ fn settled_entry(alloc: Global, entry: &Entry, stored: &Stored) -> Result<Entry,
     })
 }
 
-/// The entries of an object that was written take it as their base.
-fn settle_entries(
-    alloc: Global,
-    work: &mut UnitOfWork,
-    object: usize,
-    stored: &Stored,
-) -> Result<(), Cause>
-    ensures ok { OnOk result (now work.new ≡ works.with_entry object (flushes.settled_entry stored.now) (now work.old)) }
-    ensures err { IfErr result (λ cause. cause ≡ Cause.OutOfMemory) }
-    ensures since { since work.new ≡ since work.old }
-{
-    for i in 0..work.context.len() {
-        let entry = &work.context.as_slice()[i];
-        if entry.object == object {
-            let settled = settled_entry(alloc, entry, stored)?;
-            work.context.set(i, settled)?;
-        }
-    }
-    Ok(())
-}
-
 /// An object takes the version that was written.
 fn settle_version(work: &mut UnitOfWork, object: usize, version: Option<i64>) -> Result<(), Cause>
     requires { object < length work.old.objects.now }
@@ -74,16 +55,42 @@ fn settle_version(work: &mut UnitOfWork, object: usize, version: Option<i64>) ->
     Ok(())
 }
 
-/// Each object of a plan takes the version that was written, and its base is what was written.
+/// An object that was written takes the version, and the entry at its place in the context what was written as its base.
+fn settle_at(
+    alloc: Global,
+    work: &mut UnitOfWork,
+    place: usize,
+    planned: &Planned,
+) -> Result<(), Cause>
+    requires object { planned.now.object < length work.old.objects.now }
+    requires place { slice_get (map (λ e. e.object) work.old.context.now) place ≡ Some planned.now.object }
+    requires distinct { all_distinct (λ a b. a.object == b.object) work.old.context.now ≡ true }
+    ensures ok { OnOk result (now work.new ≡ flushes.settled planned.now.object (Some planned.now.stored) (now work.old)) }
+    ensures err { IfErr result (λ cause. cause ≡ Cause.OutOfMemory) }
+    ensures since { since work.new ≡ since work.old }
+{
+    settle_version(work, planned.object, planned.stored.version)?;
+    let settled = settled_entry(alloc, &work.context.as_slice()[place], &planned.stored)?;
+    work.context.set(place, settled)?;
+    Ok(())
+}
+
+/// Each object of a plan takes the version that was written, and its base is what was written. The plan has its objects in
+/// the order of the context, so one walk along both meets each.
 pub fn settle(alloc: Global, work: &mut UnitOfWork, plan: &[Planned]) -> Result<(), Cause>
-    requires { All (λ p. p.object < length work.old.objects.now) plan.now }
+    requires objects { All (λ p. p.object < length work.old.objects.now) plan.now }
+    requires distinct { all_distinct (λ a b. a.object == b.object) work.old.context.now ≡ true }
+    requires order { is_in_order plan.now work.old.context.now ≡ true }
     ensures ok { OnOk result (now work.new ≡ plans.settled_by plan.now (now work.old)) }
     ensures err { IfErr result (λ cause. cause ≡ Cause.OutOfMemory) }
     ensures since { since work.new ≡ since work.old }
 {
-    for planned in plan {
-        settle_version(work, planned.object, planned.stored.version)?;
-        settle_entries(alloc, work, planned.object, &planned.stored)?;
+    let mut next = 0;
+    for i in 0..work.context.len() {
+        if next < plan.len() && plan[next].object == work.context.as_slice()[i].object {
+            settle_at(alloc, work, i, &plan[next])?;
+            next += 1;
+        }
     }
     Ok(())
 }

@@ -1,13 +1,15 @@
-//! The new set.
-ghost use Rattle.std.specs.Prelude.{◌≡◌, T, IfOk, IfErr};
+//! What is written over the set that a manager sees.
+ghost use Rattle.std.specs.Prelude.{◌≡◌, T, IfOk, IfErr, OnOk};
 ghost use Rattle.std.specs.FinMap.Entries.{is_sorted};
-ghost use Rattle.jpa_value.specs.Value.{identity_cmp};
+ghost use Rattle.jpa_context.specs.Undo.{now, since};
+ghost use Rattle.jpa_stored.specs.Sets.{put_all};
 ghost use Rattle.jpa_value.specs.declared.refusal.Cause.{Cause};
+ghost use Rattle.jpa_value.specs.Value.{identity_cmp};
 ghost use Rattle.jpa_flush.specs.Plan as plans;
-ghost use Rattle.jpa_flush.specs.Writes.{put_all};
 
 use crate::planning::Planned;
-use jpa_stored::{Stored, StoredSet};
+use jpa_context::UnitOfWork;
+use jpa_stored::Stored;
 use jpa_value::{Cause, Identity, Seq, TryCopy};
 use std::alloc::Global;
 
@@ -25,17 +27,18 @@ pub fn writes_of(alloc: Global, plan: &[Planned]) -> Result<Seq<(Identity, Store
     Ok(writes)
 }
 
-/// A set with these objects put into it.
-pub fn with_writes(set: &StoredSet, writes: &[(Identity, Stored)]) -> Result<StoredSet, Cause>
-    ensures ok { IfOk result (λ joined. joined ≡ put_all writes.now set.now) }
+/// Writes objects over the set that the manager sees. What a refused call wrote is undone with the work.
+pub fn write_all(work: &mut UnitOfWork, writes: &[(Identity, Stored)]) -> Result<(), Cause>
+    ensures ok { OnOk result (now work.new ≡ record (now work.old) { view = put_all writes.now (now work.old).view }) }
+    ensures events { (now work.new).events ≡ (now work.old).events }
     ensures err { IfErr result (λ cause. cause ≡ Cause.OutOfMemory) }
-    ensures rising { T (is_sorted identity_cmp set.now) }
+    ensures since { since work.new ≡ since work.old }
+    ensures rising { T (is_sorted identity_cmp (now work.old).view) }
 {
     // What is seen of a set rises by identity.
-    let _rising = set.entries();
-    let mut joined = set.try_copy()?;
+    let _rising = work.view.written();
     for (id, stored) in writes {
-        joined.put(id.try_copy()?, stored.try_copy()?)?;
+        work.view.put(id.try_copy()?, stored.try_copy()?)?;
     }
-    Ok(joined)
+    Ok(())
 }

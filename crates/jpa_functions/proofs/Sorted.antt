@@ -1,8 +1,10 @@
 -- Names in a list of functions, and among what is registered.
-use Rattle.std.proofs.Common.{◌≡◌, ◌⊎◌, inl, inr, ℕ, Bool, true, false, List, [], ◌∷◌, ◌++◌, Option, Some, None, Ok, Err, refl, sym, ap, ◌∙◌, subst, append_assoc, T}
+use Rattle.std.proofs.Common.{◌≡◌, ◌⊎◌, inl, inr, ℕ, Bool, true, false, List, [], ◌∷◌, ◌++◌, Option, Some, None, Ok, Err, refl, sym, ap, ◌∙◌, append_assoc}
 use Rattle.std.specs.Prelude.{not, ◌&&◌, ◌||◌, cond, find, is_some, option_map, if◌then◌else◌}
 use Rattle.std.specs.Option.{option_to_list}
 use Rattle.std.specs.List.{list_any, filter_map, cons_option}
+use Rattle.std.specs.Cmp.Derive.{both_true}
+use Rattle.std.specs.Cmp.{first_so, second_so}
 use Rattle.jpa_value.specs.declared.refusal.Argument.{Argument}
 use Rattle.jpa_value.specs.declared.refusal.Cause.{Cause}
 use Rattle.jpa_model.specs.Chains.{same_name}
@@ -15,23 +17,9 @@ use Rattle.jpa_functions.specs.declared.make.Listener.{Listener}
 use Rattle.jpa_functions.specs.declared.make.Converter.{Converter}
 use Rattle.jpa_functions.specs.Distinct.{none_meets}
 use Rattle.jpa_functions.specs.Sorts.{are_of_one_sort, share_a_name, are_named_once, listener_so, converter_so, listeners_in, converters_in, registered, stands}
+use Rattle.jpa_functions.specs.Laws.{false_true}
 
 -- ---- small facts
-
-false_true : false ≡ true → ⊥
-false_true e = subst T (sym e) tt
-
-and_both : (a b : Bool) → a ≡ true → b ≡ true → a && b ≡ true
-and_both true b h g = g
-and_both false b h g = h
-
-and_first : (a b : Bool) → a && b ≡ true → a ≡ true
-and_first true b e = refl
-and_first false b e = e
-
-and_second : (a b : Bool) → a && b ≡ true → b ≡ true
-and_second true b e = e
-and_second false b e = absurd (false_true e)
 
 and_false : (a : Bool) → a && false ≡ false
 and_false true = refl
@@ -106,15 +94,15 @@ once_more : (fs : List Function) (name : List ℕ) (make : Make)
     → (are_distinct_by (λ k. k.name) (listeners_in fs) ≡ true → are_distinct_by (λ k. k.name) (converters_in fs) ≡ true → are_named_once fs ≡ true)
     → not (list_any (λ g. are_of_one_sort make g.make && same_name name g.name) fs) && are_named_once fs ≡ true
 once_more fs name (Make.Listener l) h k more =
-    and_both _ (are_named_once fs)
+    both_true
     (ap not (sym (any_in listener_so (are_of_one_sort (Make.Listener l)) (listener_first (are_of_one_sort (Make.Listener l)) (λ m. refl) (λ c. refl)) (same_name name) fs))
-    ∙ and_first (not (list_any (λ j. same_name name j.name) (listeners_in fs))) _ h)
-    (more (and_second (not (list_any (λ j. same_name name j.name) (listeners_in fs))) _ h) k)
+    ∙ first_so (not (list_any (λ j. same_name name j.name) (listeners_in fs))) _ h)
+    (more (second_so (not (list_any (λ j. same_name name j.name) (listeners_in fs))) _ h) k)
 once_more fs name (Make.Converter c) h k more =
-    and_both _ (are_named_once fs)
+    both_true
     (ap not (sym (any_in converter_so (are_of_one_sort (Make.Converter c)) (converter_first (are_of_one_sort (Make.Converter c)) (λ m. refl) (λ d. refl)) (same_name name) fs))
-    ∙ and_first (not (list_any (λ j. same_name name j.name) (converters_in fs))) _ k)
-    (more h (and_second (not (list_any (λ j. same_name name j.name) (converters_in fs))) _ k))
+    ∙ first_so (not (list_any (λ j. same_name name j.name) (converters_in fs))) _ k)
+    (more h (second_so (not (list_any (λ j. same_name name j.name) (converters_in fs))) _ k))
 
 once : (fs : List Function) → are_distinct_by (λ k. k.name) (listeners_in fs) ≡ true → are_distinct_by (λ k. k.name) (converters_in fs) ≡ true → are_named_once fs ≡ true
 once [] h k = refl

@@ -2,11 +2,12 @@
 -- program answers such.
 use Rattle.std.specs.Prelude.{◌≡◌, ◌↔◌, ◌⊎◌, ◌<◌, ◌+◌, ◌-◌, ℕ, zero, suc, ℤ, pos, negsuc, ◌+ℤ◌, int_lt, nat_lt, Bool, true, false, not, ◌&&◌, ◌||◌, List, [], ◌∷◌, find, cond, if◌then◌else◌, codes, bytes_eq, Option, Some, None, option_map, Result, Ok, Err}
 use Rattle.std.specs.List.{list_all, list_any}
-use Rattle.std.specs.Cmp.{Equal-is, tied_itself}
+use Rattle.std.specs.Cmp.{Equal-is, tied_itself, first_so, second_so}
 use Rattle.std.specs.Ordering.{is_eq}
 use Rattle.std.proofs.Common.{refl, sym, ap, ◌∙◌, subst, inl, inr, arith, T}
 use Rattle.std.proofs.lemmas.Bool.Decides.{nat_tests}
 use Rattle.std.proofs.lemmas.Slice.Eq.{bytes_eq-Decides}
+use Rattle.std.proofs.lemmas.Option.{none-some, same_Some}
 use Rattle.hex.specs.Hex.{IsBytes, encode_lower, decode_of}
 use Rattle.hex.specs.declared.error.FromHexError.{FromHexError}
 use Rattle.hex.proofs.HexLemmas.{decode_of-encode_lower}
@@ -26,13 +27,7 @@ use Rattle.jpa_functions.specs.Functions.{named_so, value_of, value_or_null, ass
 
 -- ---- small facts
 
-none_some : {A : Type 0} (x : A) → None ≡ Some x → ⊥
-none_some x e = cc
-
-some_in : {A : Type 0} (x y : A) → Some x ≡ Some y → x ≡ y
-some_in x y e = cc
-
-false_true : false ≡ true → ⊥
+pub false_true : false ≡ true → ⊥
 false_true e = subst T (sym e) tt
 
 or_first : (a b : Bool) → a ≡ true → a || b ≡ true
@@ -42,14 +37,6 @@ or_first false b h = absurd (false_true h)
 or_second : (a b : Bool) → b ≡ true → a || b ≡ true
 or_second true b h = refl
 or_second false b h = h
-
-and_first : (a b : Bool) → a && b ≡ true → a ≡ true
-and_first true b e = refl
-and_first false b e = e
-
-and_second : (a b : Bool) → a && b ≡ true → b ≡ true
-and_second true b e = e
-and_second false b e = absurd (false_true e)
 
 not_both : (a : Bool) → not a ≡ true → a ≡ true → ⊥
 not_both true e h = false_true e
@@ -72,7 +59,7 @@ module _ (from to : Pair → Value) where
   -- it is the first pair, or one of the others
   at_first : (b : Bool) (p : Pair) (o : Option Pair) (d : Value) → option_map to (cond b (Some p) o) ≡ Some d
       → ((b ≡ true) × (to p ≡ d)) ⊎ ((b ≡ false) × (option_map to o ≡ Some d))
-  at_first true p o d e = inl (refl, some_in (to p) d e)
+  at_first true p o d e = inl (refl, same_Some (to p) d e)
   at_first false p o d e = inr (refl, e)
 
   is_first : (b : Bool) (p : Pair) (o : Option Pair) → b ≡ true → option_map to (cond b (Some p) o) ≡ Some (to p)
@@ -86,7 +73,7 @@ module _ (from to : Pair → Value) where
   -- where a side is shared, the pairs are not apart
   module _ (shared : (p q : Pair) → same_value (from p) (from q) ≡ true → share_a_side p q ≡ true) where
     meets : (p : Pair) (ps : List Pair) (d : Value) → beside ps (from p) ≡ Some d → list_any (share_a_side p) ps ≡ true
-    meets p [] d e = absurd (none_some d e)
+    meets p [] d e = absurd (none-some d e)
     meets p (q ∷ qs) d e = elim (at_first (same_value (from q) (from p)) q (find (λ r. same_value (from r) (from p)) qs) d e) [
       | inl h ↦ or_first (share_a_side p q) _ (shared p q (same_itself (from p) (from q) (sym (is_same (from q) (from p) h.0))))
       | inr h ↦ or_second (share_a_side p q) _ (meets p qs d h.1)
@@ -94,13 +81,13 @@ module _ (from to : Pair → Value) where
 
 turned : (from to : Pair → Value) → ((p q : Pair) → same_value (to p) (to q) ≡ true → share_a_side p q ≡ true)
     → (ps : List Pair) (v d : Value) → are_apart ps ≡ true → beside from to ps v ≡ Some d → beside to from ps d ≡ Some v
-turned from to shared [] v d h e = absurd (none_some d e)
+turned from to shared [] v d h e = absurd (none-some d e)
 turned from to shared (p ∷ ps) v d h e = elim (at_first from to (same_value (from p) v) p (find (λ q. same_value (from q) v) ps) d e) [
   | inl k ↦ is_first to from (same_value (to p) d) p (find (λ q. same_value (to q) d) ps) (same_itself (to p) d k.1) ∙ ap Some (is_same (from p) v k.0)
   | inr k ↦
-      let rest : beside to from ps d ≡ Some v = turned from to shared ps v d (and_second (not (list_any (share_a_side p) ps)) _ h) k.1 in
+      let rest : beside to from ps d ≡ Some v = turned from to shared ps v d (second_so (not (list_any (share_a_side p) ps)) _ h) k.1 in
       is_later to from (same_value (to p) d) p (find (λ q. same_value (to q) d) ps)
-      (λ t. not_both (list_any (share_a_side p) ps) (and_first (not (list_any (share_a_side p) ps)) _ h)
+      (λ t. not_both (list_any (share_a_side p) ps) (first_so (not (list_any (share_a_side p) ps)) _ h)
       (meets to from shared p ps v (ap (λ u. beside to from ps u) (is_same (to p) d t) ∙ rest)))
       ∙ rest
 ]
@@ -118,10 +105,10 @@ flipped_twice (pos n) = refl
 flipped_twice (negsuc n) = refl
 
 turned_round : (v d : Value) → flip v ≡ Some d → flip d ≡ Some v
-turned_round Value.Null d e = absurd (none_some d e)
-turned_round (Value.Int n) d e = ap flip (sym (some_in (Value.Int (flipped n)) d e)) ∙ ap (λ m. Some (Value.Int m)) (flipped_twice n)
-turned_round (Value.Text bytes) d e = absurd (none_some d e)
-turned_round (Value.Bytes bytes) d e = absurd (none_some d e)
+turned_round Value.Null d e = absurd (none-some d e)
+turned_round (Value.Int n) d e = ap flip (sym (same_Some (Value.Int (flipped n)) d e)) ∙ ap (λ m. Some (Value.Int m)) (flipped_twice n)
+turned_round (Value.Text bytes) d e = absurd (none-some d e)
+turned_round (Value.Bytes bytes) d e = absurd (none-some d e)
 
 -- ---- bytes and their digits
 
@@ -130,35 +117,35 @@ byte_below b h = grind (arith, nat_tests)
 
 bytes_below : (bytes : List ℕ) → list_all (λ b. nat_lt b 256) bytes ≡ true → IsBytes bytes
 bytes_below [] h i = omega arith
-bytes_below (b ∷ bytes) h zero = byte_below b (and_first (nat_lt b 256) _ h)
-bytes_below (b ∷ bytes) h (suc i) = bytes_below bytes (and_second (nat_lt b 256) _ h) i
+bytes_below (b ∷ bytes) h zero = byte_below b (first_so (nat_lt b 256) _ h)
+bytes_below (b ∷ bytes) h (suc i) = bytes_below bytes (second_so (nat_lt b 256) _ h) i
 
 as_digits : (bytes digits : List ℕ) → decode_of digits ≡ Ok bytes → encode_lower bytes ≡ digits → bytes_of (Value.Text digits) ≡ Some (Value.Bytes bytes)
 as_digits bytes digits e same = ap (if_decoded digits) e ∙ ap (λ b. if b then Some (Value.Bytes bytes) else None) ((bytes_eq-Decides (encode_lower bytes) digits).1 same)
 
 to_bytes : (v d : Value) → is_convertible v ≡ true → digits_of v ≡ Some d → bytes_of d ≡ Some v
-to_bytes Value.Null d h e = absurd (none_some d e)
-to_bytes (Value.Int n) d h e = absurd (none_some d e)
-to_bytes (Value.Text bytes) d h e = absurd (none_some d e)
+to_bytes Value.Null d h e = absurd (none-some d e)
+to_bytes (Value.Int n) d h e = absurd (none-some d e)
+to_bytes (Value.Text bytes) d h e = absurd (none-some d e)
 to_bytes (Value.Bytes bytes) d h e =
-    let fit : IsBytes bytes = bytes_below bytes (and_second (is_short (Value.Bytes bytes)) _ h) in
-    ap bytes_of (sym (some_in (Value.Text (encode_lower bytes)) d e)) ∙ as_digits bytes (encode_lower bytes) (decode_of-encode_lower bytes fit) refl
+    let fit : IsBytes bytes = bytes_below bytes (second_so (is_short (Value.Bytes bytes)) _ h) in
+    ap bytes_of (sym (same_Some (Value.Text (encode_lower bytes)) d e)) ∙ as_digits bytes (encode_lower bytes) (decode_of-encode_lower bytes fit) refl
 
 from_written : (digits bytes : List ℕ) (b : Bool) (v : Value) → bytes_eq (encode_lower bytes) digits ≡ b → (if b then Some (Value.Bytes bytes) else None) ≡ Some v
     → digits_of v ≡ Some (Value.Text digits)
 from_written digits bytes true v same e =
-    ap digits_of (sym (some_in (Value.Bytes bytes) v e)) ∙ ap (λ t. Some (Value.Text t)) ((bytes_eq-Decides (encode_lower bytes) digits).0 same)
-from_written digits bytes false v same e = absurd (none_some v e)
+    ap digits_of (sym (same_Some (Value.Bytes bytes) v e)) ∙ ap (λ t. Some (Value.Text t)) ((bytes_eq-Decides (encode_lower bytes) digits).0 same)
+from_written digits bytes false v same e = absurd (none-some v e)
 
 from_digits : (digits : List ℕ) (r : Result (List ℕ) FromHexError) (v : Value) → if_decoded digits r ≡ Some v → digits_of v ≡ Some (Value.Text digits)
 from_digits digits (Ok bytes) v e = from_written digits bytes (bytes_eq (encode_lower bytes) digits) v refl e
-from_digits digits (Err fault) v e = absurd (none_some v e)
+from_digits digits (Err fault) v e = absurd (none-some v e)
 
 to_digits : (v d : Value) → bytes_of d ≡ Some v → digits_of v ≡ Some d
-to_digits v Value.Null e = absurd (none_some v e)
-to_digits v (Value.Int n) e = absurd (none_some v e)
+to_digits v Value.Null e = absurd (none-some v e)
+to_digits v (Value.Int n) e = absurd (none-some v e)
 to_digits v (Value.Text digits) e = from_digits digits (decode_of digits) v e
-to_digits v (Value.Bytes bytes) e = absurd (none_some v e)
+to_digits v (Value.Bytes bytes) e = absurd (none-some v e)
 
 pub inverse : ConvertersAreInverse meaning
 inverse Converter.Flip v d h g = (turned_round v d, turned_round d v)
@@ -171,7 +158,7 @@ found_representable : (values : List Named) (name : List ℕ) → list_all names
     → is_representable (value_or_null (option_map (λ n. n.value) (named_so values name))) ≡ true
 found_representable [] name h = refl
 found_representable (n ∷ ns) name h =
-    one (same_name n.name name) n (named_so ns name) (and_first (names_representable n) _ h) (found_representable ns name (and_second (names_representable n) _ h))
+    one (same_name n.name name) n (named_so ns name) (first_so (names_representable n) _ h) (found_representable ns name (second_so (names_representable n) _ h))
   where
     one : (b : Bool) (n : Named) (o : Option Named) → names_representable n ≡ true → is_representable (value_or_null (option_map (λ m. m.value) o)) ≡ true
         → is_representable (value_or_null (option_map (λ m. m.value) (cond b (Some n) o))) ≡ true

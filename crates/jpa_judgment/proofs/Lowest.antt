@@ -16,7 +16,8 @@ use Rattle.jpa_rowspace.proofs.Ids.{numbered}
 use Rattle.jpa_judgment.specs.Sound.{IsSoundRow, AreSoundRows}
 use Rattle.jpa_judgment.specs.Damage.{IsSoundCells, IsSoundTable, IsLowestDamage}
 use Rattle.jpa_judgment.specs.Reads.{AreNumbersOf, AreReadInto, IsFirstUnsound}
-use Rattle.jpa_judgment.proofs.Parts.{all_front, all_back, all_then, append_nil, rows_append, no_rows, rows_from, tables_from}
+use Rattle.jpa_rows.proofs.Splits.{all_then}
+use Rattle.jpa_judgment.proofs.Parts.{all_front, all_back, append_nil, rows_append, no_rows, rows_from, tables_from}
 use Rattle.jpa_judgment.proofs.Reading.{ReadsTables, into_all, seen, before, lower_front, seen_lower, seen_front, seen_own, into_rises, known_number}
 
 -- ---- the rows of cells that spell rows

@@ -7,6 +7,7 @@ use Rattle.std.specs.Ordering.{nat_cmp, ordering_then, is_lt}
 use Rattle.std.specs.declared.cmp.Ordering.{Ordering}
 use Rattle.jpa_value.specs.Value.{identity_cmp, key_cmp}
 use Rattle.jpa_rows.specs.Rows.{RowId, Row, Rows, AreRising, table_rows}
+use Rattle.jpa_rows.proofs.Splits.{all_then}
 use Rattle.jpa_row_laws.proofs.Facts.{is_less, first_holds, second_holds, both_hold}
 use Rattle.jpa_view.proofs.Classes.{below, is_below}
 
@@ -23,10 +24,6 @@ all_front P (x ∷ xs) ys h = (h.0, all_front P xs ys h.1)
 pub all_back : {X : Type 0} (P : X → Type 0) (xs ys : List X) → AllByRecursion P (xs ++ ys) → AllByRecursion P ys
 all_back P [] ys h = h
 all_back P (x ∷ xs) ys h = all_back P xs ys h.1
-
-pub all_then : {X : Type 0} (P Q : X → Type 0) → ((x : X) → P x → Q x) → (xs : List X) → AllByRecursion P xs → AllByRecursion Q xs
-all_then P Q f [] h = tt
-all_then P Q f (x ∷ xs) h = (f x h.0, all_then P Q f xs h.1)
 
 pub append_nil : {X : Type 0} (xs : List X) → xs ++ [] ≡ xs
 append_nil [] = refl

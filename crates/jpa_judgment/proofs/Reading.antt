@@ -15,7 +15,8 @@ use Rattle.jpa_cells_meaning.specs.Tables.{Tables, key_cmp, AreRows}
 use Rattle.jpa_rowspace.specs.Reading.{AreEntries, IsReadBy}
 use Rattle.jpa_rowspace.proofs.Ids.{numbered}
 use Rattle.jpa_judgment.specs.Reads.{IsRising, AreNumbersOf, AreReadWhole, AreReadInto}
-use Rattle.jpa_judgment.proofs.Parts.{all_append, all_front, all_then, append_nil, same_number, apart_number, rows_append, own_rows, no_rows, rise_after}
+use Rattle.jpa_rows.proofs.Splits.{all_then}
+use Rattle.jpa_judgment.proofs.Parts.{all_append, all_front, append_nil, same_number, apart_number, rows_append, own_rows, no_rows, rise_after}
 
 -- ---- rows of cells
 

@@ -14,7 +14,8 @@ use Rattle.jpa_rows.specs.Rows.{RowId, Row}
 use Rattle.jpa_row_laws.proofs.Facts.{true_false}
 use Rattle.jpa_row_laws.proofs.Elements.{Has, from_flat_map, into_flat_map}
 use Rattle.jpa_row_laws.proofs.Lists.{any_has, has_any}
-use Rattle.jpa_view.specs.Identities.{classes, declares, declarer_at, root_at, is_join_of}
+use Rattle.jpa_rows.specs.Tables.{classes}
+use Rattle.jpa_view.specs.Identities.{declares, declarer_at, root_at, is_join_of}
 use Rattle.jpa_view.specs.Unambiguous.{IsUnambiguous, is_class, joins_of}
 use Rattle.jpa_view.specs.View.{is_storable}
 use Rattle.jpa_view.proofs.Classes.{class_within, within_classes, find_some, find_missed}

@@ -1,11 +1,10 @@
 //! The next numbers that rows say.
-ghost use Rattle.std.specs.Prelude.{◌≡◌, ◌<◌, ◌^◌, Some, length, IfOk, IfErr};
+ghost use Rattle.std.specs.Prelude.{◌≡◌, ◌<◌, ◌^◌, Some, IfOk, IfErr};
 ghost use Rattle.std.specs.FinMap.{find};
 ghost use Rattle.jpa_judgment.specs.Numbers.{zero_column};
 ghost use Rattle.std.specs.Option.{option_copied};
 ghost use Rattle.jpa_value.specs.Value.{identity_cmp};
 ghost use Rattle.jpa_value.specs.declared.refusal.Cause.{Cause};
-ghost use Rattle.jpa_model.specs.Chains as chains;
 ghost use Rattle.jpa_rows.specs.Numbers.{IsNarrowOrigin};
 ghost use Rattle.jpa_rows.specs.Rows.{AreRising};
 ghost use Rattle.jpa_object_rows.specs.Objects as objects;
@@ -13,7 +12,7 @@ ghost use Rattle.jpa_object_rows.specs.Sets as sets;
 
 use crate::numbers::natural_in;
 use jpa_model::{Metamodel, Origin};
-use jpa_rows::{Field, Row, RowId};
+use jpa_rows::{Field, Row, RowId, origin_of};
 use jpa_value::{Cause, Identity, Seq, Value, order_identities};
 use std::alloc::Global;
 use std::cmp::Ordering;
@@ -89,15 +88,6 @@ fn next_of(alloc: Global, rows: &[(RowId, Row)], origin: &Origin) -> Result<u64,
         Origin::Root(root) if root.generated => number_of(alloc, rows, root.table),
         _ => Ok(1),
     }
-}
-
-/// Where a class stands in its hierarchy; a root's table fits 32 bits.
-fn origin_of(metamodel: &Metamodel, class: usize) -> &Origin
-    requires { class < length metamodel.now.entities }
-    ensures origin { result.now ≡ (chains.entity_at metamodel.now class).origin }
-    ensures narrow { IsNarrowOrigin result.now }
-{
-    &metamodel.unit().entities.as_slice()[class].origin
 }
 
 /// The next number that rows say of each class.

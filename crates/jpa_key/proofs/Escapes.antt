@@ -3,8 +3,9 @@ use Rattle.std.specs.Prelude.{◌≡◌, ℕ, suc, ◌+◌, ◌≤◌, Bool, tru
 use Rattle.std.proofs.Common.{refl, sym, ap, ◌∙◌, arith}
 use Rattle.jpa_key.specs.Keys.{escaped}
 use Rattle.jpa_key.specs.Reading.{joined, unescaped}
-use Rattle.jpa_key.proofs.Joins.{some_none, some_parts, Joined, joined_some}
+use Rattle.jpa_key.proofs.Joins.{some_parts, Joined, joined_some}
 use Rattle.std.proofs.lemmas.Bool.Decides.{nat_tests}
+use Rattle.std.proofs.lemmas.Option.{none-some}
 
 pub tied_numbers : (a b : ℕ) → a == b ≡ true → a ≡ b
 tied_numbers a b e = grind (arith, nat_tests)
@@ -73,8 +74,8 @@ at_end b bytes contents count e nothing one =
     }
 
 pub escape_only : (after_zero : Bool) (bytes contents : List ℕ) (count : ℕ) → unescaped after_zero bytes ≡ Some (contents, count) → Escaped after_zero bytes contents count
-escape_only false [] contents count e = absurd (some_none _ e)
-escape_only true [] contents count e = absurd (some_none _ e)
+escape_only false [] contents count e = absurd (none-some _ e)
+escape_only true [] contents count e = absurd (none-some _ e)
 escape_only false (b ∷ bytes) contents count e =
     elim (b == 0) as (λ x. b == 0 ≡ x → cond x (joined [] 1 (unescaped true bytes)) (joined (b ∷ []) 1 (unescaped false bytes)) ≡ Some (contents, count) → Escaped false (b ∷ bytes) contents count) [
       | true ↦ λ h g. let w = joined_some [] 1 (unescaped true bytes) contents count g in after_zero_byte b bytes contents count _ w h (escape_only true bytes w.rest w.more w.was)
@@ -85,6 +86,6 @@ escape_only true (b ∷ bytes) contents count e =
       | true ↦ λ h g. let ends = some_parts {A = List ℕ} {B = ℕ} ([], 1) (contents, count) g in at_end b bytes contents count h ends.0 ends.1
       | false ↦ λ h g. elim (b == 255) as (λ x. b == 255 ≡ x → cond x (joined (0 ∷ []) 1 (unescaped false bytes)) None ≡ Some (contents, count) → Escaped true (b ∷ bytes) contents count) [
         | true ↦ λ k f. let w = joined_some (0 ∷ []) 1 (unescaped false bytes) contents count f in after_escape b bytes contents count _ w k (escape_only false bytes w.rest w.more w.was)
-        | false ↦ λ k f. absurd (some_none _ f)
+        | false ↦ λ k f. absurd (none-some _ f)
       ] refl g
     ] refl e

@@ -1,25 +1,8 @@
 -- What is read first and what is read after it.
-use Rattle.std.specs.Prelude.{◌≡◌, ℕ, ◌+◌, Bool, true, false, ◌&&◌, List, ◌++◌, Option, Some, None, T}
-use Rattle.std.proofs.Common.{refl, sym, ap, subst}
+use Rattle.std.specs.Prelude.{◌≡◌, ℕ, ◌+◌, List, ◌++◌, Option, Some, None}
+use Rattle.std.proofs.Common.{refl, ap}
+use Rattle.std.proofs.lemmas.Option.{none-some}
 use Rattle.jpa_key.specs.Reading.{joined}
-
-pub some_none : {A : Type 0} (x : A) → None ≡ Some x → ⊥
-some_none x e = cc
-
-pub and_first : (a b : Bool) → a && b ≡ true → a ≡ true
-and_first true b e = refl
-and_first false b e = e
-
-pub and_second : (a b : Bool) → a && b ≡ true → b ≡ true
-and_second true b e = e
-and_second false b e = absurd (subst T (sym e) tt)
-
-pub and_both : (a b : Bool) → a ≡ true → b ≡ true → a && b ≡ true
-and_both true b h g = g
-and_both false b h g = h
-
-pub some_in : {A : Type 0} (x y : A) → Some x ≡ Some y → x ≡ y
-some_in x y e = cc
 
 pub some_parts : {A B : Type 0} (x y : A × B) → Some x ≡ Some y → (x.0 ≡ y.0) × (x.1 ≡ y.1)
 some_parts {A} {B} x y e = let same : x ≡ y = cc in (ap (λ (p : A × B). p.0) same, ap (λ (p : A × B). p.1) same)
@@ -33,7 +16,7 @@ pub record Joined {A : Type 0} (front : List A) (count : ℕ) (later : Option (L
   pub sum : count + more ≡ total
 
 pub joined_some : {A : Type 0} (front : List A) (count : ℕ) (later : Option (List A × ℕ)) (all : List A) (total : ℕ) → joined front count later ≡ Some (all, total) → Joined front count later all total
-joined_some front count None all total e = absurd (some_none _ e)
+joined_some front count None all total e = absurd (none-some _ e)
 joined_some {A} front count (Some read) all total e =
     let same = some_parts {A = List A} {B = ℕ} (front ++ read.0, count + read.1) (all, total) e in
     record { rest = read.0; more = read.1; was = refl; items = same.0; sum = same.1 }

@@ -5,12 +5,12 @@ use Rattle.std.specs.Cmp.Lexicographic.{slice_cmp}
 use Rattle.std.specs.Ordering.{nat_cmp, int_cmp, ordering_then}
 use Rattle.std.proofs.lemmas.List.{append-nil}
 use Rattle.std.proofs.lemmas.Bool.Decides.{nat_tests}
+use Rattle.std.specs.Cmp.{first_so, second_so}
 use Rattle.jpa_value.specs.declared.value.Value.{Value}
 use Rattle.jpa_value.specs.declared.value.Kind.{Kind}
 use Rattle.jpa_value.specs.Value.{value_cmp, key_cmp}
 use Rattle.jpa_value.proofs.Orders.{then_equal}
 use Rattle.jpa_key.specs.Keys.{escaped, part_bytes, key_bytes, is_part_of, is_key_of, Spells}
-use Rattle.jpa_key.proofs.Joins.{and_first, and_second}
 use Rattle.jpa_key.proofs.Integers.{int_bytes_order, then_assoc}
 
 zero_first : (y : ℕ) → y == 0 ≡ false → nat_cmp 0 y ≡ Less
@@ -99,8 +99,8 @@ keys_order (kind ∷ kinds) [] y r s h g = absurd (subst T (sym h) tt)
 keys_order (kind ∷ kinds) (v ∷ x) [] r s h g = absurd (subst T (sym g) tt)
 keys_order (kind ∷ kinds) (v ∷ x) (w ∷ y) r s h g =
     (λ i. slice_cmp nat_cmp (append_assoc (part_bytes v) (key_bytes x) r i) (append_assoc (part_bytes w) (key_bytes y) s i))
-    ∙ part_order kind v w (key_bytes x ++ r) (key_bytes y ++ s) (and_first (is_part_of kind v) _ h) (and_first (is_part_of kind w) _ g)
-    ∙ ap (ordering_then (value_cmp v w)) (keys_order kinds x y r s (and_second (is_part_of kind v) _ h) (and_second (is_part_of kind w) _ g))
+    ∙ part_order kind v w (key_bytes x ++ r) (key_bytes y ++ s) (first_so (is_part_of kind v) _ h) (first_so (is_part_of kind w) _ g)
+    ∙ ap (ordering_then (value_cmp v w)) (keys_order kinds x y r s (second_so (is_part_of kind v) _ h) (second_so (is_part_of kind w) _ g))
     ∙ sym (then_assoc (value_cmp v w) (key_cmp x y) (slice_cmp nat_cmp r s))
 
 pub spelled_order : (kinds : List Kind) (a b : List ℕ) (x y : List Value) → Spells kinds a x → Spells kinds b y → slice_cmp nat_cmp a b ≡ key_cmp x y

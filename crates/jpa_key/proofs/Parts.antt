@@ -8,12 +8,15 @@ use Rattle.std.proofs.lemmas.Nat.{be_bytes_8, from_be_bytes-to_be_bytes_8}
 use Rattle.std.proofs.lemmas.List.{take-append-drop, length-take-le}
 use Rattle.std.proofs.lemmas.List.Folds.{list_all-append}
 use Rattle.std.proofs.lemmas.Bool.Decides.{nat_tests}
+use Rattle.std.specs.Cmp.Derive.{both_true}
+use Rattle.std.specs.Cmp.{first_so, second_so}
+use Rattle.std.proofs.lemmas.Option.{none-some, same_Some}
 use Rattle.jpa_value.specs.declared.value.Value.{Value}
 use Rattle.jpa_value.specs.declared.value.Kind.{Kind}
 use Rattle.jpa_value.specs.Value.{is_i64}
 use Rattle.jpa_key.specs.Keys.{shifted, int_bytes, escaped, part_bytes, is_part_of}
 use Rattle.jpa_key.specs.Reading.{joined, unescaped, unshifted, tagged, int_at, with_count, text_in, bytes_in, part_at}
-use Rattle.jpa_key.proofs.Joins.{some_none, some_in, and_first, and_second, and_both, Joined, joined_some}
+use Rattle.jpa_key.proofs.Joins.{Joined, joined_some}
 use Rattle.jpa_key.proofs.Escapes.{tied_numbers, escape_read, Escaped, escape_only}
 use Rattle.jpa_key.proofs.Integers.{shifted_back, shifted_fits, unshifted_back, unshifted_fits, eight_fit}
 
@@ -69,21 +72,21 @@ nothing_below i = omega arith
 
 pub each_below : (bytes : List ℕ) → are_bytes bytes ≡ true → (i : ℕ) → get_or bytes i 0 < 256
 each_below [] h i = nothing_below i
-each_below (b ∷ bytes) h zero = number_below b (and_first (nat_lt b 256) _ h)
-each_below (b ∷ bytes) h (suc i) = each_below bytes (and_second (nat_lt b 256) _ h) i
+each_below (b ∷ bytes) h zero = number_below b (first_so (nat_lt b 256) _ h)
+each_below (b ∷ bytes) h (suc i) = each_below bytes (second_so (nat_lt b 256) _ h) i
 
 below_number : (n : ℕ) → n < 256 → nat_lt n 256 ≡ true
 below_number n h = grind (arith, nat_tests)
 
 pub are_bytes_each : (bytes : List ℕ) → ((i : ℕ) → get_or bytes i 0 < 256) → are_bytes bytes ≡ true
 are_bytes_each [] h = refl
-are_bytes_each (b ∷ bytes) h = and_both (nat_lt b 256) _ (below_number b (h 0)) (are_bytes_each bytes (λ i. h (suc i)))
+are_bytes_each (b ∷ bytes) h = both_true (below_number b (h 0)) (are_bytes_each bytes (λ i. h (suc i)))
 
 pub bytes_front : (xs ys : List ℕ) → are_bytes (xs ++ ys) ≡ true → are_bytes xs ≡ true
-bytes_front xs ys h = and_first (are_bytes xs) (are_bytes ys) (sym (list_all-append (λ b. nat_lt b 256) xs ys) ∙ h)
+bytes_front xs ys h = first_so (are_bytes xs) (are_bytes ys) (sym (list_all-append (λ b. nat_lt b 256) xs ys) ∙ h)
 
 pub bytes_back : (xs ys : List ℕ) → are_bytes (xs ++ ys) ≡ true → are_bytes ys ≡ true
-bytes_back xs ys h = and_second (are_bytes xs) (are_bytes ys) (sym (list_all-append (λ b. nat_lt b 256) xs ys) ∙ h)
+bytes_back xs ys h = second_so (are_bytes xs) (are_bytes ys) (sym (list_all-append (λ b. nat_lt b 256) xs ys) ∙ h)
 
 pub bytes_taken : (n : ℕ) (bytes : List ℕ) → are_bytes bytes ≡ true → are_bytes (take n bytes) ≡ true
 bytes_taken n bytes h = bytes_front (take n bytes) (drop n bytes) (ap are_bytes (take-append-drop n bytes) ∙ h)
@@ -96,8 +99,8 @@ bytes_unescaped : (bytes : List ℕ) → are_bytes (escaped bytes) ≡ true → 
 bytes_unescaped [] h = refl
 bytes_unescaped (b ∷ bytes) h =
     elim (b == 0) as (λ x. b == 0 ≡ x → are_bytes (cond x (0 ∷ 255 ∷ []) (b ∷ []) ++ escaped bytes) ≡ true → nat_lt b 256 && are_bytes bytes ≡ true) [
-      | true ↦ λ e g. and_both (nat_lt b 256) _ (ap (λ z. nat_lt z 256) (tied_numbers b 0 e)) (bytes_unescaped bytes g)
-      | false ↦ λ e g. and_both (nat_lt b 256) _ (and_first (nat_lt b 256) _ g) (bytes_unescaped bytes (and_second (nat_lt b 256) _ g))
+      | true ↦ λ e g. both_true (ap (λ z. nat_lt z 256) (tied_numbers b 0 e)) (bytes_unescaped bytes g)
+      | false ↦ λ e g. both_true (first_so (nat_lt b 256) _ g) (bytes_unescaped bytes (second_so (nat_lt b 256) _ g))
     ] refl h
 
 record Tagged (tag : ℕ) (bytes contents : List ℕ) (count : ℕ) : Type 0 where
@@ -117,17 +120,17 @@ after_tag tag b bytes contents count later w e more = record {
 }
 
 tagged_only : (tag : ℕ) (bytes contents : List ℕ) (count : ℕ) → tagged tag bytes ≡ Some (contents, count) → Tagged tag bytes contents count
-tagged_only tag [] contents count e = absurd (some_none _ e)
+tagged_only tag [] contents count e = absurd (none-some _ e)
 tagged_only tag (b ∷ bytes) contents count e =
     elim (b == tag) as (λ x. b == tag ≡ x → cond x (joined [] 1 (unescaped false bytes)) None ≡ Some (contents, count) → Tagged tag (b ∷ bytes) contents count) [
       | true ↦ λ h g. let w = joined_some [] 1 (unescaped false bytes) contents count g in after_tag tag b bytes contents count _ w h (escape_only false bytes w.rest w.more w.was)
-      | false ↦ λ h g. absurd (some_none _ g)
+      | false ↦ λ h g. absurd (none-some _ g)
     ] refl e
 
 bytes_in_tagged : (tag : ℕ) (bytes contents : List ℕ) (count : ℕ) → Tagged tag bytes contents count → are_bytes bytes ≡ true → are_bytes contents ≡ true
 bytes_in_tagged tag bytes contents count w h =
     let all = bytes_front (tag ∷ escaped contents ++ 0 ∷ 0 ∷ []) (drop count bytes) (ap are_bytes w.same ∙ h) in
-    bytes_unescaped contents (bytes_front (escaped contents) (0 ∷ 0 ∷ []) (and_second (nat_lt tag 256) _ all))
+    bytes_unescaped contents (bytes_front (escaped contents) (0 ∷ 0 ∷ []) (second_so (nat_lt tag 256) _ all))
 
 eight_long : (bytes : List ℕ) (b : ℕ) → nat_le 9 (length (b ∷ bytes)) ≡ true → 8 ≤ length bytes
 eight_long bytes b h = grind (arith, nat_tests)
@@ -152,33 +155,33 @@ int_only b bytes e l h =
     }
 
 read_as : (kind : Kind) (bytes : List ℕ) (v : Value) (count : ℕ) (found : Value × ℕ) → Some found ≡ Some (v, count) → PartRead kind bytes found.0 found.1 → PartRead kind bytes v count
-read_as kind bytes v count found e w = subst (λ (p : Value × ℕ). PartRead kind bytes p.0 p.1) (some_in found (v, count) e) w
+read_as kind bytes v count found e w = subst (λ (p : Value × ℕ). PartRead kind bytes p.0 p.1) (same_Some found (v, count) e) w
 
 -- an integer's part, where its tag stands before these bytes
 abbrev int_after : List ℕ → Value × ℕ
 int_after bytes = (Value.Int (unshifted (from_be_bytes w64 (take 8 bytes))), 9)
 
 int_part : (bytes : List ℕ) (v : Value) (count : ℕ) → are_bytes bytes ≡ true → int_at bytes ≡ Some (v, count) → PartRead Kind.Int bytes v count
-int_part [] v count h e = absurd (some_none _ e)
+int_part [] v count h e = absurd (none-some _ e)
 int_part (b ∷ bytes) v count h e =
     elim (b == 1) as (λ x. b == 1 ≡ x → cond (x && nat_le 9 (length (b ∷ bytes))) (Some (int_after bytes)) None ≡ Some (v, count) → PartRead Kind.Int (b ∷ bytes) v count) [
       | true ↦ λ f g. elim (nat_le 9 (length (b ∷ bytes))) as (λ x. nat_le 9 (length (b ∷ bytes)) ≡ x → cond x (Some (int_after bytes)) None ≡ Some (v, count) → PartRead Kind.Int (b ∷ bytes) v count) [
-        | true ↦ λ l k. read_as Kind.Int (b ∷ bytes) v count (int_after bytes) k (int_only b bytes f l (and_second (nat_lt b 256) _ h))
-        | false ↦ λ l k. absurd (some_none _ k)
+        | true ↦ λ l k. read_as Kind.Int (b ∷ bytes) v count (int_after bytes) k (int_only b bytes f l (second_so (nat_lt b 256) _ h))
+        | false ↦ λ l k. absurd (none-some _ k)
       ] refl g
-      | false ↦ λ f g. absurd (some_none _ g)
+      | false ↦ λ f g. absurd (none-some _ g)
     ] refl e
 
 text_part : (bytes : List ℕ) (read : Option (List ℕ × ℕ)) (v : Value) (count : ℕ) → tagged 2 bytes ≡ read → text_in read ≡ Some (v, count) → PartRead Kind.Text bytes v count
-text_part bytes None v count f e = absurd (some_none _ e)
+text_part bytes None v count f e = absurd (none-some _ e)
 text_part bytes (Some read) v count f e =
     elim (is_utf8 read.0) as (λ x. is_utf8 read.0 ≡ x → with_count (cond x (Some read.0) None) read.1 ≡ Some (v, count) → PartRead Kind.Text bytes v count) [
       | true ↦ λ u g. let w = tagged_only 2 bytes read.0 read.1 f in read_as Kind.Text bytes v count (Value.Text read.0, read.1) g (record { whole = u; within = w.within; same = w.same })
-      | false ↦ λ u g. absurd (some_none _ g)
+      | false ↦ λ u g. absurd (none-some _ g)
     ] refl e
 
 bytes_part : (bytes : List ℕ) (read : Option (List ℕ × ℕ)) (v : Value) (count : ℕ) → are_bytes bytes ≡ true → tagged 3 bytes ≡ read → bytes_in read ≡ Some (v, count) → PartRead Kind.Bytes bytes v count
-bytes_part bytes None v count h f e = absurd (some_none _ e)
+bytes_part bytes None v count h f e = absurd (none-some _ e)
 bytes_part bytes (Some read) v count h f e =
     let w = tagged_only 3 bytes read.0 read.1 f in
     read_as Kind.Bytes bytes v count (Value.Bytes read.0, read.1) e (record { whole = bytes_in_tagged 3 bytes read.0 read.1 w h; within = w.within; same = w.same })

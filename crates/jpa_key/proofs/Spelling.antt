@@ -4,11 +4,14 @@ use Rattle.std.proofs.Common.{refl, sym, ap, subst, ◌∙◌, arith, append_ass
 use Rattle.std.proofs.Math.Seq.{drop-append_seam, take-append_seam, drop-length}
 use Rattle.std.proofs.lemmas.List.{take-append-drop, length-take-le, length-drop, append-nil}
 use Rattle.std.proofs.lemmas.Bool.Decides.{nat_tests}
+use Rattle.std.specs.Cmp.Derive.{both_true}
+use Rattle.std.specs.Cmp.{first_so, second_so}
+use Rattle.std.proofs.lemmas.Option.{none-some, same_Some}
 use Rattle.jpa_value.specs.declared.value.Value.{Value}
 use Rattle.jpa_value.specs.declared.value.Kind.{Kind}
 use Rattle.jpa_key.specs.Keys.{part_bytes, key_bytes, is_part_of, is_key_of, Spells, SpellsFront, SpellsPair}
 use Rattle.jpa_key.specs.Reading.{joined, part_at, then_key, key_at, if_all, key_in, beside, pair_after, pair_in}
-use Rattle.jpa_key.proofs.Joins.{some_none, some_in, some_parts, and_first, and_second, and_both, Joined, joined_some}
+use Rattle.jpa_key.proofs.Joins.{some_parts, Joined, joined_some}
 use Rattle.jpa_key.proofs.Escapes.{tied_numbers}
 use Rattle.jpa_key.proofs.Parts.{part_read, PartRead, part_only, are_bytes, are_bytes_each, bytes_dropped}
 
@@ -27,9 +30,9 @@ key_read (kind ∷ kinds) [] rest h = absurd (subst T (sym h) tt)
 key_read (kind ∷ kinds) (v ∷ key) rest h =
     let later = key_bytes key ++ rest in
     ap (key_at (kind ∷ kinds)) (append_assoc (part_bytes v) (key_bytes key) rest)
-    ∙ ap (λ read. then_key read (λ count. key_at kinds (drop count (part_bytes v ++ later)))) (part_read kind v later (and_first (is_part_of kind v) _ h))
+    ∙ ap (λ read. then_key read (λ count. key_at kinds (drop count (part_bytes v ++ later)))) (part_read kind v later (first_so (is_part_of kind v) _ h))
     ∙ ap (λ bytes. joined (v ∷ []) (length (part_bytes v)) (key_at kinds bytes)) (drop-append_seam (part_bytes v) later)
-    ∙ ap (joined (v ∷ []) (length (part_bytes v))) (key_read kinds key rest (and_second (is_part_of kind v) _ h))
+    ∙ ap (joined (v ∷ []) (length (part_bytes v))) (key_read kinds key rest (second_so (is_part_of kind v) _ h))
     ∙ (λ i. Some (v ∷ key, sym (length-append (part_bytes v) (key_bytes key)) i))
 
 -- ---- read, so written
@@ -46,7 +49,7 @@ record ThenKey (read : Option (Value × ℕ)) (later : ℕ → Option (List Valu
   others : Joined (part ∷ []) taken (later taken) key count
 
 then_key_some : (read : Option (Value × ℕ)) (later : ℕ → Option (List Value × ℕ)) (key : List Value) (count : ℕ) → then_key read later ≡ Some (key, count) → ThenKey read later key count
-then_key_some None later key count e = absurd (some_none _ e)
+then_key_some None later key count e = absurd (none-some _ e)
 then_key_some (Some read) later key count e = record { part = read.0; taken = read.1; was = refl; others = joined_some (read.0 ∷ []) read.1 (later read.1) key count e }
 
 no_part : (bytes : List ℕ) → 0 ≤ length bytes
@@ -65,7 +68,7 @@ one_more kind kinds bytes key count later w p k =
     let rest = (w.others).rest in
     let m = (w.others).more in
     record {
-      whole = subst (λ x. is_key_of (kind ∷ kinds) x ≡ true) (w.others).items (and_both (is_part_of kind w.part) _ p.whole k.whole);
+      whole = subst (λ x. is_key_of (kind ∷ kinds) x ≡ true) (w.others).items (both_true p.whole k.whole);
       within = both_within bytes n m count p.within k.within (w.others).sum;
       same = ap (λ x. key_bytes x ++ drop count bytes) (sym (w.others).items)
           ∙ append_assoc (part_bytes w.part) (key_bytes rest) (drop count bytes)
@@ -77,7 +80,7 @@ one_more kind kinds bytes key count later w p k =
 key_only : (kinds : List Kind) (bytes : List ℕ) (key : List Value) (count : ℕ) → are_bytes bytes ≡ true → key_at kinds bytes ≡ Some (key, count) → KeyRead kinds bytes key count
 key_only [] bytes key count h e =
     let nothing : List Value × ℕ = ([], 0) in
-    subst (λ (p : List Value × ℕ). KeyRead [] bytes p.0 p.1) (some_in nothing (key, count) e) (record { whole = refl; within = no_part bytes; same = refl })
+    subst (λ (p : List Value × ℕ). KeyRead [] bytes p.0 p.1) (same_Some nothing (key, count) e) (record { whole = refl; within = no_part bytes; same = refl })
 key_only (kind ∷ kinds) bytes key count h e =
     let w = then_key_some (part_at kind bytes) (λ n. key_at kinds (drop n bytes)) key count e in
     one_more kind kinds bytes key count (λ n. key_at kinds (drop n bytes)) w
@@ -109,11 +112,11 @@ record IfAll (total : ℕ) (read : Option (List Value × ℕ)) (key : List Value
   was : read ≡ Some (key, total)
 
 if_all_some : (total : ℕ) (read : Option (List Value × ℕ)) (key : List Value) → if_all total read ≡ Some key → IfAll total read key
-if_all_some total None key e = absurd (some_none _ e)
+if_all_some total None key e = absurd (none-some _ e)
 if_all_some total (Some read) key e =
     elim (read.1 == total) as (λ x. read.1 == total ≡ x → cond x (Some read.0) None ≡ Some key → IfAll total (Some read) key) [
-      | true ↦ λ h g. record { was = λ i. Some (some_in read.0 key g i, tied_numbers read.1 total h i) }
-      | false ↦ λ h g. absurd (some_none _ g)
+      | true ↦ λ h g. record { was = λ i. Some (same_Some read.0 key g i, tied_numbers read.1 total h i) }
+      | false ↦ λ h g. absurd (none-some _ g)
     ] refl e
 
 itself : (n : ℕ) → n == n ≡ true
@@ -144,12 +147,12 @@ record PairRead (target_kinds : List Kind) (bytes : List ℕ) (read : Option (Li
   later : key_in target_kinds (drop taken bytes) ≡ Some target
 
 beside_some : (first : List Value) (second : Option (List Value)) (owner target : List Value) → beside first second ≡ Some (owner, target) → (first ≡ owner) × (second ≡ Some target)
-beside_some first None owner target e = absurd (some_none _ e)
+beside_some first None owner target e = absurd (none-some _ e)
 beside_some first (Some second) owner target e =
     let same = some_parts {A = List Value} {B = List Value} (first, second) (owner, target) e in (same.0, ap Some same.1)
 
 pair_after_some : (target_kinds : List Kind) (bytes : List ℕ) (read : Option (List Value × ℕ)) (owner target : List Value) → pair_after target_kinds bytes read ≡ Some (owner, target) → PairRead target_kinds bytes read owner target
-pair_after_some target_kinds bytes None owner target e = absurd (some_none _ e)
+pair_after_some target_kinds bytes None owner target e = absurd (none-some _ e)
 pair_after_some target_kinds bytes (Some read) owner target e =
     let same = beside_some read.0 (key_in target_kinds (drop read.1 bytes)) owner target e in
     record { taken = read.1; was = λ i. Some (same.0 i, read.1); later = same.1 }

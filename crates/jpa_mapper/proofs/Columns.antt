@@ -1,5 +1,5 @@
 -- The numbers of a class's columns fit 32 bits, since those of each entity do.
-use Rattle.std.specs.Prelude.{◌≡◌, ℕ, zero, suc, ◌<◌, ◌≤◌, ◌^◌, List, [], ◌∷◌, ◌++◌, length, All}
+use Rattle.std.specs.Prelude.{◌≡◌, ℕ, suc, ◌<◌, ◌≤◌, ◌^◌, List, [], ◌∷◌, ◌++◌, length, All}
 use Rattle.std.proofs.Common.{arith, get_or}
 use Rattle.std.specs.List.{flat_map, AllByRecursion}
 use Rattle.jpa_model.specs.declared.unit.Attribute.{Attribute}
@@ -9,7 +9,7 @@ use Rattle.jpa_model.specs.declared.unit.Relation.{Relation}
 use Rattle.jpa_model.specs.Chains.{entity_at, chain, root_class, root_in, root_of, attributes_of, relations_of, column_of}
 use Rattle.jpa_model.specs.Kept.{IsDescribed}
 use Rattle.jpa_model.proofs.Within.{chain-within}
-use Rattle.jpa_rows.specs.Numbers.{IsNarrow, IsNarrowVersion, IsNarrowLink, IsNarrowOrigin, IsNarrowRelation}
+use Rattle.jpa_rows.specs.Numbers.{IsNarrow, IsNarrowVersion, IsNarrowLink, IsNarrowOrigin}
 use Rattle.jpa_rows.proofs.Narrow.{entity_narrow}
 use Rattle.jpa_mapper.specs.Narrow.{HaveNarrowColumns, HaveNarrowLinks}
 

@@ -19,8 +19,8 @@ use Rattle.jpa_view.proofs.Classes.{is_below}
 use Rattle.jpa_view.proofs.Reading.{storable}
 use Rattle.jpa_object_rows.specs.Objects.{main_row}
 use Rattle.jpa_mapper.specs.Guess.{link_in, class_in, side_in, links_in, guessed, is_sound}
-use Rattle.jpa_mapper.specs.SameRow.{same_row}
-use Rattle.jpa_mapper.proofs.SameRows.{row_exact, row_itself}
+use Rattle.jpa_rows.specs.Same.{same_row}
+use Rattle.jpa_rows.proofs.SameRows.{row_exact, row_itself}
 use Rattle.jpa_mapper.specs.Mapped.{IsReadAs, all_pass, no_pairs}
 use Rattle.jpa_mapper.proofs.Shaped.{owns_by_side, sound_if, storable_if}
 use Rattle.jpa_mapper.proofs.Read.{class_read, guess_read}

@@ -5,9 +5,7 @@ pub mod Zips
 pub mod FirstClass
 pub mod Found
 pub mod Read
-pub mod SameRows
 pub mod Shaped
-pub mod Splits
 pub mod Walk
 pub mod Refilled
 pub mod Owners

@@ -1,15 +1,14 @@
 -- What a binary search finds among fields whose columns rise, and what a change at that place makes of them.
-use Rattle.std.specs.Prelude.{◌≡◌, ℕ, zero, suc, ◌<◌, ◌≤◌, T, List, [], ◌∷◌, ◌++◌, map, length, Result, Ok, Err, IfOk, IfErr}
+use Rattle.std.specs.Prelude.{◌≡◌, ℕ, zero, suc, ◌<◌, ◌≤◌, T, List, [], ◌∷◌, ◌++◌, map, length, Result, Ok, Err}
 use Rattle.std.proofs.Common.{refl, sym, ap, subst, ◌∙◌, get_or, set, take, drop}
 use Rattle.std.proofs.lemmas.List.{length-map, map-set, map-append, take-map, drop-map}
 use Rattle.std.specs.Cmp.{nat_cmp_total}
 use Rattle.std.specs.List.{insert}
-use Rattle.std.specs.List.Sorted.{IsSearchInRange, IsBinarySearchResult, IsNonDecreasingBy}
+use Rattle.std.specs.List.Sorted.{IsSearchInRange, IsBinarySearchResult}
 use Rattle.std.specs.FinMap.{put, is_sorted, nat_cmp-IsAntisymmetric}
 use Rattle.std.specs.Ordering.{nat_cmp, ordering_index}
 use Rattle.jpa_rows.specs.declared.row.Content.{Content}
 use Rattle.jpa_rows.specs.declared.row.Field.{Field}
-use Rattle.jpa_stored.specs.Places.{IsAt, IsGap}
 use Rattle.jpa_stored.proofs.Entries.{put_at, put_gap}
 use Rattle.jpa_stored.proofs.Found.{searched}
 use Rattle.jpa_object_rows.specs.Objects.{field_of}

@@ -24,7 +24,7 @@ use Rattle.jpa_rows.specs.Cells.{passes, column_value, cell_value, is_given}
 use Rattle.jpa_rows.specs.Rows.{Row}
 use Rattle.jpa_row_laws.proofs.Facts.{and_first, and_second, and_both, true_false}
 use Rattle.jpa_row_laws.proofs.Slots.{Holds, all_first, all_rest}
-use Rattle.jpa_view.specs.Identities.{classes}
+use Rattle.jpa_rows.specs.Tables.{classes}
 use Rattle.jpa_view.specs.Unambiguous.{IsUnambiguous, is_class}
 use Rattle.jpa_view.specs.View.{number_of, SideHas, PairsAre}
 use Rattle.jpa_view.proofs.Classes.{find_missed, within_classes}

@@ -19,7 +19,7 @@ use Rattle.jpa_stored.specs.Sets.{each_fits, version_there}
 use Rattle.jpa_rows.specs.declared.row.Content.{Content}
 use Rattle.jpa_rows.specs.Cells.{cell_value, version_representable}
 use Rattle.jpa_rows.specs.Rows.{Row}
-use Rattle.jpa_view.specs.Identities.{classes}
+use Rattle.jpa_rows.specs.Tables.{classes}
 use Rattle.jpa_view.specs.View.{number_of}
 use Rattle.jpa_object_rows.specs.Sets.{content_at, identity_of}
 

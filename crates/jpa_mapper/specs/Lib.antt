@@ -1,6 +1,5 @@
 pub mod Mapped
 pub mod Narrow
 pub mod Guess
-pub mod SameRow
 pub mod Pairs
 pub mod Laws

@@ -16,7 +16,6 @@ mod pair_rows;
 mod places;
 mod reading;
 mod representable;
-mod same_row;
 mod shape;
 mod targets;
 mod writing;

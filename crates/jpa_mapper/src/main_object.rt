@@ -8,11 +8,10 @@ ghost use Rattle.jpa_mapper.specs.Mapped.{IsReadAs, all_pass, no_pairs};
 
 use crate::guess::{class_in, guessed};
 use crate::main_row::main_row;
-use crate::same_row::is_same_row;
 use crate::shape::is_sound;
 use jpa_behaviour::{Behaviour, Registry};
 use jpa_model::Metamodel;
-use jpa_rows::Row;
+use jpa_rows::{Row, is_same_row};
 use jpa_stored::Stored;
 use jpa_value::{Cause, Identity};
 use std::alloc::Global;

@@ -6,7 +6,7 @@
 use jpa_model::{
     Attribute, Cascades, Column, Entity, Origin, Part, PersistenceUnit, Relation, Root, Side,
 };
-use jpa_stored::{Stored, StoredSet, integrity, members};
+use jpa_stored::{OpenSet, Stored, StoredSet, integrity, members};
 use jpa_value::{Cause, Identity, Kind, Persist, Seq, Text, TryCopy, Value, is_same_identity};
 use std::alloc::Global;
 use std::test::Fail;
@@ -207,6 +207,70 @@ fn a_map_of_identities(rt: HostRuntime) -> Result<(), Fail> {
     let copy = set.try_copy()?;
     assert_eq!(rt; copy.len(), 5);
     assert!(rt; copy.get(&identity(a, 2, 12)?).is_some());
+    Ok(())
+}
+
+/// The class of the object that a transaction sees under an identity.
+fn class_seen(open: &OpenSet, id: &Identity) -> Option<usize> {
+    Some(open.get(id)?.class)
+}
+
+#[test]
+fn what_a_transaction_sees(rt: HostRuntime) -> Result<(), Fail> {
+    let a = rt.alloc();
+    let (second, third, tags) = (identity(a, 1, 2)?, identity(a, 1, 3)?, identity(a, 3, 7)?);
+    let mut open = OpenSet::new(sound_set(a)?);
+    assert!(rt; open.written().is_empty());
+    // tag objects in place of an employee, under an identity of nobody, and twice under that
+    open.put(identity(a, 1, 3)?, tag(a))?;
+    open.put(identity(a, 1, 2)?, tag(a))?;
+    open.put(identity(a, 1, 3)?, person(a, PERSON, ada(a)?, Seq::new(a))?)?;
+    // what was written hides what is committed, and nothing else does
+    assert_eq!(rt; class_seen(&open, &second), Some(TAG));
+    assert_eq!(rt; class_seen(&open, &third), Some(PERSON));
+    assert_eq!(rt; class_seen(&open, &tags), Some(TAG));
+    assert_eq!(rt; class_seen(&open, &identity(a, 1, 4)?), None);
+    // what is committed stands
+    assert!(rt;
+        matches!(
+            open.committed(&second),
+            Some(Stored {
+                class: EMPLOYEE,
+                ..
+            })
+        )
+    );
+    assert!(rt; open.committed(&third).is_none());
+    // each written identity once, rising
+    assert_eq!(rt; open.written().len(), 2);
+    for (entry, number) in open.written().iter().zip([2, 3].as_slice()) {
+        assert!(rt; is_same_identity(&entry.get().0, &identity(a, 1, *number)?));
+    }
+    Ok(())
+}
+
+#[test]
+fn what_a_transaction_wrote_is_undone_or_kept(rt: HostRuntime) -> Result<(), Fail> {
+    let a = rt.alloc();
+    let (second, third) = (identity(a, 1, 2)?, identity(a, 1, 3)?);
+    let mut open = OpenSet::new(sound_set(a)?);
+    open.put(identity(a, 1, 3)?, tag(a))?;
+    open.put(identity(a, 1, 2)?, tag(a))?;
+    open.undo();
+    assert!(rt; open.written().is_empty());
+    assert_eq!(rt; class_seen(&open, &second), Some(EMPLOYEE));
+    assert_eq!(rt; class_seen(&open, &third), None);
+    open.put(identity(a, 1, 3)?, tag(a))?;
+    open.put(identity(a, 1, 2)?, tag(a))?;
+    open.keep();
+    assert!(rt; open.written().is_empty());
+    assert!(rt; matches!(open.committed(&second), Some(Stored { class: TAG, .. })));
+    assert_eq!(rt; class_seen(&open, &third), Some(TAG));
+    // what was kept is not undone
+    open.undo();
+    assert_eq!(rt; class_seen(&open, &second), Some(TAG));
+    assert_eq!(rt; class_seen(&open, &third), Some(TAG));
+    assert_eq!(rt; class_seen(&open, &identity(a, 1, 1)?), Some(PERSON));
     Ok(())
 }
 

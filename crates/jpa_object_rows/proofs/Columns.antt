@@ -12,11 +12,10 @@ use Rattle.jpa_model.specs.declared.unit.VersionColumn.{VersionColumn}
 use Rattle.jpa_model.specs.Chains.{entity_at, root_of, root_class, chain, column_of, attributes_of, relations_of}
 use Rattle.jpa_rows.specs.declared.schema.ColumnRule.{ColumnRule}
 use Rattle.jpa_rows.specs.Rows.{rule_of}
-use Rattle.jpa_rows.specs.Tables.{version_rules, attribute_rule, link_rules, rules_of_class, classes_below, rules_of}
+use Rattle.jpa_rows.specs.Tables.{version_rules, attribute_rule, link_rules, rules_of_class, classes_below, rules_of, classes}
 use Rattle.jpa_row_laws.proofs.Facts.{and_both}
 use Rattle.jpa_row_laws.proofs.Elements.{Has, has_append, append_has, from_flat_map, into_flat_map, from_filter, into_filter, into_map}
 use Rattle.jpa_row_laws.proofs.Lists.{filter_same, flat_map_same, flat_map-flat_map}
-use Rattle.jpa_view.specs.Identities.{classes}
 use Rattle.jpa_view.specs.Unambiguous.{are_distinct_numbers, is_class, version_columns, link_columns}
 use Rattle.jpa_view.proofs.Orders.{are_same_numbers, same_number}
 use Rattle.jpa_view.proofs.Classes.{class_within, within_classes, find_only}

@@ -16,11 +16,11 @@ use Rattle.jpa_model.specs.Chains.{entity_at, no_entity, root_in, root_of, chain
 use Rattle.jpa_rows.specs.declared.schema.TableRule.{TableRule}
 use Rattle.jpa_rows.specs.Cells.{root_tables, join_tables, tables_of}
 use Rattle.jpa_rows.specs.Rows.{table_of}
-use Rattle.jpa_rows.specs.Tables.{kinds_of, rules_of, one_number, root_table, join_table, tables_of_class, schema_of}
+use Rattle.jpa_rows.specs.Tables.{kinds_of, rules_of, one_number, root_table, join_table, tables_of_class, schema_of, classes}
 use Rattle.jpa_row_laws.proofs.Facts.{value_in, some_none, true_false}
 use Rattle.jpa_row_laws.proofs.Elements.{Has, append_has, from_flat_map, into_flat_map}
 use Rattle.jpa_row_laws.proofs.Lists.{has_any, flat_map_same, flat_map-map, flat_map-flat_map}
-use Rattle.jpa_view.specs.Identities.{classes, has_table, root_at}
+use Rattle.jpa_view.specs.Identities.{has_table, root_at}
 use Rattle.jpa_view.specs.Unambiguous.{IsUnambiguous, are_distinct_numbers, is_class}
 use Rattle.jpa_view.proofs.Orders.{are_same_numbers, same_number}
 use Rattle.jpa_view.proofs.Classes.{class_within, within_classes, find_only, find_some}

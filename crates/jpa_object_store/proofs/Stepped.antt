@@ -143,7 +143,7 @@ module _ (world : World) (mapped : IsMapped world.model) (regular : IsRegular wo
 
 -- ---- a turn of the loop over them
 
-is_below : (i n : ℕ) → i < n → nat_lt i n ≡ true
+pub is_below : (i n : ℕ) → i < n → nat_lt i n ≡ true
 is_below i n l = grind (arith, nat_tests)
 
 -- a number of the metamodel

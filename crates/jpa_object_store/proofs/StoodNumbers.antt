@@ -3,7 +3,6 @@ use Rattle.std.specs.Prelude.{◌≡◌, ◌≢◌, ℕ, zero, suc, pos, ◌<◌
 use Rattle.std.proofs.Common.{refl, sym, ap, subst, ◌∙◌, inl, arith, get_or}
 use Rattle.std.proofs.Math.ListN.{get_or-map}
 use Rattle.std.specs.List.{flat_map, zip}
-use Rattle.std.proofs.lemmas.Bool.Decides.{nat_tests}
 use Rattle.std.specs.FinMap.{find, put}
 use Rattle.std.specs.Ordering.{eq_by_cmp}
 use Rattle.jpa_value.specs.declared.value.Identity.{Identity}
@@ -42,7 +41,7 @@ use Rattle.jpa_object_rows.proofs.Kept.{over_each, along_each, join_of_class}
 use Rattle.jpa_overlay.specs.Overlay.{Changes}
 use Rattle.jpa_object_store.specs.Shown.{with_puts, Recall, with_old_next}
 use Rattle.jpa_object_store.specs.Shown as shown
-use Rattle.jpa_object_store.proofs.Stepped.{fits_length, is_number}
+use Rattle.jpa_object_store.proofs.Stepped.{fits_length, is_number, is_below}
 use Rattle.jpa_object_store.proofs.Stood.{past_puts, Replaces, recalled}
 
 -- ---- no row of table 0 says that a next number is 1
@@ -172,9 +171,6 @@ module _ (world : World) (mapped : IsMapped world.model) (regular : IsRegular wo
       by_test false = refl
 
 -- ---- a turn of the loop over them
-
-is_below : (i n : ℕ) → i < n → nat_lt i n ≡ true
-is_below i n l = grind (arith, nat_tests)
 
 module _ (m : PersistenceUnit) (described : IsDescribed m) (named : (class : ℕ) → is_class m class ≡ true → is_discriminator (entity_at m class) ≡ true) (before next : List ℕ) (are : are_numbers m before ≡ true)
     (are_next : are_numbers m next ≡ true) (rising : each_fits nat_le before next ≡ true) (world : World) (model : world.model ≡ m) (regular : IsRegular world) (set : StoredSet) (h : AreStorable world set) where

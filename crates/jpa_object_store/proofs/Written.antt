@@ -6,22 +6,18 @@ use Rattle.std.specs.List.{list_any, AllByRecursion}
 use Rattle.jpa_value.specs.declared.value.Identity.{Identity}
 use Rattle.jpa_value.specs.Value.{same_identity}
 use Rattle.jpa_stored.specs.declared.stored.Stored.{Stored}
-use Rattle.jpa_stored.specs.Sets.{StoredSet, stored_at, with_stored, all_distinct}
+use Rattle.jpa_stored.specs.Sets.{StoredSet, stored_at, with_stored, put_all, all_distinct}
+use Rattle.jpa_stored.proofs.Puts.{put_last}
 use Rattle.jpa_row_laws.proofs.Facts.{and_first, and_second, true_false}
 use Rattle.jpa_row_laws.proofs.Lists.{has_any}
 use Rattle.jpa_row_laws.proofs.Maps.{found_other, ties_back}
 use Rattle.jpa_view.proofs.Classes.{item_at}
 use Rattle.jpa_view.proofs.Orders.{identities}
-use Rattle.jpa_object_store.specs.Written.{put_all}
 
 abbrev Entry : Type 0
 Entry = Identity × Stored
 
 -- one object more
-put_last : (es : List Entry) (e : Entry) (set : StoredSet) → put_all (es ++ e ∷ []) set ≡ with_stored e.0 e.1 (put_all es set)
-put_last [] e set = refl
-put_last (d ∷ es) e set = put_last es e (with_stored d.0 d.1 set)
-
 pub put_more : (es : List Entry) (i : ℕ) (e : Entry) (set : StoredSet) → i < length es → e ≡ get_or es i e → put_all (take (i + 1) es) set ≡ with_stored e.0 e.1 (put_all (take i es) set)
 put_more es i e set l is =
     ap (λ ds. put_all ds set) (take_more es i e l ∙ ap (λ d. take i es ++ d ∷ []) (sym is)) ∙ put_last (take i es) e set

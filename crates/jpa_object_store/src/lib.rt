@@ -4,9 +4,8 @@
 //! `write` brings the objects that a flush wrote, and the next numbers of generated keys, into a store of rows: it makes the
 //! changes over the committed rows, leaves out those that leave a row as it stands, and commits the others as one transaction.
 //! It reads nothing of the store, so that a disk that lies can't change what a commit answers: what stands is what the rows of
-//! the committed objects are, noted in a second overlay. `specs/Written` says what the written objects make of a committed set,
-//! and what a difference of rows is. The crate stands on the mapper of objects to rows, on changes over rows and on the laws of
-//! `jpa_object_rows`; it names no database.
+//! the view's committed objects are, noted in a second overlay. `specs/Written` says what a difference of rows is. The crate
+//! stands on the mapper of objects to rows, on changes over rows and on the laws of `jpa_object_rows`; it names no database.
 #![tactic(auto)]
 
 mod commit;

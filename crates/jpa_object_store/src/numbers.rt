@@ -1,7 +1,6 @@
 //! The changes of next numbers.
-ghost use Rattle.std.specs.Prelude.{◌≡◌, ◌<◌, ℕ, true, length, nat_le, OnOk, IfErr};
+ghost use Rattle.std.specs.Prelude.{◌≡◌, true, nat_le, OnOk, IfErr};
 ghost use Rattle.jpa_value.specs.declared.refusal.Cause.{Cause};
-ghost use Rattle.jpa_model.specs.Chains as chains;
 ghost use Rattle.jpa_behaviour.specs.Behaviour.{World, IsRegular};
 ghost use Rattle.jpa_stored.specs.Sets.{StoredSet, each_fits};
 ghost use Rattle.jpa_rows.specs.Cells.{is_next, are_numbers};
@@ -14,17 +13,9 @@ ghost use Rattle.jpa_object_store.specs.Shown.{with_next, with_old_next, Show, R
 use jpa_mapper::{discriminator_law, number_row};
 use jpa_model::{Metamodel, Origin};
 use jpa_overlay::Overlay;
+use jpa_rows::origin_of;
 use jpa_value::Cause;
 use std::alloc::Global;
-
-/// Where a class stands in its hierarchy; a root's table fits 32 bits.
-fn origin_of(metamodel: &Metamodel, class: usize) -> &Origin
-    requires { class < length metamodel.now.entities }
-    ensures origin { result.now ≡ (chains.entity_at metamodel.now class).origin }
-    ensures narrow { IsNarrowOrigin result.now }
-{
-    &metamodel.unit().entities.as_slice()[class].origin
-}
 
 /// Puts the row of a root's next number.
 fn put_number(overlay: &mut Overlay, alloc: Global, origin: &Origin, next: u64) -> Result<(), Cause>

@@ -10,7 +10,6 @@ ghost use Rattle.jpa_rows.specs.Rows.{Rows};
 ghost use Rattle.jpa_view.specs.View.{is_storable, AreStorable};
 ghost use Rattle.jpa_object_rows.specs.Objects.{object_entries};
 ghost use Rattle.jpa_object_rows.specs.Sets as set_rows;
-ghost use Rattle.jpa_object_store.specs.Written.{put_all};
 ghost use Rattle.jpa_object_store.specs.Shown.{without_old, with_old, Show, Recall};
 
 use crate::rows::{drop_rows, put_rows};
@@ -19,7 +18,7 @@ use jpa_mapper::{discriminator_law, to_rows};
 use jpa_model::Metamodel;
 use jpa_overlay::Overlay;
 use jpa_rows::{Row, RowId};
-use jpa_stored::{Stored, StoredSet};
+use jpa_stored::{OpenSet, Stored};
 use jpa_value::{Cause, Identity, Seq};
 use std::alloc::Global;
 
@@ -38,22 +37,22 @@ fn rows_of<B: Behaviour>(
     to_rows(alloc, metamodel, registry, id, object)
 }
 
-/// Drops the rows of the object that is committed under an identity, if there is one, and notes that they stood.
+/// Drops the rows of the view's committed object under an identity, if there is one, and notes that they stood.
 fn drop_old<B: Behaviour>(
     overlay: &mut Overlay,
     stood: &mut Overlay,
     alloc: Global,
     metamodel: &Metamodel,
     registry: &Registry<B>,
-    committed: &StoredSet,
+    view: &OpenSet,
     id: &Identity,
 ) -> Result<(), Cause>
-    requires { AreStorable (world_of B.meaning metamodel.now registry.now) committed.now }
-    ensures ok { OnOk result (overlay.new ≡ without_old (world_of B.meaning metamodel.now registry.now) id.now (sets.stored_at committed.now id.now) overlay.old) }
-    ensures noted { OnOk result (stood.new ≡ with_old (world_of B.meaning metamodel.now registry.now) id.now (sets.stored_at committed.now id.now) stood.old) }
+    requires { AreStorable (world_of B.meaning metamodel.now registry.now) view.now.since }
+    ensures ok { OnOk result (overlay.new ≡ without_old (world_of B.meaning metamodel.now registry.now) id.now (sets.stored_at view.now.since id.now) overlay.old) }
+    ensures noted { OnOk result (stood.new ≡ with_old (world_of B.meaning metamodel.now registry.now) id.now (sets.stored_at view.now.since id.now) stood.old) }
     ensures err { IfErr result (λ cause. cause ≡ Cause.OutOfMemory) }
 {
-    match committed.get(id) {
+    match view.committed(id) {
         None => Ok(()),
         Some(old) => drop_rows(
             overlay,
@@ -63,53 +62,51 @@ fn drop_old<B: Behaviour>(
     }
 }
 
-/// Puts an object in the place of the one that is committed under its identity, if there is one, and notes what stood.
+/// Puts an object in the place of the view's committed one under its identity, if there is one, and notes what stood.
 fn change_object<B: Behaviour>(
     overlay: &mut Overlay,
     stood: &mut Overlay,
     alloc: Global,
     metamodel: &Metamodel,
     registry: &Registry<B>,
-    committed: &StoredSet,
+    view: &OpenSet,
     id: &Identity,
     object: &Stored,
 ) -> Result<(), Cause>
-    requires committed { AreStorable (world_of B.meaning metamodel.now registry.now) committed.now }
+    requires committed { AreStorable (world_of B.meaning metamodel.now registry.now) view.now.since }
     requires storable { is_storable (world_of B.meaning metamodel.now registry.now) id.now object.now ≡ true }
-    ensures ok { OnOk result ((base : Rows) (set : sets.StoredSet) (numbers : List ℕ) → sets.stored_at set id.now ≡ sets.stored_at committed.now id.now → Show (world_of B.meaning metamodel.now registry.now) base overlay.old set numbers → Show (world_of B.meaning metamodel.now registry.now) base overlay.new (sets.with_stored id.now object.now set) numbers) }
-    ensures noted { OnOk result ((before : List ℕ) → CanBeHeld (world_of B.meaning metamodel.now registry.now) committed.now before → Recall (set_rows.rows_of (world_of B.meaning metamodel.now registry.now) committed.now before) stood.old overlay.old → Recall (set_rows.rows_of (world_of B.meaning metamodel.now registry.now) committed.now before) stood.new overlay.new) }
+    ensures ok { OnOk result ((base : Rows) (set : sets.StoredSet) (numbers : List ℕ) → sets.stored_at set id.now ≡ sets.stored_at view.now.since id.now → Show (world_of B.meaning metamodel.now registry.now) base overlay.old set numbers → Show (world_of B.meaning metamodel.now registry.now) base overlay.new (sets.with_stored id.now object.now set) numbers) }
+    ensures noted { OnOk result ((before : List ℕ) → CanBeHeld (world_of B.meaning metamodel.now registry.now) view.now.since before → Recall (set_rows.rows_of (world_of B.meaning metamodel.now registry.now) view.now.since before) stood.old overlay.old → Recall (set_rows.rows_of (world_of B.meaning metamodel.now registry.now) view.now.since before) stood.new overlay.new) }
     ensures err { IfErr result (λ cause. cause ≡ Cause.OutOfMemory) }
 {
     // what the rows of a unit rest on
     metamodel.unit();
     registry.laws();
     discriminator_law(metamodel);
-    drop_old(overlay, stood, alloc, metamodel, registry, committed, id)?;
+    drop_old(overlay, stood, alloc, metamodel, registry, view, id)?;
     let rows = rows_of(alloc, metamodel, registry, id, object)?;
     put_rows(overlay, rows)
 }
 
-/// Puts each written object in the place of the one that is committed under its identity, and notes what stood.
+/// Puts each written object in the place of the view's committed one under its identity, and notes what stood.
 pub(crate) fn change_objects<B: Behaviour>(
     overlay: &mut Overlay,
     stood: &mut Overlay,
     alloc: Global,
     metamodel: &Metamodel,
     registry: &Registry<B>,
-    committed: &StoredSet,
+    view: &OpenSet,
     written: &[(Identity, Stored)],
 ) -> Result<(), Cause>
-    requires committed { AreStorable (world_of B.meaning metamodel.now registry.now) committed.now }
+    requires committed { AreStorable (world_of B.meaning metamodel.now registry.now) view.now.since }
     requires storable { AllByRecursion (λ e. is_storable (world_of B.meaning metamodel.now registry.now) e.0 e.1 ≡ true) written.now }
     requires distinct { sets.all_distinct (λ a b. same_identity a.0 b.0) written.now ≡ true }
-    ensures ok { OnOk result ((base : Rows) (numbers : List ℕ) → Show (world_of B.meaning metamodel.now registry.now) base overlay.old committed.now numbers → Show (world_of B.meaning metamodel.now registry.now) base overlay.new (put_all written.now committed.now) numbers) }
-    ensures noted { OnOk result ((before : List ℕ) → CanBeHeld (world_of B.meaning metamodel.now registry.now) committed.now before → Recall (set_rows.rows_of (world_of B.meaning metamodel.now registry.now) committed.now before) stood.old overlay.old → Recall (set_rows.rows_of (world_of B.meaning metamodel.now registry.now) committed.now before) stood.new overlay.new) }
+    ensures ok { OnOk result ((base : Rows) (numbers : List ℕ) → Show (world_of B.meaning metamodel.now registry.now) base overlay.old view.now.since numbers → Show (world_of B.meaning metamodel.now registry.now) base overlay.new (sets.put_all written.now view.now.since) numbers) }
+    ensures noted { OnOk result ((before : List ℕ) → CanBeHeld (world_of B.meaning metamodel.now registry.now) view.now.since before → Recall (set_rows.rows_of (world_of B.meaning metamodel.now registry.now) view.now.since before) stood.old overlay.old → Recall (set_rows.rows_of (world_of B.meaning metamodel.now registry.now) view.now.since before) stood.new overlay.new) }
     ensures err { IfErr result (λ cause. cause ≡ Cause.OutOfMemory) }
 {
     for (id, object) in written {
-        change_object(
-            overlay, stood, alloc, metamodel, registry, committed, id, object,
-        )?;
+        change_object(overlay, stood, alloc, metamodel, registry, view, id, object)?;
     }
     Ok(())
 }

@@ -1,2 +1,2 @@
-mod Loaded
+pub mod Loaded
 mod Persisted

@@ -72,10 +72,10 @@ entered_based n b w h = ap (λ (es : List Entry). record w { context = es }) (ba
 
 -- ---- no relations
 
-no_held : (m : PersistenceUnit) (s : StoredSet) (id : Identity) (x : Stored) → relations_of m x.class ≡ [] → held_loaded m s id x ≡ []
+pub no_held : (m : PersistenceUnit) (s : StoredSet) (id : Identity) (x : Stored) → relations_of m x.class ≡ [] → held_loaded m s id x ≡ []
 no_held m s id x e = ap (λ (rs : List Relation). map (λ (p : ℕ × Relation). unread (is_to_one (p.1).side) (members m s id x p.0)) (enumerate_from 0 rs)) e
 
-no_members : (m : PersistenceUnit) (s : StoredSet) (id : Identity) (x : Stored) → relations_of m x.class ≡ [] → (base_loaded m s id x).members ≡ []
+pub no_members : (m : PersistenceUnit) (s : StoredSet) (id : Identity) (x : Stored) → relations_of m x.class ≡ [] → (base_loaded m s id x).members ≡ []
 no_members m s id x e = ap (λ (rs : List Relation). map (λ (p : ℕ × Relation). known (is_to_one (p.1).side) (members m s id x p.0)) (enumerate_from 0 rs)) e
 
 -- ---- load

@@ -21,7 +21,8 @@ use Rattle.jpa_row_laws.proofs.Maps.{same_answers}
 use Rattle.jpa_row_laws.proofs.Overlay.{found_seen, seen_rises, merge_row, merge_made, merge_gone}
 use Rattle.jpa_overlay.specs.Overlay.{Changes, rows_under, row_if, rows_put, stands_first}
 use Rattle.jpa_overlay.proofs.Changes.{ids}
-use Rattle.jpa_overlay.proofs.Splits.{below_less, all_front, all_then, all_both, front_passes, rest_fails, passing, failing, passing_both, rest_rises, same_place}
+use Rattle.jpa_rows.proofs.Splits.{all_then, front_passes, rest_fails, rest_rises, same_place}
+use Rattle.jpa_overlay.proofs.Splits.{below_less, all_front, all_both, passing, failing, passing_both}
 
 -- ---- changes of rows before all that are left
 

@@ -1,27 +1,11 @@
--- Whether rows are the same, column by column.
-use Rattle.std.specs.Prelude.{Bool, true, false, ◌==◌, ◌&&◌, Option, Some, None}
-use Rattle.std.specs.Ordering.{is_eq}
-use Rattle.jpa_value.specs.Value.{same_value, key_cmp}
-use Rattle.jpa_stored.specs.Sets.{each_fits}
-use Rattle.jpa_rows.specs.declared.row.Content.{Content}
-use Rattle.jpa_rows.specs.declared.row.Field.{Field}
+-- Whether what stands in two places is the same.
+use Rattle.std.specs.Prelude.{Bool, true, false, Option, Some, None}
 use Rattle.jpa_rows.specs.Rows.{Row}
-
-abbrev pub same_content : Content → Content → Bool
-same_content (Content.Value v) (Content.Value w) = same_value v w
-same_content (Content.Value v) (Content.Reference k) = false
-same_content (Content.Reference k) (Content.Value v) = false
-same_content (Content.Reference k) (Content.Reference l) = is_eq (key_cmp k l)
-
-abbrev pub same_field : Field → Field → Bool
-same_field f g = (f.column == g.column) && same_content f.content g.content
-
-abbrev pub same_fields : Row → Row → Bool
-same_fields = each_fits same_field
+use Rattle.jpa_rows.specs.Same as rows
 
 -- both none, or the same row
 abbrev pub same_row : Option Row → Option Row → Bool
 same_row None None = true
 same_row None (Some b) = false
 same_row (Some a) None = false
-same_row (Some a) (Some b) = same_fields a b
+same_row (Some a) (Some b) = rows.same_row a b

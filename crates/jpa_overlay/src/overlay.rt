@@ -1,5 +1,5 @@
 //! Changes over committed rows.
-ghost use Rattle.std.specs.Prelude.{◌≡◌, ◌⊎◌, ◌↔◌, ◌==◌, T, [], All, map, IsSome, IsTrue, OnOk, OnErr, IfOk, IfErr};
+ghost use Rattle.std.specs.Prelude.{◌≡◌, ◌⊎◌, ◌↔◌, ◌==◌, T, [], All, length, map, IsSome, IsTrue, OnOk, OnErr, IfOk, IfErr};
 ghost use Rattle.std.specs.FinMap.{find, is_sorted};
 ghost use Rattle.std.specs.FinMap.Entries.{where_key};
 ghost use Rattle.jpa_value.specs.declared.refusal.Cause.{Cause};
@@ -7,6 +7,7 @@ ghost use Rattle.jpa_value.specs.Value.{identity_cmp};
 ghost use Rattle.jpa_stored.specs.Places.{IsAt, IsGap};
 ghost use Rattle.jpa_rows.specs.Faults.{faults_after};
 ghost use Rattle.jpa_rows.specs.Rows.{Rows, AreRising, table_rows, entry_of, rows_after};
+ghost use Rattle.jpa_rows.specs.Statements.{AreAtMost, IsAtMostOne};
 ghost use Rattle.jpa_row_laws.specs.Changes.{AreDifference};
 ghost use Rattle.jpa_overlay.specs.Overlay.{Recalls, rows_under, with_change, with_row};
 ghost use Rattle.jpa_overlay.specs.Same.{same_row};
@@ -14,7 +15,7 @@ ghost use Rattle.jpa_overlay.specs.Same.{same_row};
 use crate::change::Change;
 use crate::merge::merge;
 use crate::same::is_same;
-use jpa_rows::{Row, RowChange, RowId, RowSource};
+use jpa_rows::{Row, RowChange, RowId, RowSource, copy_row};
 use jpa_value::{Cause, Seq, TryCopy, order_identities};
 use std::alloc::Global;
 use std::cmp::Ordering;
@@ -71,11 +72,14 @@ impl Overlay {
         ensures own { IsSome (find identity_cmp id.now self.now) → (source.new ≡ source.old) × IfErr result (λ cause. cause ≡ Cause.OutOfMemory) }
         ensures kept { (rows : Rows) → R.holds source.old rows → R.holds source.new rows }
         ensures told { R.faults source.new ≡ faults_after result (R.faults source.old) }
+        ensures read { IsAtMostOne (R.reads source.old) (R.reads source.new) }
+        ensures unwritten { R.writes source.new ≡ R.writes source.old }
+        ensures crash { R.endures source.old source.new (λ _. ⊥) }
         ensures was_clean { R.clean source.new → R.clean source.old }
         ensures schema { R.schema source.new ≡ R.schema source.old }
     {
         match self.search(id) {
-            Ok(at) => copied(&self.entries[at].get().1),
+            Ok(at) => copy_row(&self.entries[at].get().1),
             Err(_) => source.get(id),
         }
     }
@@ -87,6 +91,9 @@ impl Overlay {
         ensures err { R.clean source.new → IfErr result (λ cause. (rows : Rows) → R.holds source.old rows → (cause ≡ Cause.OutOfMemory) ⊎ (cause ≡ Cause.StoreFault)) }
         ensures kept { (rows : Rows) → R.holds source.old rows → R.holds source.new rows }
         ensures told { R.faults source.new ≡ faults_after result (R.faults source.old) }
+        ensures read { IsAtMostOne (R.reads source.old) (R.reads source.new) }
+        ensures unwritten { R.writes source.new ≡ R.writes source.old }
+        ensures crash { R.endures source.old source.new (λ _. ⊥) }
         ensures was_clean { R.clean source.new → R.clean source.old }
         ensures schema { R.schema source.new ≡ R.schema source.old }
     {
@@ -104,6 +111,9 @@ impl Overlay {
         ensures err { R.clean source.new → IfErr result (λ cause. (rows : Rows) → R.holds source.old rows → (cause ≡ Cause.OutOfMemory) ⊎ (cause ≡ Cause.StoreFault)) }
         ensures kept { (rows : Rows) → R.holds source.old rows → R.holds source.new rows }
         ensures told { R.faults source.new ≡ faults_after result (R.faults source.old) }
+        ensures read { AreAtMost (length self.now) (R.reads source.old) (R.reads source.new) }
+        ensures unwritten { R.writes source.new ≡ R.writes source.old }
+        ensures crash { R.endures source.old source.new (λ _. ⊥) }
         ensures was_clean { R.clean source.new → R.clean source.old }
         ensures schema { R.schema source.new ≡ R.schema source.old }
     {
@@ -114,7 +124,7 @@ impl Overlay {
             if !is_same(row, &there) {
                 let change = RowChange {
                     id: id.try_copy()?,
-                    row: copied(row)?,
+                    row: copy_row(row)?,
                 };
                 changes.push(change)?;
             }
@@ -233,23 +243,12 @@ fn order_entry(entry: &Change, id: &RowId) -> Ordering
     order_identities(&entry.get().0, id)
 }
 
-/// A copy of what a change gives.
-fn copied(row: &Option<Row>) -> Result<Option<Row>, Cause>
-    ensures equal { IfOk result (λ copy. copy ≡ row.now) }
-    ensures refused { IfErr result (λ cause. cause ≡ Cause.OutOfMemory) }
-{
-    match row {
-        None => Ok(None),
-        Some(row) => Ok(Some(row.try_copy()?)),
-    }
-}
-
 impl TryCopy for Overlay {
     fn try_copy(&self) -> Result<Overlay, Cause> {
         let mut entries = Vec::new(self.allocator());
         for entry in self.entries.as_slice() {
             let (id, row) = entry.get();
-            let copy = Change::new(self.allocator(), id.try_copy()?, copied(row)?)?;
+            let copy = Change::new(self.allocator(), id.try_copy()?, copy_row(row)?)?;
             entries.push(copy)?;
         }
         Ok(Overlay { entries })

@@ -1,10 +1,8 @@
-//! Whether rows are the same.
+//! Whether what stands in two places is the same.
 ghost use Rattle.std.specs.Prelude.{◌≡◌};
 ghost use Rattle.jpa_overlay.specs.Same as spec;
 
-use jpa_rows::{Content, Field, Row};
-use jpa_value::{order_keys, order_values};
-use std::cmp::Ordering;
+use jpa_rows::{Row, is_same_row};
 
 /// Whether what stands in two places is the same: no row, or rows with the same columns.
 pub fn is_same(a: &Option<Row>, b: &Option<Row>) -> bool
@@ -12,39 +10,7 @@ pub fn is_same(a: &Option<Row>, b: &Option<Row>) -> bool
 {
     match (a, b) {
         (None, None) => true,
-        (Some(a), Some(b)) => have_same_fields(a.as_slice(), b.as_slice()),
-        _ => false,
-    }
-}
-
-fn have_same_fields(a: &[Field], b: &[Field]) -> bool
-    ensures { result ≡ spec.same_fields a.now b.now }
-{
-    for (i, field) in a.iter().enumerate() {
-        if i >= b.len() {
-            return false;
-        }
-        if !is_same_field(field, &b[i]) {
-            return false;
-        }
-    }
-    a.len() == b.len()
-}
-
-fn is_same_field(a: &Field, b: &Field) -> bool
-    ensures { result ≡ spec.same_field a.now b.now }
-{
-    a.column == b.column && is_same_content(&a.content, &b.content)
-}
-
-fn is_same_content(a: &Content, b: &Content) -> bool
-    ensures { result ≡ spec.same_content a.now b.now }
-{
-    match (a, b) {
-        (Content::Value(v), Content::Value(w)) => matches!(order_values(v, w), Ordering::Equal),
-        (Content::Reference(k), Content::Reference(l)) => {
-            matches!(order_keys(k.as_slice(), l.as_slice()), Ordering::Equal)
-        }
+        (Some(a), Some(b)) => is_same_row(a.as_slice(), b.as_slice()),
         _ => false,
     }
 }

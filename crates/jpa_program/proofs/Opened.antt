@@ -6,8 +6,8 @@ use Rattle.sqlite.specs.Held.{Held, state}
 use Rattle.sqlite.specs.Schema.{Schema}
 use Rattle.sqlite.proofs.StateLemmas.{survives_then}
 use Rattle.jpa_cells_meaning.specs.Content.{Leaves}
-use Rattle.jpa_cells_meaning.specs.Schema.{cell_schema, no_schema}
-use Rattle.jpa_cells_meaning.specs.Store.{Stored, IsClean, IsOpen, Keeps, Opens, Endures, HoldsTable, HasFault, tables_in}
+use Rattle.jpa_cells_meaning.specs.Schema.{cell_schema}
+use Rattle.jpa_cells_meaning.specs.Store.{Stored, IsOpen, Keeps, Opens, Endures, HoldsTable, HasFault, tables_in}
 use Rattle.jpa_cells_meaning.specs.Tables.{Tables}
 use Rattle.jpa_rowspace.proofs.Holding.{clean_before, endures_self}
 use Rattle.jpa_program.specs.Opening.{KeepsOrMakes, EnduresMaking}

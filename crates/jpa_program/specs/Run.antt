@@ -1,9 +1,29 @@
--- What the store of a provider over cells holds.
+-- What the store of a provider over cells is, and what it holds.
+use Rattle.std.specs.Prelude.{◌+◌}
+use Rattle.std.proofs.Common.{subst}
 use Rattle.sqlite_trees.specs.declared.store.Store.{Ghosts}
 use Rattle.jpa_behaviour.specs.Registered.{Meaning}
-use Rattle.jpa_rowspace.specs.Space.{Space}
+use Rattle.jpa_rows.specs.declared.source.RowSource.{Ghosts as SourceGhosts}
+use Rattle.jpa_cells_meaning.specs.Store.{up_to_greatest, IsClean}
+use Rattle.jpa_rowspace.specs.Enduring.{EnduresRows, rows_then, rows_wider}
+use Rattle.jpa_rowspace.specs.Space.{Space, HoldsRows}
 use Rattle.jpa_provider.specs.Provided.{Provided, world_in}
 use Rattle.jpa_program.specs.Opening.{HoldsCells}
+
+-- the rows that the cells of a database spell, as a store of rows
+abbrev pub rows_over : {S : Type 0} → Ghosts S → SourceGhosts (Space S)
+rows_over g =
+    record {
+      schema = λ space. space.schema;
+      holds = λ space rows. HoldsRows g space.schema space.store.conn rows;
+      clean = λ space. IsClean g space.store.conn;
+      faults = λ space. space.store.faults;
+      reads = λ space. up_to_greatest (space.store.row_selects + space.store.table_selects);
+      writes = λ space. space.store.writes;
+      endures = λ old new Holds. EnduresRows g old.schema old.store.conn new.store.conn Holds;
+      wider = λ old new P Q weaker e. rows_wider g old.schema old.store.conn new.store.conn P Q weaker e;
+      then = λ first second third P Q same a b. rows_then g first.schema first.store.conn second.store.conn third.store.conn P Q a (subst (λ schema. EnduresRows g schema second.store.conn third.store.conn Q) same b);
+    }
 
 module _ {S L C : Type 0} (g : Ghosts S) (meaning : Meaning L C) where
   -- where the connection is open and its disk clean, the cells of the unit's tables are those of the committed set and of the

@@ -117,6 +117,7 @@ pub fn open<S: Alter + Drop, B: Behaviour>(
     ensures live { IfOk result (λ provider. IsClean S.Store (provider.rows).store.conn → IsOpen S.Store (provider.rows).store.conn) }
     ensures opens { IfOk result (λ provider. KeepsOrMakes S.Store conn (provider.rows).store.conn) }
     ensures crash { IfOk result (λ provider. EnduresMaking S.Store conn (provider.rows).store.conn) }
+    ensures counted { IfOk result (λ provider. (provider.rows).store.table_selects ≡ up_to_greatest (length (schema_of metamodel).tables)) }
     ensures unserved { is_served metamodel ≡ false → result ≡ Err (Cause.Mapping MappingFault.Model, conn) }
     ensures unknown { is_served metamodel ≡ true → known.names_are_known registry metamodel ≡ false → result ≡ Err (Cause.Mapping MappingFault.Function, conn) }
     ensures refused { IfErr result (λ e. is_served metamodel ≡ true → known.names_are_known registry metamodel ≡ true → IsOpenCause S.Store (world_of B.meaning metamodel registry) e.1 e.0) }

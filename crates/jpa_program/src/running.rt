@@ -1,9 +1,9 @@
 //! The run over lines.
 ghost use Rattle.std.specs.Prelude.{◌≡◌, OnOk, IfErr};
 ghost use Rattle.jpa_lines.specs.Run.{Served, Broken, AnswersRead};
-ghost use Rattle.jpa_provider.specs.Provided.{world_in};
+ghost use Rattle.jpa_provider.specs.Provided.{Steps, world_in};
 ghost use Rattle.jpa_provider.specs.Step.{Step};
-ghost use Rattle.jpa_program.specs.Run.{HoldsCommitted};
+ghost use Rattle.jpa_program.specs.Run.{HoldsCommitted, rows_over};
 
 use jpa_behaviour::Behaviour;
 use jpa_lines::RunFault;
@@ -21,6 +21,10 @@ use std::io::{Read, Write};
 /// whose call is done: of its reply a front is written after `Write` and nothing after `Memory`. After `Read` all whole
 /// lines that were read are answered, and their replies written.
 ///
+/// Each call between them keeps the promise of a call: only a commit that is accepted changes what is committed, and writes
+/// just what differs; a crash at any moment leaves what was committed before a call or after it; a fault of the store is told
+/// where there is one.
+///
 /// However it ends, the cells of the store are those of the objects that were committed last, and of the next numbers that
 /// were stored with them: no others, and all of them.
 pub fn run<S: Alter, B: Behaviour, R: Read, W: Write>(
@@ -34,6 +38,12 @@ pub fn run<S: Alter, B: Behaviour, R: Read, W: Write>(
     ensures err { IfErr result (λ fault. Broken (Step (world_in B.meaning provider.old)) provider.old.machine provider.new.machine fault
         (R.remaining reader.old) (W.contents writer.old) (W.contents writer.new)) }
     ensures read { IfErr result (λ fault. AnswersRead (Step (world_in B.meaning provider.old)) provider.old.machine provider.new.machine
+        fault (R.remaining reader.old) (R.remaining reader.new) (W.contents writer.old) (W.contents writer.new)) }
+    ensures calls { OnOk result (Served (Steps B.meaning (rows_over S.Store)) provider.old provider.new
+        (R.remaining reader.old) (W.contents writer.old) (W.contents writer.new)) }
+    ensures calls_err { IfErr result (λ fault. Broken (Steps B.meaning (rows_over S.Store)) provider.old provider.new fault
+        (R.remaining reader.old) (W.contents writer.old) (W.contents writer.new)) }
+    ensures calls_read { IfErr result (λ fault. AnswersRead (Steps B.meaning (rows_over S.Store)) provider.old provider.new
         fault (R.remaining reader.old) (R.remaining reader.new) (W.contents writer.old) (W.contents writer.new)) }
     ensures model { provider.new.model ≡ provider.old.model }
     ensures registry { provider.new.registry ≡ provider.old.registry }

@@ -1,14 +1,13 @@
 -- What a commit of an open transaction stands on, and what it leaves.
-use Rattle.std.proofs.Common.{◌≡◌, ◌<◌, ◌⊎◌, inl, inr, ℕ, Bool, true, false, List, length, refl, ap, sym, subst, ◌∙◌}
-use Rattle.std.specs.Prelude.{All, Ok, Err, Result, nat_le}
-use Rattle.std.specs.List.{AllByRecursion}
+use Rattle.std.proofs.Common.{◌≡◌, ◌<◌, ◌⊎◌, inl, inr, ℕ, true, List, length, ap, sym, subst, ◌∙◌}
+use Rattle.std.specs.Prelude.{◌==◌, All, nat_le}
 use Rattle.jpa_value.specs.declared.value.Identity.{Identity}
 use Rattle.jpa_value.specs.declared.refusal.Cause.{Cause}
 use Rattle.jpa_value.specs.Value.{same_identity}
 use Rattle.jpa_behaviour.specs.Behaviour.{World}
 use Rattle.jpa_stored.specs.declared.stored.Stored.{Stored}
-use Rattle.jpa_stored.specs.Sets.{StoredSet, all_distinct, each_fits}
-use Rattle.jpa_rows.specs.Cells.{CanBeHeld, are_numbers}
+use Rattle.jpa_stored.specs.Sets.{all_distinct, each_fits}
+use Rattle.jpa_rows.specs.Cells.{are_numbers}
 use Rattle.jpa_view.specs.View.{AreStorable}
 use Rattle.jpa_protocol.specs.declared.event.Told.{Told}
 use Rattle.jpa_protocol.specs.declared.reply.Reply.{Reply}
@@ -20,27 +19,33 @@ use Rattle.jpa_flush.specs.Flush.{flush}
 use Rattle.jpa_flush.specs.Writes.{writes}
 use Rattle.jpa_provider.specs.declared.session.Status.{Status}
 use Rattle.jpa_provider.specs.declared.session.Session.{Session}
-use Rattle.jpa_provider.specs.Machine.{Machine, Manager, manager_at, is_begun, work_of, committed_after, rolled_back}
-use Rattle.jpa_provider.specs.Invariant.{IsMachine}
+use Rattle.jpa_provider.specs.Machine.{Machine, Manager, manager_at, is_begun, work_of}
+use Rattle.jpa_provider.specs.Invariant.{IsMachine, context_of}
 use Rattle.jpa_provider.specs.Serving.{transaction_in, manager_in, machine_of, since_of, IsPlainMachine, IsServing, Refuses, Stores}
 use Rattle.jpa_provider.proofs.AtWork.{IsAtWork, taken}
 use Rattle.jpa_provider.proofs.AfterFlush.{still_at_work, numbers_rise}
+use Rattle.jpa_provider.proofs.DistinctObjects.{distinct_objects}
 use Rattle.jpa_provider.proofs.DistinctWrites.{distinct_writes}
 use Rattle.jpa_provider.proofs.Opened.{transaction_there}
 use Rattle.jpa_provider.proofs.Plain.{committed_plain}
 use Rattle.jpa_provider.proofs.Serving.{entries_in}
 use Rattle.jpa_provider.proofs.Sessions.{manager_there, managers_count}
-use Rattle.jpa_provider.proofs.Steady.{same, rolled_steady, free_set, IsSteady, IsStoredAs}
+use Rattle.jpa_provider.proofs.Steady.{same, rolled_steady, free_set, IsSteady}
 use Rattle.jpa_provider.proofs.StorableWrites.{storable_writes}
 
 pub begun_active : (s : Session) (m : ℕ) → m < length s.managers.items → (manager_in s.managers.items m).status ≡ Status.Active → is_begun (manager_at (machine_of s) m).transaction ≡ true
-begun_active s m l active = ap is_begun (transaction_there s m l) ∙ ap (λ (st : Status). is_begun (transaction_in st s.work.view)) active
+begun_active s m l active = ap is_begun (transaction_there s m l) ∙ ap (λ (st : Status). is_begun (transaction_in st s.work.view.now)) active
 
 -- the entries that undoing gives back
 pub entries_since : {world : World} (s : Session) (m : ℕ) (x : Since) → m < length s.managers.items → IsMachine world (machine_of s) → x ≡ since_of (machine_of s) m → All (λ (e : Entry). e.object < length x.objects) x.context
 entries_since s m x l h e =
     subst (λ (y : Since). All (λ (e' : Entry). e'.object < length y.objects) y.context) (sym e)
     (subst (λ (y : Manager). All (λ (e' : Entry). e'.object < length s.work.objects.now) y.context) (sym (manager_there s m l)) (entries_in s h m))
+
+-- each object stands once in the manager's context
+pub objects_once : (world : World) (s : Session) (m : ℕ) → m < length s.managers.items → IsServing world s → all_distinct (λ (a b : Entry). a.object == b.object) (context_of (machine_of s) m) ≡ true
+objects_once world s m l h =
+    distinct_objects world.model (machine_of s).objects (context_of (machine_of s) m) ((h.machine).managers m (subst (λ n. m < n) (sym (managers_count s)) l)).distinct
 
 module _ (world : World) (s : Session) (m : ℕ) (l : m < length s.managers.items) (h : IsServing world s) (w : Work) (e : flush world (work_of (machine_of s) m) ≡ Done tt w) where
   within : m < length (machine_of s).managers

@@ -1,5 +1,5 @@
 -- What persist and find make of what is handed in.
-use Rattle.std.proofs.Common.{◌≡◌, inl, ℕ, ℤ, true, false, List, [], length, refl, ap, ◌∙◌}
+use Rattle.std.proofs.Common.{◌≡◌, inl, ℕ, ℤ, true, false, List, [], length, ap, ◌∙◌}
 use Rattle.std.specs.Prelude.{Some, None, Err}
 use Rattle.std.specs.List.{list_all}
 use Rattle.jpa_value.specs.declared.value.Value.{Value}

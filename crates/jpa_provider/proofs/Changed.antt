@@ -3,10 +3,9 @@ use Rattle.std.proofs.Common.{◌≡◌, ◌≢◌, ◌<◌, ◌≤◌, ◌⊎�
 use Rattle.std.specs.Prelude.{slice_set, nat_lt, Option, Some, None, if◌then◌else◌, ℤ, pos, negsuc, is_some, Result, Ok, Err}
 use Rattle.std.specs.List.{All}
 use Rattle.std.specs.Option.{unwrap_or}
-use Rattle.jpa_stored.specs.Sets.{StoredSet}
 use Rattle.jpa_model.specs.Chains.{member_of}
 use Rattle.std.proofs.lemmas.Bool.{false≢true, true≢false, cases_eq, ltb-true}
-use Rattle.std.proofs.lemmas.List.{get_or-set_same, get_or-set_other, length-set, set-get_or}
+use Rattle.std.proofs.lemmas.List.{get_or-set_same, get_or-set_other, length-set}
 use Rattle.std.proofs.lemmas.List.Elements.{All-weaker, All-set}
 use Rattle.jpa_value.specs.declared.refusal.Cause.{Cause}
 use Rattle.jpa_model.specs.declared.unit.PersistenceUnit.{PersistenceUnit}
@@ -21,13 +20,14 @@ use Rattle.jpa_context.specs.Work.{Work, object, with_object}
 use Rattle.jpa_context.specs.Steps.{Outcome, Done, Refused, after}
 use Rattle.jpa_ops.specs.Members.{placed, set}
 use Rattle.jpa_protocol.specs.declared.call.Given.{Given}
-use Rattle.jpa_provider.specs.Machine.{Machine, Transaction, manager_at, no_manager, work_of, kept, seen_in, view_in, view}
+use Rattle.jpa_provider.specs.Machine.{Machine, work_of, kept}
 use Rattle.jpa_provider.specs.Calls.{object_numbered, handed, concluded, marks_if_callback, marked_if, nothing, give_or}
 use Rattle.jpa_provider.specs.Step.{set_call, on_object, holder}
 use Rattle.jpa_provider.specs.Invariant.{IsMachine, IsLive, is_held_by, stands_in, context_of, given_representable}
 use Rattle.jpa_lifecycle.specs.Flat.{IsFlat}
 use Rattle.jpa_ops.specs.Load.{most_objects}
 use Rattle.jpa_provider.proofs.Facts.{numbers_same}
+use Rattle.jpa_provider.proofs.SameManagers.{same_machine}
 use Rattle.jpa_provider.proofs.AtWork.{HoldsAfter, after_holds, require_holds}
 use Rattle.jpa_provider.proofs.Settled.{marked_holds}
 use Rattle.jpa_provider.proofs.Kept.{KeepsClasses, KeepsHeld, manager_kept, live_kept}
@@ -156,24 +156,10 @@ set_call_holds world flat w n name g l rep =
     after_holds _ (λ v w'. (handed_representable v ≡ true) × (w' ≡ w)) (handed g w) (λ v. set world n name v) (handed_holds g w rep)
     (λ v w' h. subst (λ u. HoldsAfter (λ u' w''. HasSet world w w'') (set world n name v u)) (sym h.1) (set_holds world flat w n name v l h.0))
 
-seen_view : (t : Option Transaction) (C : StoredSet) → seen_in t (view_in t C) ≡ t
-seen_view None C = refl
-seen_view (Some t) C = refl
-
--- a manager that keeps context and view is the same
-same_manager : (M : Machine) (m : ℕ) → record (manager_at M m) { transaction = seen_in (manager_at M m).transaction (view M m) } ≡ manager_at M m
-same_manager M m = λ i. record (manager_at M m) { transaction = seen_view (manager_at M m).transaction M.committed i }
-
-same_machine : (M : Machine) (m n : ℕ) (y : LiveObject) → record M { objects = slice_set M.objects n y } ≡ kept M m (with_object n y (work_of M m))
-same_machine M m n y =
-    let same : slice_set M.managers m (record (manager_at M m) { transaction = seen_in (manager_at M m).transaction (view M m) }) ≡ M.managers =
-    ap (slice_set M.managers m) (same_manager M m) ∙ set-get_or M.managers m no_manager in
-    λ i. record M { objects = slice_set M.objects n y; managers = sym same i }
-
 concluded_set : {world : World} {M : Machine} (m : ℕ) (o : Outcome (Unit {0})) → IsMachine world M → HoldsAfter (λ u w'. HasSet world (work_of M m) w') o →
     IsMachine world (concluded marks_if_callback M m nothing o).1
 concluded_set {world} {M} m (Done u w) h s =
-    subst (λ w'. IsMachine world (kept M m w')) (sym s.4) (subst (IsMachine world) (same_machine M m s.0 s.1) (object_set s.0 s.1 s.2 h s.3))
+    subst (λ w'. IsMachine world (kept M m w')) (sym s.4) (subst (IsMachine world) (sym (same_machine M m s.0 s.1)) (object_set s.0 s.1 s.2 h s.3))
 concluded_set {world} {M} m (Refused r events) h s = marked_or_not (marks_if_callback r)
   where
     marked_or_not : (b : Bool) → IsMachine world (marked_if b M m)

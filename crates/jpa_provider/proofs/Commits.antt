@@ -1,6 +1,6 @@
 -- How a commit steps.
-use Rattle.std.proofs.Common.{◌≡◌, ◌≢◌, ◌<◌, ◌⊎◌, inl, inr, ℕ, zero, suc, ℤ, Bool, true, false, List, [], ◌∷◌, length, refl, ap, sym, subst, ◌∙◌, arith}
-use Rattle.std.specs.Prelude.{Some, None, Ok, Err, Option, slice_index_or, slice_set}
+use Rattle.std.proofs.Common.{◌≡◌, ◌≢◌, ◌<◌, ◌⊎◌, inl, inr, ℕ, zero, suc, ℤ, Bool, true, false, List, [], ◌∷◌, length, refl, ap, sym, ◌∙◌, arith}
+use Rattle.std.specs.Prelude.{Some, None, Err, slice_index_or, slice_set}
 use Rattle.std.proofs.lemmas.Bool.{false≢true, true≢false}
 use Rattle.jpa_value.specs.declared.refusal.Cause.{Cause}
 use Rattle.jpa_value.specs.declared.refusal.Refusal.{Refusal}
@@ -21,9 +21,9 @@ use Rattle.jpa_flush.specs.Flush.{flush}
 use Rattle.jpa_provider.specs.declared.session.Status.{Status}
 use Rattle.jpa_provider.specs.declared.session.EntityManager.{EntityManager}
 use Rattle.jpa_provider.specs.declared.session.Session.{Session}
-use Rattle.jpa_provider.specs.Machine.{Machine, Manager, Transaction, manager_at, no_manager, has_transaction, is_begun, with_manager, work_of, committed_after, rolled_back}
+use Rattle.jpa_provider.specs.Machine.{Machine, Manager, manager_at, no_manager, has_transaction, is_begun, with_manager, work_of, committed_after, rolled_back}
 use Rattle.jpa_provider.specs.Calls.{accepted}
-use Rattle.jpa_provider.specs.Transactions.{commit, commit_in, commit_of, commit_work}
+use Rattle.jpa_provider.specs.Transactions.{commit, commit_in, commit_of}
 use Rattle.jpa_provider.specs.Step.{outcome, gives_up}
 use Rattle.jpa_provider.specs.Invariant.{HasOneTransaction}
 use Rattle.jpa_provider.specs.Serving.{transaction_in, manager_of, managers_of, manager_in, machine_of, gave_up, Refuses, Stores, IsWorking, Serves}
@@ -84,9 +84,9 @@ pub commit_alone : (world : World) (s : Session) (em : ℤ) → place_of (length
 commit_alone world s em e = inl (of_nobody s (commit world (machine_of s)) em e)
 
 commit_at : (world : World) (s : Session) (em : ℤ) (m : ℕ) (st : Status) → place_of (length s.managers.items) em ≡ Some m → m < length s.managers.items → (manager_in s.managers.items m).status ≡ st →
-    outcome world (machine_of s) (Call.Commit em) ≡ commit_in world (machine_of s) m (transaction_in st s.work.view)
+    outcome world (machine_of s) (Call.Commit em) ≡ commit_in world (machine_of s) m (transaction_in st s.work.view.now)
 commit_at world s em m st e l is =
-    of_manager s (commit world (machine_of s)) em m e l ∙ ap (commit_in world (machine_of s) m) (transaction_there s m l ∙ ap (λ (x : Status). transaction_in x s.work.view) is)
+    of_manager s (commit world (machine_of s)) em m e l ∙ ap (commit_in world (machine_of s) m) (transaction_there s m l ∙ ap (λ (x : Status). transaction_in x s.work.view.now) is)
 
 pub commit_inactive : (world : World) (s : Session) (em : ℤ) (m : ℕ) → place_of (length s.managers.items) em ≡ Some m → m < length s.managers.items → (manager_in s.managers.items m).status ≡ Status.Inactive →
     Serves world s (Call.Commit em) (refusal (Cause.IllegalState State.Inactive)) s
@@ -156,10 +156,10 @@ within_machine (x ∷ xs) (suc m) h = let l = within_machine xs m h in omega (ar
 
 pub committed_there : (M : Machine) (s t : Session) (m : ℕ) (c : Changes Entry) → IsWorking M m s → HasOneTransaction M → is_begun (manager_at M m).transaction ≡ true → IsPlain (now s.work) →
     t.managers.items ≡ slice_set s.managers.items m (record { status = Status.Inactive; context = c }) → c.now ≡ s.work.context.now → t.work.objects.now ≡ s.work.objects.now →
-    t.work.numbers.now ≡ s.work.numbers.now → t.work.view ≡ s.work.view → t.stored ≡ s.work.numbers.now → machine_of t ≡ committed_after M m (now s.work)
+    t.work.numbers.now ≡ s.work.numbers.now → t.work.view.now ≡ s.work.view.now → t.stored ≡ s.work.numbers.now → machine_of t ≡ committed_after M m (now s.work)
 committed_there M s t m c h one begun plain f e o n v k =
     let x : EntityManager = record { status = Status.Inactive; context = c } in
-    let V = s.work.view in
+    let V = s.work.view.now in
     let C = M.committed in
     let zs = slice_set s.managers.items m x in
     let idle : (j : ℕ) → has_transaction (slice_index_or (managers_of C zs) j no_manager) ≡ false = λ j.

@@ -5,9 +5,8 @@ use Rattle.jpa_value.specs.declared.refusal.Cause.{Cause}
 use Rattle.jpa_value.specs.declared.value.Identity.{Identity}
 use Rattle.jpa_behaviour.specs.Behaviour.{World}
 use Rattle.jpa_stored.specs.declared.stored.Stored.{Stored}
-use Rattle.jpa_stored.specs.Sets.{StoredSet}
+use Rattle.jpa_stored.specs.Sets.{StoredSet, put_all}
 use Rattle.jpa_rows.specs.Rows.{Rows}
-use Rattle.jpa_object_store.specs.Written.{put_all}
 use Rattle.jpa_object_rows.specs.Sets.{rows_of}
 use Rattle.jpa_protocol.specs.declared.call.Call.{Call}
 use Rattle.jpa_protocol.specs.declared.event.Told.{Told}

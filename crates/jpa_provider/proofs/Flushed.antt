@@ -1,7 +1,7 @@
 -- What holds while a manager is at work is kept by a flush, in units without relations and listeners.
-use Rattle.std.proofs.Common.{◌≡◌, ◌≢◌, ◌<◌, ◌⊎◌, inl, inr, ℕ, zero, suc, Bool, true, false, List, [], ◌∷◌, length, map, refl, ap, sym, subst, ◌∙◌, arith}
-use Rattle.std.specs.Prelude.{slice_set, slice_get, Option, Some, None, ◌==◌, ◌&&◌, if◌then◌else◌, ℤ}
-use Rattle.std.specs.List.{AllByRecursion, list_all, flat_map, filter, zip, enumerate_from}
+use Rattle.std.proofs.Common.{◌≡◌, ◌≢◌, ◌<◌, ◌⊎◌, inl, inr, ℕ, Bool, true, false, List, [], ◌∷◌, length, map, refl, ap, sym, subst, ◌∙◌, arith}
+use Rattle.std.specs.Prelude.{slice_set, Option, Some, None, ◌==◌, ◌&&◌, if◌then◌else◌, ℤ}
+use Rattle.std.specs.List.{AllByRecursion, list_all, flat_map, filter, zip}
 use Rattle.std.specs.FinMap.Entries.{is_sorted-where_key}
 use Rattle.std.proofs.lemmas.Bool.{false≢true, eqb-true, and_parts, and_from, cond_both}
 use Rattle.std.proofs.lemmas.List.{length-set}
@@ -9,7 +9,6 @@ use Rattle.std.proofs.lemmas.List.Elements.{recursion_from_All}
 use Rattle.jpa_value.specs.declared.value.Value.{Value}
 use Rattle.jpa_value.specs.declared.value.Identity.{Identity}
 use Rattle.jpa_value.specs.declared.refusal.Cause.{Cause}
-use Rattle.jpa_value.specs.declared.refusal.State.{State}
 use Rattle.jpa_value.specs.declared.refusal.Persist.{Persist}
 use Rattle.jpa_value.specs.declared.event.LifecycleEvent.{LifecycleEvent}
 use Rattle.jpa_value.specs.Value.{identity_cmp}
@@ -25,20 +24,16 @@ use Rattle.jpa_heap.specs.declared.LiveObject.{LiveObject}
 use Rattle.jpa_heap.specs.Objects.{object_at, no_object, is_whole}
 use Rattle.jpa_context.specs.declared.Base.{Base}
 use Rattle.jpa_context.specs.declared.Entry.{Entry}
-use Rattle.jpa_context.specs.declared.EntityState.{EntityState}
 use Rattle.jpa_context.specs.Work.{Work, object, state_of, is_managed, identity_at}
-use Rattle.jpa_context.specs.Steps.{◌>>◌, Outcome, Done, Refused, Op, after, each}
-use Rattle.jpa_cascade.specs.declared.Operation.{Operation}
-use Rattle.jpa_cascade.specs.Waves.{live_nodes}
-use Rattle.jpa_cascade.proofs.Plain.{plain_targets}
-use Rattle.jpa_ops.specs.States.{persist}
-use Rattle.jpa_flush.specs.Flush.{Action, Insert, Replace, Drop, action_of, written, actions, listed, replaces_row, flushed, settled, settled_entry, settled_all, remembered, remembered_in, members_held, all_remembered, after_flush, sound_or, post, post_event, held_now, persist_targets, persist_behind, persist_from, orphans_of, orphans_along, remove_orphan, remove_orphans_of, remove_orphans, check_links, links_stored, pre_update_for, pre_update_one, pre_update, check_one, check_actions, write_all, flush}
+use Rattle.jpa_context.specs.Steps.{Outcome, Done, Refused, Op, after, each}
+use Rattle.jpa_flush.specs.Flush.{Action, Insert, Replace, Drop, action_of, written, actions, listed, replaces_row, flushed, settled, settled_entry, settled_all, remembered, remembered_in, members_held, all_remembered, after_flush, sound_or, post, post_event, held_now, pre_update_for, pre_update_one, pre_update, check_one, check_actions, write_all, flush}
+use Rattle.jpa_flush.proofs.Flushed.{writing, updating, flat_flush}
 use Rattle.jpa_provider.specs.Machine.{Machine}
 use Rattle.jpa_provider.specs.Transactions.{commit_work, reads_hold}
 use Rattle.jpa_provider.specs.Invariant.{IsLive, IsEntry, name_of, base_fits, known_fits, version_fits, held_fits}
 use Rattle.jpa_lifecycle.specs.Flat.{IsFlat}
 use Rattle.jpa_provider.proofs.Facts.{each_fits_none, list_all_weaker}
-use Rattle.jpa_provider.proofs.AtWork.{HoldsAfter, after_holds, require_holds, require_holds_last, IsAtWork}
+use Rattle.jpa_provider.proofs.AtWork.{HoldsAfter, after_holds, require_holds_last, IsAtWork}
 use Rattle.jpa_provider.proofs.Persisted.{callback_holds, told_at_work, at_place}
 use Rattle.jpa_provider.proofs.Changed.{object_read}
 use Rattle.jpa_provider.proofs.Loaded.{version_loads}
@@ -262,37 +257,6 @@ pub each_holds : {A : Type 0} (P : Work → Type 0) (f : A → Op (Unit {0})) �
 each_holds P f k [] w h = h
 each_holds P f k (x ∷ xs) w h = after_holds (λ u w'. P w') (λ u w'. P w') (f x w) _ (k x w h) (λ u w' h'. each_holds P f k xs w' h')
 
--- persist along cascades: no relation, so nothing
-no_targets : (world : World) → IsFlat world.model → (n : ℕ) (s : EntityState) (w : Work) → Done tt w ≡ persist_targets world n s w
-no_targets world flat n EntityState.Managed w =
-    ap (λ ns. each (persist world) (live_nodes ns) w) (sym (plain_targets world.model Operation.Persist w n (flat.relations (object w n).class)))
-no_targets world flat n EntityState.New w = refl
-no_targets world flat n EntityState.Removed w = refl
-no_targets world flat n EntityState.Detached w = refl
-
-nothing_behind : (world : World) → IsFlat world.model → (o : Option Entry) (w : Work) → Done tt w ≡ persist_behind world o w
-nothing_behind world flat None w = refl
-nothing_behind world flat (Some e) w = no_targets world flat e.object (state_of w e.object) w
-
-pub nothing_from : (world : World) → IsFlat world.model → (bound i : ℕ) (w : Work) → Done tt w ≡ persist_from world bound i w
-nothing_from world flat zero i w = refl
-nothing_from world flat (suc bound) i w =
-    nothing_from world flat bound (suc i) w ∙ ap (λ o. after o (λ _. persist_from world bound (suc i))) (nothing_behind world flat (slice_get w.context i) w)
-
--- orphans: none
-no_orphans : (m : PersistenceUnit) → IsFlat m → (w : Work) (n : ℕ) (s : EntityState) → [] ≡ orphans_of m w n s
-no_orphans m flat w n EntityState.Managed = ap (λ (rs : List Relation). flat_map (orphans_along m w n) (enumerate_from 0 rs)) (sym (flat.relations (object w n).class))
-no_orphans m flat w n EntityState.New = refl
-no_orphans m flat w n EntityState.Removed = refl
-no_orphans m flat w n EntityState.Detached = refl
-
-no_orphan_of : (world : World) → IsFlat world.model → (e : Entry) (w : Work) → Done tt w ≡ remove_orphans_of world e w
-no_orphan_of world flat e w = ap (λ ids. each (remove_orphan world) ids w) (no_orphans world.model flat w e.object (state_of w e.object))
-
-pub no_orphan : (world : World) → IsFlat world.model → (es : List Entry) (w : Work) → Done tt w ≡ each (remove_orphans_of world) es w
-no_orphan world flat [] w = refl
-no_orphan world flat (e ∷ es) w = no_orphan world flat es w ∙ ap (λ o. after o (λ _. each (remove_orphans_of world) es)) (no_orphan_of world flat e w)
-
 told_holds : {world : World} {M : Machine} {m : ℕ} → IsFlat world.model → (event : LifecycleEvent) (n : ℕ) (w : Work) → IsAtWork world M m w →
     HoldsAfter (λ u w'. IsAtWork world M m w') (callback world event n w)
 told_holds {world} {M} {m} flat event n w h = callback_holds (λ u w'. IsAtWork world M m w') world flat event n w (λ e. told_at_work e h)
@@ -331,18 +295,6 @@ write_holds {world} {M} {m} {w} flat convertible checked h =
     (flushed_at_work flat plan known sound h))
 
 -- the flush from its last part back
-abbrev writing : World → Op (Unit {0})
-writing world = check_actions world >> write_all world
-
-abbrev updating : World → Op (Unit {0})
-updating world = pre_update world >> writing world
-
-abbrev linking : World → Op (Unit {0})
-linking world = check_links world >> updating world
-
-abbrev orphaning : World → Op (Unit {0})
-orphaning world = remove_orphans world >> linking world
-
 writing_holds : {world : World} {M : Machine} {m : ℕ} {w : Work} → IsFlat world.model → AnswersConvertible world → IsAtWork world M m w → HoldsAfter (λ u w'. IsAtWork world M m w') (writing world w)
 writing_holds {world} {M} {m} {w} flat convertible h =
     after_holds _ (λ u w'. (w' ≡ w) × AllByRecursion (λ (e : Entry). Checked world w e.object (action_of world.model w e)) w.context) (check_actions world w) _ (checks_hold world w.context w)
@@ -354,16 +306,9 @@ updating_holds {world} {M} {m} {w} flat convertible h =
     (each_holds (IsAtWork world M m) (pre_update_one world) (λ e v k. pre_update_holds flat e (action_of world.model v e) v k) w.context w h)
     (λ u v k. writing_holds flat convertible k)
 
-linking_holds : {world : World} {M : Machine} {m : ℕ} {w : Work} → IsFlat world.model → AnswersConvertible world → IsAtWork world M m w → HoldsAfter (λ u w'. IsAtWork world M m w') (linking world w)
-linking_holds {world} {M} {m} {w} flat convertible h =
-    require_holds _ (list_all (links_stored world.model w) w.context) (Cause.IllegalState State.Reference) w _ (λ linked. updating_holds flat convertible h)
-
 pub flush_holds : {world : World} {M : Machine} {m : ℕ} {w : Work} → IsFlat world.model → AnswersConvertible world → IsAtWork world M m w →
     HoldsAfter (λ u w'. IsAtWork world M m w') (flush world w)
-flush_holds {world} {M} {m} {w} flat convertible h =
-    let P : Unit {0} → Work → Type 0 = λ u w'. IsAtWork world M m w' in
-    subst (λ o. HoldsAfter P (after o (λ _. orphaning world))) (nothing_from world flat (length w.objects) 0 w)
-    (subst (λ o. HoldsAfter P (after o (λ _. linking world))) (no_orphan world flat w.context w) (linking_holds flat convertible h))
+flush_holds {world} {M} {m} {w} flat convertible h = subst (HoldsAfter (λ u w'. IsAtWork world M m w')) (sym (flat_flush world flat w)) (updating_holds flat convertible h)
 
 -- ---- commit
 

@@ -1,5 +1,5 @@
 -- The outcome of get in a unit without relations: what the object holds, and nothing changes.
-use Rattle.std.proofs.Common.{◌≡◌, ◌<◌, ◌⊎◌, inl, inr, ℕ, ℤ, Bool, true, false, List, [], length, refl, ap, sym, subst, ◌∙◌}
+use Rattle.std.proofs.Common.{◌≡◌, ◌⊎◌, inl, inr, ℕ, ℤ, Bool, true, false, List, length, refl, ap, sym, subst, ◌∙◌}
 use Rattle.std.specs.Prelude.{Option, Some, None, Result, Ok, Err, option_map, slice_set, if◌then◌else◌}
 use Rattle.std.specs.List.{position_from}
 use Rattle.std.proofs.lemmas.Bool.{false≢true}
@@ -11,8 +11,7 @@ use Rattle.jpa_model.specs.declared.unit.Attribute.{Attribute}
 use Rattle.jpa_model.specs.declared.unit.Member.{Member}
 use Rattle.jpa_model.specs.declared.unit.PersistenceUnit.{PersistenceUnit}
 use Rattle.jpa_model.specs.declared.unit.Relation.{Relation}
-use Rattle.jpa_model.specs.declared.unit.Root.{Root}
-use Rattle.jpa_model.specs.Chains.{attributes_of, is_version_name, member_among, member_of, or_else, part_name, relations_of, root_of, same_name}
+use Rattle.jpa_model.specs.Chains.{attributes_of, is_version_name, member_among, member_of, or_else, part_name, root_of, same_name}
 use Rattle.jpa_behaviour.specs.Behaviour.{World}
 use Rattle.jpa_heap.specs.declared.LiveObject.{LiveObject}
 use Rattle.jpa_heap.specs.Objects.{object_at, place_of}
@@ -25,7 +24,7 @@ use Rattle.jpa_protocol.specs.declared.call.Call.{Call}
 use Rattle.jpa_protocol.specs.declared.event.Told.{Told}
 use Rattle.jpa_protocol.specs.declared.reply.Reply.{Reply}
 use Rattle.jpa_provider.specs.declared.session.Session.{Session}
-use Rattle.jpa_provider.specs.Machine.{Machine, manager_at, no_manager, work_of, kept}
+use Rattle.jpa_provider.specs.Machine.{Machine, no_manager, work_of, kept}
 use Rattle.jpa_provider.specs.Calls.{give_or, concluded, got, marked_if, marks_if_callback, object_numbered}
 use Rattle.jpa_provider.specs.Step.{holder, on_object}
 use Rattle.jpa_provider.specs.Invariant.{IsMachine}
@@ -33,7 +32,7 @@ use Rattle.jpa_provider.specs.Serving.{machine_of, Serves}
 use Rattle.jpa_provider.proofs.AtWork.{HoldsAfter, after_holds}
 use Rattle.jpa_provider.proofs.Changed.{InHeap, numbered_holds}
 use Rattle.jpa_provider.proofs.Opened.{told, refusal}
-use Rattle.jpa_provider.proofs.SetOf.{same_manager}
+use Rattle.jpa_provider.proofs.SameManagers.{same_manager}
 use Rattle.jpa_provider.proofs.Settled.{marked_holds}
 use Rattle.jpa_provider.proofs.Worked.{IsEnd, ends}
 

@@ -7,6 +7,7 @@ pub mod AtWork
 pub mod Settled
 pub mod Kept
 pub mod Created
+pub mod SameManagers
 pub mod Changed
 pub mod Persisted
 pub mod Entered
@@ -24,6 +25,7 @@ pub mod SetOf
 pub mod Sessions
 pub mod FlatUnits
 pub mod StorableWrites
+pub mod DistinctObjects
 pub mod DistinctWrites
 pub mod AfterFlush
 pub mod Worked
@@ -31,9 +33,9 @@ pub mod Called
 pub mod Opened
 pub mod SetCall
 pub mod Steady
+pub mod Still
 pub mod Serving
 pub mod Commits
-pub mod Puts
 pub mod Active
 pub mod GetOf
 pub mod Crashed

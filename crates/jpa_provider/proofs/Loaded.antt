@@ -1,7 +1,7 @@
 -- What holds while a manager is at work is kept by find, in units without relations and listeners.
 use Rattle.std.proofs.Common.{◌≡◌, ◌<◌, ℕ, Bool, true, false, List, [], ◌∷◌, ◌++◌, length, map, refl, ap, sym, subst, ◌∙◌, arith}
 use Rattle.std.specs.Prelude.{nat_lt, Option, Some, None, ◌==◌, ◌&&◌, if◌then◌else◌, ℤ, is_some}
-use Rattle.std.specs.List.{AllByRecursion, list_all, enumerate_from}
+use Rattle.std.specs.List.{AllByRecursion, list_all}
 use Rattle.std.specs.Option.{unwrap_or}
 use Rattle.std.specs.Ordering.{is_eq}
 use Rattle.std.specs.declared.cmp.Ordering.{Ordering}
@@ -20,7 +20,7 @@ use Rattle.jpa_value.proofs.Orders.{identity_exact}
 use Rattle.jpa_model.specs.declared.unit.PersistenceUnit.{PersistenceUnit}
 use Rattle.jpa_model.specs.declared.unit.Relation.{Relation}
 use Rattle.jpa_model.specs.declared.unit.VersionColumn.{VersionColumn}
-use Rattle.jpa_model.specs.Chains.{root_of, root_class, attributes_of, relations_of, is_kind_of, is_to_one, class_of}
+use Rattle.jpa_model.specs.Chains.{root_of, root_class, attributes_of, is_kind_of, class_of}
 use Rattle.jpa_behaviour.specs.Behaviour.{World}
 use Rattle.jpa_stored.specs.declared.stored.Stored.{Stored}
 use Rattle.jpa_stored.specs.Sets.{StoredSet, stored_at, each_fits, is_key_of, is_identity_of, is_shaped, version_there, members}
@@ -33,7 +33,8 @@ use Rattle.jpa_context.specs.declared.Lock.{Lock}
 use Rattle.jpa_context.specs.declared.Entry.{Entry}
 use Rattle.jpa_context.specs.Work.{Work, identity_at, instance, row, has_identity, entered, with_base}
 use Rattle.jpa_lifecycle.specs.Callbacks.{callback}
-use Rattle.jpa_ops.specs.Load.{most_objects, object_loaded, base_loaded, held_loaded, made, load, found, found_row, find, known, unread}
+use Rattle.jpa_ops.specs.Load.{most_objects, object_loaded, base_loaded, held_loaded, made, load, found, found_row, find, known}
+use Rattle.jpa_ops.proofs.Loaded.{no_held, no_members}
 use Rattle.jpa_protocol.specs.declared.call.Given.{Given}
 use Rattle.jpa_provider.specs.Machine.{Machine}
 use Rattle.jpa_provider.specs.Calls.{give_or, class_named, key_given, is_short_given, whole_key}
@@ -113,12 +114,6 @@ is_row {world} {ns} id x s h e =
 -- the identity of a row is its object's
 name_loaded : {m : PersistenceUnit} {ns : List ℕ} {id : Identity} {x : Stored} (manager : ℕ) (s : StoredSet) → IsRow m ns id x → name_of m (object_loaded m manager s id x) ≡ id
 name_loaded {m} {ns} {id} {x} manager s h = λ i. record { table = sym (eqb-true id.table (root_of m x.class).table h.table) i; key = id.key }
-
-no_held : (m : PersistenceUnit) (s : StoredSet) (id : Identity) (x : Stored) → relations_of m x.class ≡ [] → held_loaded m s id x ≡ []
-no_held m s id x e = ap (λ (rs : List Relation). map (λ (p : ℕ × Relation). unread (is_to_one (p.1).side) (members m s id x p.0)) (enumerate_from 0 rs)) e
-
-no_members : (m : PersistenceUnit) (s : StoredSet) (id : Identity) (x : Stored) → relations_of m x.class ≡ [] → (base_loaded m s id x).members ≡ []
-no_members m s id x e = ap (λ (rs : List Relation). map (λ (p : ℕ × Relation). known (is_to_one (p.1).side) (members m s id x p.0)) (enumerate_from 0 rs)) e
 
 loaded_live : {m : PersistenceUnit} {ns : List ℕ} {id : Identity} {x : Stored} → IsFlat m → (os : List LiveObject) (manager : ℕ) (s : StoredSet) → IsRow m ns id x →
     IsLive m os (object_loaded m manager s id x)
@@ -241,7 +236,7 @@ find_holds {world} {M} {m} {w} flat class key h =
     let id : Identity = record { table = (root_of world.model class).table; key = key } in
     found_holds flat class id (instance world.model w id) (row w id) h refl refl
 
-given_or : {A : Type 0} (r : Cause) (o : Option A) (w : Work) → HoldsAfter (λ a w'. w' ≡ w) (give_or r o w)
+pub given_or : {A : Type 0} (r : Cause) (o : Option A) (w : Work) → HoldsAfter (λ a w'. w' ≡ w) (give_or r o w)
 given_or r None w = tt
 given_or r (Some a) w = refl
 

@@ -1,5 +1,5 @@
 -- How managers and objects are made, and transactions begin, are marked and roll back.
-use Rattle.std.proofs.Common.{◌≡◌, ◌<◌, ◌≤◌, ◌+◌, inl, inr, ℕ, suc, ℤ, drop, get_or, Bool, true, false, List, [], ◌∷◌, ◌++◌, length, map, refl, ap, sym, subst, ◌∙◌, arith}
+use Rattle.std.proofs.Common.{◌≡◌, ◌<◌, ◌≤◌, ◌+◌, inl, inr, ℕ, suc, ℤ, drop, get_or, Bool, true, false, List, [], ◌∷◌, ◌++◌, length, refl, ap, sym, ◌∙◌, arith}
 use Rattle.std.specs.Prelude.{Option, Some, None, Ok, Err, if◌then◌else◌, slice_get, slice_set, nat_lt, count_by, ◌&&◌, ◌||◌}
 use Rattle.std.specs.List.{list_any, filter}
 use Rattle.std.proofs.lemmas.Bool.{lt-ltb, le-ltb, false≢true}
@@ -10,7 +10,6 @@ use Rattle.jpa_value.specs.declared.refusal.Cause.{Cause}
 use Rattle.jpa_value.specs.declared.refusal.Refusal.{Refusal}
 use Rattle.jpa_value.specs.declared.refusal.State.{State}
 use Rattle.jpa_value.specs.declared.refusal.Argument.{Argument}
-use Rattle.jpa_model.specs.declared.unit.PersistenceUnit.{PersistenceUnit}
 use Rattle.jpa_model.specs.Chains.{class_of}
 use Rattle.jpa_behaviour.specs.Behaviour.{World}
 use Rattle.jpa_stored.specs.Sets.{StoredSet}
@@ -28,10 +27,10 @@ use Rattle.jpa_ops.specs.States.{detach_each}
 use Rattle.jpa_provider.specs.declared.session.Status.{Status}
 use Rattle.jpa_provider.specs.declared.session.EntityManager.{EntityManager}
 use Rattle.jpa_provider.specs.declared.session.Session.{Session}
-use Rattle.jpa_provider.specs.Machine.{Machine, Manager, Transaction, manager_at, new_manager, is_begun, is_busy, has_transaction, marked, rolled_back, with_manager}
+use Rattle.jpa_provider.specs.Machine.{Machine, Manager, manager_at, new_manager, is_begun, has_transaction, marked, rolled_back, with_manager}
 use Rattle.jpa_provider.specs.Calls.{because}
 use Rattle.jpa_provider.specs.Transactions.{begin, begin_in, begun, rollback, rollback_in, set_rollback_only, only_rollback_in}
-use Rattle.jpa_provider.specs.Step.{by_manager, create, outcome, made_new, most_open, most_managers}
+use Rattle.jpa_provider.specs.Step.{by_manager, outcome, made_new, most_open, most_managers}
 use Rattle.jpa_provider.specs.Serving.{transaction_in, manager_of, managers_of, manager_in, nobody, machine_of, Serves}
 use Rattle.jpa_provider.proofs.Sessions.{manager_there, managers_changed, managers_count}
 use Rattle.jpa_provider.proofs.Worked.{of_manager, of_nobody}
@@ -55,7 +54,7 @@ abbrev may_open : ℕ → ℕ → Bool
 may_open opened made = nat_lt opened most_open && nat_lt made most_managers
 
 may_create : (s : Session) → may_open (count_by (λ (x : Manager). x.is_open) (machine_of s).managers) (length (machine_of s).managers) ≡ may_open (length s.managers.items) (length s.managers.items)
-may_create s = λ i. may_open (all_open s.work.view s.managers.items i) (managers_count s i)
+may_create s = λ i. may_open (all_open s.work.view.now s.managers.items i) (managers_count s i)
 
 few : (n : ℕ) → n < 16 → may_open n n ≡ true
 few n l = ap (λ b. b && nat_lt n most_managers) (lt-ltb n 16 l) ∙ lt-ltb n 1000000 (omega (arith, l))
@@ -75,30 +74,30 @@ pub created : (world : World) (s t : Session) (x : EntityManager) → length s.m
     t.stored ≡ s.stored → Serves world s Call.CreateEntityManager (told (Answer.Number (suc (length s.managers.items)))) t
 created world s t x l e st c w k =
     let M = machine_of s in
-    let set = s.work.view in
+    let set = s.work.view.now in
     inl (ap (λ b. if b then (told (Answer.Number (suc (length M.managers))), record M { managers = M.managers ++ new_manager ∷ [] }) else because M Cause.Limit) (may_create s ∙ few (length s.managers.items) l)
     ∙ (λ i. (told (Answer.Number (suc (managers_count s i))), sym same i)))
   where
-    fresh : manager_of s.work.view x ≡ new_manager
-    fresh = λ i. record { is_open = true; context = c i; transaction = transaction_in (st i) s.work.view }
+    fresh : manager_of s.work.view.now x ≡ new_manager
+    fresh = λ i. record { is_open = true; context = c i; transaction = transaction_in (st i) s.work.view.now }
 
-    same : machine_of t ≡ record (machine_of s) { managers = managers_of s.work.view s.managers.items ++ new_manager ∷ [] }
+    same : machine_of t ≡ record (machine_of s) { managers = managers_of s.work.view.now s.managers.items ++ new_manager ∷ [] }
     same =
-        (λ i. record { objects = (w i).objects.now; managers = managers_of (w i).view (e i); numbers = (w i).numbers.now; stored_numbers = k i; committed = (w i).view })
-        ∙ (λ i. record (machine_of s) { managers = (map-append (manager_of s.work.view) s.managers.items (x ∷ []) ∙ ap (λ y. managers_of s.work.view s.managers.items ++ y ∷ []) fresh) i })
+        (λ i. record { objects = (w i).objects.now; managers = managers_of (w i).view.now (e i); numbers = (w i).numbers.now; stored_numbers = k i; committed = (w i).view.now })
+        ∙ (λ i. record (machine_of s) { managers = (map-append (manager_of s.work.view.now) s.managers.items (x ∷ []) ∙ ap (λ y. managers_of s.work.view.now s.managers.items ++ y ∷ []) fresh) i })
 
 -- ---- the transaction of a manager
 
-pub transaction_there : (s : Session) (m : ℕ) → m < length s.managers.items → (manager_at (machine_of s) m).transaction ≡ transaction_in (manager_in s.managers.items m).status s.work.view
+pub transaction_there : (s : Session) (m : ℕ) → m < length s.managers.items → (manager_at (machine_of s) m).transaction ≡ transaction_in (manager_in s.managers.items m).status s.work.view.now
 transaction_there s m l = ap (λ (x : Manager). x.transaction) (manager_there s m l)
 
 -- the manager of another session in a new state
-pub replaced : (s t : Session) (m : ℕ) (x : EntityManager) → t.managers.items ≡ slice_set s.managers.items m x → t.work.view ≡ s.work.view → t.work.numbers.now ≡ s.work.numbers.now → t.stored ≡ s.stored →
-    machine_of t ≡ record (machine_of s) { objects = t.work.objects.now; managers = with_manager (machine_of s) m (manager_of s.work.view x) }
+pub replaced : (s t : Session) (m : ℕ) (x : EntityManager) → t.managers.items ≡ slice_set s.managers.items m x → t.work.view.now ≡ s.work.view.now → t.work.numbers.now ≡ s.work.numbers.now → t.stored ≡ s.stored →
+    machine_of t ≡ record (machine_of s) { objects = t.work.objects.now; managers = with_manager (machine_of s) m (manager_of s.work.view.now x) }
 replaced s t m x e v n k =
     λ i. record {
       objects = t.work.objects.now;
-      managers = (ap (λ set. managers_of set t.managers.items) v ∙ ap (managers_of s.work.view) e ∙ managers_changed s.work.view s.managers.items m x) i;
+      managers = (ap (λ set. managers_of set t.managers.items) v ∙ ap (managers_of s.work.view.now) e ∙ managers_changed s.work.view.now s.managers.items m x) i;
       numbers = n i;
       stored_numbers = k i;
       committed = v i;
@@ -115,9 +114,9 @@ begin_open M m Status.Active set h = refl
 begin_open M m Status.RollbackOnly set h = refl
 
 pub begin_refused : (world : World) (s : Session) (em : ℤ) (m : ℕ) → place_of (length s.managers.items) em ≡ Some m → m < length s.managers.items →
-    is_begun (transaction_in (manager_in s.managers.items m).status s.work.view) ≡ true → Serves world s (Call.Begin em) (refusal (Cause.IllegalState State.Active)) s
+    is_begun (transaction_in (manager_in s.managers.items m).status s.work.view.now) ≡ true → Serves world s (Call.Begin em) (refusal (Cause.IllegalState State.Active)) s
 begin_refused world s em m e l h =
-    inl (of_manager s (begin (machine_of s)) em m e l ∙ ap (begin_in (machine_of s) m) (transaction_there s m l) ∙ begin_open (machine_of s) m (manager_in s.managers.items m).status s.work.view h)
+    inl (of_manager s (begin (machine_of s)) em m e l ∙ ap (begin_in (machine_of s) m) (transaction_there s m l) ∙ begin_open (machine_of s) m (manager_in s.managers.items m).status s.work.view.now h)
 
 shut : (st : Status) (set : StoredSet) → is_begun (transaction_in st set) ≡ false → transaction_in st set ≡ None
 shut Status.Inactive set h = refl
@@ -125,29 +124,29 @@ shut Status.Active set h = absurd (false≢true (sym h))
 shut Status.RollbackOnly set h = absurd (false≢true (sym h))
 
 begin_shut : (s : Session) (em : ℤ) (m : ℕ) (b : Bool) → place_of (length s.managers.items) em ≡ Some m → m < length s.managers.items →
-    is_begun (transaction_in (manager_in s.managers.items m).status s.work.view) ≡ false → list_any has_transaction (machine_of s).managers ≡ b →
+    is_begun (transaction_in (manager_in s.managers.items m).status s.work.view.now) ≡ false → list_any has_transaction (machine_of s).managers ≡ b →
     by_manager (machine_of s) em (begin (machine_of s)) ≡ (if b then because (machine_of s) Cause.Busy else (told Answer.Null, begun (machine_of s) m))
 begin_shut s em m b e l h busy =
     let M = machine_of s in
-    of_manager s (begin M) em m e l ∙ ap (begin_in M m) (transaction_there s m l ∙ shut (manager_in s.managers.items m).status s.work.view h)
+    of_manager s (begin M) em m e l ∙ ap (begin_in M m) (transaction_there s m l ∙ shut (manager_in s.managers.items m).status s.work.view.now h)
     ∙ ap (λ c. if c then because M Cause.Busy else (told Answer.Null, begun M m)) busy
 
 pub begin_busy : (world : World) (s : Session) (em : ℤ) (m : ℕ) → place_of (length s.managers.items) em ≡ Some m → m < length s.managers.items →
-    is_begun (transaction_in (manager_in s.managers.items m).status s.work.view) ≡ false → list_any has_transaction (machine_of s).managers ≡ true → Serves world s (Call.Begin em) (refusal Cause.Busy) s
+    is_begun (transaction_in (manager_in s.managers.items m).status s.work.view.now) ≡ false → list_any has_transaction (machine_of s).managers ≡ true → Serves world s (Call.Begin em) (refusal Cause.Busy) s
 begin_busy world s em m e l h busy = inl (begin_shut s em m true e l h busy)
 
 pub begin_begins : (world : World) (s t : Session) (em : ℤ) (m : ℕ) → place_of (length s.managers.items) em ≡ Some m → m < length s.managers.items →
-    is_begun (transaction_in (manager_in s.managers.items m).status s.work.view) ≡ false → list_any has_transaction (machine_of s).managers ≡ false →
+    is_begun (transaction_in (manager_in s.managers.items m).status s.work.view.now) ≡ false → list_any has_transaction (machine_of s).managers ≡ false →
     t.managers.items ≡ slice_set s.managers.items m (record (manager_in s.managers.items m) { status = Status.Active }) → t.work ≡ s.work → t.stored ≡ s.stored → Serves world s (Call.Begin em) (told Answer.Null) t
 begin_begins world s t em m e l h free f w k =
     inl (begin_shut s em m false e l h free ∙ (λ i. (told Answer.Null, sym same i)))
   where
     same : machine_of t ≡ begun (machine_of s) m
     same =
-        replaced s t m (record (manager_in s.managers.items m) { status = Status.Active }) f (ap (λ (u : UnitOfWork). u.view) w) (ap (λ (u : UnitOfWork). u.numbers.now) w) k
+        replaced s t m (record (manager_in s.managers.items m) { status = Status.Active }) f (ap (λ (u : UnitOfWork). u.view.now) w) (ap (λ (u : UnitOfWork). u.numbers.now) w) k
         ∙ (λ i. record (machine_of s) {
           objects = (w i).objects.now;
-          managers = with_manager (machine_of s) m (record (sym (manager_there s m l) i) { transaction = Some (record { begun = s.work.view; view = s.work.view; is_marked = false }) });
+          managers = with_manager (machine_of s) m (record (sym (manager_there s m l) i) { transaction = Some (record { begun = s.work.view.now; view = s.work.view.now; is_marked = false }) });
         })
 
 -- ---- setRollbackOnly and rollback
@@ -159,14 +158,14 @@ pub rollback_alone : (world : World) (s : Session) (em : ℤ) → place_of (leng
 rollback_alone world s em e = inl (of_nobody s (rollback (machine_of s)) em e)
 
 pub mark_inactive : (world : World) (s : Session) (em : ℤ) (m : ℕ) → place_of (length s.managers.items) em ≡ Some m → m < length s.managers.items →
-    is_begun (transaction_in (manager_in s.managers.items m).status s.work.view) ≡ false → Serves world s (Call.SetRollbackOnly em) (refusal (Cause.IllegalState State.Inactive)) s
+    is_begun (transaction_in (manager_in s.managers.items m).status s.work.view.now) ≡ false → Serves world s (Call.SetRollbackOnly em) (refusal (Cause.IllegalState State.Inactive)) s
 mark_inactive world s em m e l h =
-    inl (of_manager s (set_rollback_only (machine_of s)) em m e l ∙ ap (only_rollback_in (machine_of s) m) (transaction_there s m l ∙ shut (manager_in s.managers.items m).status s.work.view h))
+    inl (of_manager s (set_rollback_only (machine_of s)) em m e l ∙ ap (only_rollback_in (machine_of s) m) (transaction_there s m l ∙ shut (manager_in s.managers.items m).status s.work.view.now h))
 
 pub rollback_inactive : (world : World) (s : Session) (em : ℤ) (m : ℕ) → place_of (length s.managers.items) em ≡ Some m → m < length s.managers.items →
-    is_begun (transaction_in (manager_in s.managers.items m).status s.work.view) ≡ false → Serves world s (Call.Rollback em) (refusal (Cause.IllegalState State.Inactive)) s
+    is_begun (transaction_in (manager_in s.managers.items m).status s.work.view.now) ≡ false → Serves world s (Call.Rollback em) (refusal (Cause.IllegalState State.Inactive)) s
 rollback_inactive world s em m e l h =
-    inl (of_manager s (rollback (machine_of s)) em m e l ∙ ap (rollback_in (machine_of s) m) (transaction_there s m l ∙ shut (manager_in s.managers.items m).status s.work.view h))
+    inl (of_manager s (rollback (machine_of s)) em m e l ∙ ap (rollback_in (machine_of s) m) (transaction_there s m l ∙ shut (manager_in s.managers.items m).status s.work.view.now h))
 
 mark_open : (M : Machine) (m : ℕ) (st : Status) (set : StoredSet) → is_begun (transaction_in st set) ≡ true → only_rollback_in M m (transaction_in st set) ≡ (told Answer.Null, marked M m)
 mark_open M m Status.Inactive set h = absurd (false≢true h)
@@ -179,16 +178,16 @@ rollback_open M m Status.Active set h = refl
 rollback_open M m Status.RollbackOnly set h = refl
 
 pub mark_marks : (world : World) (s t : Session) (em : ℤ) (m : ℕ) → place_of (length s.managers.items) em ≡ Some m → m < length s.managers.items →
-    is_begun (transaction_in (manager_in s.managers.items m).status s.work.view) ≡ true → machine_of t ≡ marked (machine_of s) m → Serves world s (Call.SetRollbackOnly em) (told Answer.Null) t
+    is_begun (transaction_in (manager_in s.managers.items m).status s.work.view.now) ≡ true → machine_of t ≡ marked (machine_of s) m → Serves world s (Call.SetRollbackOnly em) (told Answer.Null) t
 mark_marks world s t em m e l h f =
     inl (of_manager s (set_rollback_only (machine_of s)) em m e l ∙ ap (only_rollback_in (machine_of s) m) (transaction_there s m l)
-    ∙ mark_open (machine_of s) m (manager_in s.managers.items m).status s.work.view h ∙ (λ i. (told Answer.Null, sym f i)))
+    ∙ mark_open (machine_of s) m (manager_in s.managers.items m).status s.work.view.now h ∙ (λ i. (told Answer.Null, sym f i)))
 
 pub rollback_rolls : (world : World) (s t : Session) (em : ℤ) (m : ℕ) → place_of (length s.managers.items) em ≡ Some m → m < length s.managers.items →
-    is_begun (transaction_in (manager_in s.managers.items m).status s.work.view) ≡ true → machine_of t ≡ rolled_back (machine_of s) m → Serves world s (Call.Rollback em) (told Answer.Null) t
+    is_begun (transaction_in (manager_in s.managers.items m).status s.work.view.now) ≡ true → machine_of t ≡ rolled_back (machine_of s) m → Serves world s (Call.Rollback em) (told Answer.Null) t
 rollback_rolls world s t em m e l h f =
     inl (of_manager s (rollback (machine_of s)) em m e l ∙ ap (rollback_in (machine_of s) m) (transaction_there s m l)
-    ∙ rollback_open (machine_of s) m (manager_in s.managers.items m).status s.work.view h ∙ (λ i. (told Answer.Null, sym f i)))
+    ∙ rollback_open (machine_of s) m (manager_in s.managers.items m).status s.work.view.now h ∙ (λ i. (told Answer.Null, sym f i)))
 
 -- a slot that is set twice
 pub twice : (xs : List EntityManager) (m : ℕ) (x : EntityManager) (st : Status) → m < length xs →
@@ -196,7 +195,7 @@ pub twice : (xs : List EntityManager) (m : ℕ) (x : EntityManager) (st : Status
 twice xs m x st l = ap (λ (y : EntityManager). slice_set (slice_set xs m x) m (record y { status = st })) (get_or-set_same xs m x nobody l) ∙ set-set xs m x (record x { status = st })
 
 pub rolled_there : (s t : Session) (m : ℕ) (c : Changes Entry) → m < length s.managers.items → t.managers.items ≡ slice_set s.managers.items m (record { status = Status.Inactive; context = c }) → c.now ≡ [] →
-    t.work.objects.now ≡ detach_each (manager_in s.managers.items m).context.now s.work.objects.now → t.work.view ≡ s.work.view → t.work.numbers.now ≡ s.work.numbers.now → t.stored ≡ s.stored →
+    t.work.objects.now ≡ detach_each (manager_in s.managers.items m).context.now s.work.objects.now → t.work.view.now ≡ s.work.view.now → t.work.numbers.now ≡ s.work.numbers.now → t.stored ≡ s.stored →
     machine_of t ≡ rolled_back (machine_of s) m
 rolled_there s t m c l f e o v n k =
     let there = manager_there s m l in
@@ -226,7 +225,7 @@ pub new_gives_up : (world : World) (s t : Session) (name : List ℕ) → machine
 new_gives_up world s t name e = inr (refl, inl refl, e)
 
 -- another session with these objects
-pub with_objects : (s t : Session) (os : List LiveObject) → t.managers ≡ s.managers → t.stored ≡ s.stored → t.work.objects.now ≡ os → t.work.numbers.now ≡ s.work.numbers.now → t.work.view ≡ s.work.view →
+pub with_objects : (s t : Session) (os : List LiveObject) → t.managers ≡ s.managers → t.stored ≡ s.stored → t.work.objects.now ≡ os → t.work.numbers.now ≡ s.work.numbers.now → t.work.view.now ≡ s.work.view.now →
     machine_of t ≡ record (machine_of s) { objects = os }
 with_objects s t os m k o n v = λ i. record { objects = o i; managers = managers_of (v i) (m i).items; numbers = n i; stored_numbers = k i; committed = v i }
 

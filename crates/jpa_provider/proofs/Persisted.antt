@@ -1,21 +1,19 @@
 -- What holds while a manager is at work is kept by persist, in units without relations and listeners.
-use Rattle.std.proofs.Common.{◌≡◌, ◌≢◌, ◌<◌, ◌≤◌, ℕ, zero, suc, Bool, true, false, List, [], ◌∷◌, length, map, refl, ap, sym, subst, ◌∙◌, arith}
+use Rattle.std.proofs.Common.{◌≡◌, ◌≢◌, ◌<◌, ◌≤◌, ℕ, zero, suc, Bool, true, false, List, [], ◌∷◌, length, refl, ap, sym, subst, arith}
 use Rattle.std.specs.Prelude.{slice_index_or, slice_set, slice_get, nat_lt, nat_le, not, Some, ◌==◌, ◌&&◌, if◌then◌else◌, pos, is_some}
-use Rattle.std.specs.List.{list_any, list_all, filter}
+use Rattle.std.specs.List.{list_all}
 use Rattle.std.specs.Option.{unwrap_or}
 use Rattle.std.proofs.lemmas.Bool.{false≢true, true≢false, ltb-true, lt-ltb, le-leb, eqb-true, and_parts, and_from}
-use Rattle.std.proofs.lemmas.List.{get_or-set_same, length-set, set-get_or}
+use Rattle.std.proofs.lemmas.List.{get_or-set_same, length-set}
 use Rattle.std.proofs.lemmas.List.Elements.{All-weaker}
 use Rattle.jpa_value.specs.declared.value.Value.{Value}
 use Rattle.jpa_value.specs.declared.refusal.Cause.{Cause}
 use Rattle.jpa_value.specs.declared.refusal.Persist.{Persist}
 use Rattle.jpa_value.specs.declared.event.LifecycleEvent.{LifecycleEvent}
 use Rattle.jpa_value.specs.Value.{fits, is_null, is_i64}
-use Rattle.jpa_model.specs.declared.unit.PersistenceUnit.{PersistenceUnit}
 use Rattle.jpa_model.specs.declared.unit.Entity.{Entity}
 use Rattle.jpa_model.specs.declared.unit.Origin.{Origin}
 use Rattle.jpa_model.specs.declared.unit.Part.{Part}
-use Rattle.jpa_model.specs.declared.unit.Listener.{Listener}
 use Rattle.jpa_model.specs.Chains.{root_of, root_class, root_in, entity_at, no_entity}
 use Rattle.jpa_behaviour.specs.Behaviour.{World}
 use Rattle.jpa_stored.specs.Sets.{each_fits, is_key_of}
@@ -25,33 +23,20 @@ use Rattle.jpa_heap.specs.declared.LiveObject.{LiveObject}
 use Rattle.jpa_heap.specs.Objects.{object_at, no_object, is_whole}
 use Rattle.jpa_context.specs.declared.EntityState.{EntityState}
 use Rattle.jpa_context.specs.Work.{Work, object, state_from, told}
-use Rattle.jpa_context.specs.Steps.{Done}
-use Rattle.jpa_lifecycle.specs.Callbacks.{callback, fired_by, hearers, order, same_event, ended, told_fired}
+use Rattle.jpa_lifecycle.specs.Callbacks.{callback, hearers}
 use Rattle.jpa_ops.specs.Load.{most_objects}
 use Rattle.jpa_ops.specs.States.{give_key, with_key, with_number, number_part, last_number}
 use Rattle.jpa_protocol.specs.declared.event.Told.{Told}
 use Rattle.jpa_provider.specs.Machine.{Machine}
 use Rattle.jpa_provider.specs.Invariant.{IsLive, IsEntry, is_held_by, stands_in}
 use Rattle.jpa_lifecycle.specs.Flat.{IsFlat}
+use Rattle.jpa_lifecycle.proofs.Quiet.{callback_plain, event_told}
 use Rattle.jpa_provider.proofs.Facts.{held_more, numbers_trans, numbers_same, each_fits_set, each_fits_length}
 use Rattle.jpa_provider.proofs.AtWork.{HoldsAfter, require_holds, require_holds_last, IsAtWork, contexts}
 use Rattle.jpa_provider.proofs.Kept.{KeepsHeld, manager_kept, entry_kept, distinct_kept}
 use Rattle.jpa_provider.proofs.Changed.{holds_apart, live_set, placed_set}
 
 -- ---- without listeners an event is told, and nothing else happens
-
-order_none : (m : PersistenceUnit) (class : ℕ) (event : LifecycleEvent) → hearers m class ≡ [] → order m class event ≡ []
-order_none m class event e = ap (λ ls. map (λ (l : Listener). l.name) (filter (λ l. list_any (same_event event) l.events) ls)) e
-
-event_told : LifecycleEvent → ℕ → Told
-event_told event n = record { event = event; object = suc n; ran = [] }
-
-callback_plain : (world : World) (event : LifecycleEvent) (n : ℕ) (w : Work) → hearers world.model (object w n).class ≡ [] →
-    Done tt (told (event_told event n) w) ≡ callback world event n w
-unfolding event_told
-callback_plain world event n w e =
-    (λ i. Done tt (told (record { event = event; object = suc n; ran = [] }) (record w { objects = sym (set-get_or w.objects n no_object) i })))
-    ∙ sym (ap (λ names. let f = fired_by world event names (object w n) in ended f.refusal (told_fired event n f w)) (order_none world.model (object w n).class event e))
 
 pub callback_holds : (P : Unit {0} → Work → Type 0) (world : World) → IsFlat world.model → (event : LifecycleEvent) (n : ℕ) (w : Work) →
     ((e : Told) → P tt (told e w)) → HoldsAfter P (callback world event n w)

@@ -39,15 +39,16 @@ use Rattle.jpa_flush.specs.Flush.{flush}
 use Rattle.jpa_protocol.specs.declared.call.Given.{Given}
 use Rattle.jpa_protocol.specs.declared.event.Told.{Told}
 use Rattle.jpa_provider.specs.Machine.{Machine, manager_at, with_manager, committed_after, is_gone, unlocked}
-use Rattle.jpa_provider.specs.Calls.{give_or, class_named, key_given, is_short_given, whole_key, object_numbered}
+use Rattle.jpa_provider.specs.Calls.{class_named, key_given, is_short_given, whole_key, object_numbered}
 use Rattle.jpa_provider.specs.Step.{persist_call, find_call}
 use Rattle.jpa_provider.specs.Transactions.{is_read_lock, base_is_row, reads_hold, commit_work}
 use Rattle.jpa_provider.proofs.AtWork.{HoldsAfter, after_holds, require_holds, require_holds_last}
 use Rattle.jpa_provider.proofs.Created.{OnObject}
+use Rattle.jpa_provider.proofs.Loaded.{given_or}
 use Rattle.jpa_provider.proofs.Changed.{InHeap, numbered_holds}
 use Rattle.jpa_provider.proofs.Persisted.{callback_holds}
 
-abbrev IsThere : LiveObject → Type 0
+abbrev pub IsThere : LiveObject → Type 0
 IsThere x = is_removed_life x.life ≡ false
 
 abbrev IsFree : Entry → Type 0
@@ -258,10 +259,6 @@ found_plain : (world : World) → IsFlat world.model → (class : ℕ) (id : Ide
 found_plain world flat class id (Some n) s w h = h
 found_plain world flat class id None (Some x) w h = found_row_plain world flat class id x (is_kind_of world.model x.class class) w h
 found_plain world flat class id None None w h = h
-
-given_or : {A : Type 0} (r : Cause) (o : Option A) (w : Work) → HoldsAfter (λ a w'. w' ≡ w) (give_or r o w)
-given_or r None w = tt
-given_or r (Some a) w = refl
 
 pub find_plain : (world : World) → IsFlat world.model → (name : List ℕ) (key : List Given) (w : Work) → IsPlain w → HoldsAfter (λ o w'. IsPlain w') (find_call world name key w)
 find_plain world flat name key w h =

@@ -13,7 +13,7 @@ use Rattle.jpa_provider.specs.declared.session.EntityManager.{EntityManager}
 use Rattle.jpa_protocol.specs.declared.call.Call.{Call}
 use Rattle.jpa_protocol.specs.declared.reply.Reply.{Reply}
 use Rattle.jpa_provider.specs.declared.session.Session.{Session}
-use Rattle.jpa_provider.specs.Machine.{Manager, manager_at, opened}
+use Rattle.jpa_provider.specs.Machine.{Manager, manager_at, opened, IsStoredAs}
 use Rattle.jpa_provider.specs.Invariant.{HasOneTransaction, IsEntry, IsMachine, hands_representable}
 use Rattle.jpa_provider.specs.Serving.{machine_of, manager_in, nobody, is_commit, IsPlainMachine, IsServing, IsSettled, Serves}
 use Rattle.jpa_provider.proofs.OneTransaction.{step_one}
@@ -21,7 +21,7 @@ use Rattle.jpa_provider.proofs.Placed.{work_placed}
 use Rattle.jpa_provider.proofs.Sessions.{manager_there, managers_count}
 use Rattle.jpa_provider.proofs.Settled.{opened_holds}
 use Rattle.jpa_provider.proofs.Outcome.{step_keeps}
-use Rattle.jpa_provider.proofs.Steady.{step_steady, IsStoredAs}
+use Rattle.jpa_provider.proofs.Steady.{step_steady}
 
 pub serves_on : (world : World) (s t : Session) (call : Call) (reply : Reply) → IsServing world s → hands_representable call ≡ true → Serves world s call reply t → IsPlainMachine (machine_of t) → IsSettled t → IsServing world t
 serves_on world s t call reply h rep step plain settled =

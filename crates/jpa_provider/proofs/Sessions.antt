@@ -1,29 +1,28 @@
 -- How a session and its machine go together: managers at their places, and one of them at work.
-use Rattle.std.proofs.Common.{◌≡◌, ◌<◌, ℕ, Bool, true, List, [], ◌∷◌, length, map, refl, ap, sym, subst, ◌∙◌}
-use Rattle.std.specs.Prelude.{slice_index_or, slice_set, Option, Some, None}
+use Rattle.std.proofs.Common.{◌≡◌, ◌<◌, ℕ, true, List, [], ◌∷◌, length, refl, ap, sym, subst, ◌∙◌}
+use Rattle.std.specs.Prelude.{slice_set}
 use Rattle.std.proofs.lemmas.List.{get_or-map, get_or-set_same, map-set, set-set, set-get_or, length-set, length-map}
 use Rattle.jpa_stored.specs.Sets.{StoredSet}
 use Rattle.jpa_undo.specs.Undo.{Changes}
 use Rattle.jpa_context.specs.declared.Entry.{Entry}
 use Rattle.jpa_context.specs.Work.{Work}
-use Rattle.jpa_context.specs.Undo.{now, since, Since, IsKept, view_before}
+use Rattle.jpa_context.specs.Undo.{now, since, Since}
 use Rattle.jpa_provider.specs.declared.session.Status.{Status}
 use Rattle.jpa_provider.specs.declared.session.EntityManager.{EntityManager}
 use Rattle.jpa_provider.specs.declared.session.Session.{Session}
-use Rattle.jpa_provider.specs.Machine.{Machine, Manager, Transaction, manager_at, with_manager, no_manager, work_of, view_in, seen_in, kept, marked, marked_in}
-use Rattle.jpa_provider.specs.Invariant.{context_of}
-use Rattle.jpa_provider.specs.Serving.{transaction_in, manager_of, managers_of, manager_in, nobody, machine_of, marked_status, since_of, IsSettled, IsWorking}
+use Rattle.jpa_provider.specs.Machine.{Machine, Manager, manager_at, with_manager, no_manager, work_of, view_in, seen_in, kept, marked, marked_in}
+use Rattle.jpa_provider.specs.Serving.{transaction_in, manager_of, managers_of, manager_in, nobody, machine_of, marked_status, IsSettled, IsWorking}
 
 -- ---- managers at their places
 
-pub manager_there : (s : Session) (m : ℕ) → m < length s.managers.items → manager_at (machine_of s) m ≡ manager_of s.work.view (manager_in s.managers.items m)
-manager_there s m l = get_or-map (manager_of s.work.view) s.managers.items m nobody no_manager l
+pub manager_there : (s : Session) (m : ℕ) → m < length s.managers.items → manager_at (machine_of s) m ≡ manager_of s.work.view.now (manager_in s.managers.items m)
+manager_there s m l = get_or-map (manager_of s.work.view.now) s.managers.items m nobody no_manager l
 
 pub managers_changed : (set : StoredSet) (xs : List EntityManager) (m : ℕ) (x : EntityManager) → managers_of set (slice_set xs m x) ≡ slice_set (managers_of set xs) m (manager_of set x)
 managers_changed set xs m x = map-set (manager_of set) xs m x
 
 pub managers_count : (s : Session) → length (machine_of s).managers ≡ length s.managers.items
-managers_count s = length-map s.managers.items (manager_of s.work.view)
+managers_count s = length-map s.managers.items (manager_of s.work.view.now)
 
 -- what a transaction sees is what was committed
 pub view_committed : (status : Status) (set : StoredSet) → view_in (transaction_in status set) set ≡ set
@@ -51,15 +50,15 @@ pub same_place : (xs : List EntityManager) (m : ℕ) (c : Changes Entry) → m <
 same_place xs m c l = get_or-set_same xs m (record (manager_in xs m) { context = c }) nobody l
 
 pub taken_works : (s t : Session) (m : ℕ) (c : Changes Entry) → m < length s.managers.items → IsSettled s → t.managers.items ≡ with_context s.managers.items m c → t.stored ≡ s.stored →
-    since t.work ≡ record { objects = s.work.objects.since; context = (manager_in s.managers.items m).context.now; numbers = s.work.numbers.since; view = view_before s.work.replaced s.work.view } →
+    since t.work ≡ record { objects = s.work.objects.since; context = (manager_in s.managers.items m).context.now; numbers = s.work.numbers.since; view = s.work.view.since } →
     IsWorking (machine_of s) m t
 taken_works s t m c l h e f g =
     let xs = s.managers.items in
-    let set = s.work.view in
+    let set = s.work.view.now in
     let there = manager_there s m l in
     record {
       within = subst (λ ys. m < length ys) (sym e) (subst (λ n. m < n) (sym (length-set xs m (record (manager_in xs m) { context = c }))) l);
-      since = g ∙ (λ i. record { objects = (h.kept).0 i; context = (sym there i).context; numbers = (h.kept).2 i; view = view_before ((h.kept).3 i) set });
+      since = g ∙ (λ i. record { objects = (h.kept).0 i; context = (sym there i).context; numbers = (h.kept).2 i; view = (h.kept).3 i });
       stored = f;
       status = ap (λ ys. transaction_in (manager_in ys m).status set) e ∙ ap (λ (x : EntityManager). transaction_in x.status set) (same_place xs m c l) ∙ sym (ap (λ (x : Manager). x.transaction) there);
       managers = λ x.
@@ -68,11 +67,11 @@ taken_works s t m c l h e f g =
     }
 
 pub taken_work : (s : Session) (m : ℕ) (w : Work) → m < length s.managers.items → IsSettled s →
-    w ≡ record { manager = m; objects = s.work.objects.now; context = (manager_in s.managers.items m).context.now; numbers = s.work.numbers.now; view = s.work.view; events = s.work.events } →
+    w ≡ record { manager = m; objects = s.work.objects.now; context = (manager_in s.managers.items m).context.now; numbers = s.work.numbers.now; view = s.work.view.now; events = s.work.events } →
     w ≡ work_of (machine_of s) m
 taken_work s m w l h e =
     let there = manager_there s m l in
-    let set = s.work.view in
+    let set = s.work.view.now in
     e ∙ (λ i. record {
       manager = m;
       objects = s.work.objects.now;
@@ -89,7 +88,7 @@ pub record IsBack (s t : Session) (m : ℕ) (c : Changes Entry) (status : Status
   pub managers : t.managers.items ≡ slice_set s.managers.items m (record { status = status; context = c })
   pub stored : t.stored ≡ s.stored
 
-pub machine_back : (M : Machine) (s t : Session) (m : ℕ) (c : Changes Entry) (status : Status) → IsWorking M m s → IsBack s t m c status → t.work.view ≡ M.committed →
+pub machine_back : (M : Machine) (s t : Session) (m : ℕ) (c : Changes Entry) (status : Status) → IsWorking M m s → IsBack s t m c status → t.work.view.now ≡ M.committed →
     machine_of t ≡ record M {
       objects = t.work.objects.now;
       managers = with_manager M m (record { is_open = true; context = c.now; transaction = transaction_in status M.committed });
@@ -110,8 +109,8 @@ own_manager : (M : Machine) (m : ℕ) (s : Session) → IsWorking M m s → reco
 own_manager M m s h = λ i. record (manager_at M m) { transaction = h.status i }
 
 -- with what its work changed
-pub kept_back : (M : Machine) (s t : Session) (m : ℕ) (c : Changes Entry) → IsWorking M m s → IsBack s t m c (manager_in s.managers.items m).status → s.work.view ≡ M.committed →
-    t.work.view ≡ s.work.view → t.work.objects.now ≡ s.work.objects.now → t.work.numbers.now ≡ s.work.numbers.now → c.now ≡ s.work.context.now →
+pub kept_back : (M : Machine) (s t : Session) (m : ℕ) (c : Changes Entry) → IsWorking M m s → IsBack s t m c (manager_in s.managers.items m).status → s.work.view.now ≡ M.committed →
+    t.work.view.now ≡ s.work.view.now → t.work.objects.now ≡ s.work.objects.now → t.work.numbers.now ≡ s.work.numbers.now → c.now ≡ s.work.context.now →
     machine_of t ≡ kept M m (now s.work)
 kept_back M s t m c h b v w o n e =
     let status = (manager_in s.managers.items m).status in
@@ -121,14 +120,14 @@ kept_back M s t m c h b v w o n e =
       managers = with_manager M m (record {
         is_open = sym h.is_open i;
         context = e i;
-        transaction = (sym (seen_committed status M.committed) ∙ ap (seen_in (transaction_in status M.committed)) (sym v) ∙ ap (λ t. seen_in t s.work.view) h.status) i;
+        transaction = (sym (seen_committed status M.committed) ∙ ap (seen_in (transaction_in status M.committed)) (sym v) ∙ ap (λ t. seen_in t s.work.view.now) h.status) i;
       });
       numbers = n i;
     })
 
 -- with what it had
 pub restored_back : (M : Machine) (s t : Session) (m : ℕ) (c : Changes Entry) → IsWorking M m s → IsBack s t m c (manager_in s.managers.items m).status →
-    t.work.view ≡ (since s.work).view → t.work.objects.now ≡ (since s.work).objects → t.work.numbers.now ≡ (since s.work).numbers → c.now ≡ (since s.work).context →
+    t.work.view.now ≡ (since s.work).view → t.work.objects.now ≡ (since s.work).objects → t.work.numbers.now ≡ (since s.work).numbers → c.now ≡ (since s.work).context →
     machine_of t ≡ M
 restored_back M s t m c h b w o n e =
     let status = (manager_in s.managers.items m).status in
@@ -152,9 +151,9 @@ pub marked_there : (s t : Session) (m : ℕ) → m < length s.managers.items →
     machine_of t ≡ marked (machine_of s) m
 marked_there s t m l w k e =
     let x = manager_in s.managers.items m in
-    let set = s.work.view in
+    let set = s.work.view.now in
     let there = manager_there s m l in
-    (λ i. record { objects = (w i).objects.now; managers = managers_of (w i).view (e i); numbers = (w i).numbers.now; stored_numbers = k i; committed = (w i).view })
+    (λ i. record { objects = (w i).objects.now; managers = managers_of (w i).view.now (e i); numbers = (w i).numbers.now; stored_numbers = k i; committed = (w i).view.now })
     ∙ (λ i. record (machine_of s) { managers = managers_changed set s.managers.items m (record x { status = marked_status x.status }) i })
     ∙ (λ i. record (machine_of s) { managers = slice_set (managers_of set s.managers.items) m (record (manager_of set x) { transaction = marked_transaction x.status set i }) })
     ∙ ap (λ (y : Manager). record (machine_of s) { managers = slice_set (managers_of set s.managers.items) m (record y { transaction = marked_in y.transaction }) }) (sym there)

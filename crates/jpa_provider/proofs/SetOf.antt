@@ -1,7 +1,6 @@
 -- The outcome of set, whoever holds the object.
 use Rattle.std.proofs.Common.{◌≡◌, ◌⊎◌, inl, inr, ℕ, ℤ, Bool, true, false, List, [], length, refl, ap, subst, ◌∙◌}
 use Rattle.std.specs.Prelude.{slice_get, slice_set, Option, Some, None, Result, Ok, Err}
-use Rattle.std.proofs.lemmas.List.{set-get_or}
 use Rattle.jpa_value.specs.declared.refusal.Cause.{Cause}
 use Rattle.jpa_value.specs.declared.refusal.Refusal.{Refusal}
 use Rattle.jpa_value.specs.declared.refusal.Argument.{Argument}
@@ -12,33 +11,17 @@ use Rattle.jpa_behaviour.specs.Behaviour.{World}
 use Rattle.jpa_protocol.specs.declared.call.Given.{Given}
 use Rattle.jpa_protocol.specs.declared.reply.Answer.{Answer}
 use Rattle.jpa_protocol.specs.declared.reply.Reply.{Reply}
-use Rattle.jpa_stored.specs.Sets.{StoredSet}
 use Rattle.jpa_heap.specs.declared.Handed.{Handed}
 use Rattle.jpa_heap.specs.declared.LiveObject.{LiveObject}
 use Rattle.jpa_heap.specs.Objects.{object_at, is_new, place_of}
 use Rattle.jpa_heap.specs.Assign.{fits_part, fits_version, fits_plain, fits_link, unless_refused, set_member, set_in}
-use Rattle.jpa_context.specs.Work.{Work, with_object}
+use Rattle.jpa_context.specs.Work.{Work}
 use Rattle.jpa_context.specs.Steps.{Outcome, Done, Refused, after}
 use Rattle.jpa_ops.specs.Members.{placed, set}
-use Rattle.jpa_provider.specs.Machine.{Machine, Transaction, manager_at, no_manager, work_of, kept, seen_in, view_in, view}
+use Rattle.jpa_provider.specs.Machine.{Machine, work_of}
 use Rattle.jpa_provider.specs.Calls.{give_or, handed, concluded, marks_if_callback, marked_if, nothing}
 use Rattle.jpa_provider.specs.Step.{set_call, on_object, holder}
-
--- ---- the objects alone change
-
-seen_view : (t : Option Transaction) (C : StoredSet) → seen_in t (view_in t C) ≡ t
-seen_view None C = refl
-seen_view (Some t) C = refl
-
--- a manager that keeps context and view is the same
-pub same_manager : (M : Machine) (m : ℕ) → record (manager_at M m) { transaction = seen_in (manager_at M m).transaction (view M m) } ≡ manager_at M m
-same_manager M m = λ i. record (manager_at M m) { transaction = seen_view (manager_at M m).transaction M.committed i }
-
-same_machine : (M : Machine) (m n : ℕ) (y : LiveObject) → kept M m (with_object n y (work_of M m)) ≡ record M { objects = slice_set M.objects n y }
-same_machine M m n y =
-    let same : slice_set M.managers m (record (manager_at M m) { transaction = seen_in (manager_at M m).transaction (view M m) }) ≡ M.managers =
-    ap (slice_set M.managers m) (same_manager M m) ∙ set-get_or M.managers m no_manager in
-    λ i. record M { objects = slice_set M.objects n y; managers = same i }
+use Rattle.jpa_provider.proofs.SameManagers.{same_machine}
 
 -- ---- the object by its number
 

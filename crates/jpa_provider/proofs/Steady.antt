@@ -1,7 +1,6 @@
 -- What each call but commit leaves: no object is removed and no entry locked, and what was committed stays.
-use Rattle.std.proofs.Common.{◌≡◌, ◌<◌, inl, inr, ℕ, zero, suc, ℤ, Bool, true, false, List, [], ◌∷◌, ◌++◌, length, refl, ap, sym, subst, ◌∙◌}
+use Rattle.std.proofs.Common.{◌≡◌, ◌<◌, inl, inr, ℕ, zero, suc, ℤ, Bool, true, false, List, [], ◌∷◌, ◌++◌, length, refl, ap, sym, subst}
 use Rattle.std.specs.Prelude.{All, Option, Some, None, slice_index_or, slice_set, ◌&&◌, nat_lt, count_by}
-use Rattle.std.specs.List.{list_all}
 use Rattle.std.proofs.lemmas.Bool.{cond_both, false≢true}
 use Rattle.std.proofs.lemmas.List.Elements.{All-nil, All-set, All-push}
 use Rattle.jpa_value.specs.declared.refusal.Cause.{Cause}
@@ -13,7 +12,7 @@ use Rattle.jpa_heap.specs.declared.LiveObject.{LiveObject}
 use Rattle.jpa_heap.specs.Objects.{new_object, object_at, place_of, with_life}
 use Rattle.jpa_context.specs.declared.Entry.{Entry}
 use Rattle.jpa_context.specs.declared.Lock.{Lock}
-use Rattle.jpa_context.specs.Undo.{IsPlain, is_removed_life}
+use Rattle.jpa_context.specs.Undo.{IsPlain}
 use Rattle.jpa_context.specs.Work.{Work}
 use Rattle.jpa_context.specs.Steps.{Outcome, Done, Refused, after}
 use Rattle.jpa_lifecycle.specs.Flat.{IsFlat}
@@ -25,21 +24,16 @@ use Rattle.jpa_protocol.specs.declared.call.Call.{Call}
 use Rattle.jpa_protocol.specs.declared.call.Given.{Given}
 use Rattle.jpa_protocol.specs.declared.reply.Answer.{Answer}
 use Rattle.jpa_protocol.specs.declared.reply.Reply.{Reply}
-use Rattle.jpa_provider.specs.Machine.{Machine, Manager, Transaction, manager_at, no_manager, new_manager, with_manager, is_busy, work_of, kept, marked, rolled_back}
-use Rattle.jpa_provider.specs.Calls.{because, concluded, handed, is_short_given, marks, marks_if_callback, marked_if, nothing, object_or_null, got, object_numbered}
-use Rattle.jpa_provider.specs.Transactions.{begin, begin_in, begun, rollback, rollback_in, set_rollback_only, only_rollback_in}
-use Rattle.jpa_provider.specs.Step.{Step, most_open, most_managers, create, made_new, if_open, by_manager, holder, set_call, persist_call, find_call, outcome}
+use Rattle.jpa_provider.specs.Machine.{Machine, Manager, Transaction, manager_at, no_manager, new_manager, with_manager, is_busy, work_of, rolled_back, IsStoredAs}
+use Rattle.jpa_provider.specs.Calls.{because, concluded, handed, marks, marks_if_callback, marked_if, nothing, object_or_null, got, object_numbered}
+use Rattle.jpa_provider.specs.Transactions.{begin, begin_in, rollback, rollback_in, set_rollback_only, only_rollback_in}
+use Rattle.jpa_provider.specs.Step.{Step, most_open, most_managers, create, made_new, if_open, holder, set_call, persist_call, find_call, outcome}
 use Rattle.jpa_provider.specs.Invariant.{context_of}
 use Rattle.jpa_provider.specs.Serving.{is_commit, IsPlainMachine}
 use Rattle.jpa_provider.proofs.AtWork.{HoldsAfter, after_holds, require_holds}
 use Rattle.jpa_provider.proofs.Changed.{InHeap, numbered_holds}
 use Rattle.jpa_provider.proofs.GetOf.{get_call_same}
-use Rattle.jpa_provider.proofs.Plain.{set_plain, persist_plain, find_plain}
-
--- the committed set and the numbers that were stored with it are the same
-pub record IsStoredAs (M N : Machine) : Type 0 where
-  pub committed : N.committed ≡ M.committed
-  pub numbers : N.stored_numbers ≡ M.stored_numbers
+use Rattle.jpa_provider.proofs.Plain.{set_plain, persist_plain, find_plain, IsThere}
 
 -- both at once
 abbrev pub IsSteady : Machine → Machine → Type 0
@@ -60,9 +54,6 @@ free_more [] f zero = All-nil _
 free_more [] f (suc k) = All-nil _
 free_more (y ∷ ys) f zero = f zero
 free_more (y ∷ ys) f (suc k) = free_more ys (λ j. f (suc j)) k
-
-abbrev IsThere : LiveObject → Type 0
-IsThere x = is_removed_life x.life ≡ false
 
 detached_there : (es : List Entry) (os : List LiveObject) → All IsThere os → All IsThere (detach_each es os)
 detached_there [] os h = h

@@ -1,12 +1,10 @@
 -- What a flush writes can be stored, in units without relations and listeners.
-use Rattle.std.proofs.Common.{◌≡◌, ℕ, true, List, [], ◌∷◌, length, refl, sym, subst}
+use Rattle.std.proofs.Common.{◌≡◌, ℕ, true, List, [], ◌∷◌, refl, sym, subst}
 use Rattle.std.specs.Prelude.{Option, Some, None}
-use Rattle.std.specs.List.{AllByRecursion, flat_map, list_all}
+use Rattle.std.specs.List.{AllByRecursion, flat_map}
 use Rattle.std.proofs.lemmas.Bool.{and_from}
 use Rattle.std.proofs.lemmas.List.Elements.{recursion_from_All}
 use Rattle.jpa_value.specs.declared.value.Identity.{Identity}
-use Rattle.jpa_value.specs.declared.refusal.Cause.{Cause}
-use Rattle.jpa_value.specs.declared.refusal.State.{State}
 use Rattle.jpa_value.specs.declared.event.LifecycleEvent.{LifecycleEvent}
 use Rattle.jpa_behaviour.specs.Behaviour.{World, AnswersConvertible}
 use Rattle.jpa_stored.specs.declared.stored.Stored.{Stored}
@@ -16,17 +14,18 @@ use Rattle.jpa_view.specs.View.{is_storable, AreStorable}
 use Rattle.jpa_heap.specs.Objects.{is_whole}
 use Rattle.jpa_context.specs.declared.Entry.{Entry}
 use Rattle.jpa_context.specs.Work.{Work, object, identity_at}
-use Rattle.jpa_context.specs.Steps.{◌>>◌, Outcome, Done, Refused, Op, after}
+use Rattle.jpa_context.specs.Steps.{Outcome, Done, Refused}
 use Rattle.jpa_lifecycle.specs.Flat.{IsFlat}
-use Rattle.jpa_flush.specs.Flush.{Action, Insert, Replace, Drop, action_of, actions, written, links_stored, pre_update_for, pre_update_one, pre_update, check_actions, check_links, remove_orphans, write_all, flush}
+use Rattle.jpa_flush.specs.Flush.{Action, Insert, Replace, Drop, action_of, actions, written, pre_update_for, pre_update_one, pre_update, check_actions, write_all, flush}
 use Rattle.jpa_flush.specs.Writes.{paired, writes}
 use Rattle.jpa_provider.specs.Machine.{Machine}
 use Rattle.jpa_provider.specs.Invariant.{IsEntry, name_of}
-use Rattle.jpa_provider.proofs.AtWork.{HoldsAfter, after_holds, require_holds, IsAtWork}
+use Rattle.jpa_provider.proofs.AtWork.{HoldsAfter, after_holds, IsAtWork}
 use Rattle.jpa_provider.proofs.Written.{name_is}
 use Rattle.jpa_provider.proofs.Persisted.{callback_holds, told_at_work}
 use Rattle.jpa_provider.proofs.Planned.{Checked, IsPlanned, Writes, context_planned, all_appended}
-use Rattle.jpa_provider.proofs.Flushed.{nothing_from, no_orphan, each_holds, checks_hold}
+use Rattle.jpa_flush.proofs.Flushed.{writing, updating, flat_flush}
+use Rattle.jpa_provider.proofs.Flushed.{each_holds, checks_hold}
 
 -- ---- what is planned
 
@@ -76,26 +75,22 @@ any_after (Done a w) p = p
 any_after (Refused r events) p = tt
 
 writing_storable : {world : World} {M : Machine} {m : ℕ} (before w : Work) → IsFlat world.model → AnswersConvertible world → IsBefore world M m before w →
-    HoldsAfter (λ u w'. AreStorable world (writes world.model before)) ((check_actions world >> write_all world) w)
+    HoldsAfter (λ u w'. AreStorable world (writes world.model before)) (writing world w)
 writing_storable {world} {M} {m} before w flat convertible h =
     after_holds _ (λ u w'. (w' ≡ w) × AllByRecursion (λ (e : Entry). Checked world w e.object (action_of world.model w e)) w.context) (check_actions world w) _ (checks_hold world w.context w)
     (λ u v k. any_after (write_all world v) (subst (AreStorable world) h.1 (checked_storable flat convertible k.1 h.0)))
 
-linked_storable : {world : World} {M : Machine} {m : ℕ} {w : Work} → IsFlat world.model → AnswersConvertible world → IsAtWork world M m w →
-    HoldsAfter (λ u w'. AreStorable world (writes world.model w)) ((check_links world >> (pre_update world >> (check_actions world >> write_all world))) w)
-linked_storable {world} {M} {m} {w} flat convertible h =
-    require_holds _ (list_all (links_stored world.model w) w.context) (Cause.IllegalState State.Reference) w _ (λ linked.
+updating_storable : {world : World} {M : Machine} {m : ℕ} {w : Work} → IsFlat world.model → AnswersConvertible world → IsAtWork world M m w →
+    HoldsAfter (λ u w'. AreStorable world (writes world.model w)) (updating world w)
+updating_storable {world} {M} {m} {w} flat convertible h =
     after_holds _ (λ u w'. IsBefore world M m w w') (pre_update world w) _
     (each_holds (IsBefore world M m w) (pre_update_one world) (λ e v k. update_before w flat e (action_of world.model v e) v k) w.context w (h, refl))
-    (λ u v k. writing_storable w v flat convertible k))
+    (λ u v k. writing_storable w v flat convertible k)
 
 flush_storable : {world : World} {M : Machine} {m : ℕ} {w : Work} → IsFlat world.model → AnswersConvertible world → IsAtWork world M m w →
     HoldsAfter (λ u w'. AreStorable world (writes world.model w)) (flush world w)
 flush_storable {world} {M} {m} {w} flat convertible h =
-    let P : Unit {0} → Work → Type 0 = λ u w'. AreStorable world (writes world.model w) in
-    let linking : Op (Unit {0}) = check_links world >> (pre_update world >> (check_actions world >> write_all world)) in
-    subst (λ o. HoldsAfter P (after o (λ _. remove_orphans world >> linking))) (nothing_from world flat (length w.objects) 0 w)
-    (subst (λ o. HoldsAfter P (after o (λ _. linking))) (no_orphan world flat w.context w) (linked_storable flat convertible h))
+    subst (HoldsAfter (λ u w'. AreStorable world (writes world.model w))) (sym (flat_flush world flat w)) (updating_storable flat convertible h)
 
 -- a flush that ended has written what can be stored
 pub storable_writes : {world : World} {M : Machine} {m : ℕ} {w : Work} (w' : Work) → IsFlat world.model → AnswersConvertible world → IsAtWork world M m w → flush world w ≡ Done tt w' →

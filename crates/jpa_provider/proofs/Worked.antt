@@ -1,5 +1,5 @@
 -- How the calls that work on a manager's context step.
-use Rattle.std.proofs.Common.{◌≡◌, ◌<◌, ◌⊎◌, inl, inr, ℕ, ℤ, Bool, true, false, List, [], length, refl, ap, sym, subst, ◌∙◌}
+use Rattle.std.proofs.Common.{◌≡◌, ◌<◌, ◌⊎◌, inl, inr, ℕ, ℤ, true, false, List, [], length, refl, ap, sym, ◌∙◌}
 use Rattle.std.specs.Prelude.{Option, Some, None, Result, Ok, Err, if◌then◌else◌}
 use Rattle.jpa_value.specs.declared.refusal.Cause.{Cause}
 use Rattle.jpa_value.specs.declared.refusal.Refusal.{Refusal}
@@ -11,13 +11,13 @@ use Rattle.jpa_protocol.specs.declared.reply.Reply.{Reply}
 use Rattle.jpa_heap.specs.Objects.{place_of}
 use Rattle.jpa_context.specs.declared.work.UnitOfWork.{UnitOfWork}
 use Rattle.jpa_context.specs.Work.{Work}
-use Rattle.jpa_context.specs.Steps.{Outcome, Done, Refused, Op, IsRefusedAs}
-use Rattle.jpa_context.specs.Undo.{now, since, Since}
+use Rattle.jpa_context.specs.Steps.{Outcome, Refused, Op, IsRefusedAs}
+use Rattle.jpa_context.specs.Undo.{since}
 use Rattle.jpa_provider.specs.declared.session.Session.{Session}
-use Rattle.jpa_provider.specs.Machine.{Machine, Manager, manager_at, work_of, kept}
+use Rattle.jpa_provider.specs.Machine.{Machine, Manager, manager_at, work_of}
 use Rattle.jpa_provider.specs.Calls.{because, concluded, marks, marked_if}
 use Rattle.jpa_provider.specs.Step.{Step, worked, by_manager, if_open, gives_up, takes_nothing, outcome}
-use Rattle.jpa_provider.specs.Serving.{machine_of, told_of, Answers, Concludes, IsWorking, Serves}
+use Rattle.jpa_provider.specs.Serving.{machine_of, told_of, Answers, Concludes, IsWorking}
 use Rattle.jpa_provider.proofs.Sessions.{manager_there, managers_count}
 
 -- ---- refusals

@@ -1,6 +1,6 @@
 -- The machine: live objects, managers with their contexts and transactions, the last committed set and the next numbers
 -- of the generators (Jakarta Persistence 3.1, chapters 3.3 persistence contexts, 7 entity managers and transactions).
-use Rattle.std.specs.Prelude.{ℕ, Bool, true, false, not, List, [], map, slice_index_or, slice_set, Option, Some, None}
+use Rattle.std.specs.Prelude.{◌≡◌, ℕ, Bool, true, false, not, List, [], map, slice_index_or, slice_set, Option, Some, None}
 use Rattle.std.specs.List.{filter, list_any}
 use Rattle.jpa_stored.specs.Sets.{StoredSet}
 use Rattle.jpa_heap.specs.declared.LiveObject.{LiveObject}
@@ -127,3 +127,8 @@ committed_after M m w =
       stored_numbers = w.numbers;
       committed = w.view;
     }
+
+-- what is committed is the same, with the next numbers that were stored with it
+pub record IsStoredAs (M N : Machine) : Type 0 where
+  pub committed : N.committed ≡ M.committed
+  pub numbers : N.stored_numbers ≡ M.stored_numbers

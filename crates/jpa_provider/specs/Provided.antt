@@ -1,5 +1,5 @@
 -- A provider, as its callers see it.
-use Rattle.std.specs.Prelude.{◌≡◌, ◌+◌, ℕ, true, false, List, OnOk}
+use Rattle.std.specs.Prelude.{◌≡◌, ◌⊎◌, ◌+◌, ℕ, true, false, List, IsErr, OnOk}
 use Rattle.std.specs.List.{sum_by}
 use Rattle.jpa_model.specs.declared.unit.PersistenceUnit.{PersistenceUnit}
 use Rattle.jpa_behaviour.specs.Behaviour.{World}
@@ -12,8 +12,8 @@ use Rattle.jpa_rows.specs.declared.source.RowSource.{Ghosts}
 use Rattle.jpa_object_store.specs.Written.{IsDifference}
 use Rattle.jpa_protocol.specs.declared.call.Call.{Call}
 use Rattle.jpa_protocol.specs.declared.reply.Reply.{Reply}
-use Rattle.jpa_provider.specs.Machine.{Machine}
-use Rattle.jpa_provider.specs.Step.{Step, outcome}
+use Rattle.jpa_provider.specs.Machine.{Machine, IsStoredAs}
+use Rattle.jpa_provider.specs.Step.{Step, IsGivenUp, outcome}
 use Rattle.jpa_provider.specs.Serving.{is_commit}
 use Rattle.jpa_provider.specs.Faults.{faults_after_reply}
 
@@ -46,16 +46,19 @@ abbrev pub RunsDifference : Rows → Rows → ℕ → ℕ → Type 0
 RunsDifference before afterwards old new = (changes : List RowChange) × IsDifference before afterwards changes × (new ≡ up_to_greatest (old + sum_by statements_of changes))
 
 -- from the first to the second the reply to the call is that of a step of the machine, and the store holds what is committed
--- then. A crash leaves what it could leave before the call, or what the call commits; a call reads nothing of the store, and a
--- commit alone writes to it, where it is accepted just what changes; a fault of the store is told where it is one more
+-- then. Only a commit that is accepted changes what is committed. A crash leaves what it could leave before the call, or what
+-- the call commits; a call reads nothing of the store, and a commit alone writes to it: where it is accepted just what changes,
+-- and where it is refused nothing, unless it gave up; a fault of the store is told where it is one more
 pub record Steps {R L C : Type 0} (meaning : Meaning L C) (store : Ghosts R) (old : Provided R L C) (call : Call) (reply : Reply) (new : Provided R L C) : Type 0 where
   pub model : new.model ≡ old.model
   pub registry : new.registry ≡ old.registry
   pub step : Step (world_in meaning old) old.machine call reply new.machine
+  pub still : (is_commit call ≡ false) ⊎ IsErr reply.answer → IsStoredAs old.machine new.machine
   pub stands : Stands meaning store.clean store.holds new
   pub was_clean : store.clean new.rows → store.clean old.rows
   pub crash : store.clean new.rows → store.endures old.rows new.rows (λ left. left ≡ rows_made (world_in meaning old) old.machine call)
   pub others : is_commit call ≡ false → new.rows ≡ old.rows
   pub counted : is_commit call ≡ true → OnOk reply.answer (RunsDifference (rows_kept (world_in meaning old) old.machine) (rows_made (world_in meaning old) old.machine call) (store.writes old.rows) (store.writes new.rows))
+  pub refused : IsErr reply.answer → IsGivenUp reply ⊎ (new.rows ≡ old.rows)
   pub told : store.faults new.rows ≡ faults_after_reply reply (store.faults old.rows)
   pub unread : store.reads new.rows ≡ store.reads old.rows

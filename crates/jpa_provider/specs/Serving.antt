@@ -1,10 +1,9 @@
 -- The machine that live data stand for: managers, at most one of which has an open transaction, which sees the committed set.
-use Rattle.std.specs.Prelude.{◌≡◌, ◌<◌, ◌⊎◌, All, ℕ, ℤ, Bool, true, false, List, [], ◌∷◌, length, map, Option, Some, None, Result, Ok, Err, slice_index_or, slice_set}
+use Rattle.std.specs.Prelude.{◌≡◌, ◌<◌, ◌⊎◌, All, ℕ, Bool, true, false, List, [], ◌∷◌, length, map, Option, Some, None, Result, Ok, Err, slice_index_or, slice_set}
 use Rattle.jpa_value.specs.declared.refusal.Cause.{Cause}
 use Rattle.jpa_value.specs.declared.refusal.Refusal.{Refusal}
 use Rattle.jpa_behaviour.specs.Behaviour.{World, AnswersConvertible}
 use Rattle.jpa_stored.specs.Sets.{StoredSet}
-use Rattle.jpa_undo.specs.Undo.{Changes}
 use Rattle.jpa_protocol.specs.declared.call.Call.{Call}
 use Rattle.jpa_protocol.specs.declared.event.Told.{Told}
 use Rattle.jpa_protocol.specs.declared.reply.Answer.{Answer}
@@ -50,10 +49,10 @@ abbrev pub machine_of : Session → Machine
 machine_of s =
     record {
       objects = s.work.objects.now;
-      managers = managers_of s.work.view s.managers.items;
+      managers = managers_of s.work.view.now s.managers.items;
       numbers = s.work.numbers.now;
       stored_numbers = s.stored;
-      committed = s.work.view;
+      committed = s.work.view.now;
     }
 
 -- no object is removed, and no entry has a lock

@@ -124,10 +124,14 @@ takes_nothing (Call.Find em name key) = false
 abbrev pub gives_up : Cause → Reply
 gives_up r = record { events = []; answer = Err (Refusal.Because r) }
 
--- want of memory or a fault of the store: nothing was done and nothing is told
+-- want of memory, or a fault of the store
+abbrev pub IsGivenUp : Reply → Type 0
+IsGivenUp reply = (reply ≡ gives_up Cause.OutOfMemory) ⊎ (reply ≡ gives_up Cause.StoreFault)
+
+-- nothing was done and nothing is told
 abbrev pub GivesUp : Machine → Call → Reply → Machine → Type 0
 GivesUp M call reply after_it =
-    (takes_nothing call ≡ false) × ((reply ≡ gives_up Cause.OutOfMemory) ⊎ (reply ≡ gives_up Cause.StoreFault)) × (after_it ≡ M)
+    (takes_nothing call ≡ false) × IsGivenUp reply × (after_it ≡ M)
 
 -- the reply and the machine after it are the call's outcome, or the call gave up
 abbrev pub Step : World → Machine → Call → Reply → Machine → Type 0

@@ -39,7 +39,7 @@ pub(crate) fn take_work(session: &mut Session, manager: usize)
 /// The manager's context goes back to it, and what its work changed is kept. Takes no memory.
 pub(crate) fn keep_work(session: &mut Session, manager: usize)
     requires within { manager < length session.old.managers.items }
-    ensures kept { (M : Machine) → IsWorking M manager session.old → session.old.work.view ≡ M.committed → machine_of session.new ≡ kept M manager (now session.old.work) }
+    ensures kept { (M : Machine) → IsWorking M manager session.old → session.old.work.view.now ≡ M.committed → machine_of session.new ≡ kept M manager (now session.old.work) }
     ensures work { IsKept session.new.work }
     ensures events { session.new.work.events ≡ session.old.work.events }
 {
@@ -90,7 +90,7 @@ pub(crate) fn conclude(
     answered: Result<Answer, Cause>,
 ) -> Reply
     requires within { manager < length session.old.managers.items }
-    ensures concludes { (M : Machine) → IsWorking M manager session.old → session.old.work.view ≡ M.committed → serving.Concludes M manager (now session.old.work) answered result (machine_of session.new) }
+    ensures concludes { (M : Machine) → IsWorking M manager session.old → session.old.work.view.now ≡ M.committed → serving.Concludes M manager (now session.old.work) answered result (machine_of session.new) }
     ensures settled { IsSettled session.new }
     ensures untold { IfErr answered (λ cause. is_store_fault cause ≡ false) → tells_fault result ≡ false }
 {

@@ -1,22 +1,22 @@
 //! The call commit (Jakarta Persistence 3.1, chapters 7.5 and 3.4).
-ghost use Rattle.std.specs.Prelude.{◌≡◌, ◌<◌, [], All, ℤ, false, true, length, nat_le, IfOk, OnOk, Some};
+ghost use Rattle.std.specs.Prelude.{◌≡◌, ◌<◌, ◌⊎◌, [], All, ℤ, false, true, length, nat_le, IfOk, OnOk, IsErr, Some};
 ghost use Rattle.std.specs.List.{AllByRecursion};
 ghost use Rattle.jpa_behaviour.specs.Registered.{world_of};
 ghost use Rattle.jpa_context.specs.Undo.{now, since, IsPlain};
 ghost use Rattle.jpa_heap.specs.Objects.{place_of};
 ghost use Rattle.jpa_object_rows.specs.Sets.{rows_of};
-ghost use Rattle.jpa_object_store.specs.Written.{put_all};
 ghost use Rattle.jpa_protocol.specs.declared.call.Call.{Call};
 ghost use Rattle.jpa_provider.specs.Faults.{is_store_fault, tells_fault, faults_after_reply};
 ghost use Rattle.jpa_provider.specs.Machine.{Machine, committed_after, is_begun, manager_at};
 ghost use Rattle.jpa_provider.specs.Invariant.{HasOneTransaction};
 ghost use Rattle.jpa_provider.specs.Provided.{rows_kept, rows_made, RunsDifference};
+ghost use Rattle.jpa_provider.specs.Step.{IsGivenUp};
 ghost use Rattle.jpa_provider.specs.declared.session.Status.{Status};
 ghost use Rattle.jpa_provider.specs.Serving as serving;
 ghost use Rattle.jpa_provider.specs.Serving.{machine_of, manager_in, IsPlainMachine, IsServing, IsSettled, IsWorking, Serves};
 ghost use Rattle.jpa_rows.specs.Cells.{CanBeHeld, are_numbers};
 ghost use Rattle.jpa_rows.specs.Tables.{schema_of};
-ghost use Rattle.jpa_stored.specs.Sets.{all_distinct, each_fits};
+ghost use Rattle.jpa_stored.specs.Sets.{all_distinct, each_fits, put_all};
 ghost use Rattle.jpa_value.specs.Value.{same_identity};
 ghost use Rattle.jpa_view.specs.View.{is_storable};
 
@@ -25,13 +25,12 @@ use crate::ending::release;
 use crate::replies::because;
 use crate::session::{Session, Status, exchange, set_status, status_of};
 use jpa_behaviour::{Behaviour, Registry};
-use jpa_context::UnitOfWork;
 use jpa_flush::flush;
 use jpa_model::Metamodel;
 use jpa_object_store::write;
 use jpa_protocol::{Answer, Reply};
 use jpa_rows::RowSource;
-use jpa_stored::{Stored, StoredSet};
+use jpa_stored::Stored;
 use jpa_value::{Cause, Identity, Refusal, Seq, State};
 use std::alloc::{AllocError, Global};
 use std::mem;
@@ -60,16 +59,6 @@ fn refuse_commit(alloc: Global, session: &mut Session, manager: usize, cause: Ca
     Reply {
         events,
         answer: Err(Refusal::Rollback(cause)),
-    }
-}
-
-/// The set that was committed before.
-fn committed(work: &UnitOfWork) -> &StoredSet
-    ensures { result.now ≡ (since work.now).view }
-{
-    match &work.replaced {
-        Some(set) => set,
-        None => &work.view,
     }
 }
 
@@ -120,13 +109,14 @@ fn store_commit<R: RowSource, B: Behaviour>(
     requires plain { IsPlain (now session.old.work) }
     ensures stores { (M : Machine) → IsWorking M manager session.old → HasOneTransaction M → is_begun (manager_at M manager).transaction ≡ true → serving.Stores M manager (now session.old.work) result (machine_of session.new) }
     ensures settled { IsSettled session.new }
-    ensures holds { (M : Machine) → IsWorking M manager session.old → HasOneTransaction M → is_begun (manager_at M manager).transaction ≡ true → session.old.work.view ≡ put_all written.now M.committed → R.holds rows.old (rows_of (world_of B.meaning metamodel.now registry.now) M.committed M.stored_numbers) → R.holds rows.new (rows_of (world_of B.meaning metamodel.now registry.now) (machine_of session.new).committed (machine_of session.new).stored_numbers) }
+    ensures holds { (M : Machine) → IsWorking M manager session.old → HasOneTransaction M → is_begun (manager_at M manager).transaction ≡ true → session.old.work.view.now ≡ put_all written.now M.committed → R.holds rows.old (rows_of (world_of B.meaning metamodel.now registry.now) M.committed M.stored_numbers) → R.holds rows.new (rows_of (world_of B.meaning metamodel.now registry.now) (machine_of session.new).committed (machine_of session.new).stored_numbers) }
     ensures was_clean { R.clean rows.new → R.clean rows.old }
     ensures schema { R.schema rows.new ≡ R.schema rows.old }
     ensures crash { R.holds rows.old (rows_of (world_of B.meaning metamodel.now registry.now) (since session.old.work).view session.old.stored) → R.endures rows.old rows.new (λ left. left ≡ rows_of (world_of B.meaning metamodel.now registry.now) (put_all written.now (since session.old.work).view) session.old.work.numbers.now) }
     ensures counted { OnOk result.answer (RunsDifference (rows_of (world_of B.meaning metamodel.now registry.now) (since session.old.work).view session.old.stored) (rows_of (world_of B.meaning metamodel.now registry.now) (put_all written.now (since session.old.work).view) session.old.work.numbers.now) (R.writes rows.old) (R.writes rows.new)) }
     ensures unread { R.reads rows.new ≡ R.reads rows.old }
     ensures told { R.faults rows.new ≡ faults_after_reply result (R.faults rows.old) }
+    ensures refused { IsErr result.answer → IsGivenUp result }
 {
     let next = match copied(alloc, session.work.numbers.as_slice()) {
         Ok(next) => next,
@@ -140,7 +130,7 @@ fn store_commit<R: RowSource, B: Behaviour>(
         metamodel,
         registry,
         rows,
-        committed(&session.work),
+        &session.work.view,
         session.stored.as_slice(),
         written,
         next.as_slice(),
@@ -182,6 +172,7 @@ fn commit_active<R: RowSource, B: Behaviour>(
     ensures counted { (em : ℤ) → place_of (length session.old.managers.items) em ≡ Some manager → OnOk result.answer (RunsDifference (rows_kept (world_of B.meaning metamodel.now registry.now) (machine_of session.old)) (rows_made (world_of B.meaning metamodel.now registry.now) (machine_of session.old) (Call.Commit em)) (R.writes rows.old) (R.writes rows.new)) }
     ensures unread { R.reads rows.new ≡ R.reads rows.old }
     ensures told { R.faults rows.new ≡ faults_after_reply result (R.faults rows.old) }
+    ensures refused { IsErr result.answer → IsGivenUp result ⊎ (rows.new ≡ rows.old) }
 {
     take_work(session, manager);
     match flush(alloc, metamodel, registry, &mut session.work) {
@@ -221,6 +212,7 @@ pub(crate) fn commit_call<R: RowSource, B: Behaviour>(
     ensures counted { OnOk result.answer (RunsDifference (rows_kept (world_of B.meaning metamodel.now registry.now) (machine_of session.old)) (rows_made (world_of B.meaning metamodel.now registry.now) (machine_of session.old) (Call.Commit em)) (R.writes rows.old) (R.writes rows.new)) }
     ensures unread { R.reads rows.new ≡ R.reads rows.old }
     ensures told { R.faults rows.new ≡ faults_after_reply result (R.faults rows.old) }
+    ensures refused { IsErr result.answer → IsGivenUp result ⊎ (rows.new ≡ rows.old) }
 {
     let Some(manager) = manager_named(session, em) else {
         return because(alloc, Cause::NoSuchManager);

@@ -1,5 +1,5 @@
 //! The provider.
-ghost use Rattle.std.specs.Prelude.{◌≡◌, ℕ, IfOk, IfErr, OnOk, true, false};
+ghost use Rattle.std.specs.Prelude.{◌≡◌, ◌⊎◌, ℕ, IsErr, IfOk, IfErr, OnOk, true, false};
 ghost use Rattle.jpa_value.specs.declared.refusal.Cause.{Cause};
 ghost use Rattle.jpa_behaviour.specs.Registered.{world_of};
 ghost use Rattle.jpa_model.specs.Chains.{entity_at};
@@ -11,7 +11,8 @@ ghost use Rattle.jpa_protocol.specs.declared.call.Call.{Call};
 ghost use Rattle.jpa_rows.specs.Cells.{CanBeHeld};
 ghost use Rattle.jpa_rows.specs.Tables.{schema_of};
 ghost use Rattle.jpa_provider.specs.Faults.{faults_after_reply};
-ghost use Rattle.jpa_provider.specs.Machine.{opened};
+ghost use Rattle.jpa_provider.specs.Machine.{opened, IsStoredAs};
+ghost use Rattle.jpa_provider.specs.Step.{IsGivenUp};
 ghost use Rattle.jpa_provider.specs.Provided.{rows_kept, rows_made, world_in, RunsDifference, Stands};
 ghost use Rattle.jpa_provider.specs.Served.{is_served};
 ghost use Rattle.jpa_provider.specs.Serving.{machine_of, is_commit, IsPlainMachine, IsServing, IsSettled, Serves};
@@ -30,7 +31,7 @@ use jpa_mapper::discriminator_law;
 use jpa_model::Metamodel;
 use jpa_protocol::{Call, PersistenceProvider, Reply};
 use jpa_rows::RowSource;
-use jpa_stored::StoredSet;
+use jpa_stored::{OpenSet, StoredSet};
 use jpa_undo::UndoList;
 use jpa_value::{Cause, Seq};
 use std::alloc::{AllocError, Global};
@@ -158,8 +159,7 @@ fn opened(alloc: Global, committed: StoredSet, next: UndoList<u64>, numbers: Seq
             objects: UndoList::new(alloc),
             context: PersistenceContext::new(alloc),
             numbers: next,
-            view: committed,
-            replaced: None,
+            view: OpenSet::new(committed),
             events: Seq::new(alloc),
         },
         stored: numbers,
@@ -189,6 +189,7 @@ fn served<R: RowSource, B: Behaviour>(
     ensures counted { is_commit call ≡ true → OnOk result.answer (RunsDifference (rows_kept (world_of B.meaning metamodel.now registry.now) (machine_of session.old)) (rows_made (world_of B.meaning metamodel.now registry.now) (machine_of session.old) call) (R.writes rows.old) (R.writes rows.new)) }
     ensures unread { R.reads rows.new ≡ R.reads rows.old }
     ensures told { R.faults rows.new ≡ faults_after_reply result (R.faults rows.old) }
+    ensures refused { is_commit call ≡ true → IsErr result.answer → IsGivenUp result ⊎ (rows.new ≡ rows.old) }
     ensures schema { R.schema rows.new ≡ schema_of metamodel.now }
 {
     match call {
@@ -248,6 +249,8 @@ fn serve<R: RowSource, B: Behaviour>(
     ensures counted { is_commit call ≡ true → OnOk result.answer (RunsDifference (rows_kept (world_of B.meaning metamodel.now registry.now) (machine_of session.old)) (rows_made (world_of B.meaning metamodel.now registry.now) (machine_of session.old) call) (R.writes rows.old) (R.writes rows.new)) }
     ensures unread { R.reads rows.new ≡ R.reads rows.old }
     ensures told { R.faults rows.new ≡ faults_after_reply result (R.faults rows.old) }
+    ensures still { (is_commit call ≡ false) ⊎ IsErr result.answer → IsStoredAs (machine_of session.old) (machine_of session.new) }
+    ensures refused { IsErr result.answer → IsGivenUp result ⊎ (rows.new ≡ rows.old) }
     ensures schema { R.schema rows.new ≡ schema_of metamodel.now }
 {
     hands_representable(&call);

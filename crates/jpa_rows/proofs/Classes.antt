@@ -14,7 +14,7 @@ range_made f n =
 same_test : (a b : ℕ) → a ≡ b → (a == b) ≡ true
 same_test a b e = grind (arith, nat_tests)
 
-other_test : (a b : ℕ) → (a ≡ b → ⊥) → (a == b) ≡ false
+pub other_test : (a b : ℕ) → (a ≡ b → ⊥) → (a == b) ≡ false
 other_test a b e = grind (arith, nat_tests)
 
 -- one class more of a hierarchy, or of another

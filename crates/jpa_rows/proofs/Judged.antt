@@ -2,7 +2,6 @@
 use Rattle.std.specs.Prelude.{◌≡◌, ◌↔◌, ℕ, Bool, true, false, ◌==◌, ◌&&◌, List, [], ◌∷◌, length}
 use Rattle.std.proofs.Common.{refl, sym, ap, ◌∙◌, arith}
 use Rattle.std.specs.List.{list_all, zip}
-use Rattle.std.proofs.lemmas.Bool.Decides.{nat_tests}
 use Rattle.jpa_value.specs.declared.value.Value.{Value}
 use Rattle.jpa_value.specs.declared.value.Kind.{Kind}
 use Rattle.jpa_behaviour.specs.Behaviour.{is_short}
@@ -13,6 +12,7 @@ use Rattle.jpa_rows.specs.declared.schema.TableRule.{TableRule}
 use Rattle.jpa_rows.specs.Rows.{Row, is_key, is_field_by, rule_of, IsRowOf}
 use Rattle.jpa_rows.specs.Reading.{rises_from}
 use Rattle.jpa_rows.proofs.Fields.{rises_is, is_rises}
+use Rattle.jpa_rows.proofs.Classes.{other_test}
 
 pub with_true : (a b : Bool) → a ≡ true → b ≡ (a && b)
 with_true a b e = ap (λ x. x && b) (sym e)
@@ -50,9 +50,6 @@ no_parts kinds key differ = go (is_key kinds key) refl
 
 pub parts_are : (kinds : List Kind) (parts key : List Value) (n : ℕ) (all : Bool) → all ≡ list_all is_short_part (zip kinds parts) → parts ≡ key → length kinds ≡ n → n ≡ length key → all ≡ is_key kinds key
 parts_are kinds parts key n all is same count length = is ∙ ap (λ xs. list_all is_short_part (zip kinds xs)) same ∙ same_parts kinds key (count ∙ length)
-
-other_test : (a b : ℕ) → (a ≡ b → ⊥) → (a == b) ≡ false
-other_test a b e = grind (arith, nat_tests)
 
 pub other_length : (kinds : List Kind) (key : List Value) (n : ℕ) → (length kinds ≡ n → ⊥) → n ≡ length key → (length kinds == n) ≡ is_key kinds key
 other_length kinds key n differ count = other_test (length kinds) n differ ∙ no_parts kinds key (λ e. differ (e ∙ sym count))

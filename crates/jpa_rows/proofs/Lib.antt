@@ -4,4 +4,6 @@ pub mod Fields
 pub mod Found
 pub mod Judged
 pub mod Narrow
+pub mod SameRows
 mod Samples
+pub mod Splits

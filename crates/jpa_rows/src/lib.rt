@@ -7,8 +7,10 @@
 #![tactic(auto)]
 
 mod copy;
+mod origin;
 mod read;
 mod row;
+mod same;
 mod schema;
 mod source;
 mod spell;
@@ -16,8 +18,11 @@ mod tables;
 mod tag;
 mod whole;
 
+pub use copy::copy_row;
+pub use origin::origin_of;
 pub use read::{read_content, read_id, read_row};
 pub use row::{Content, Field, Row, RowChange, RowId};
+pub use same::is_same_row;
 pub use schema::{ColumnRule, Holds, Schema, TableRule};
 pub use source::RowSource;
 pub use spell::{spell_content, spell_row};

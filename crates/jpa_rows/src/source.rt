@@ -6,7 +6,7 @@ ghost use Rattle.jpa_value.specs.declared.refusal.Cause.{Cause};
 ghost use Rattle.jpa_rows.specs.declared.schema.Schema.{Schema};
 ghost use Rattle.jpa_rows.specs.Faults.{faults_after};
 ghost use Rattle.jpa_rows.specs.Rows.{Rows, table_rows, rows_after, AreChanges};
-ghost use Rattle.jpa_rows.specs.Statements.{Counts, statements_of};
+ghost use Rattle.jpa_rows.specs.Statements.{Counts, IsAtMostOne, statements_of};
 
 use crate::row::{Row, RowChange, RowId};
 use jpa_value::{Cause, Seq};
@@ -38,23 +38,30 @@ pub trait RowSource {
     /// What holds of the rows may be said more weakly.
     ghost wider: { (old new : Self) (P Q : Rows → Type 0) → ((rows : Rows) → P rows → Q rows) → endures old new P → endures old new Q };
 
-    /// The row under an id. While the store holds rows, it refuses with `OutOfMemory` and `StoreFault` alone.
+    /// What a crash may leave after two calls is what it may leave after the first, or what the second makes.
+    ghost then: { (first second third : Self) (P Q : Rows → Type 0) → schema second ≡ schema first → endures first second P → endures second third Q → endures first third (λ rows. P rows ⊎ Q rows) };
+
+    /// The row under an id, by one statement at most. While the store holds rows, it refuses with `OutOfMemory` and `StoreFault` alone.
     fn get(&mut self, id: &RowId) -> Result<Option<Row>, Cause>
         ensures ok { clean self.new → IfOk result (λ row. (rows : Rows) → holds self.old rows → row ≡ find identity_cmp id.now rows) }
         ensures err { clean self.new → IfErr result (λ cause. (rows : Rows) → holds self.old rows → (cause ≡ Cause.OutOfMemory) ⊎ (cause ≡ Cause.StoreFault)) }
         ensures kept { (rows : Rows) → holds self.old rows → holds self.new rows }
         ensures told { faults self.new ≡ faults_after result (faults self.old) }
         ensures was_clean { clean self.new → clean self.old }
+        ensures read { IsAtMostOne (reads self.old) (reads self.new) }
+        ensures unwritten { writes self.new ≡ writes self.old }
         ensures crash { endures self.old self.new (λ _. ⊥) }
         ensures schema { schema self.new ≡ schema self.old };
 
-    /// The rows of a table, in the order of their ids. It refuses as `get` does.
+    /// The rows of a table, in the order of their ids, by one statement at most. It refuses as `get` does.
     fn scan(&mut self, table: u64) -> Result<Seq<(RowId, Row)>, Cause>
         ensures ok { clean self.new → IfOk result (λ found. (rows : Rows) → holds self.old rows → found ≡ table_rows table rows) }
         ensures err { clean self.new → IfErr result (λ cause. (rows : Rows) → holds self.old rows → (cause ≡ Cause.OutOfMemory) ⊎ (cause ≡ Cause.StoreFault)) }
         ensures kept { (rows : Rows) → holds self.old rows → holds self.new rows }
         ensures told { faults self.new ≡ faults_after result (faults self.old) }
         ensures was_clean { clean self.new → clean self.old }
+        ensures read { IsAtMostOne (reads self.old) (reads self.new) }
+        ensures unwritten { writes self.new ≡ writes self.old }
         ensures crash { endures self.old self.new (λ _. ⊥) }
         ensures schema { schema self.new ≡ schema self.old };
 

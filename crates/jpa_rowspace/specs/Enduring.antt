@@ -1,10 +1,11 @@
 -- What a crash may leave of a store, said of its rows, and what follows for any store.
-use Rattle.std.specs.Prelude.{refl}
+use Rattle.std.specs.Prelude.{◌⊎◌, refl}
 use Rattle.std.proofs.Common.{inl, inr, le_refl}
 use Rattle.sqlite_trees.specs.declared.store.Store.{Ghosts}
 use Rattle.sqlite_trees.specs.Tree.{Trees}
 use Rattle.sqlite.specs.Held.{Held, state}
 use Rattle.sqlite.specs.State.{State, Survives}
+use Rattle.sqlite.proofs.StateLemmas.{survives_then}
 use Rattle.jpa_rows.specs.declared.schema.Schema.{Schema}
 use Rattle.jpa_rows.specs.Rows.{Rows}
 use Rattle.jpa_cells_meaning.specs.Tables.{Tables}
@@ -41,3 +42,13 @@ module _ {S : Type 0} (g : Ghosts S) where
   rows_wider schema old new P Q weaker =
       endures_weaker old new (λ tables. (rows : Rows) × AreStored schema tables rows × P rows) (λ tables. (rows : Rows) × AreStored schema tables rows × Q rows)
       (λ clean tables held. (held.0, held.1, weaker held.0 held.2))
+
+  -- two calls, one after the other
+  pub rows_then : (schema : Schema) (first second third : Held S) (P Q : Rows → Type 0) → EnduresRows schema first second P → EnduresRows schema second third Q → EnduresRows schema first third (λ rows. P rows ⊎ Q rows)
+  rows_then schema first second third P Q =
+      survives_then (state g first) (state g second) (state g third)
+      (Leaves (λ tables. (rows : Rows) × AreStored schema tables rows × P rows))
+      (Leaves (λ tables. (rows : Rows) × AreStored schema tables rows × Q rows))
+      (Leaves (λ tables. (rows : Rows) × AreStored schema tables rows × (P rows ⊎ Q rows)))
+      (λ clean db made. (made.0, made.1, (made.2.0, made.2.1, inl made.2.2), made.3))
+      (λ clean db made. (made.0, made.1, (made.2.0, made.2.1, inr made.2.2), made.3))

@@ -5,7 +5,7 @@ ghost use Rattle.jpa_key.specs.Keys.{key_bytes};
 ghost use Rattle.jpa_rows.specs.Rows.{Rows, AreRising, AreChanges, rows_after, table_of};
 ghost use Rattle.jpa_rows.specs.Statements.{statements_of};
 ghost use Rattle.jpa_cells_meaning.specs.Tables.{AreRows, cells_at, tables_after};
-ghost use Rattle.jpa_cells_meaning.specs.Store.{up_to_greatest, Counts, Tells, faults_after, IsClean, IsOpen, tables_in, Keeps, Becomes, Endures, HasFault};
+ghost use Rattle.jpa_cells_meaning.specs.Store.{up_to_greatest, Counts, Tells, faults_after, IsClean, IsOpen, tables_in, Keeps, Becomes, Endures, Allows, HasFault};
 ghost use Rattle.jpa_rowspace.specs.Stored as stored;
 ghost use Rattle.jpa_rowspace.specs.Reading.{IsFound, IsIllFormed, AreRead};
 ghost use Rattle.jpa_rowspace.specs.Space.{HoldsRows, IsStoreCause};
@@ -140,6 +140,7 @@ impl<S: Alter> RowSpace<S> {
         ensures kept { OnErr result (Keeps S.Store self.old.store.conn self.new.store.conn) }
         ensures counted { Counts result self.old.store.writes self.new.store.writes (sum_by statements_of changes.now) }
         ensures told { Tells result self.old.store.faults self.new.store.faults }
+        ensures cause { IsClean S.Store self.new.store.conn → Allows S.Store self.old.store.conn (stored.cell_changes changes.now) → result ≡ Err Cause.StoreFault → HasFault S.Store self.old.store.conn self.new.store.conn }
         ensures others { self.new ≡ record self.old { store = record self.old.store { conn = self.new.store.conn; writes = self.new.store.writes; faults = self.new.store.faults } } }
         ensures crash { Endures S.Store self.old.store.conn self.new.store.conn (λ tables. IsOpen S.Store self.old.store.conn × (tables ≡ tables_after (stored.cell_changes changes.now) (tables_in S.Store self.old.store.conn))) }
         ensures crash_rows { (rows : Rows) → HoldsRows S.Store self.old.schema self.old.store.conn rows → Endures S.Store self.old.store.conn self.new.store.conn (λ tables. stored.AreStored self.old.schema tables (rows_after changes.now rows)) }
@@ -152,9 +153,10 @@ impl<S: Alter> RowSpace<S> {
 
 impl<S: Alter> RowSource for RowSpace<S> {
     ghost use Rattle.std.specs.Prelude.{◌+◌};
+    ghost use Rattle.std.proofs.Common.{subst};
     ghost use Rattle.jpa_cells_meaning.specs.Store.{up_to_greatest, IsClean};
     ghost use Rattle.jpa_rowspace.specs.Space.{HoldsRows};
-    ghost use Rattle.jpa_rowspace.specs.Enduring.{EnduresRows, survives_self, rows_wider};
+    ghost use Rattle.jpa_rowspace.specs.Enduring.{EnduresRows, survives_self, rows_then, rows_wider};
 
     ghost schema = { λ space. space.schema };
 
@@ -171,6 +173,8 @@ impl<S: Alter> RowSource for RowSpace<S> {
     ghost endures = { λ old new Holds. EnduresRows S.Store old.schema old.store.conn new.store.conn Holds };
 
     ghost wider = { λ old new P Q weaker e. rows_wider S.Store old.schema old.store.conn new.store.conn P Q weaker e };
+
+    ghost then = { λ first second third P Q same a b. rows_then S.Store first.schema first.store.conn second.store.conn third.store.conn P Q a (subst (λ schema. EnduresRows S.Store schema second.store.conn third.store.conn Q) same b) };
 
     fn get(&mut self, id: &RowId) -> Result<Option<Row>, Cause> {
         RowSpace::get(self, id)

@@ -1,12 +1,12 @@
 //! The words of the command line.
-ghost use Rattle.std.specs.Prelude.{◌≡◌, IfOk, IfErr, codes, map, option_map, true};
+ghost use Rattle.std.specs.Prelude.{◌≡◌, [], ◌∷◌, IfOk, IfErr, OnOk, codes, map, option_map, true};
 ghost use Rattle.std.specs.String.{string_bytes};
-ghost use Rattle.clap.specs.Words.{app_of, kind_of, takes};
+ghost use Rattle.clap.specs.Words.{app_of, fault_of, kind_of, takes};
 ghost use Rattle.clap.specs.declared.error.kind.ErrorKind.{ErrorKind};
 ghost use Rattle.jpa_value.specs.declared.refusal.Cause.{Cause};
 ghost use Rattle.jpa_value.specs.declared.refusal.Refusal.{Refusal};
 ghost use Rattle.jpa_settings.specs.declared.stop.Stop.{Stop};
-ghost use Rattle.jpa_settings.specs.Words.{command, value_of};
+ghost use Rattle.jpa_settings.specs.Words.{Tells, command, value_of};
 
 use crate::stop::Stop;
 use clap::error::ErrorKind;
@@ -41,9 +41,10 @@ fn jpa<'a>(alloc: Global) -> Result<Command<'a>, AllocError>
     Ok(with_mapping.arg(db)?)
 }
 
-/// The text of what clap answers in place of values.
+/// What clap answers in place of values: a request's text, or what it says of a fault.
 fn stop_of(alloc: Global, error: Error) -> Stop
-    ensures { kind_of error ≡ ErrorKind.OutOfMemory → result ≡ Stop.Refused (Refusal.Because Cause.OutOfMemory) }
+    ensures memory { kind_of error ≡ ErrorKind.OutOfMemory → result ≡ Stop.Refused (Refusal.Because Cause.OutOfMemory) }
+    ensures told { Tells (kind_of error ∷ []) result }
 {
     if error.kind() == ErrorKind::OutOfMemory {
         return Stop::Refused(Refusal::Because(Cause::OutOfMemory));
@@ -72,12 +73,15 @@ fn copied(alloc: Global, value: Option<&str>) -> Result<Option<Text>, Stop>
 /// What the words of a command line say, of which the first is the program's own name: `--mapping FILE` and `--db FILE`, each
 /// at most once and in any order, as clap reads them.
 ///
-/// `--help` and `--version` are `Shown` with their text, words that clap refuses `Words` with what it says of them; for want
-/// of memory it is `Refused` with `OutOfMemory`.
+/// `Ok` only where clap finds no fault in the words. Where it finds one, that is the only one: `Shown` with the text that was
+/// asked for, where the fault is a request for the help or the version, and `Words` with what clap says of any other. For want
+/// of memory it is `Refused` with `OutOfMemory`, and so is each `Err` of words that clap takes.
 #[tactic(auto, using(crate::proofs::Found::value_read))]
 pub fn read_settings(alloc: Global, words: &[String]) -> Result<Settings, Stop>
     ensures mapping { IfOk result (λ s. s.mapping ≡ value_of (codes "mapping") (map string_bytes words.now)) }
     ensures db { IfOk result (λ s. s.db ≡ value_of (codes "db") (map string_bytes words.now)) }
+    ensures accepted { OnOk result (fault_of command (map string_bytes words.now) ≡ []) }
+    ensures told { IfErr result (Tells (fault_of command (map string_bytes words.now))) }
     ensures taken { takes command (map string_bytes words.now) ≡ true → IfErr result (λ stop. stop ≡ Stop.Refused (Refusal.Because Cause.OutOfMemory)) }
 {
     let command = match jpa(alloc) {

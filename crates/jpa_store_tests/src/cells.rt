@@ -176,7 +176,7 @@ impl RowSink for Kept {
 
     ghost taken = { λ kept. kept.rows.items };
 
-    ghost is_done = { λ kept. not (nat_lt (length kept.rows.items) kept.most) };
+    ghost stops = { λ kept rows. not (nat_lt (length rows) kept.most) };
 
     fn row(&mut self, row: CellRow) -> Result<bool, Cause> {
         if self.most == 0 {

@@ -50,10 +50,10 @@ alone m zero class = refl
 alone m (suc n) class = refl
 
 -- a number that names no entity is a class of its own
-outside : (m : PersistenceUnit) (class : ℕ) → length m.entities ≤ class → entity_at m class ≡ no_entity
+pub outside : (m : PersistenceUnit) (class : ℕ) → length m.entities ≤ class → entity_at m class ≡ no_entity
 outside m class h = get_or-eq_default m.entities no_entity h
 
-own_chain : (m : PersistenceUnit) (class : ℕ) → length m.entities ≤ class → chain m class ≡ class ∷ []
+pub own_chain : (m : PersistenceUnit) (class : ℕ) → length m.entities ≤ class → chain m class ≡ class ∷ []
 own_chain m class h = ap (λ e. chain_from m (length m.entities) class e.origin) (outside m class h) ∙ alone m (length m.entities) class
 
 no_lineage_is : (m : PersistenceUnit) (class : ℕ) → length m.entities ≤ class → no_lineage class ≡ lineage_of m class

@@ -12,7 +12,7 @@ use Rattle.jpa_stored.specs.Sets.{StoredSet, stored_at, with_stored, without}
 use Rattle.jpa_stored.specs.Places.{IsAt, IsGap}
 use Rattle.jpa_stored.proofs.Entries.{find_at, find_gap, put_at, put_gap, without_at, without_gap}
 
-or_false : (b : Bool) → b || false ≡ b
+pub or_false : (b : Bool) → b || false ≡ b
 or_false true = refl
 or_false false = refl
 

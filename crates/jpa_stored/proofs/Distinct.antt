@@ -2,17 +2,14 @@
 use Rattle.std.specs.Prelude.{◌≡◌, suc, ◌<◌, Bool, true, false, cond, map, not, ◌&&◌, ◌||◌, T, List, [], ◌∷◌, ◌++◌, length, take, drop}
 use Rattle.std.proofs.Common.{refl, sym, ap, subst, ◌∙◌, get_or, append_assoc}
 use Rattle.std.specs.List.{list_any}
-use Rattle.std.specs.Cmp.{eq_by_cmp_equiv}
+use Rattle.std.specs.Cmp.{eq_by_cmp_equiv, first_so, second_so}
 use Rattle.std.proofs.lemmas.List.Folds.{list_any-append}
 use Rattle.std.proofs.lemmas.List.{take-append-drop, map-id}
 use Rattle.std.proofs.Math.Seq.{drop-cons}
 use Rattle.jpa_stored.specs.declared.claims.Claim.{Claim}
 use Rattle.jpa_stored.specs.ClaimOrder.{claim_total}
 use Rattle.jpa_stored.specs.Sets.{same_claim, all_distinct}
-
-or_false : (b : Bool) → b || false ≡ b
-or_false true = refl
-or_false false = refl
+use Rattle.jpa_stored.proofs.Changes.{or_false}
 
 sorted_out : (a b c d : Bool) → not (a || b) && (c && not d) ≡ (not a && c) && not (b || d)
 sorted_out true b c d = refl
@@ -32,14 +29,6 @@ distinct_more (y ∷ xs) x =
     ∙ sorted_out (list_any (same_claim y) xs) (same_claim y x) (all_distinct same_claim xs) (list_any (same_claim x) xs)
     ∙ ap (λ b. (not (list_any (same_claim y) xs) && all_distinct same_claim xs) && not (b || list_any (same_claim x) xs)) (same_back y x)
 
-and_first : (a b : Bool) → a && b ≡ true → a ≡ true
-and_first true b e = refl
-and_first false b e = e
-
-and_second : (a b : Bool) → a && b ≡ true → b ≡ true
-and_second true b e = e
-and_second false b e = absurd (subst T (sym e) tt)
-
 neither : (a b : Bool) → not (a || b) ≡ true → not a ≡ true
 neither true b e = e
 neither false b e = refl
@@ -52,8 +41,8 @@ distinct_front : (xs ys : List Claim) → all_distinct same_claim (xs ++ ys) ≡
 distinct_front [] ys e = refl
 distinct_front (x ∷ xs) ys e =
     both_true (not (list_any (same_claim x) xs)) (all_distinct same_claim xs)
-    (neither (list_any (same_claim x) xs) (list_any (same_claim x) ys) (ap not (sym (list_any-append (same_claim x) xs ys)) ∙ and_first (not (list_any (same_claim x) (xs ++ ys))) _ e))
-    (distinct_front xs ys (and_second (not (list_any (same_claim x) (xs ++ ys))) _ e))
+    (neither (list_any (same_claim x) xs) (list_any (same_claim x) ys) (ap not (sym (list_any-append (same_claim x) xs ys)) ∙ first_so (not (list_any (same_claim x) (xs ++ ys))) _ e))
+    (distinct_front xs ys (second_so (not (list_any (same_claim x) (xs ++ ys))) _ e))
 
 -- a claim that was there before leaves them not distinct, whatever follows
 pub not_distinct : (xs rest : List Claim) (x : Claim) → list_any (same_claim x) xs ≡ true → false ≡ all_distinct same_claim (xs ++ x ∷ rest)
@@ -62,7 +51,7 @@ not_distinct xs rest x h = by (all_distinct same_claim (xs ++ x ∷ rest)) refl
     fails : all_distinct same_claim (xs ++ x ∷ rest) ≡ true → ⊥
     fails e =
         let front : all_distinct same_claim (xs ++ x ∷ []) ≡ true = distinct_front (xs ++ x ∷ []) rest (ap (all_distinct same_claim) (append_assoc xs (x ∷ []) rest) ∙ e) in
-        let apart = and_second (all_distinct same_claim xs) (not (list_any (same_claim x) xs)) (sym (distinct_more xs x) ∙ front) in
+        let apart = second_so (all_distinct same_claim xs) (not (list_any (same_claim x) xs)) (sym (distinct_more xs x) ∙ front) in
         subst T (sym (ap not (sym h) ∙ apart)) tt
 
     by : (b : Bool) → all_distinct same_claim (xs ++ x ∷ rest) ≡ b → false ≡ b

@@ -22,7 +22,7 @@ t_both : (a b : Bool) → T a → T b → T (a && b)
 t_both true b p q = q
 t_both false b p q = absurd p
 
-less : (r : Ordering) → T (is_lt r) → r ≡ Less
+pub less : (r : Ordering) → T (is_lt r) → r ≡ Less
 less Less p = refl
 less Equal p = absurd p
 less Greater p = absurd p
@@ -30,7 +30,7 @@ less Greater p = absurd p
 nothing_at : (i : ℕ) → i < 0 → ⊥
 nothing_at i h = omega arith
 
-earlier : (i n : ℕ) → suc i < suc n → i < n
+pub earlier : (i n : ℕ) → suc i < suc n → i < n
 earlier i n h = omega arith
 
 module _ {K : Type 0} {R : K → K → Ordering} (o : IsTotalOrder R) where

@@ -4,9 +4,7 @@ use Rattle.std.proofs.Common.{refl, sym, ap, ◌∙◌, arith, get_or}
 use Rattle.std.specs.List.{zip, flat_map, list_all}
 use Rattle.std.proofs.Math.ListN.{drop_of_length-le}
 use Rattle.std.proofs.lemmas.List.{map-append}
-
-earlier : (i n : ℕ) → suc i < suc n → i < n
-earlier i n h = omega arith
+use Rattle.jpa_stored.proofs.Entries.{earlier}
 
 nothing : (i : ℕ) → i < 0 → ⊥
 nothing i h = omega arith

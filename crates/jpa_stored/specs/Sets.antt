@@ -29,6 +29,11 @@ stored_at s id = find identity_cmp id s
 abbrev pub with_stored : Identity → Stored → StoredSet → StoredSet
 with_stored id x s = put identity_cmp id x s
 
+-- the objects put into a set, one after another
+abbrev pub put_all : List (Identity × Stored) → StoredSet → StoredSet
+put_all [] set = set
+put_all (e ∷ es) set = put_all es (with_stored e.0 e.1 set)
+
 abbrev pub without : List Identity → StoredSet → StoredSet
 without ids s = where_key identity_cmp (λ id. not (list_any (same_identity id) ids)) s
 

@@ -119,10 +119,31 @@ impl StoredSet {
         ensures found { IfOk result (IsAt identity_cmp self.now id.now) }
         ensures absent { IfErr result (IsGap identity_cmp self.now id.now) }
     {
-        self.entries
-            .as_slice()
-            .binary_search_by(|entry| order_entry(entry, id))
+        place_of(&self.entries, id)
     }
+
+    /// The entries, in rising order of the identities.
+    pub(crate) fn into_entries(self) -> Vec<Boxed<(Identity, Stored)>>
+        ensures all { result.items ≡ self }
+        ensures rising { T (is_sorted identity_cmp self) }
+    {
+        let StoredSet { entries } = self;
+        entries
+    }
+}
+
+/// Where an identity stands among entries in rising order, or where it would stand.
+pub(crate) fn place_of(
+    entries: &Vec<Boxed<(Identity, Stored)>>,
+    id: &Identity,
+) -> Result<usize, usize>
+    requires { T (is_sorted identity_cmp entries.now.items) }
+    ensures found { IfOk result (IsAt identity_cmp entries.now.items id.now) }
+    ensures absent { IfErr result (IsGap identity_cmp entries.now.items id.now) }
+{
+    entries
+        .as_slice()
+        .binary_search_by(|entry| order_entry(entry, id))
 }
 
 /// The order of an entry's identity and another.

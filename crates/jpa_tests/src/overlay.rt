@@ -41,6 +41,7 @@ impl Listed {
 
 impl RowSource for Listed {
     ghost use Rattle.std.specs.Prelude.{◌≡◌, [], refl};
+    ghost use Rattle.std.proofs.Common.{◌∙◌};
     ghost use Rattle.jpa_rows.specs.declared.schema.Schema.{Schema};
 
     ghost schema = { λ _. record { tables = [] } };
@@ -58,6 +59,8 @@ impl RowSource for Listed {
     ghost endures = { λ old new _. new.rows ≡ old.rows };
 
     ghost wider = { λ old new P Q weaker same. same };
+
+    ghost then = { λ first second third P Q unit a b. b ∙ a };
 
     fn get(&mut self, id: &RowId) -> Result<Option<Row>, Cause> {
         if self.is_broken {

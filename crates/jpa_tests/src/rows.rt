@@ -1,12 +1,12 @@
 //! Rows of worked examples there and back, cells that spell no row, and the tables of a unit.
 use jpa_key::encode_key;
 use jpa_model::{
-    Draft, DraftAttribute, DraftEntity, DraftOrigin, DraftRoot, DraftVersion, Metamodel, Part,
-    check,
+    Draft, DraftAttribute, DraftEntity, DraftOrigin, DraftRoot, DraftVersion, Metamodel, Origin,
+    Part, check,
 };
 use jpa_rows::{
-    ColumnRule, Content, Field, Holds, Row, RowChange, Schema, TableRule, is_key, is_row_of,
-    read_content, read_id, read_row, spell_content, spell_row,
+    ColumnRule, Content, Field, Holds, Row, RowChange, Schema, TableRule, copy_row, is_key,
+    is_row_of, is_same_row, origin_of, read_content, read_id, read_row, spell_content, spell_row,
 };
 use jpa_value::{Bytes, Cause, Identity, Key, Kind, Seq, Text, TryCopy, Value};
 use std::alloc::Global;
@@ -237,6 +237,24 @@ fn changes_are_copied(rt: HostRuntime) -> Result<(), Fail> {
     Ok(())
 }
 
+#[test]
+fn rows_that_are_the_same(rt: HostRuntime) -> Result<(), Fail> {
+    let a = rt.alloc();
+    let row = ada(a)?;
+    assert!(rt; is_same_row(row.as_slice(), row.as_slice()));
+    match copy_row(&Some(row.try_copy()?))? {
+        None => panic!(rt; "no row"),
+        Some(copy) => assert!(rt; is_same_row(row.as_slice(), copy.as_slice())),
+    }
+    assert!(rt; copy_row(&None)?.is_none());
+    // a row and its front, either way round
+    let mut front = Seq::new(a);
+    front.push(field(0, text(a, "Person")?))?;
+    assert!(rt; !is_same_row(row.as_slice(), front.as_slice()));
+    assert!(rt; !is_same_row(front.as_slice(), row.as_slice()));
+    Ok(())
+}
+
 fn key_named(alloc: Global, name: Text) -> Result<Seq<Part>, Cause> {
     let mut key = Seq::new(alloc);
     key.push(Part {
@@ -321,9 +339,13 @@ fn columns(schema: &Schema, table: u64) -> usize {
 #[test]
 fn tables_of_a_unit(rt: HostRuntime) -> Result<(), Fail> {
     let a = rt.alloc();
-    let schema = Schema::of(a, &unit(a)?)?;
+    let unit = unit(a)?;
+    let schema = Schema::of(a, &unit)?;
     for (table, count) in [(0, 1), (1, 3), (2, 0)] {
         assert_eq!(rt; columns(&schema, table), count);
+    }
+    for class in 0..unit.entities().len() {
+        assert!(rt; matches!(origin_of(&unit, class), Origin::Root(root) if root.table == 1));
     }
     Ok(())
 }

@@ -7,7 +7,7 @@ use Rattle.jpa_model.specs.declared.unit.PersistenceUnit.{PersistenceUnit}
 use Rattle.jpa_model.specs.Chains.{entity_at, no_entity}
 use Rattle.jpa_row_laws.proofs.Facts.{some_none, value_in, true_false}
 use Rattle.jpa_row_laws.proofs.Elements.{Has}
-use Rattle.jpa_view.specs.Identities.{classes}
+use Rattle.jpa_rows.specs.Tables.{classes}
 use Rattle.jpa_view.specs.Unambiguous.{is_class}
 
 -- ---- numbers in a range

@@ -23,7 +23,7 @@ use Rattle.jpa_rows.specs.Cells.{tables_of}
 use Rattle.jpa_row_laws.proofs.Facts.{and_first, and_second, and_both, true_false}
 use Rattle.jpa_row_laws.proofs.Elements.{Has, contains_from_has, into_map, from_filter, into_filter, into_flat_map}
 use Rattle.jpa_row_laws.proofs.Lists.{all_from, each_passes, has_any, filter_same, flat_map_same, map-flat_map}
-use Rattle.jpa_view.specs.Identities.{classes}
+use Rattle.jpa_rows.specs.Tables.{classes}
 use Rattle.jpa_view.specs.Unambiguous.{IsUnambiguous, are_distinct_numbers, is_class}
 use Rattle.jpa_view.proofs.Orders.{same_bytes_itself, same_number}
 use Rattle.jpa_view.proofs.Classes.{below, is_below, class_within, within_classes, item_at}

@@ -14,7 +14,7 @@ use Rattle.jpa_key.proofs.Spelling.{key_read as front_read}
 use Rattle.jpa_stored.specs.Sets.{is_key_of, is_identity_of, each_fits}
 use Rattle.jpa_rows.specs.Cells.{names_representable}
 use Rattle.jpa_row_laws.proofs.Facts.{and_first, and_second, and_both, value_in}
-use Rattle.jpa_view.specs.Identities.{kinds_of}
+use Rattle.jpa_rows.specs.Tables.{kinds_of}
 use Rattle.jpa_view.proofs.Orders.{same_number, are_same_numbers}
 
 -- a part that fits, is not null and is a value of the program

@@ -11,7 +11,8 @@ use Rattle.jpa_model.specs.Chains.{chain, chain_from, superclass_in, root_in, ro
 use Rattle.jpa_rows.specs.Cells.{tables_of, root_tables, join_tables}
 use Rattle.jpa_row_laws.proofs.Elements.{Has, append_has}
 use Rattle.jpa_row_laws.proofs.Lists.{any_has, flat_map-map}
-use Rattle.jpa_view.specs.Identities.{classes, has_table, root_at}
+use Rattle.jpa_rows.specs.Tables.{classes}
+use Rattle.jpa_view.specs.Identities.{has_table, root_at}
 use Rattle.jpa_view.specs.Unambiguous.{are_distinct_numbers, is_class, version_columns, link_columns}
 use Rattle.jpa_view.proofs.Orders.{are_same_numbers, same_number}
 use Rattle.jpa_view.proofs.Classes.{below, class_within, within_classes, find_only}

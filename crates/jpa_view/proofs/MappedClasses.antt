@@ -11,7 +11,8 @@ use Rattle.jpa_rows.specs.Cells.{root_tables, join_tables}
 use Rattle.jpa_row_laws.proofs.Facts.{and_first, and_second, and_both}
 use Rattle.jpa_row_laws.proofs.Elements.{Has, has_append, append_has, from_flat_map, into_filter}
 use Rattle.jpa_row_laws.proofs.Lists.{all_from, has_any, map-flat_map, flat_map-flat_map}
-use Rattle.jpa_view.specs.Identities.{classes, has_table, root_at, declares, declarer_at, is_within, is_join_of}
+use Rattle.jpa_rows.specs.Tables.{classes}
+use Rattle.jpa_view.specs.Identities.{has_table, root_at, declares, declarer_at, is_within, is_join_of}
 use Rattle.jpa_view.specs.Written.{class_bytes}
 use Rattle.jpa_view.specs.View.{has_discriminator, class_in}
 use Rattle.jpa_view.specs.Unambiguous.{IsUnambiguous, are_distinct_numbers, is_class, version_columns, link_columns, columns_along, joins_of}

@@ -1,21 +1,15 @@
 -- Row ids, identities and columns are in linear orders.
-use Rattle.std.specs.Prelude.{◌≡◌, ℕ, ℤ, true, ◌==◌, List, T}
-use Rattle.std.proofs.Common.{refl, sym, ap, subst, ◌∙◌, Less, Equal, Greater}
+use Rattle.std.specs.Prelude.{◌≡◌, ℕ, ℤ, true, ◌==◌, List}
+use Rattle.std.proofs.Common.{sym, ap, ◌∙◌, Equal}
 use Rattle.std.specs.FinMap.{nat_cmp-IsAntisymmetric, int_cmp-IsAntisymmetric, slice_cmp-IsAntisymmetric}
 use Rattle.std.specs.Cmp.{IsTotalOrder, then_total, on_total, nat_cmp_total, int_cmp_total, unsigned_tied, tied_itself}
 use Rattle.std.specs.Cmp.Lexicographic.{nat_list_cmp_total, lists_total}
-use Rattle.std.specs.Ordering.{is_eq, int_cmp, ordering_then}
-use Rattle.std.specs.declared.cmp.Ordering.{Ordering}
+use Rattle.std.specs.Ordering.{is_eq, int_cmp}
 use Rattle.jpa_value.specs.Value.{identity_cmp}
-use Rattle.jpa_value.proofs.Orders.{identity_total, identity_exact}
+use Rattle.jpa_value.proofs.Orders.{identity_total, identity_exact, both_equal}
 use Rattle.jpa_row_laws.specs.Orders.{IsLinearOrder}
 use Rattle.jpa_row_laws.proofs.Facts.{is_equal}
 use Rattle.jpa_view.specs.Rows.{RowId, row_cmp, Columns, column_cmp, same_bytes, same_columns}
-
-both_equal : (r s : Ordering) → ordering_then r s ≡ Equal → (r ≡ Equal) × (s ≡ Equal)
-both_equal Less s e = absurd (subst (λ r. T (is_eq r)) (sym e) tt)
-both_equal Equal s e = (refl, e)
-both_equal Greater s e = absurd (subst (λ r. T (is_eq r)) (sym e) tt)
 
 pub identities : IsLinearOrder identity_cmp
 identities = record { total = identity_total; exact = identity_exact }

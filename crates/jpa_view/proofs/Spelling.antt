@@ -15,7 +15,8 @@ use Rattle.jpa_rows.specs.Cells.{names_representable}
 use Rattle.jpa_row_laws.specs.Entries.{Spells, IsSpelledBy}
 use Rattle.jpa_row_laws.proofs.Facts.{some_none, given_if, give_if, and_first, and_second, and_both}
 use Rattle.jpa_view.specs.Rows.{RowId, row_cmp, row_of, same_bytes}
-use Rattle.jpa_view.specs.Identities.{kinds_of, root_at, identity_at, identity_in, identity_if, pair_row, is_join_of, target_at, target_if, IsSpelled}
+use Rattle.jpa_rows.specs.Tables.{kinds_of}
+use Rattle.jpa_view.specs.Identities.{root_at, identity_at, identity_in, identity_if, pair_row, is_join_of, target_at, target_if, IsSpelled}
 use Rattle.jpa_view.proofs.Orders.{identities, row_ids, are_same_bytes, same_bytes_itself, are_same_numbers, same_number}
 use Rattle.jpa_view.proofs.Keys.{key_read, table_is}
 

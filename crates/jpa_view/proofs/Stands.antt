@@ -17,7 +17,8 @@ use Rattle.jpa_row_laws.proofs.Elements.{Has, has_from_contains, contains_from_h
 use Rattle.jpa_row_laws.proofs.OneRow.{entries_same}
 use Rattle.jpa_row_laws.proofs.Lists.{has_any}
 use Rattle.jpa_view.specs.Rows.{RowId, row_cmp, row_of, Row, Rows, AreRising}
-use Rattle.jpa_view.specs.Identities.{classes, has_table, root_at, declares, declarer_at, is_within, is_join_of, pair_row, IsSpelled}
+use Rattle.jpa_rows.specs.Tables.{classes}
+use Rattle.jpa_view.specs.Identities.{has_table, root_at, declares, declarer_at, is_within, is_join_of, pair_row, IsSpelled}
 use Rattle.jpa_view.specs.Written.{rows_of}
 use Rattle.jpa_view.specs.View.{set_of, stored_from, pair_from, pairs_of, AreStorable}
 use Rattle.jpa_view.specs.Unambiguous.{IsUnambiguous, is_class}

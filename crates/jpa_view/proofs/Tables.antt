@@ -11,7 +11,8 @@ use Rattle.jpa_rows.specs.Cells.{root_tables, join_tables, tables_of}
 use Rattle.jpa_row_laws.proofs.Facts.{and_first, and_second, true_false}
 use Rattle.jpa_row_laws.proofs.Elements.{Has, append_has, into_flat_map}
 use Rattle.jpa_row_laws.proofs.Lists.{any_has, has_any}
-use Rattle.jpa_view.specs.Identities.{classes, has_table, root_at, declares, declarer_at}
+use Rattle.jpa_rows.specs.Tables.{classes}
+use Rattle.jpa_view.specs.Identities.{has_table, root_at, declares, declarer_at}
 use Rattle.jpa_view.specs.Unambiguous.{are_distinct_numbers, is_class}
 use Rattle.jpa_view.proofs.Orders.{are_same_numbers, same_number}
 use Rattle.jpa_view.proofs.Classes.{class_within, has_entity, find_none}

@@ -1,9 +1,8 @@
 -- Identities read off row ids: what is read off the bytes is a guess, which counts only where its own bytes are the given
 -- ones. So each identity has one spelling, also among rows that no program wrote.
-use Rattle.std.specs.Prelude.{ℕ, Bool, false, ◌==◌, ◌&&◌, not, is_some, List, ◌++◌, length, drop, map, find, Option, Some, None, option_map, if◌then◌else◌}
-use Rattle.std.specs.List.{list_any, range_with_len}
+use Rattle.std.specs.Prelude.{ℕ, Bool, false, ◌==◌, ◌&&◌, not, is_some, List, ◌++◌, length, drop, find, Option, Some, None, option_map, if◌then◌else◌}
+use Rattle.std.specs.List.{list_any}
 use Rattle.jpa_value.specs.declared.value.Value.{Value}
-use Rattle.jpa_value.specs.declared.value.Kind.{Kind}
 use Rattle.jpa_value.specs.declared.value.Identity.{Identity}
 use Rattle.jpa_model.specs.declared.unit.Root.{Root}
 use Rattle.jpa_model.specs.declared.unit.Origin.{Origin}
@@ -16,12 +15,7 @@ use Rattle.jpa_stored.specs.Sets.{is_identity_of}
 use Rattle.jpa_rows.specs.Cells.{join_tables, names_representable}
 use Rattle.jpa_row_laws.specs.Entries.{IsSpelledBy}
 use Rattle.jpa_view.specs.Rows.{RowId, row_of, same_bytes}
-
-abbrev pub classes : PersistenceUnit → List ℕ
-classes m = range_with_len 0 (length m.entities)
-
-abbrev pub kinds_of : Root → List Kind
-kinds_of root = map (λ part. part.kind) root.key
+use Rattle.jpa_rows.specs.Tables.{classes, kinds_of}
 
 -- ---- main rows
 

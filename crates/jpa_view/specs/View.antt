@@ -23,7 +23,8 @@ use Rattle.jpa_stored.specs.Sets.{StoredSet, is_shaped}
 use Rattle.jpa_rows.specs.Cells.{cell_value, passes, names_representable, holds_representable}
 use Rattle.jpa_row_laws.specs.Entries.{read_by, entries_of}
 use Rattle.jpa_view.specs.Rows.{row_cmp, row_of, Columns, Rows, same_bytes, same_columns}
-use Rattle.jpa_view.specs.Identities.{classes, kinds_of, identity_at, target_at}
+use Rattle.jpa_rows.specs.Tables.{classes, kinds_of}
+use Rattle.jpa_view.specs.Identities.{identity_at, target_at}
 use Rattle.jpa_view.specs.Written.{class_bytes, columns_of, pair_columns, number_row}
 
 -- ---- an object read off its main row and its pairs: a guess, which counts only where its own row is the given one

@@ -1,5 +1,5 @@
 -- What values are of, and which go together (chapters 4.6 to 4.8).
-use Rattle.std.specs.Prelude.{ℕ, ◌-◌, ◌==◌, length, Bool, true, false, ◌&&◌, List, [], ◌∷◌, slice_get, Option, Some, None, option_map, if◌then◌else◌}
+use Rattle.std.specs.Prelude.{ℕ, ◌-◌, ◌==◌, nat_le, length, Bool, true, false, ◌&&◌, ◌||◌, List, [], ◌∷◌, slice_get, Option, Some, None, option_map, if◌then◌else◌}
 use Rattle.std.specs.List.{list_all}
 use Rattle.jpa_value.specs.declared.value.Kind.{Kind}
 use Rattle.jpa_model.specs.Chains.{root_of, root_class, attributes_of}
@@ -61,16 +61,31 @@ fit asked [] = true
 fit [] (s ∷ all) = false
 fit (a ∷ asked) (s ∷ all) = goes_with a s && fit asked all
 
--- what a function gives of arguments of these sorts
+-- how many arguments a function takes
+abbrev pub takes : Function → ℕ → Bool
+takes Function.Length count = count == 1
+takes Function.Concat count = nat_le 2 count
+takes Function.Substring count = count == 2 || count == 3
+takes Function.Locate count = count == 2 || count == 3
+takes Function.Abs count = count == 1
+takes Function.Mod count = count == 2
+takes Function.Coalesce count = nat_le 2 count
+takes Function.NullIf count = count == 2
+
+-- what a function gives of arguments of these sorts, however many
+abbrev pub given_sort : Function → List Sort → Option Sort
+given_sort Function.Length all = when (fit (text ∷ []) all) integer
+given_sort Function.Concat all = when (list_all (goes_with text) all) text
+given_sort Function.Substring all = when (fit (text ∷ integer ∷ integer ∷ []) all) text
+given_sort Function.Locate all = when (fit (text ∷ text ∷ integer ∷ []) all) integer
+given_sort Function.Abs all = when (fit (integer ∷ []) all) integer
+given_sort Function.Mod all = when (fit (integer ∷ integer ∷ []) all) integer
+given_sort Function.Coalesce all = joined_basic all
+given_sort Function.NullIf all = joined_basic all
+
+-- and where it takes as many as these
 abbrev pub call_sort : Function → List Sort → Option Sort
-call_sort Function.Length all = when (fit (text ∷ []) all) integer
-call_sort Function.Concat all = when (list_all (goes_with text) all) text
-call_sort Function.Substring all = when (fit (text ∷ integer ∷ integer ∷ []) all) text
-call_sort Function.Locate all = when (fit (text ∷ text ∷ integer ∷ []) all) integer
-call_sort Function.Abs all = when (fit (integer ∷ []) all) integer
-call_sort Function.Mod all = when (fit (integer ∷ integer ∷ []) all) integer
-call_sort Function.Coalesce all = joined_basic all
-call_sort Function.NullIf all = joined_basic all
+call_sort function all = if takes function (length all) then given_sort function all else None
 
 abbrev pub aggregate_sort : Aggregate → Sort → Option Sort
 aggregate_sort Aggregate.Count s = Some integer

@@ -110,9 +110,21 @@ fn fit(asked: &[Sort], all: &[Sort]) -> bool
     }
 }
 
-/// What a function gives of arguments of these sorts (chapter 4.7).
-pub(crate) fn call_sort(function: Function, all: &[Sort]) -> Option<Sort>
-    ensures { result ≡ sorts.call_sort function all.now }
+/// Whether a function takes this many arguments (chapter 4.7).
+fn takes(function: Function, count: usize) -> bool
+    ensures { result ≡ sorts.takes function count }
+{
+    match function {
+        Function::Length | Function::Abs => count == 1,
+        Function::Mod | Function::NullIf => count == 2,
+        Function::Substring | Function::Locate => count == 2 || count == 3,
+        Function::Concat | Function::Coalesce => count >= 2,
+    }
+}
+
+/// What a function gives of arguments of these sorts, however many they are.
+fn given_sort(function: Function, all: &[Sort]) -> Option<Sort>
+    ensures { result ≡ sorts.given_sort function all.now }
 {
     match function {
         Function::Length if fit(&[TEXT], all) => Some(INTEGER),
@@ -123,6 +135,17 @@ pub(crate) fn call_sort(function: Function, all: &[Sort]) -> Option<Sort>
         Function::Mod if fit(&[INTEGER, INTEGER], all) => Some(INTEGER),
         Function::Coalesce | Function::NullIf => joined_basic(all),
         _ => None,
+    }
+}
+
+/// What a function gives of arguments of these sorts (chapter 4.7); nothing where it takes more or fewer.
+pub(crate) fn call_sort(function: Function, all: &[Sort]) -> Option<Sort>
+    ensures { result ≡ sorts.call_sort function all.now }
+{
+    if takes(function, all.len()) {
+        given_sort(function, all)
+    } else {
+        None
     }
 }
 

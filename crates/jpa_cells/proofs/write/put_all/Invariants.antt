@@ -1,8 +1,8 @@
 use Rattle.std.proofs.Common.{sum_by, take, ◌+◌, ◌≡◌, ◌<◌, drop, ℕ, ℤ, List, IsTrue}
 use Rattle.sqlite.specs.State.{HasCleanDisk, Survives}
 use Rattle.sqlite.specs.Held.{state}
-use Rattle.jpa_cells_meaning.specs.Content.{IsUnderWay, content, contents_after}
-use Rattle.jpa_cells_meaning.specs.Tables.{statements_of}
+use Rattle.jpa_cells_meaning.specs.Content.{IsUnderWay, CanTake, content, contents_after}
+use Rattle.jpa_cells_meaning.specs.Tables.{statements_of, NameColumnsOnce}
 use Rattle.jpa_cells_meaning.specs.Store.{up_to_greatest}
 use Rattle.jpa_cells.proofs.write.put_all.Given as goal
 
@@ -16,4 +16,6 @@ invariant-changes g l =
     × (HasCleanDisk now → 0 < l.change-index → IsTrue now.is_open)
     × (HasCleanDisk now → IsTrue now.is_open → IsUnderWay first now)
     × (HasCleanDisk now → (t : ℤ) (k : List ℕ) → contents_after (drop l.change-index l.changes) (content now.now) t k ≡ contents_after l.changes (content first.now) t k)
+    × (HasCleanDisk now → NameColumnsOnce (take l.change-index l.changes))
+    × (HasCleanDisk now → CanTake first.now l.changes → CanTake now.now (drop l.change-index l.changes))
     × (l.writes ≡ up_to_greatest (l.fn.writes + sum_by statements_of (take l.change-index l.changes)))

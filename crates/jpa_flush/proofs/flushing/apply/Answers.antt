@@ -5,25 +5,24 @@ use Rattle.jpa_context.specs.Undo.{now, IsPlain}
 use Rattle.jpa_context.specs.Work.{Work}
 use Rattle.jpa_flush.specs.declared.planning.Planned.{Planned}
 use Rattle.jpa_flush.specs.Flush.{all_remembered}
-use Rattle.jpa_flush.specs.Plan.{settled_by, applied}
-use Rattle.jpa_flush.proofs.Applied.{entries_after, bare_after, plain_after}
+use Rattle.jpa_flush.specs.Plan.{settled_by}
+use Rattle.jpa_flush.proofs.Applied.{entries_after, bare_after, plain_after, view_kept}
 use Rattle.jpa_flush.proofs.Remembered.{AreBare}
 use Rattle.jpa_flush.proofs.Settled.{same_count}
 use Rattle.jpa_flush.proofs.flushing.apply.Goals as goal
 
 pub remember-requires-clause-entries : goal.remember-requires-clause-entries
 remember-requires-clause-entries g c =
-    subst (λ (v : Work). All (λ (e : Entry). e.object < length v.objects) v.context) (sym c.in_ok-settle.ensures.ok) (entries_after c.args.plan.now (now c.args.work.now) c.requires.placed.entries)
+    subst (λ (v : Work). All (λ (e : Entry). e.object < length v.objects) v.context) (sym c.in_ok-settle.ensures.ok) (entries_after c.args.plan.now (now c.args.work.now) c.requires.entries)
 
 pub remember-requires-clause-bare : goal.remember-requires-clause-bare
 remember-requires-clause-bare g c =
-    subst (λ (v : Work). AreBare v.objects) (sym c.in_ok-settle.ensures.ok) (bare_after c.args.metamodel.now c.requires.flat c.args.plan.now (now c.args.work.now) c.requires.placed)
+    subst (λ (v : Work). AreBare v.objects) (sym c.in_ok-settle.ensures.ok) (bare_after c.args.metamodel.now c.requires.flat c.args.plan.now (now c.args.work.now) c.requires.shaped)
 
 pub tell_written-requires-clause-objects : goal.tell_written-requires-clause-objects
 tell_written-requires-clause-objects g c =
-    let many : length (now c.replace_view.new.self).objects ≡ length (now c.args.work.now).objects =
-    ap (λ (v : Work). length v.objects) c.replace_view.ensures.now
-    ∙ ap (λ (v : Work). length v.objects) c.in_ok-remember.ensures.ok
+    let many : length (now c.remember.new.work).objects ≡ length (now c.args.work.now).objects =
+    ap (λ (v : Work). length v.objects) c.in_ok-remember.ensures.ok
     ∙ ap (λ (v : Work). length v.objects) c.in_ok-settle.ensures.ok
     ∙ same_count c.args.plan.now (now c.args.work.now) in
     subst (λ n. All (λ (p : Planned). p.object < n) c.args.plan.now) (sym many) c.requires.objects
@@ -33,7 +32,12 @@ returns-clause-plain g c =
     let m = c.args.metamodel.now in
     let w = now c.args.work.now in
     let remembered : now c.remember.new.work ≡ all_remembered m (settled_by c.args.plan.now w) = c.in_ok-remember.ensures.ok ∙ ap (all_remembered m) c.in_ok-settle.ensures.ok in
-    let written : now c.replace_view.new.self ≡ applied m c.args.plan.now c.args.view w =
-    c.replace_view.ensures.now ∙ ap {A = Work} {B = Work} (λ v. record v { view = c.args.view }) remembered in
-    let h : IsPlain (now c.replace_view.new.self) = subst IsPlain (sym written) (plain_after m c.args.plan.now c.args.view w c.requires.plain) in
+    let h : IsPlain (now c.remember.new.work) = subst IsPlain (sym remembered) (plain_after m c.args.plan.now w c.requires.plain) in
     subst IsPlain (sym c.tell_written.ensures.events) (record { objects = h.objects; context = h.context })
+
+pub returns-clause-view : goal.returns-clause-view
+returns-clause-view g c =
+    ap (λ (v : Work). v.view) c.tell_written.ensures.events
+    ∙ ap (λ (v : Work). v.view) c.in_ok-remember.ensures.ok
+    ∙ ap (λ (v : Work). v.view) c.in_ok-settle.ensures.ok
+    ∙ view_kept c.args.plan.now (now c.args.work.now)

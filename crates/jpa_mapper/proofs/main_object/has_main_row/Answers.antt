@@ -1,6 +1,6 @@
 use Rattle.std.proofs.Common.{◌∙◌, ap}
 use Rattle.jpa_behaviour.specs.Registered.{world_of}
-use Rattle.jpa_mapper.specs.SameRow.{same_row}
+use Rattle.jpa_rows.specs.Same.{same_row}
 use Rattle.jpa_mapper.proofs.Found.{same_main}
 use Rattle.jpa_mapper.proofs.main_object.has_main_row.Goals as goal
 

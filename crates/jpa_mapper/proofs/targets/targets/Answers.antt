@@ -9,7 +9,7 @@ use Rattle.jpa_stored.proofs.Found.{computes}
 use Rattle.jpa_rows.specs.Rows.{RowId, Row, table_rows}
 use Rattle.jpa_object_rows.specs.Sets.{identity_of, if_any, key_after}
 use Rattle.jpa_mapper.specs.Pairs.{pair_target}
-use Rattle.jpa_mapper.proofs.Splits.{front_passes, rest_fails, parted}
+use Rattle.jpa_rows.proofs.Splits.{front_passes, rest_fails, parted}
 use Rattle.jpa_mapper.proofs.Walk.{leading, leading_none, targets_walked}
 use Rattle.jpa_mapper.proofs.targets.targets.Goals as goal
 use Rattle.jpa_mapper.proofs.targets.targets.Goals.{else-loop-row-test, then-loop-row-test+in_ok-id+in-None}

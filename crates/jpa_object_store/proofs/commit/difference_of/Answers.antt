@@ -3,6 +3,7 @@ use Rattle.std.proofs.Common.{refl, sym, subst, ◌∙◌}
 use Rattle.std.specs.FinMap.{find, is_sorted}
 use Rattle.jpa_value.specs.Value.{identity_cmp}
 use Rattle.jpa_behaviour.specs.Registered.{world_of}
+use Rattle.jpa_stored.specs.Sets.{put_all}
 use Rattle.jpa_rows.specs.declared.row.RowChange.{RowChange}
 use Rattle.jpa_rows.specs.Rows.{Rows, AreRising, AreChanges, entry_of, rows_after}
 use Rattle.jpa_rows.specs.Tables.{schema_of}
@@ -11,7 +12,7 @@ use Rattle.jpa_view.proofs.Described.{described_mapped}
 use Rattle.jpa_view.proofs.Rounds.{held_storable}
 use Rattle.jpa_object_rows.specs.Sets.{rows_of}
 use Rattle.jpa_overlay.specs.Overlay.{Changes, Recalls, rows_under}
-use Rattle.jpa_object_store.specs.Written.{put_all, IsDifference}
+use Rattle.jpa_object_store.specs.Written.{IsDifference}
 use Rattle.jpa_object_store.specs.Shown.{Show, Recall}
 use Rattle.jpa_object_store.proofs.Commits.{begins, begins_noted, are_changes}
 use Rattle.jpa_object_store.proofs.commit.difference_of.Goals as goal
@@ -19,7 +20,7 @@ use Rattle.jpa_object_store.proofs.commit.difference_of.Goals as goal
 pub change_objects-requires-clause-committed : goal.change_objects-requires-clause-committed
 change_objects-requires-clause-committed g c =
     let world = world_of g.B.Behaviour.meaning c.args.metamodel.now c.args.registry.now in
-    held_storable world c.args.committed.now c.args.before.now c.requires.committed
+    held_storable world c.args.view.now.since c.args.before.now c.requires.committed
 
 -- the difference from rows that are recalled
 recalled : {E : Type 0} (r : Result (List RowChange) E) (base new : Rows) (stood changes : Changes) → AreRising base → Recalls stood changes base → rows_under changes base ≡ new
@@ -32,7 +33,7 @@ pub returns-clause-ok : goal.returns-clause-ok
 returns-clause-ok g c =
     let m = c.args.metamodel.now in
     let world = world_of g.B.Behaviour.meaning m c.args.registry.now in
-    let committed = c.args.committed.now in
+    let committed = c.args.view.now.since in
     let before = c.args.before.now in
     let base = rows_of world committed before in
     let set = put_all c.args.written.now committed in
@@ -56,7 +57,7 @@ pub returns-clause-whole : goal.returns-clause-whole
 returns-clause-whole g c =
     let m = c.args.metamodel.now in
     let world = world_of g.B.Behaviour.meaning m c.args.registry.now in
-    let committed = c.args.committed.now in
+    let committed = c.args.view.now.since in
     let before = c.args.before.now in
     let base = rows_of world committed before in
     let set = put_all c.args.written.now committed in

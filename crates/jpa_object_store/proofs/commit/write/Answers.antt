@@ -3,10 +3,11 @@ use Rattle.std.proofs.Common.{◌≡◌, ◌∙◌, ap, refl, sym, subst, [], le
 use Rattle.std.proofs.lemmas.List.{nil_from_length}
 use Rattle.std.specs.Cmp.Lexicographic.{same_text}
 use Rattle.jpa_behaviour.specs.Registered.{world_of}
+use Rattle.jpa_stored.specs.Sets.{put_all}
 use Rattle.jpa_rows.specs.Rows.{Rows, rows_after}
 use Rattle.jpa_view.proofs.Orders.{are_same_numbers}
 use Rattle.jpa_object_rows.specs.Sets.{rows_of}
-use Rattle.jpa_object_store.specs.Written.{put_all, IsDifference}
+use Rattle.jpa_object_store.specs.Written.{IsDifference}
 use Rattle.jpa_object_store.proofs.Commits.{no_difference, none_made}
 use Rattle.jpa_object_store.proofs.commit.write.Goals as goal
 
@@ -25,7 +26,7 @@ if_ok (Err e) p = tt
 pub returns-then-eq-clause-ok : goal.returns-then-eq-clause-ok
 returns-then-eq-clause-ok g c =
     let world = world_of g.B.Behaviour.meaning c.args.metamodel.now c.args.registry.now in
-    let committed = c.args.committed.now in
+    let committed = c.args.view.now.since in
     let written = c.args.written.now in
     let none : [] ≡ written = sym (nil_from_length written (are_same_numbers (length written) 0 (sym c.is_empty.ensures ∙ c.if-is_empty.true))) in
     let same = same_text c.args.before.now c.args.next.now (sym c.if-eq.true ∙ c.eq.ensures) in
@@ -36,7 +37,7 @@ returns-then-eq-clause-ok g c =
 pub returns-then-eq-clause-counted : goal.returns-then-eq-clause-counted
 returns-then-eq-clause-counted g c =
     let world = world_of g.B.Behaviour.meaning c.args.metamodel.now c.args.registry.now in
-    let committed = c.args.committed.now in
+    let committed = c.args.view.now.since in
     let written = c.args.written.now in
     let base = rows_of world committed c.args.before.now in
     let none : [] ≡ written = sym (nil_from_length written (are_same_numbers (length written) 0 (sym c.is_empty.ensures ∙ c.if-is_empty.true))) in
@@ -47,7 +48,7 @@ returns-then-eq-clause-counted g c =
 pub returns-clause-unchanged : goal.returns-clause-unchanged
 returns-clause-unchanged g c = λ same.
     let world = world_of g.B.Behaviour.meaning c.args.metamodel.now c.args.registry.now in
-    let base = rows_of world c.args.committed.now c.args.before.now in
+    let base = rows_of world c.args.view.now.since c.args.before.now in
     let made = c.in_ok-changes.changes in
     (c.commit-2.ensures.nothing (c.as_slice.ensures ∙ none_made base made (subst (λ (rows : Rows). IsDifference base rows made) (sym same) c.in_ok-changes.ensures.ok))).1
 
@@ -57,7 +58,7 @@ pub returns-then-eq-clause-crash : goal.returns-then-eq-clause-crash
 returns-then-eq-clause-crash g c = λ held.
     let world = world_of g.B.Behaviour.meaning c.args.metamodel.now c.args.registry.now in
     let source = c.args.source.now in
-    let stands : RowsOf = λ left. left ≡ rows_of world (put_all c.args.written.now c.args.committed.now) c.args.next.now in
+    let stands : RowsOf = λ left. left ≡ rows_of world (put_all c.args.written.now c.args.view.now.since) c.args.next.now in
     subst (λ new. g.R.RowSource.endures source new stands) (sym ((c.commit.ensures.nothing refl).1)) (g.R.RowSource.wider source source _ _ (λ left none. absurd none) (g.met.R.RowSource.still source))
 
 pub returns-in_err-changes-clause-crash : goal.returns-in_err-changes-clause-crash
@@ -68,7 +69,7 @@ returns-in_err-changes-clause-crash g c = λ held.
 pub returns-clause-crash : goal.returns-clause-crash
 returns-clause-crash g c = λ held.
     let world = world_of g.B.Behaviour.meaning c.args.metamodel.now c.args.registry.now in
-    let base = rows_of world c.args.committed.now c.args.before.now in
-    let made : rows_after c.as_slice.result.now base ≡ rows_of world (put_all c.args.written.now c.args.committed.now) c.args.next.now =
+    let base = rows_of world c.args.view.now.since c.args.before.now in
+    let made : rows_after c.as_slice.result.now base ≡ rows_of world (put_all c.args.written.now c.args.view.now.since) c.args.next.now =
     ap (λ cs. rows_after cs base) c.as_slice.ensures ∙ c.in_ok-changes.ensures.ok.1 in
     subst (λ (rows : Rows). g.R.RowSource.endures c.args.source.now c.commit-2.new.self (λ left. left ≡ rows)) made (c.commit-2.ensures.crash base held)

@@ -23,13 +23,13 @@ returns-clause-ok g c =
     then_so c.put_rows.result c.put_rows.ensures.ok (λ put base set numbers at s.
     subst (λ changes. Show world base changes (with_stored id x set) numbers) (sym (put ∙ (λ i. with_puts (c.in_ok-rows.ensures.ok i) (c.in_ok-drop_old.ensures.ok i))))
     (replaced world (described_mapped m c.unit.ensures.described) (c.laws.ensures.regular m) c.discriminator_law.ensures base c.args.overlay.now set numbers s id x c.requires.storable
-    (stored_at c.args.committed.now id) at))
+    (stored_at c.args.view.now.since id) at))
 
 pub returns-clause-noted : goal.returns-clause-noted
 returns-clause-noted g c =
     let m = c.args.metamodel.now in
     let world = world_of g.B.Behaviour.meaning m c.args.registry.now in
-    let committed = c.args.committed.now in
+    let committed = c.args.view.now.since in
     let id = c.args.id.now in
     let x = c.args.object.now in
     let old = stored_at committed id in

@@ -1,6 +1,6 @@
 use Rattle.std.proofs.Common.{sym, subst, take}
 use Rattle.jpa_behaviour.specs.Registered.{world_of}
-use Rattle.jpa_object_store.specs.Written.{put_all}
+use Rattle.jpa_stored.specs.Sets.{put_all}
 use Rattle.jpa_object_store.specs.Shown.{Show}
 use Rattle.jpa_object_store.proofs.Written.{put_more, still_committed}
 use Rattle.jpa_object_store.proofs.objects.change_objects.Goals as goal
@@ -8,7 +8,7 @@ use Rattle.jpa_object_store.proofs.objects.change_objects.Goals as goal
 pub loop-id-preserved : goal.loop-id-preserved
 loop-id-preserved g c =
     let world = world_of g.B.Behaviour.meaning c.args.metamodel.now c.args.registry.now in
-    let committed = c.args.committed.now in
+    let committed = c.args.view.now.since in
     let written = c.args.written.now in
     let i = c.loop-id.id-index in
     let entry = c.loop-id-item.result in

@@ -8,7 +8,7 @@ use Rattle.jpa_value.proofs.Orders.{identity_total}
 use Rattle.jpa_stored.proofs.Found.{computes}
 use Rattle.jpa_rows.specs.Rows.{RowId, Row}
 use Rattle.jpa_overlay.specs.Overlay.{rows_put, rows_under, stands_first}
-use Rattle.jpa_overlay.proofs.Splits.{front_passes, rest_fails, rest_rises, parted}
+use Rattle.jpa_rows.proofs.Splits.{front_passes, rest_fails, rest_rises, parted}
 use Rattle.jpa_overlay.proofs.Merged.{merged_row, row_unless}
 use Rattle.jpa_overlay.proofs.merge.merge_row.Goals as goal
 use Rattle.jpa_overlay.proofs.merge.merge_row.Goals.{then-not-is_first+in_ok-push, else-not-is_first}

@@ -2,7 +2,7 @@ use Rattle.std.proofs.Common.{◌≡◌, length, ap, sym, subst, ◌∙◌}
 use Rattle.std.specs.Prelude.{Some}
 use Rattle.std.proofs.Math.Facts.{to_z-of_z}
 use Rattle.jpa_heap.specs.Objects.{place_of}
-use Rattle.jpa_provider.specs.Serving.{machine_of, IsPlainMachine}
+use Rattle.jpa_provider.specs.Serving.{IsPlainMachine}
 use Rattle.jpa_provider.proofs.Serving.{entries_in}
 use Rattle.jpa_provider.proofs.Steady.{rolled_steady}
 use Rattle.jpa_provider.proofs.committing.commit_call.Goals as goal

@@ -1,4 +1,4 @@
-use Rattle.std.proofs.Common.{◌≡◌}
+use Rattle.std.proofs.Common.{◌≡◌, refl}
 use Rattle.jpa_behaviour.specs.Registered.{world_of}
 use Rattle.jpa_provider.proofs.Crashed.{named_so}
 use Rattle.jpa_provider.proofs.committing.store_commit.Goals as goal
@@ -16,7 +16,7 @@ returns-in-Err-stored-clause-crash g c =
     let b = c.in-Ok.ensures in
     let d = c.as_slice.ensures in
     let next : c.as_slice-3.result.now ≡ c.args.session.now.work.numbers.now = cc in
-    named_so g.R.RowSource.holds g.R.RowSource.endures world c.args.written.now rows c.write-stored.new.source _ _ _ _ _ _ c.committed.ensures c.as_slice-2.ensures next c.in-Err-stored.ensures.crash
+    named_so g.R.RowSource.holds g.R.RowSource.endures world c.args.written.now rows c.write-stored.new.source _ _ _ _ _ _ refl c.as_slice-2.ensures next c.in-Err-stored.ensures.crash
 
 pub returns-clause-crash : goal.returns-clause-crash
 returns-clause-crash g c =
@@ -26,4 +26,4 @@ returns-clause-crash g c =
     let b = c.in-Ok.ensures in
     let d = c.as_slice.ensures in
     let next : c.as_slice-3.result.now ≡ c.args.session.now.work.numbers.now = cc in
-    named_so g.R.RowSource.holds g.R.RowSource.endures world c.args.written.now rows c.write-stored.new.source _ _ _ _ _ _ c.committed.ensures c.as_slice-2.ensures next c.write-stored.ensures.crash
+    named_so g.R.RowSource.holds g.R.RowSource.endures world c.args.written.now rows c.write-stored.new.source _ _ _ _ _ _ refl c.as_slice-2.ensures next c.write-stored.ensures.crash

@@ -5,7 +5,6 @@ use Rattle.jpa_behaviour.specs.Registered.{world_of}
 use Rattle.jpa_heap.specs.Objects.{place_of}
 use Rattle.jpa_context.specs.Undo.{now}
 use Rattle.jpa_protocol.specs.declared.call.Call.{Call}
-use Rattle.jpa_protocol.specs.declared.reply.Answer.{Answer}
 use Rattle.jpa_provider.specs.Serving.{Serves}
 use Rattle.jpa_provider.proofs.GetOf.{get_serves}
 use Rattle.jpa_provider.proofs.Opened.{told}

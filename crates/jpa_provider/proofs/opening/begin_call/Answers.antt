@@ -17,7 +17,7 @@ pub returns-clause-step : goal.returns-clause-step
 returns-clause-step g c =
     let world = world_of g.B.Behaviour.meaning c.args._metamodel.now c.args._registry.now in
     let s = c.args.session.now in
-    let set = s.work.view in
+    let set = s.work.view.now in
     let m = c.in-Some.manager in
     let t : Session = record { managers = c.set_status.new.managers; work = s.work; stored = s.stored } in
     let named : place_of (length s.managers.items) c.args.em ≡ Some m = ap (place_of (length s.managers.items)) (sym (to_z-of_z c.ranges.em)) ∙ sym c.in-Some.ensures.named in

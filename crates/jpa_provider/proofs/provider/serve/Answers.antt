@@ -1,4 +1,4 @@
-use Rattle.std.proofs.Common.{◌≡◌, ℕ, List, sym, subst}
+use Rattle.std.proofs.Common.{◌≡◌, ℕ, List, inr, sym, subst}
 use Rattle.jpa_behaviour.specs.Registered.{world_of}
 use Rattle.jpa_stored.specs.Sets.{StoredSet}
 use Rattle.jpa_object_rows.specs.Sets.{rows_of}
@@ -6,6 +6,7 @@ use Rattle.jpa_provider.specs.Provided.{rows_made}
 use Rattle.jpa_provider.specs.Serving.{machine_of, is_commit}
 use Rattle.jpa_provider.proofs.Crashed.{either_way}
 use Rattle.jpa_provider.proofs.Serving.{serves_all, stores_all}
+use Rattle.jpa_provider.proofs.Still.{step_still}
 use Rattle.jpa_provider.proofs.provider.serve.Goals as goal
 
 pub returns-clause-serving : goal.returns-clause-serving
@@ -30,3 +31,11 @@ returns-clause-crash g c = λ clean.
     either_way (is_commit call) (λ commits. c.served.ensures.crash commits clean)
     (λ other. subst (λ new. g.R.RowSource.endures rows new (λ left. left ≡ rows_made world (machine_of s) call)) (sym (c.served.ensures.others other))
     (g.R.RowSource.wider rows rows _ _ (λ left none. absurd none) (g.met.R.RowSource.still rows)))
+
+pub returns-clause-still : goal.returns-clause-still
+returns-clause-still g c =
+    step_still (machine_of c.args.session.now) (world_of g.B.Behaviour.meaning c.args.metamodel.now c.args.registry.now) c.args.call c.served.result (machine_of c.served.new.session) c.served.ensures.step
+
+pub returns-clause-refused : goal.returns-clause-refused
+returns-clause-refused g c = λ refused.
+    either_way (is_commit c.args.call) (λ commits. c.served.ensures.refused commits refused) (λ other. inr (c.served.ensures.others other))

@@ -1,4 +1,7 @@
 use Rattle.std.proofs.Common.{◌≡◌, length, refl, ap, sym, subst, ◌∙◌}
+use Rattle.jpa_value.specs.declared.value.Identity.{Identity}
+use Rattle.jpa_undo.specs.Undo.{Changes}
+use Rattle.jpa_stored.specs.declared.stored.Stored.{Stored}
 use Rattle.std.specs.Prelude.{Some}
 use Rattle.std.proofs.Math.Facts.{to_z-of_z}
 use Rattle.jpa_behaviour.specs.Registered.{world_of}
@@ -30,4 +33,4 @@ returns-clause-step g c =
     let answers = subst (λ (w : Work). Answers object_or_null done.result (now done.new.work) (call world c.args.entity.now c.args.key.now w)) c.take_work.ensures.work done.ensures.answers in
     worked_step world M (machine_of c.conclude.new.session) m c.args.em object_or_null (call world c.args.entity.now c.args.key.now) (Call.Find c.args.em c.args.entity.now c.args.key.now) done.result (now done.new.work) c.conclude.result
     (of_manager s (λ k. concluded marks M k object_or_null (call world c.args.entity.now c.args.key.now (work_of M k))) c.args.em m named c.in-Some.ensures.within) answers
-    (c.conclude.ensures.concludes M working (done.ensures.view ∙ c.take_work.ensures.view)) refl refl
+    (c.conclude.ensures.concludes M working (ap (λ (v : Changes (Identity × Stored)). v.now) (done.ensures.view ∙ c.take_work.ensures.view))) refl refl

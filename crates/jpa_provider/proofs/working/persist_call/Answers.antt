@@ -1,4 +1,7 @@
 use Rattle.std.proofs.Common.{◌≡◌, length, refl, ap, sym, subst, ◌∙◌}
+use Rattle.jpa_value.specs.declared.value.Identity.{Identity}
+use Rattle.jpa_undo.specs.Undo.{Changes}
+use Rattle.jpa_stored.specs.declared.stored.Stored.{Stored}
 use Rattle.std.specs.Prelude.{Some}
 use Rattle.std.proofs.Math.Facts.{to_z-of_z}
 use Rattle.jpa_behaviour.specs.Registered.{world_of}
@@ -31,4 +34,4 @@ returns-clause-step g c =
     (subst (λ z. Answers nothing done.result (now done.new.work) (call world z (now c.take_work.new.session.work))) (to_z-of_z c.ranges.object) done.ensures.answers) in
     worked_step world M (machine_of c.conclude.new.session) m c.args.em nothing (call world c.args.object) (Call.Persist c.args.em c.args.object) done.result (now done.new.work) c.conclude.result
     (of_manager s (λ k. concluded marks M k nothing (call world c.args.object (work_of M k))) c.args.em m named c.in-Some.ensures.within) answers
-    (c.conclude.ensures.concludes M working (done.ensures.view ∙ c.take_work.ensures.view)) refl refl
+    (c.conclude.ensures.concludes M working (ap (λ (v : Changes (Identity × Stored)). v.now) (done.ensures.view ∙ c.take_work.ensures.view))) refl refl

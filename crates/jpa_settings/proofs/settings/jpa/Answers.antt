@@ -1,6 +1,6 @@
 use Rattle.std.proofs.Common.{rules, ◌≡◌, ◌∙◌, ap₂, codes}
 use Rattle.clap.specs.Words.{app_of, rule_of, with_rule}
-use Rattle.jpa_settings.specs.Words.{command, option_rule, plain}
+use Rattle.jpa_settings.specs.Words.{option_rule, plain}
 use Rattle.jpa_settings.proofs.settings.jpa.Goals as goal
 
 -- src/settings.rt:25:1

@@ -1,5 +1,5 @@
-use Rattle.std.specs.Prelude.{◌≡◌, Option, Some, T, All}
-use Rattle.std.proofs.Common.{sym, ap, subst, ◌∙◌, get_or}
+use Rattle.std.specs.Prelude.{◌≡◌, ◌⊎◌, ◌+◌, ◌≤◌, Option, Some, T, All, length}
+use Rattle.std.proofs.Common.{sym, ap, subst, ◌∙◌, get_or, inl, inr, arith}
 use Rattle.std.proofs.lemmas.List.{take_all}
 use Rattle.std.proofs.lemmas.List.Elements.{All-push}
 use Rattle.std.specs.FinMap.{find, is_sorted}
@@ -10,8 +10,9 @@ use Rattle.jpa_row_laws.specs.Changes.{AreDifference}
 use Rattle.jpa_overlay.specs.Overlay.{Changes, rows_under}
 use Rattle.jpa_overlay.specs.Same.{same_row}
 use Rattle.jpa_overlay.proofs.Difference.{differing, turned_more, turned_same, stands, are_difference, same_seen}
+use Rattle.jpa_overlay.proofs.Statements.{one_more, within}
 use Rattle.jpa_overlay.proofs.overlay.Overlay.changes.Goals as goal
-use Rattle.jpa_overlay.proofs.overlay.Overlay.changes.Goals.{then-not-is_same+in_ok-try_copy+in_ok-copied+in_ok-push, else-not-is_same}
+use Rattle.jpa_overlay.proofs.overlay.Overlay.changes.Goals.{then-not-is_same+in_ok-try_copy+in_ok-copy_row+in_ok-push, else-not-is_same}
 
 pub loop-entry-preserved : goal.loop-entry-preserved
 loop-entry-preserved g c =
@@ -28,24 +29,28 @@ loop-entry-preserved g c =
       schema = c.get-in-loop-entry.ensures.schema ∙ c.loop-entry.invariant.schema;
       told = c.in_ok-there.ensures.told ∙ c.loop-entry.invariant.told;
       was_clean = λ clean. c.loop-entry.invariant.was_clean (c.get-in-loop-entry.ensures.was_clean clean);
+      read = one_more c.loop-entry.entry-index _ _ _ c.loop-entry.invariant.read c.get-in-loop-entry.ensures.read;
+      unwritten = c.get-in-loop-entry.ensures.unwritten ∙ c.loop-entry.invariant.unwritten;
+      crash = g.R.RowSource.wider c.args.source.now c.get-in-loop-entry.new.self (λ _. ⊥ ⊎ ⊥) (λ _. ⊥) (λ rows none. elim none [ inl x ↦ x | inr x ↦ x ])
+          (g.R.RowSource.then c.args.source.now c.loop-entry.source c.get-in-loop-entry.new.self (λ _. ⊥) (λ _. ⊥) c.loop-entry.invariant.schema c.loop-entry.invariant.crash c.get-in-loop-entry.ensures.crash);
       real = λ clean rows holds.
           let so_far = c.loop-entry.invariant.real (c.get-in-loop-entry.ensures.was_clean clean) rows holds in
           let below = c.in_ok-there.ensures.ok clean rows (c.loop-entry.invariant.kept rows holds) in
           let test : c.is_same.result ≡ same_row entry.1 (find identity_cmp entry.0 rows) =
           c.is_same.ensures ∙ ap (same_row c.get.result.now.1) below ∙ ap (λ (z : RowId × Option Row). same_row z.1 (find identity_cmp z.0 rows)) e_is in
           elim c.if-not-is_same.branch [
-            | then-not-is_same+in_ok-try_copy+in_ok-copied+in_ok-push w ↦
-                let change : RowChange = record { id = w.in_ok-try_copy.field-0; row = w.in_ok-copied.field-0 } in
-                let change_is : entry_of change ≡ entry = (λ j. (w.in_ok-try_copy.ensures.equal j, w.in_ok-copied.ensures.equal j)) ∙ e_is in
+            | then-not-is_same+in_ok-try_copy+in_ok-copy_row+in_ok-push w ↦
+                let change : RowChange = record { id = w.in_ok-try_copy.field-0; row = w.in_ok-copy_row.field-0 } in
+                let change_is : entry_of change ≡ entry = (λ j. (w.in_ok-try_copy.ensures.equal j, w.in_ok-copy_row.ensures.equal j)) ∙ e_is in
                 turned_more rows items i entry c.loop-entry-test.true c.entry-item.is c.loop-entry.changes _ c.is_same.result test so_far
                 w.if-not-is_same.true change change_is (w.changes-is ∙ w.in_ok-push.ensures.ok)
             | else-not-is_same w ↦ turned_same rows items i entry c.loop-entry-test.true c.entry-item.is c.loop-entry.changes _ c.is_same.result test so_far w.if-not-is_same.false w.changes-is
           ];
       among =
           elim c.if-not-is_same.branch [
-            | then-not-is_same+in_ok-try_copy+in_ok-copied+in_ok-push w ↦
-                let change : RowChange = record { id = w.in_ok-try_copy.field-0; row = w.in_ok-copied.field-0 } in
-                let change_is : entry_of change ≡ entry = (λ j. (w.in_ok-try_copy.ensures.equal j, w.in_ok-copied.ensures.equal j)) ∙ e_is in
+            | then-not-is_same+in_ok-try_copy+in_ok-copy_row+in_ok-push w ↦
+                let change : RowChange = record { id = w.in_ok-try_copy.field-0; row = w.in_ok-copy_row.field-0 } in
+                let change_is : entry_of change ≡ entry = (λ j. (w.in_ok-try_copy.ensures.equal j, w.in_ok-copy_row.ensures.equal j)) ∙ e_is in
                 let placed : get_or items i entry ≡ entry_of change = sym (change_is ∙ c.entry-item.is) in
                 let found = subst (λ cs. FoundIn cs (entry_of change)) cs_is (subst (FoundIn items) placed (stands items i entry sorted c.loop-entry-test.true)) in
                 subst (All Among) (sym (w.changes-is ∙ w.in_ok-push.ensures.ok)) (All-push Among c.loop-entry.changes change c.loop-entry.invariant.among found)
@@ -66,3 +71,65 @@ returns-clause-seen g c = λ clean rows rise holds.
     let sorted = subst (λ es. T (is_sorted identity_cmp es)) (sym c.as_slice-entry-items.ensures.value) c.self.invariant in
     let all = c.loop-entry.invariant.real clean rows holds ∙ ap (differing rows) (take_all c.loop-entry.entry-index items c.loop-entry-test.false) in
     ap (λ cs. rows_under cs rows) all ∙ same_seen rows items rise sorted ∙ ap (λ cs. rows_under cs rows) (c.as_slice-entry-items.ensures.value ∙ c.self.view_is)
+
+pub returns-in_err-there-clause-read : goal.returns-in_err-there-clause-read
+returns-in_err-there-clause-read g c =
+    let many : length c.as_slice-entry-items.result.now ≡ length c.args.self.now = ap length (c.as_slice-entry-items.ensures.value ∙ c.self.view_is) in
+    within (c.loop-entry.entry-index + 1) (length c.args.self.now) _ _ (omega (arith, many, c.loop-entry-test.true))
+    (one_more c.loop-entry.entry-index _ _ _ c.loop-entry.invariant.read c.get-in-loop-entry.ensures.read)
+
+pub returns-in_err-there-clause-unwritten : goal.returns-in_err-there-clause-unwritten
+returns-in_err-there-clause-unwritten g c = c.get-in-loop-entry.ensures.unwritten ∙ c.loop-entry.invariant.unwritten
+
+pub returns-in_err-there-clause-crash : goal.returns-in_err-there-clause-crash
+returns-in_err-there-clause-crash g c =
+    g.R.RowSource.wider c.args.source.now c.get-in-loop-entry.new.self (λ _. ⊥ ⊎ ⊥) (λ _. ⊥) (λ rows none. elim none [ inl x ↦ x | inr x ↦ x ])
+    (g.R.RowSource.then c.args.source.now c.loop-entry.source c.get-in-loop-entry.new.self (λ _. ⊥) (λ _. ⊥) c.loop-entry.invariant.schema c.loop-entry.invariant.crash c.get-in-loop-entry.ensures.crash)
+
+pub returns-in_err-try_copy-clause-read : goal.returns-in_err-try_copy-clause-read
+returns-in_err-try_copy-clause-read g c =
+    let many : length c.as_slice-entry-items.result.now ≡ length c.args.self.now = ap length (c.as_slice-entry-items.ensures.value ∙ c.self.view_is) in
+    within (c.loop-entry.entry-index + 1) (length c.args.self.now) _ _ (omega (arith, many, c.loop-entry-test.true))
+    (one_more c.loop-entry.entry-index _ _ _ c.loop-entry.invariant.read c.get-in-loop-entry.ensures.read)
+
+pub returns-in_err-try_copy-clause-unwritten : goal.returns-in_err-try_copy-clause-unwritten
+returns-in_err-try_copy-clause-unwritten g c = c.get-in-loop-entry.ensures.unwritten ∙ c.loop-entry.invariant.unwritten
+
+pub returns-in_err-try_copy-clause-crash : goal.returns-in_err-try_copy-clause-crash
+returns-in_err-try_copy-clause-crash g c =
+    g.R.RowSource.wider c.args.source.now c.get-in-loop-entry.new.self (λ _. ⊥ ⊎ ⊥) (λ _. ⊥) (λ rows none. elim none [ inl x ↦ x | inr x ↦ x ])
+    (g.R.RowSource.then c.args.source.now c.loop-entry.source c.get-in-loop-entry.new.self (λ _. ⊥) (λ _. ⊥) c.loop-entry.invariant.schema c.loop-entry.invariant.crash c.get-in-loop-entry.ensures.crash)
+
+pub returns-in_err-copy_row-clause-read : goal.returns-in_err-copy_row-clause-read
+returns-in_err-copy_row-clause-read g c =
+    let many : length c.as_slice-entry-items.result.now ≡ length c.args.self.now = ap length (c.as_slice-entry-items.ensures.value ∙ c.self.view_is) in
+    within (c.loop-entry.entry-index + 1) (length c.args.self.now) _ _ (omega (arith, many, c.loop-entry-test.true))
+    (one_more c.loop-entry.entry-index _ _ _ c.loop-entry.invariant.read c.get-in-loop-entry.ensures.read)
+
+pub returns-in_err-copy_row-clause-unwritten : goal.returns-in_err-copy_row-clause-unwritten
+returns-in_err-copy_row-clause-unwritten g c = c.get-in-loop-entry.ensures.unwritten ∙ c.loop-entry.invariant.unwritten
+
+pub returns-in_err-copy_row-clause-crash : goal.returns-in_err-copy_row-clause-crash
+returns-in_err-copy_row-clause-crash g c =
+    g.R.RowSource.wider c.args.source.now c.get-in-loop-entry.new.self (λ _. ⊥ ⊎ ⊥) (λ _. ⊥) (λ rows none. elim none [ inl x ↦ x | inr x ↦ x ])
+    (g.R.RowSource.then c.args.source.now c.loop-entry.source c.get-in-loop-entry.new.self (λ _. ⊥) (λ _. ⊥) c.loop-entry.invariant.schema c.loop-entry.invariant.crash c.get-in-loop-entry.ensures.crash)
+
+pub returns-in_err-push-clause-read : goal.returns-in_err-push-clause-read
+returns-in_err-push-clause-read g c =
+    let many : length c.as_slice-entry-items.result.now ≡ length c.args.self.now = ap length (c.as_slice-entry-items.ensures.value ∙ c.self.view_is) in
+    within (c.loop-entry.entry-index + 1) (length c.args.self.now) _ _ (omega (arith, many, c.loop-entry-test.true))
+    (one_more c.loop-entry.entry-index _ _ _ c.loop-entry.invariant.read c.get-in-loop-entry.ensures.read)
+
+pub returns-in_err-push-clause-unwritten : goal.returns-in_err-push-clause-unwritten
+returns-in_err-push-clause-unwritten g c = c.get-in-loop-entry.ensures.unwritten ∙ c.loop-entry.invariant.unwritten
+
+pub returns-in_err-push-clause-crash : goal.returns-in_err-push-clause-crash
+returns-in_err-push-clause-crash g c =
+    g.R.RowSource.wider c.args.source.now c.get-in-loop-entry.new.self (λ _. ⊥ ⊎ ⊥) (λ _. ⊥) (λ rows none. elim none [ inl x ↦ x | inr x ↦ x ])
+    (g.R.RowSource.then c.args.source.now c.loop-entry.source c.get-in-loop-entry.new.self (λ _. ⊥) (λ _. ⊥) c.loop-entry.invariant.schema c.loop-entry.invariant.crash c.get-in-loop-entry.ensures.crash)
+
+pub returns-clause-read : goal.returns-clause-read
+returns-clause-read g c =
+    let many : length c.as_slice-entry-items.result.now ≡ length c.args.self.now = ap length (c.as_slice-entry-items.ensures.value ∙ c.self.view_is) in
+    let ended = c.loop-entry.auto.entry-index-end in
+    within c.loop-entry.entry-index (length c.args.self.now) _ _ (omega (arith, many, ended)) c.loop-entry.invariant.read

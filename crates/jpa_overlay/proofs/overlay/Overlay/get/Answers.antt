@@ -16,7 +16,7 @@ returns-in-Ok-clause-ok g c = λ clean.
     let at = c.in-Ok.at in
     let entry = c.index.result.now in
     let there = ap (λ e. Some e.1) (c.get.ensures ∙ c.index.ensures ∙ ap (λ es. get_or es at entry) c.self.view_is) in
-    got_changed c.copied.result cs id c.get.result.now.1 (g.R.RowSource.holds c.args.source.now) (find_at identity_total cs id at entry sorted c.in-Ok.ensures.found ∙ sym there) c.copied.ensures.equal
+    got_changed c.copy_row.result cs id c.get.result.now.1 (g.R.RowSource.holds c.args.source.now) (find_at identity_total cs id at entry sorted c.in-Ok.ensures.found ∙ sym there) c.copy_row.ensures.equal
 
 pub returns-in-Err-clause-ok : goal.returns-in-Err-clause-ok
 returns-in-Err-clause-ok g c = λ clean.
@@ -35,7 +35,7 @@ returns-in-Ok-clause-changed g c = λ some.
     let at = c.in-Ok.at in
     let entry = c.index.result.now in
     let there = ap (λ e. Some e.1) (c.get.ensures ∙ c.index.ensures ∙ ap (λ es. get_or es at entry) c.self.view_is) in
-    got_change c.copied.result cs id c.get.result.now.1 (find_at identity_total cs id at entry sorted c.in-Ok.ensures.found ∙ sym there) c.copied.ensures.equal
+    got_change c.copy_row.result cs id c.get.result.now.1 (find_at identity_total cs id at entry sorted c.in-Ok.ensures.found ∙ sym there) c.copy_row.ensures.equal
 
 pub returns-in-Err-clause-changed : goal.returns-in-Err-clause-changed
 returns-in-Err-clause-changed g c = λ some. absurd (false≢true (subst IsSome (find_gap identity_total c.args.self.now c.args.id.now c.in-Err.field-0 c.in-Err.ensures.absent) some))

@@ -5,7 +5,8 @@ use Rattle.std.proofs.lemmas.List.Sorted.{IsPartitionedBy-ltb, IsPartitionedBy-l
 use Rattle.std.specs.FinMap.Entries.{is_sorted, where_key}
 use Rattle.jpa_value.specs.Value.{identity_cmp}
 use Rattle.jpa_stored.proofs.Found.{computes}
-use Rattle.jpa_overlay.proofs.Splits.{front_rises, rest_rises}
+use Rattle.jpa_rows.proofs.Splits.{rest_rises}
+use Rattle.jpa_overlay.proofs.Splits.{front_rises}
 use Rattle.jpa_overlay.proofs.Merged.{within_table, tables_rise, is_before_table, is_up_to_table}
 use Rattle.jpa_overlay.proofs.overlay.Overlay.of_table.Goals as goal
 

@@ -1,0 +1,6 @@
+use Rattle.jpa_cascade.proofs.Waves.{waves_reach}
+use Rattle.jpa_cascade.proofs.Cascades.{cascades_reach}
+use Rattle.jpa_cascade.proofs.laws.cascade_laws.Goals as goal
+
+pub returns : goal.returns
+returns c = record { cascades = cascades_reach; waves = waves_reach }
