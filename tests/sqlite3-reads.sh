@@ -1,5 +1,5 @@
 #!/usr/bin/env bash
-# sqlite3's own shell reads a file that the store of cells wrote, and finds the cells that were written.
+# sqlite3's own shell reads a file that the program wrote, and finds the cells of the first example.
 set -u
 if ! command -v sqlite3 >/dev/null 2>&1; then
     echo "sqlite3 is not on this machine, so no other program reads the store's file"
@@ -8,15 +8,13 @@ fi
 folder=$(mktemp -d) || exit 1
 trap 'rm -rf "$folder"' EXIT
 store=$folder/store.db
-cd "$(dirname "$0")/../crates/cells_bench" || exit 1
-if ! rt try -- "$store" 2 1 >"$folder/log" 2>&1; then
+cd "$(dirname "$0")/.." || exit 1
+if ! ./jpa --db "$store" <crates/jpa/stdin >"$folder/replies" 2>"$folder/log"; then
     cat "$folder/log"
     exit 1
 fi
 cat >"$folder/expected" <<'CELLS'
-1, 018000000000000000, 0, 02506572736f6e
-1, 018000000000000000, 1, 018000000000000000
-1, 018000000000000000, 2, 02416461
+0, 018000000000000001, 0, 018000000000000002
 1, 018000000000000001, 0, 02506572736f6e
 1, 018000000000000001, 1, 018000000000000000
 1, 018000000000000001, 2, 02416461
@@ -26,4 +24,4 @@ if [ "$(sqlite3 "$store" 'PRAGMA integrity_check')" != ok ]; then
     exit 1
 fi
 sqlite3 "$store" "SELECT t || ', ' || lower(hex(r)) || ', ' || c || ', ' || lower(hex(v)) FROM cell ORDER BY t, r, c" >"$folder/found"
-diff "$folder/expected" "$folder/found" && echo "sqlite3 reads the cells that were written"
+diff crates/jpa/stdout "$folder/replies" && diff "$folder/expected" "$folder/found" && echo "sqlite3 reads the cells that the program wrote"

@@ -1,7 +1,5 @@
 pub mod Apart
-pub mod Counts
 mod Examples
-pub mod Items
 pub mod Names
 pub mod Proven
 pub mod Sorted

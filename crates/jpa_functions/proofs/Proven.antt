@@ -2,10 +2,10 @@
 use Rattle.std.proofs.Common.{◌≡◌, ℕ, Bool, true, false, List, Option, Some, None, refl, sym, ap, subst, T}
 use Rattle.std.proofs.Math.Bool.{Bool-set}
 use Rattle.std.specs.Str.{is_utf8}
+use Rattle.jpa_json.specs.Outcome.{◌>>=◌, proof_of}
 use Rattle.jpa_functions.specs.declared.make.Pair.{Pair}
 use Rattle.jpa_functions.specs.Pairs.{are_apart}
 use Rattle.jpa_functions.specs.FunctionsOf.{text_for, table_with}
-use Rattle.jpa_functions.specs.Outcome.{◌>>=◌, proof_of}
 
 -- there is one proof alone
 proof_is : (b : Bool) (p : b ≡ true) → proof_of b ≡ Some p

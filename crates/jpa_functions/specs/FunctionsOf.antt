@@ -1,12 +1,13 @@
 -- Which functions JSON data describes: each object has its name, its make, and the members of the make and no others.
-use Rattle.std.specs.Prelude.{ℕ, ℤ, ◌==◌, List, [], ◌∷◌, codes, bytes_eq, if◌then◌else◌, Option, Some, None, Result, Ok, Err}
+use Rattle.std.specs.Prelude.{ℕ, ℤ, ◌==◌, List, [], codes, bytes_eq, if◌then◌else◌, Option, Some, None, Result, Ok, Err}
 use Rattle.std.specs.Str.{is_utf8}
 use Rattle.hex.specs.Hex.{decode_of}
 use Rattle.hex.specs.declared.error.FromHexError.{FromHexError}
 use Rattle.jpa_value.specs.declared.value.Value.{Value}
 use Rattle.serde_json.specs.Data.{Data, null, boolean, number, string, array, object, Items, no_items, item}
-use Rattle.serde_json.specs.Events.{members_len}
-use Rattle.serde_json.specs.Find.{get, as_str, as_array, as_i64}
+use Rattle.serde_json.specs.Find.{get, as_array, as_i64}
+use Rattle.jpa_json.specs.Members.{count_of, text_at, list_of}
+use Rattle.jpa_json.specs.Outcome.{◌>>=◌, guard, proof_of}
 use Rattle.jpa_functions.specs.declared.make.Function.{Function}
 use Rattle.jpa_functions.specs.declared.make.Make.{Make}
 use Rattle.jpa_functions.specs.declared.make.Listener.{Listener}
@@ -16,30 +17,6 @@ use Rattle.jpa_functions.specs.declared.make.SetText.{SetText}
 use Rattle.jpa_functions.specs.declared.make.Table.{Table}
 use Rattle.jpa_functions.specs.Pairs.{are_apart}
 use Rattle.jpa_functions.specs.Sorts.{are_named_once}
-use Rattle.jpa_functions.specs.Outcome.{◌>>=◌, guard, proof_of}
-
--- how many members an object has
-abbrev pub count_of : Data → ℕ
-count_of null = 0
-count_of (boolean b) = 0
-count_of (number n) = 0
-count_of (string s) = 0
-count_of (array ds) = 0
-count_of (object ms) = members_len ms
-
-abbrev pub text_at : List ℕ → Data → Option (List ℕ)
-text_at name d = get name d >>= as_str
-
--- the meaning of each item
-abbrev pub each : {A : Type 0} → (Data → Option A) → Items → Option (List A)
-each meaning no_items = Some []
-each meaning (item d ds) = do
-  x ← meaning d
-  xs ← each meaning ds
-  Some (x ∷ xs)
-
-abbrev pub list_of : {A : Type 0} → (Data → Option A) → Data → Option (List A)
-list_of meaning d = as_array d >>= each meaning
 
 -- ---- values: an integer of 64 bits, a text, or an object of the one member `hex` with digits of either case
 

@@ -3,7 +3,6 @@ pub mod Pairs
 pub mod Functions
 pub mod Laws
 pub mod Sorts
-pub mod Outcome
 pub mod FunctionsOf
 pub mod FunctionsIn
 pub mod Known

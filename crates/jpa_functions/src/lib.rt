@@ -30,7 +30,6 @@ mod hearing;
 mod known;
 mod make;
 mod makes;
-mod members;
 mod reading;
 mod registering;
 mod values;

@@ -1,18 +1,21 @@
 //! Reading functions, each by its make.
 ghost use Rattle.serde_json.specs.View.{view};
+ghost use Rattle.jpa_json.specs.Outcome.{Gives, same};
 ghost use Rattle.jpa_functions.specs.FunctionsOf as spec;
-ghost use Rattle.jpa_functions.specs.Outcome.{Gives, same};
 
 use crate::distinct::none_meets;
 use crate::make::{Converter, Function, Listener, Make, Pair, SetText, Table};
-use crate::members::{Described, list_of, member, only, other_form, str_at, text_at};
-use jpa_value::{Cause, Seq, Text};
+use jpa_json::{Described, Unread, member, only, str_at, text_at};
+use jpa_value::{Seq, Text};
 use serde_json::Value as Json;
 use std::alloc::Global;
 
+/// The language of a mapping's functions: what they are read as is `Described<Functions>`.
+pub(crate) struct Functions;
+
 /// An attribute with the text that it is given.
 #[tactic(auto, unfolding(crate::specs::FunctionsOf::text_for))]
-fn text_for(alloc: Global, attribute: Text, value: &str) -> Result<SetText, Cause>
+fn text_for(alloc: Global, attribute: Text, value: &str) -> Result<SetText, Unread>
     ensures { Gives same result (spec.text_for attribute value.now) }
 {
     let value = Text::of(alloc, value)?;
@@ -20,7 +23,7 @@ fn text_for(alloc: Global, attribute: Text, value: &str) -> Result<SetText, Caus
 }
 
 #[tactic(auto, unfolding(crate::specs::FunctionsOf::set_text_of))]
-fn set_text_of(alloc: Global, json: &Json) -> Result<Listener, Cause>
+fn set_text_of(alloc: Global, json: &Json) -> Result<Listener, Unread>
     ensures { Gives same result (spec.set_text_of (view json.now)) }
 {
     only(json, 4)?;
@@ -31,7 +34,7 @@ fn set_text_of(alloc: Global, json: &Json) -> Result<Listener, Cause>
 }
 
 #[tactic(auto, unfolding(crate::specs::FunctionsOf::copy_of))]
-fn copy_of(alloc: Global, json: &Json) -> Result<Listener, Cause>
+fn copy_of(alloc: Global, json: &Json) -> Result<Listener, Unread>
     ensures { Gives same result (spec.copy_of (view json.now)) }
 {
     only(json, 4)?;
@@ -41,7 +44,7 @@ fn copy_of(alloc: Global, json: &Json) -> Result<Listener, Cause>
 }
 
 #[tactic(auto, unfolding(crate::specs::FunctionsOf::count_listener_of))]
-fn count_listener_of(alloc: Global, json: &Json) -> Result<Listener, Cause>
+fn count_listener_of(alloc: Global, json: &Json) -> Result<Listener, Unread>
     ensures { Gives same result (spec.count_listener_of (view json.now)) }
 {
     only(json, 3)?;
@@ -50,7 +53,7 @@ fn count_listener_of(alloc: Global, json: &Json) -> Result<Listener, Cause>
 }
 
 #[tactic(auto, unfolding(crate::specs::FunctionsOf::require_of))]
-fn require_of(alloc: Global, json: &Json) -> Result<Listener, Cause>
+fn require_of(alloc: Global, json: &Json) -> Result<Listener, Unread>
     ensures { Gives same result (spec.require_of (view json.now)) }
 {
     only(json, 3)?;
@@ -60,28 +63,28 @@ fn require_of(alloc: Global, json: &Json) -> Result<Listener, Cause>
 
 /// A table of these pairs, where no side stands twice.
 #[tactic(auto, unfolding(crate::specs::FunctionsOf::table_with))]
-fn table_with(pairs: Seq<Pair>) -> Result<Table, Cause>
+fn table_with(pairs: Seq<Pair>) -> Result<Table, Unread>
     ensures { Gives same result (spec.table_with pairs) }
 {
     if none_meets(pairs.as_slice()) {
         Ok(Table { pairs })
     } else {
-        Err(other_form())
+        Err(Unread::Form)
     }
 }
 
 #[tactic(auto, unfolding(crate::specs::FunctionsOf::table_of))]
-fn table_of(alloc: Global, json: &Json) -> Result<Converter, Cause>
+fn table_of(alloc: Global, json: &Json) -> Result<Converter, Unread>
     ensures { Gives same result (spec.table_of (view json.now)) }
 {
     only(json, 3)?;
-    let pairs = list_of(alloc, member(json, "pairs")?)?;
+    let pairs = <Seq<Pair> as Described<Functions>>::read(alloc, member(json, "pairs")?)?;
     let table = table_with(pairs)?;
     Ok(Converter::Table(table))
 }
 
 /// A make that has no members of its own.
-fn bare(make: Make, json: &Json) -> Result<Make, Cause>
+fn bare(make: Make, json: &Json) -> Result<Make, Unread>
     ensures { Gives same result (spec.bare make (view json.now)) }
 {
     only(json, 2)?;
@@ -89,7 +92,7 @@ fn bare(make: Make, json: &Json) -> Result<Make, Cause>
 }
 
 /// What a function of this make says.
-fn made_of(alloc: Global, word: &str, json: &Json) -> Result<Make, Cause>
+fn made_of(alloc: Global, word: &str, json: &Json) -> Result<Make, Unread>
     ensures { Gives same result (spec.made_of word.now (view json.now)) }
 {
     match word {
@@ -101,15 +104,15 @@ fn made_of(alloc: Global, word: &str, json: &Json) -> Result<Make, Cause>
         "flip" => bare(Make::Converter(Converter::Flip), json),
         "table" => Ok(Make::Converter(table_of(alloc, json)?)),
         "hextext" => bare(Make::Converter(Converter::Hextext), json),
-        _ => Err(other_form()),
+        _ => Err(Unread::Form),
     }
 }
 
-impl Described for Function {
+impl Described<Functions> for Function {
     ghost meaning = { spec.function_of };
 
     #[tactic(auto, unfolding(crate::specs::FunctionsOf::function_of))]
-    fn read(alloc: Global, json: &Json) -> Result<Function, Cause> {
+    fn read(alloc: Global, json: &Json) -> Result<Function, Unread> {
         let name = text_at(alloc, json, "name")?;
         let word = str_at(json, "make")?;
         let make = made_of(alloc, word, json)?;

@@ -1,17 +1,17 @@
 //! From the bytes of a mapping to its functions.
 ghost use Rattle.std.specs.Prelude.{◌≡◌, true, codes, IfOk};
-ghost use Rattle.std.specs.Result.{result_map_both};
 ghost use Rattle.serde_json.specs.Find.{get};
 ghost use Rattle.serde_json.specs.View.{view};
 ghost use Rattle.jpa_model.specs.Described.{IsUnlessMemory};
+ghost use Rattle.jpa_json.specs.Outcome.{Gives, same};
 ghost use Rattle.jpa_functions.specs.FunctionsIn as spec;
 ghost use Rattle.jpa_functions.specs.FunctionsOf as said;
-ghost use Rattle.jpa_functions.specs.Outcome.{Gives, same};
 ghost use Rattle.jpa_functions.specs.Sorts.{are_named_once};
 
 use crate::distinct::none_meets;
 use crate::make::Function;
-use crate::members::{list_of, other_form};
+use crate::makes::Functions;
+use jpa_json::{Described, Unread, json_of, or_refuse};
 use jpa_value::{Cause, MappingFault, Seq};
 use serde_json::Value as Json;
 use std::alloc::Global;
@@ -29,27 +29,8 @@ pub fn read_functions(alloc: Global, bytes: &[u8]) -> Result<Seq<Function>, Caus
     ensures functions { IsUnlessMemory result (spec.functions_in bytes.now) }
     ensures once { IfOk result (λ functions. are_named_once functions ≡ true) }
 {
-    let json = json_of(alloc, bytes)?;
+    let json = or_refuse(json_of(alloc, bytes), Cause::Mapping(MappingFault::Json))?;
     functions_at(alloc, &json)
-}
-
-/// What the bytes say as JSON.
-fn json_of(alloc: Global, bytes: &[u8]) -> Result<Json, Cause>
-    ensures { IsUnlessMemory (result_map_both view same result) (spec.json_of bytes.now) }
-{
-    let Ok(text) = str::from_utf8(bytes) else {
-        return Err(Cause::Mapping(MappingFault::Json));
-    };
-    match Json::from_str(alloc, text) {
-        Ok(json) => Ok(json),
-        Err(error) => {
-            if error.is_memory() {
-                Err(Cause::OutOfMemory)
-            } else {
-                Err(Cause::Mapping(MappingFault::Json))
-            }
-        }
-    }
 }
 
 /// The functions of a mapping, which is an object.
@@ -58,12 +39,15 @@ fn functions_at(alloc: Global, json: &Json) -> Result<Seq<Function>, Cause>
     ensures { IsUnlessMemory result (spec.functions_at (view json.now)) }
 {
     match json {
-        Json::Object(_) => functions_if_there(alloc, json),
+        Json::Object(_) => or_refuse(
+            functions_if_there(alloc, json),
+            Cause::Mapping(MappingFault::Function),
+        ),
         _ => Err(Cause::Mapping(MappingFault::Shape)),
     }
 }
 
-fn functions_if_there(alloc: Global, json: &Json) -> Result<Seq<Function>, Cause>
+fn functions_if_there(alloc: Global, json: &Json) -> Result<Seq<Function>, Unread>
     ensures { Gives same result (said.functions_if_there (get (codes "functions") (view json.now))) }
 {
     match json.get("functions") {
@@ -73,13 +57,13 @@ fn functions_if_there(alloc: Global, json: &Json) -> Result<Seq<Function>, Cause
 }
 
 #[tactic(auto, unfolding(crate::specs::FunctionsOf::functions_of))]
-fn functions_of(alloc: Global, json: &Json) -> Result<Seq<Function>, Cause>
+fn functions_of(alloc: Global, json: &Json) -> Result<Seq<Function>, Unread>
     ensures { Gives same result (said.functions_of (view json.now)) }
 {
-    let functions: Seq<Function> = list_of(alloc, json)?;
+    let functions = <Seq<Function> as Described<Functions>>::read(alloc, json)?;
     if none_meets(functions.as_slice()) {
         Ok(functions)
     } else {
-        Err(other_form())
+        Err(Unread::Form)
     }
 }

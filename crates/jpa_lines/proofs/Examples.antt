@@ -13,7 +13,8 @@ use Rattle.jpa_protocol.specs.declared.call.Given.{Given}
 use Rattle.jpa_value.specs.declared.event.LifecycleEvent.{LifecycleEvent}
 use Rattle.jpa_protocol.specs.declared.reply.Answer.{Answer}
 use Rattle.jpa_protocol.specs.declared.reply.Item.{Item}
-use Rattle.jpa_lines.specs.CallOf.{meaning, text_call, call_of, create_of, new_of, set_of, get_of, em_of, persist_of, find_of, given_of, marked_of, key_of, hex_of}
+use Rattle.jpa_json.specs.JsonOf.{text_data}
+use Rattle.jpa_lines.specs.CallOf.{meaning, text_call, call_of, create_of, new_of, set_of, get_of, em_of, persist_of, find_of, given_of, marked_of, hex_of}
 use Rattle.jpa_lines.specs.ReplyText.{reply_text}
 use Rattle.jpa_lines.specs.Run.{lines_of}
 
@@ -29,84 +30,84 @@ no_lines = refl
 -- ---- what they mean
 
 creates : meaning (codes "{\"call\":\"createEntityManager\"}") ≡ Ok Call.CreateEntityManager
-unfolding is_utf8 chars meaning text_call call_of create_of serde_json_on_literals
+unfolding is_utf8 chars meaning text_call text_data call_of create_of serde_json_on_literals
 creates = refl
 
 makes : meaning (codes "{\"call\":\"new\",\"entity\":\"Person\"}") ≡ Ok (Call.NewObject (codes "Person"))
-unfolding is_utf8 chars meaning text_call call_of new_of serde_json_on_literals
+unfolding is_utf8 chars meaning text_call text_data call_of new_of serde_json_on_literals
 makes = refl
 
 gives_text : meaning (codes "{\"call\":\"set\",\"object\":1,\"name\":\"name\",\"value\":\"Ada\"}") ≡ Ok (Call.SetValue (pos 1) (codes "name") (Given.Plain (Value.Text (codes "Ada"))))
-unfolding is_utf8 chars meaning text_call call_of set_of given_of serde_json_on_literals
+unfolding is_utf8 chars meaning text_call text_data call_of set_of given_of serde_json_on_literals
 gives_text = refl
 
 gives_bytes : meaning (codes "{\"call\":\"set\",\"object\":1,\"name\":\"name\",\"value\":{\"hex\":\"0aFF\"}}") ≡ Ok (Call.SetValue (pos 1) (codes "name") (Given.Plain (Value.Bytes (10 ∷ 255 ∷ []))))
-unfolding is_utf8 chars meaning text_call call_of set_of given_of marked_of hex_of decode_pairs serde_json_on_literals
+unfolding is_utf8 chars meaning text_call text_data call_of set_of given_of marked_of hex_of decode_pairs serde_json_on_literals
 gives_bytes = refl
 
 -- members in any order
 gives_object : meaning (codes "{\"value\":{\"object\":-2},\"call\":\"set\",\"name\":\"a\",\"object\":1}") ≡ Ok (Call.SetValue (pos 1) (codes "a") (Given.Object (negsuc 1)))
-unfolding is_utf8 chars meaning text_call call_of set_of given_of marked_of serde_json_on_literals
+unfolding is_utf8 chars meaning text_call text_data call_of set_of given_of marked_of serde_json_on_literals
 gives_object = refl
 
 gets : meaning (codes "{\"call\":\"get\",\"object\":1,\"name\":\"x\"}") ≡ Ok (Call.Get (pos 1) (codes "x"))
-unfolding is_utf8 chars meaning text_call call_of get_of serde_json_on_literals
+unfolding is_utf8 chars meaning text_call text_data call_of get_of serde_json_on_literals
 gets = refl
 
 begins : meaning (codes "{\"call\":\"begin\",\"em\":1}") ≡ Ok (Call.Begin (pos 1))
-unfolding is_utf8 chars meaning text_call call_of em_of serde_json_on_literals
+unfolding is_utf8 chars meaning text_call text_data call_of em_of serde_json_on_literals
 begins = refl
 
 persists : meaning (codes "{\"call\":\"persist\",\"em\":1,\"object\":1}") ≡ Ok (Call.Persist (pos 1) (pos 1))
-unfolding is_utf8 chars meaning text_call call_of persist_of serde_json_on_literals
+unfolding is_utf8 chars meaning text_call text_data call_of persist_of serde_json_on_literals
 persists = refl
 
 commits : meaning (codes " {\"call\":\"commit\",\"em\":1}\t") ≡ Ok (Call.Commit (pos 1))
-unfolding is_utf8 chars meaning text_call call_of em_of serde_json_on_literals
+unfolding is_utf8 chars meaning text_call text_data call_of em_of serde_json_on_literals
 commits = refl
 
 rolls_back : meaning (codes "{\"call\":\"rollback\",\"em\":1}") ≡ Ok (Call.Rollback (pos 1))
-unfolding is_utf8 chars meaning text_call call_of em_of serde_json_on_literals
+unfolding is_utf8 chars meaning text_call text_data call_of em_of serde_json_on_literals
 rolls_back = refl
 
 only_rolls_back : meaning (codes "{\"call\":\"setRollbackOnly\",\"em\":1}") ≡ Ok (Call.SetRollbackOnly (pos 1))
-unfolding is_utf8 chars meaning text_call call_of em_of serde_json_on_literals
+unfolding is_utf8 chars meaning text_call text_data call_of em_of serde_json_on_literals
 only_rolls_back = refl
 
 finds : meaning (codes "{\"call\":\"find\",\"em\":1,\"entity\":\"Person\",\"key\":[1,null]}") ≡ Ok (Call.Find (pos 1) (codes "Person") (Given.Plain (Value.Int (pos 1)) ∷ Given.Plain Value.Null ∷ []))
-unfolding is_utf8 chars meaning text_call call_of find_of key_of given_of serde_json_on_literals
+unfolding is_utf8 chars meaning text_call text_data call_of find_of given_of serde_json_on_literals
 finds = refl
 
 cut_short : meaning (codes "{\"call\":\"find\"") ≡ Err Cause.BadLine
-unfolding is_utf8 chars meaning text_call call_of serde_json_on_literals
+unfolding is_utf8 chars meaning text_call text_data call_of serde_json_on_literals
 cut_short = refl
 
 no_text : meaning (255 ∷ []) ≡ Err Cause.BadLine
-unfolding is_utf8 chars meaning text_call call_of serde_json_on_literals
+unfolding is_utf8 chars meaning text_call text_data call_of serde_json_on_literals
 no_text = refl
 
 no_call : meaning (codes "{\"call\":\"x\"}") ≡ Err Cause.BadLine
-unfolding is_utf8 chars meaning text_call call_of serde_json_on_literals
+unfolding is_utf8 chars meaning text_call text_data call_of serde_json_on_literals
 no_call = refl
 
 empty : meaning [] ≡ Err Cause.BadLine
-unfolding is_utf8 chars meaning text_call call_of serde_json_on_literals
+unfolding is_utf8 chars meaning text_call text_data call_of serde_json_on_literals
 empty = refl
 
 surplus : meaning (codes "{\"call\":\"begin\",\"em\":1,\"x\":1}") ≡ Err Cause.BadLine
-unfolding is_utf8 chars meaning text_call call_of em_of serde_json_on_literals
+unfolding is_utf8 chars meaning text_call text_data call_of em_of serde_json_on_literals
 surplus = refl
 
 nameless : meaning (codes "{\"call\":\"get\",\"object\":1}") ≡ Err Cause.BadLine
-unfolding is_utf8 chars meaning text_call call_of get_of serde_json_on_literals
+unfolding is_utf8 chars meaning text_call text_data call_of get_of serde_json_on_literals
 nameless = refl
 
 fraction : meaning (codes "{\"call\":\"begin\",\"em\":1.5}") ≡ Err Cause.BadLine
-unfolding is_utf8 chars meaning text_call call_of em_of serde_json_on_literals
+unfolding is_utf8 chars meaning text_call text_data call_of em_of serde_json_on_literals
 fraction = refl
 
 beyond : meaning (codes "{\"call\":\"begin\",\"em\":9223372036854775808}") ≡ Err Cause.BadLine
-unfolding is_utf8 chars meaning text_call call_of em_of serde_json_on_literals
+unfolding is_utf8 chars meaning text_call text_data call_of em_of serde_json_on_literals
 beyond = refl
 
 -- ---- replies

@@ -1,6 +1,6 @@
 -- Which call a line means.
-use Rattle.std.specs.Prelude.{◌==◌, ℕ, ℤ, nat_lt, List, [], ◌∷◌, length, codes, if◌then◌else◌, Option, Some, None, Result, Ok, Err, bytes_eq}
-use Rattle.std.specs.Str.{is_utf8}
+use Rattle.std.specs.Prelude.{◌==◌, ℕ, ℤ, nat_lt, List, length, codes, if◌then◌else◌, Option, Some, None, Result, Ok, Err, bytes_eq}
+use Rattle.std.specs.Option.{ok_or}
 use Rattle.hex.specs.Hex.{decode_of}
 use Rattle.hex.specs.declared.error.FromHexError.{FromHexError}
 use Rattle.jpa_value.specs.declared.refusal.Cause.{Cause}
@@ -10,31 +10,16 @@ use Rattle.jpa_protocol.specs.declared.call.Call.{Call}
 use Rattle.jpa_protocol.specs.declared.call.Call.TheVariants.{CreateEntityManager, NewObject, SetValue, Get, Begin, Persist, Commit, Rollback, SetRollbackOnly, Find}
 use Rattle.jpa_protocol.specs.declared.call.Given.{Given}
 use Rattle.jpa_protocol.specs.declared.call.Given.TheVariants as given
-use Rattle.serde_json.specs.Data.{Data, null, boolean, number, string, array, object, Items, no_items, item}
-use Rattle.serde_json.specs.Events.{members_len}
-use Rattle.serde_json.specs.Find.{get, as_number, as_str, as_array, as_i64}
-use Rattle.serde_json.specs.Read.{read}
-use Rattle.jpa_lines.specs.Outcome.{◌>>=◌, guard}
+use Rattle.serde_json.specs.Data.{Data, null, boolean, number, string, array, object}
+use Rattle.serde_json.specs.Find.{get, as_str, as_i64}
+use Rattle.jpa_json.specs.JsonOf.{text_data}
+use Rattle.jpa_json.specs.Members.{count_of, integer_of, list_of, text_at}
+use Rattle.jpa_json.specs.Outcome.{◌>>=◌, guard}
 use Rattle.jpa_lines.specs.declared.reading.Word.{Word}
 use Rattle.jpa_lines.specs.declared.reading.Word.TheVariants as word
 
--- how many members an object has
-abbrev pub count_of : Data → ℕ
-count_of null = 0
-count_of (boolean b) = 0
-count_of (number n) = 0
-count_of (string s) = 0
-count_of (array ds) = 0
-count_of (object ms) = members_len ms
-
-abbrev pub integer_of : Data → Option ℤ
-integer_of d = as_number d >>= as_i64
-
 abbrev pub integer_at : List ℕ → Data → Option ℤ
 integer_at name d = get name d >>= integer_of
-
-abbrev pub text_at : List ℕ → Data → Option (List ℕ)
-text_at name d = get name d >>= as_str
 
 -- the bytes that hex digits of either case stand for
 abbrev pub decoded : Result (List ℕ) FromHexError → Option (List ℕ)
@@ -71,13 +56,6 @@ given_of (number n) = plain_integer (as_i64 n)
 given_of (string s) = Some (given.Plain (Text s))
 given_of (array ds) = None
 given_of (object ms) = marked_of (object ms)
-
-unfoldable pub key_of : Items → Option (List Given)
-key_of no_items = Some []
-key_of (item d ds) = do
-  x ← given_of d
-  xs ← key_of ds
-  Some (x ∷ xs)
 
 -- ---- the calls, each of exactly its members
 
@@ -133,8 +111,7 @@ find_of d = do
   em ← integer_at (codes "em") d
   entity ← text_at (codes "entity") d
   member ← get (codes "key") d
-  parts ← as_array member
-  key ← key_of parts
+  key ← list_of given_of member
   Some (Find em entity key)
 
 abbrev pub word_of : List ℕ → Option Word
@@ -173,8 +150,7 @@ call_of d = do
 -- the call that a text means, where it is one
 unfoldable pub text_call : List ℕ → Option Call
 text_call text = do
-  unicode ← guard (is_utf8 text)
-  d ← read text
+  d ← text_data text
   call_of d
 
 -- ---- lines
@@ -182,10 +158,6 @@ text_call text = do
 abbrev pub line_limit : ℕ
 line_limit = 1048576
 
-abbrev pub or_bad_line : Option Call → Result Call Cause
-or_bad_line (Some call) = Ok call
-or_bad_line None = Err BadLine
-
 -- what a line means: a call, or the refusal that answers it
 unfoldable pub meaning : List ℕ → Result Call Cause
-meaning line = if nat_lt line_limit (length line) then Err Limit else or_bad_line (text_call line)
+meaning line = if nat_lt line_limit (length line) then Err Limit else ok_or (text_call line) BadLine

@@ -1,12 +1,12 @@
 //! The call that a line means.
-ghost use Rattle.std.specs.Prelude.{◌≡◌, ◌⊎◌, ◌==◌, IfOk, IfErr, Some, Ok, Err};
-ghost use Rattle.serde_json.specs.Find.{get};
-ghost use Rattle.serde_json.specs.Read.{read};
-ghost use Rattle.serde_json.specs.View.{view, items_view};
+ghost use Rattle.std.specs.Prelude.{◌≡◌, ◌⊎◌, IfOk, IfErr, Ok, Err};
+ghost use Rattle.serde_json.specs.View.{view};
 ghost use Rattle.jpa_value.specs.declared.refusal.Cause.TheVariants.{OutOfMemory};
-ghost use Rattle.jpa_lines.specs.Outcome.{Gives, same, guard};
-ghost use Rattle.jpa_lines.specs.CallOf.{count_of, integer_of, integer_at, text_at, hex_of, marked_of, given_of, key_of, em_of, create_of, new_of, set_of, get_of, persist_of, find_of, word_of, worded_call, call_of, text_call, meaning};
+ghost use Rattle.jpa_json.specs.Members.{integer_of};
+ghost use Rattle.jpa_json.specs.Outcome.{Gives, same};
+ghost use Rattle.jpa_lines.specs.CallOf.{integer_at, hex_of, marked_of, given_of, em_of, create_of, new_of, set_of, get_of, persist_of, find_of, word_of, worded_call, call_of, text_call, meaning};
 
+use jpa_json::{Described, Unread, json_of, member, only, or_refuse, str_at, text_at};
 use jpa_protocol::{Call, Given};
 use jpa_value::{Bytes, Cause, Seq, Text, Value};
 use serde_json::Value as Json;
@@ -14,6 +14,9 @@ use std::alloc::Global;
 
 /// How many bytes a line may have, without its line feed.
 pub const LINE_LIMIT: usize = 1_048_576;
+
+/// The language of lines: what they are read as is `Described<Calls>`.
+struct Calls;
 
 /// The word that names a call.
 #[derive(Clone, Copy)]
@@ -39,37 +42,19 @@ pub fn read_call(alloc: Global, line: &[u8]) -> Result<Call, Cause>
     if line.len() > LINE_LIMIT {
         return Err(Cause::Limit);
     }
-    call_of_text(alloc, line)
+    or_refuse(call_of_text(alloc, line), Cause::BadLine)
 }
 
 #[tactic(auto, unfolding(crate::specs::CallOf::text_call))]
-fn call_of_text(alloc: Global, line: &[u8]) -> Result<Call, Cause>
+fn call_of_text(alloc: Global, line: &[u8]) -> Result<Call, Unread>
     ensures { Gives same result (text_call line.now) }
 {
-    let Ok(text) = str::from_utf8(line) else {
-        return Err(Cause::BadLine);
-    };
-    let json = json_of(alloc, text)?;
+    let json = json_of(alloc, line)?;
     call_of(alloc, &json)
 }
 
-fn json_of(alloc: Global, text: &str) -> Result<Json, Cause>
-    ensures { Gives view result (read text.now) }
-{
-    match Json::from_str(alloc, text) {
-        Ok(json) => Ok(json),
-        Err(error) => {
-            if error.is_memory() {
-                Err(Cause::OutOfMemory)
-            } else {
-                Err(Cause::BadLine)
-            }
-        }
-    }
-}
-
 #[tactic(auto, unfolding(crate::specs::CallOf::call_of))]
-fn call_of(alloc: Global, json: &Json) -> Result<Call, Cause>
+fn call_of(alloc: Global, json: &Json) -> Result<Call, Unread>
     ensures { Gives same result (call_of (view json.now)) }
 {
     let name = str_at(json, "call")?;
@@ -77,7 +62,7 @@ fn call_of(alloc: Global, json: &Json) -> Result<Call, Cause>
     worded_call(alloc, word, json)
 }
 
-fn word_of(name: &str) -> Result<Word, Cause>
+fn word_of(name: &str) -> Result<Word, Unread>
     ensures { Gives same result (word_of name.now) }
 {
     match name {
@@ -91,11 +76,11 @@ fn word_of(name: &str) -> Result<Word, Cause>
         "rollback" => Ok(Word::Rollback),
         "setRollbackOnly" => Ok(Word::SetRollbackOnly),
         "find" => Ok(Word::Find),
-        _ => Err(Cause::BadLine),
+        _ => Err(Unread::Form),
     }
 }
 
-fn worded_call(alloc: Global, word: Word, json: &Json) -> Result<Call, Cause>
+fn worded_call(alloc: Global, word: Word, json: &Json) -> Result<Call, Unread>
     ensures { Gives same result (worded_call word (view json.now)) }
 {
     match word {
@@ -113,7 +98,7 @@ fn worded_call(alloc: Global, word: Word, json: &Json) -> Result<Call, Cause>
 }
 
 #[tactic(auto, unfolding(crate::specs::CallOf::create_of))]
-fn create_of(json: &Json) -> Result<Call, Cause>
+fn create_of(json: &Json) -> Result<Call, Unread>
     ensures { Gives same result (create_of (view json.now)) }
 {
     only(json, 1)?;
@@ -121,7 +106,7 @@ fn create_of(json: &Json) -> Result<Call, Cause>
 }
 
 #[tactic(auto, unfolding(crate::specs::CallOf::new_of))]
-fn new_of(alloc: Global, json: &Json) -> Result<Call, Cause>
+fn new_of(alloc: Global, json: &Json) -> Result<Call, Unread>
     ensures { Gives same result (new_of (view json.now)) }
 {
     only(json, 2)?;
@@ -130,7 +115,7 @@ fn new_of(alloc: Global, json: &Json) -> Result<Call, Cause>
 }
 
 #[tactic(auto, unfolding(crate::specs::CallOf::set_of))]
-fn set_of(alloc: Global, json: &Json) -> Result<Call, Cause>
+fn set_of(alloc: Global, json: &Json) -> Result<Call, Unread>
     ensures { Gives same result (set_of (view json.now)) }
 {
     only(json, 4)?;
@@ -146,7 +131,7 @@ fn set_of(alloc: Global, json: &Json) -> Result<Call, Cause>
 }
 
 #[tactic(auto, unfolding(crate::specs::CallOf::get_of))]
-fn get_of(alloc: Global, json: &Json) -> Result<Call, Cause>
+fn get_of(alloc: Global, json: &Json) -> Result<Call, Unread>
     ensures { Gives same result (get_of (view json.now)) }
 {
     only(json, 3)?;
@@ -157,7 +142,7 @@ fn get_of(alloc: Global, json: &Json) -> Result<Call, Cause>
 
 /// The manager of a call that has no other member.
 #[tactic(auto, unfolding(crate::specs::CallOf::em_of))]
-fn em_of(json: &Json) -> Result<i64, Cause>
+fn em_of(json: &Json) -> Result<i64, Unread>
     ensures { Gives same result (em_of (view json.now)) }
 {
     only(json, 2)?;
@@ -165,7 +150,7 @@ fn em_of(json: &Json) -> Result<i64, Cause>
 }
 
 #[tactic(auto, unfolding(crate::specs::CallOf::persist_of))]
-fn persist_of(json: &Json) -> Result<Call, Cause>
+fn persist_of(json: &Json) -> Result<Call, Unread>
     ensures { Gives same result (persist_of (view json.now)) }
 {
     only(json, 3)?;
@@ -175,42 +160,37 @@ fn persist_of(json: &Json) -> Result<Call, Cause>
 }
 
 #[tactic(auto, unfolding(crate::specs::CallOf::find_of))]
-fn find_of(alloc: Global, json: &Json) -> Result<Call, Cause>
+fn find_of(alloc: Global, json: &Json) -> Result<Call, Unread>
     ensures { Gives same result (find_of (view json.now)) }
 {
     only(json, 4)?;
     let em = integer_at(json, "em")?;
     let entity = text_at(alloc, json, "entity")?;
-    let given = member(json, "key")?;
-    let parts = given.as_array().ok_or(Cause::BadLine)?;
-    let key = key_of(alloc, parts.as_slice())?;
+    let key = <Seq<Given> as Described<Calls>>::read(alloc, member(json, "key")?)?;
     Ok(Call::Find { em, entity, key })
 }
 
-fn key_of(alloc: Global, parts: &[Json]) -> Result<Seq<Given>, Cause>
-    ensures { Gives same result (key_of (items_view parts.now)) }
-{
-    let mut key = Vec::new(alloc);
-    for part in parts {
-        let given = given_of(alloc, part)?;
-        key.push(given)?;
+impl Described<Calls> for Given {
+    ghost meaning = { given_of };
+
+    fn read(alloc: Global, json: &Json) -> Result<Given, Unread> {
+        given_of(alloc, json)
     }
-    Ok(Seq::of(key))
 }
 
 #[tactic(auto, unfolding(crate::specs::CallOf::given_of))]
-fn given_of(alloc: Global, json: &Json) -> Result<Given, Cause>
+fn given_of(alloc: Global, json: &Json) -> Result<Given, Unread>
     ensures { Gives same result (given_of (view json.now)) }
 {
     match json {
         Json::Null => Ok(Given::Plain(Value::Null)),
-        Json::Bool(_) | Json::Array(_) => Err(Cause::BadLine),
+        Json::Bool(_) | Json::Array(_) => Err(Unread::Form),
         Json::Number(n) => match n.as_i64() {
             Some(n) => Ok(Given::Plain(Value::Int(n))),
-            None => Err(Cause::BadLine),
+            None => Err(Unread::Form),
         },
         Json::String(text) => {
-            let text = copy(alloc, text.as_str())?;
+            let text = Text::of(alloc, text.as_str())?;
             Ok(Given::Plain(Value::Text(text)))
         }
         Json::Object(_) => marked_of(alloc, json),
@@ -219,7 +199,7 @@ fn given_of(alloc: Global, json: &Json) -> Result<Given, Cause>
 
 /// A value that is written as an object of one member.
 #[tactic(auto, unfolding(crate::specs::CallOf::marked_of))]
-fn marked_of(alloc: Global, json: &Json) -> Result<Given, Cause>
+fn marked_of(alloc: Global, json: &Json) -> Result<Given, Unread>
     ensures { Gives same result (marked_of (view json.now)) }
 {
     only(json, 1)?;
@@ -233,69 +213,24 @@ fn marked_of(alloc: Global, json: &Json) -> Result<Given, Cause>
 }
 
 #[tactic(auto, unfolding(crate::specs::CallOf::hex_of))]
-fn hex_of(alloc: Global, digits: &str) -> Result<Bytes, Cause>
+fn hex_of(alloc: Global, digits: &str) -> Result<Bytes, Unread>
     ensures { Gives same result (hex_of digits.now) }
 {
     match hex::decode(alloc, digits) {
         Ok(bytes) => Ok(Bytes::of(bytes)),
-        Err(hex::FromHexError::OutOfMemory) => Err(Cause::OutOfMemory),
-        Err(_) => Err(Cause::BadLine),
+        Err(hex::FromHexError::OutOfMemory) => Err(Unread::OutOfMemory),
+        Err(_) => Err(Unread::Form),
     }
 }
 
-/// Whether an object has this many members: where each of as many names is found, there is no other.
-fn only(json: &Json, count: usize) -> Result<(), Cause>
-    ensures { Gives same result (guard (count_of (view json.now) == count)) }
-{
-    if count_of(json) == count {
-        Ok(())
-    } else {
-        Err(Cause::BadLine)
-    }
-}
-
-#[tactic(auto, using(crate::proofs::Counts::counted))]
-fn count_of(json: &Json) -> usize
-    ensures { result ≡ count_of (view json.now) }
-{
-    match json.as_object() {
-        Some(members) => members.len(),
-        None => 0,
-    }
-}
-
-fn member<'v>(json: &'v Json, name: &str) -> Result<&'v Json, Cause>
-    ensures { Gives (λ v. view v.now) result (get name.now (view json.now)) }
-{
-    json.get(name).ok_or(Cause::BadLine)
-}
-
-fn integer_of(json: &Json) -> Result<i64, Cause>
+fn integer_of(json: &Json) -> Result<i64, Unread>
     ensures { Gives same result (integer_of (view json.now)) }
 {
-    json.as_i64().ok_or(Cause::BadLine)
+    json.as_i64().ok_or(Unread::Form)
 }
 
-fn integer_at(json: &Json, name: &str) -> Result<i64, Cause>
+fn integer_at(json: &Json, name: &str) -> Result<i64, Unread>
     ensures { Gives same result (integer_at name.now (view json.now)) }
 {
     integer_of(member(json, name)?)
-}
-
-fn str_at<'v>(json: &'v Json, name: &str) -> Result<&'v str, Cause>
-    ensures { Gives (λ s. s.now) result (text_at name.now (view json.now)) }
-{
-    member(json, name)?.as_str().ok_or(Cause::BadLine)
-}
-
-fn text_at(alloc: Global, json: &Json, name: &str) -> Result<Text, Cause>
-    ensures { Gives same result (text_at name.now (view json.now)) }
-{
-    copy(alloc, str_at(json, name)?)
-}
-
-fn copy(alloc: Global, text: &str) -> Result<Text, Cause>
-    ensures { Gives same result (Some text.now) }
-{
-    Ok(Text::of(alloc, text)?)
 }

@@ -11,15 +11,16 @@ use Rattle.jpa_model.specs.declared.draft.DraftSide.{DraftSide}
 use Rattle.jpa_model.specs.declared.draft.RelationKind.{RelationKind}
 use Rattle.serde_json.specs.Data.{Data, boolean, number, unsigned, string, array, object, no_items, item, Members, no_members, member}
 use Rattle.serde_json.proofs.OnLiterals.{serde_json_on_literals}
+use Rattle.jpa_json.specs.JsonOf.{text_data}
 use Rattle.jpa_mapping.specs.DraftOf.{draft_of, entity_of, root_of, subclass_of, part_of, version_of, attribute_of, relation_of, side_of, listener_of}
-use Rattle.jpa_mapping.specs.MappingOf.{json_of, draft_in}
+use Rattle.jpa_mapping.specs.MappingOf.{draft_in}
 
 no_description : draft_in (codes "{}") ≡ Err (Cause.Mapping MappingFault.Shape)
-unfolding draft_in json_of draft_of is_utf8 chars serde_json_on_literals
+unfolding draft_in text_data draft_of is_utf8 chars serde_json_on_literals
 no_description = refl
 
 no_text : draft_in (codes "{\"revision\":1") ≡ Err (Cause.Mapping MappingFault.Json)
-unfolding draft_in json_of is_utf8 chars serde_json_on_literals
+unfolding draft_in text_data is_utf8 chars serde_json_on_literals
 no_text = refl
 
 base_and_sub : draft_in (codes "{\"revision\":1,\"entities\":[{\"name\":\"Base\",\"table\":5,\"key\":[{\"name\":\"id\",\"type\":\"int\"}]},{\"name\":\"Sub\",\"extends\":\"Base\"}]}") ≡ Ok (record {
@@ -50,7 +51,7 @@ base_and_sub : draft_in (codes "{\"revision\":1,\"entities\":[{\"name\":\"Base\"
       })
       ∷ [];
 })
-unfolding draft_in json_of draft_of entity_of root_of subclass_of part_of is_utf8 chars serde_json_on_literals
+unfolding draft_in text_data draft_of entity_of root_of subclass_of part_of is_utf8 chars serde_json_on_literals
 base_and_sub = refl
 
 person_data : Data

@@ -1,4 +1,3 @@
 pub mod Examples
-pub mod Items
 pub mod Listed
 pub mod Texts

@@ -3,8 +3,8 @@ use Rattle.std.proofs.Common.{◌≡◌, ◌∷◌, [], ◌||◌, ℕ, Bool, tru
 use Rattle.std.specs.List.{list_any}
 use Rattle.serde_json.specs.View.{members_view}
 use Rattle.serde_json.specs.declared.value.Value.{Value}
+use Rattle.jpa_json.specs.Outcome.{guard}
 use Rattle.jpa_mapping.specs.DraftOf.{is_listed, are_listed}
-use Rattle.jpa_mapping.specs.Outcome.{guard}
 
 pub list_any-seen : {A B : Type 0} (view : A → B) (p : B → Bool) (xs : List A) → list_any (λ x. p (view x)) xs ≡ list_any p (map view xs)
 list_any-seen view p [] = refl

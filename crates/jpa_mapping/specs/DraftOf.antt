@@ -1,6 +1,6 @@
 -- What a mapping description says: each object has its required members, may have its optional ones, and has no
 -- others; each member is of its type.
-use Rattle.std.specs.Prelude.{⊤, ◌&&◌, ℕ, ℤ, Bool, true, false, List, [], ◌∷◌, codes, if◌then◌else◌, Option, Some, None, is_some, bytes_eq}
+use Rattle.std.specs.Prelude.{⊤, ◌&&◌, ℕ, Bool, true, false, List, [], ◌∷◌, codes, if◌then◌else◌, Option, Some, None, is_some, bytes_eq}
 use Rattle.std.specs.List.{list_any}
 use Rattle.jpa_value.specs.declared.value.Kind.{Kind}
 use Rattle.jpa_model.specs.declared.unit.Part.{Part}
@@ -14,9 +14,10 @@ use Rattle.jpa_model.specs.declared.draft.DraftRelation.{DraftRelation}
 use Rattle.jpa_model.specs.declared.draft.DraftSide.{DraftSide}
 use Rattle.jpa_model.specs.declared.draft.DraftVersion.{DraftVersion}
 use Rattle.jpa_model.specs.declared.draft.RelationKind.{RelationKind}
-use Rattle.serde_json.specs.Data.{Data, null, boolean, number, string, array, object, Items, no_items, item, Members, no_members, member}
-use Rattle.serde_json.specs.Find.{get, as_number, as_str, as_array, as_bool, as_i64}
-use Rattle.jpa_mapping.specs.Outcome.{◌>>=◌, guard}
+use Rattle.serde_json.specs.Data.{Data, null, boolean, number, string, array, object, Members, no_members, member}
+use Rattle.serde_json.specs.Find.{get, as_str, as_bool}
+use Rattle.jpa_json.specs.Members.{integer_of, list_of}
+use Rattle.jpa_json.specs.Outcome.{◌>>=◌, guard}
 
 -- ---- members
 
@@ -56,17 +57,6 @@ true_if_there None = Some false
 abbrev pub flag : List ℕ → Data → Option Bool
 flag name d = true_if_there (get name d)
 
--- the meaning of each item
-abbrev pub each : {A : Type 0} → (Data → Option A) → Items → Option (List A)
-each meaning no_items = Some []
-each meaning (item d ds) = do
-  x ← meaning d
-  xs ← each meaning ds
-  Some (x ∷ xs)
-
-abbrev pub list_of : {A : Type 0} → (Data → Option A) → Data → Option (List A)
-list_of meaning d = as_array d >>= each meaning
-
 abbrev pub items_if_there : {A : Type 0} → (Data → Option A) → Option Data → Option (List A)
 items_if_there meaning (Some d) = list_of meaning d
 items_if_there meaning None = Some []
@@ -76,9 +66,6 @@ abbrev pub list_at : {A : Type 0} → (Data → Option A) → List ℕ → Data 
 list_at meaning name d = items_if_there meaning (get name d)
 
 -- ---- words
-
-abbrev pub integer_of : Data → Option ℤ
-integer_of d = as_number d >>= as_i64
 
 abbrev pub kind_named : List ℕ → Option Kind
 kind_named word =

@@ -1,3 +1,2 @@
 pub mod DraftOf
 pub mod MappingOf
-pub mod Outcome

@@ -1,11 +1,11 @@
 //! Entities, and the whole description.
 ghost use Rattle.serde_json.specs.View.{view};
+ghost use Rattle.jpa_json.specs.Outcome.{Gives, same};
 ghost use Rattle.jpa_mapping.specs.DraftOf as drafts;
-ghost use Rattle.jpa_mapping.specs.Outcome.{Gives, same};
 
-use crate::members::{Described, flag, list_at, only, optional, required};
+use crate::members::{Description, flag, list_at, only, optional, required};
+use jpa_json::{Described, Unread};
 use jpa_model::{Draft, DraftEntity, DraftOrigin, DraftRoot};
-use jpa_value::Cause;
 use serde_json::Value as Json;
 use std::alloc::Global;
 
@@ -39,7 +39,7 @@ const ROOT_MEMBERS: [&str; 13] = [
 
 /// What the root of a hierarchy says for all its classes.
 #[tactic(auto, unfolding(crate::specs::DraftOf::root_of))]
-fn root_of(alloc: Global, json: &Json) -> Result<DraftOrigin, Cause>
+fn root_of(alloc: Global, json: &Json) -> Result<DraftOrigin, Unread>
     ensures { Gives same result (drafts.root_of (view json.now)) }
 {
     only(json, &ROOT_MEMBERS)?;
@@ -59,7 +59,7 @@ fn root_of(alloc: Global, json: &Json) -> Result<DraftOrigin, Cause>
 
 /// Which entity a subclass extends.
 #[tactic(auto, unfolding(crate::specs::DraftOf::subclass_of))]
-fn subclass_of(alloc: Global, json: &Json) -> Result<DraftOrigin, Cause>
+fn subclass_of(alloc: Global, json: &Json) -> Result<DraftOrigin, Unread>
     ensures { Gives same result (drafts.subclass_of (view json.now)) }
 {
     only(json, &SUBCLASS_MEMBERS)?;
@@ -68,7 +68,7 @@ fn subclass_of(alloc: Global, json: &Json) -> Result<DraftOrigin, Cause>
 }
 
 /// Where a class stands in its hierarchy: one that says `extends` is a subclass, and another one a root.
-fn origin_of(alloc: Global, json: &Json) -> Result<DraftOrigin, Cause>
+fn origin_of(alloc: Global, json: &Json) -> Result<DraftOrigin, Unread>
     ensures { Gives same result (drafts.origin_of (view json.now)) }
 {
     if json.get("extends").is_some() {
@@ -78,11 +78,11 @@ fn origin_of(alloc: Global, json: &Json) -> Result<DraftOrigin, Cause>
     }
 }
 
-impl Described for DraftEntity {
+impl Described<Description> for DraftEntity {
     ghost meaning = { drafts.entity_of };
 
     #[tactic(auto, unfolding(crate::specs::DraftOf::entity_of))]
-    fn read(alloc: Global, json: &Json) -> Result<DraftEntity, Cause> {
+    fn read(alloc: Global, json: &Json) -> Result<DraftEntity, Unread> {
         let name = required(alloc, json, "name")?;
         let discriminator = optional(alloc, json, "discriminator")?;
         let attributes = list_at(alloc, json, "attributes")?;
@@ -106,11 +106,11 @@ impl Described for DraftEntity {
     }
 }
 
-impl Described for Draft {
+impl Described<Description> for Draft {
     ghost meaning = { drafts.draft_of };
 
     #[tactic(auto, unfolding(crate::specs::DraftOf::draft_of))]
-    fn read(alloc: Global, json: &Json) -> Result<Draft, Cause> {
+    fn read(alloc: Global, json: &Json) -> Result<Draft, Unread> {
         only(json, &["revision", "listeners", "entities", "functions"])?;
         let revision = required(alloc, json, "revision")?;
         let listeners = list_at(alloc, json, "listeners")?;

@@ -6,8 +6,8 @@
 //! (`Mapping(Model)`). JSON is what `serde_json` reads, so the last of repeated members counts.
 //!
 //! The definitions that contracts cite stand in `specs/`: what JSON data describes in `DraftOf`, one definition
-//! for each object, and the three steps in `MappingOf`. The crate stands on the crates of values and of the
-//! metamodel, and on `serde_json`.
+//! for each object, and the three steps in `MappingOf`. The crate stands on the crates of values, of the
+//! metamodel and of the reading of JSON, and on `serde_json`.
 //!
 //! | Object | Members (`?` marks those that may be absent) |
 //! |---|---|

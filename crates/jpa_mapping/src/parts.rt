@@ -1,49 +1,50 @@
 //! The parts of an entity: key parts, version, attributes, relations, listeners.
 ghost use Rattle.std.specs.Prelude.{option_map};
 ghost use Rattle.serde_json.specs.View.{view};
+ghost use Rattle.jpa_json.specs.Outcome.{Gives, same};
 ghost use Rattle.jpa_mapping.specs.DraftOf as drafts;
-ghost use Rattle.jpa_mapping.specs.Outcome.{Gives, same};
 
-use crate::members::{Described, flag, list_at, only, optional, required, shape, str_of};
+use crate::members::{Description, flag, list_at, only, optional, required};
+use jpa_json::{Described, Unread, str_of};
 use jpa_model::{
     Cascade, DraftAttribute, DraftColumn, DraftListener, DraftRelation, DraftSide, DraftVersion,
     Part, RelationKind,
 };
-use jpa_value::{Cause, Kind, Text};
+use jpa_value::Kind;
 use serde_json::Value as Json;
 use std::alloc::Global;
 
-impl Described for Kind {
+impl Described<Description> for Kind {
     ghost meaning = { drafts.kind_of };
 
-    fn read(_alloc: Global, json: &Json) -> Result<Kind, Cause> {
+    fn read(_alloc: Global, json: &Json) -> Result<Kind, Unread> {
         match str_of(json)? {
             "int" => Ok(Kind::Int),
             "text" => Ok(Kind::Text),
             "bytes" => Ok(Kind::Bytes),
-            _ => Err(shape()),
+            _ => Err(Unread::Form),
         }
     }
 }
 
-impl Described for RelationKind {
+impl Described<Description> for RelationKind {
     ghost meaning = { drafts.relation_kind_of };
 
-    fn read(_alloc: Global, json: &Json) -> Result<RelationKind, Cause> {
+    fn read(_alloc: Global, json: &Json) -> Result<RelationKind, Unread> {
         match str_of(json)? {
             "manyToOne" => Ok(RelationKind::ManyToOne),
             "oneToMany" => Ok(RelationKind::OneToMany),
             "oneToOne" => Ok(RelationKind::OneToOne),
             "manyToMany" => Ok(RelationKind::ManyToMany),
-            _ => Err(shape()),
+            _ => Err(Unread::Form),
         }
     }
 }
 
-impl Described for Cascade {
+impl Described<Description> for Cascade {
     ghost meaning = { drafts.cascade_of };
 
-    fn read(_alloc: Global, json: &Json) -> Result<Cascade, Cause> {
+    fn read(_alloc: Global, json: &Json) -> Result<Cascade, Unread> {
         match str_of(json)? {
             "PERSIST" => Ok(Cascade::Persist),
             "MERGE" => Ok(Cascade::Merge),
@@ -51,16 +52,16 @@ impl Described for Cascade {
             "REFRESH" => Ok(Cascade::Refresh),
             "DETACH" => Ok(Cascade::Detach),
             "ALL" => Ok(Cascade::All),
-            _ => Err(shape()),
+            _ => Err(Unread::Form),
         }
     }
 }
 
-impl Described for Part {
+impl Described<Description> for Part {
     ghost meaning = { drafts.part_of };
 
     #[tactic(auto, unfolding(crate::specs::DraftOf::part_of))]
-    fn read(alloc: Global, json: &Json) -> Result<Part, Cause> {
+    fn read(alloc: Global, json: &Json) -> Result<Part, Unread> {
         only(json, &["name", "type"])?;
         let name = required(alloc, json, "name")?;
         let kind = required(alloc, json, "type")?;
@@ -68,11 +69,11 @@ impl Described for Part {
     }
 }
 
-impl Described for DraftVersion {
+impl Described<Description> for DraftVersion {
     ghost meaning = { drafts.version_of };
 
     #[tactic(auto, unfolding(crate::specs::DraftOf::version_of))]
-    fn read(alloc: Global, json: &Json) -> Result<DraftVersion, Cause> {
+    fn read(alloc: Global, json: &Json) -> Result<DraftVersion, Unread> {
         only(json, &["name", "column"])?;
         let name = required(alloc, json, "name")?;
         let column = required(alloc, json, "column")?;
@@ -80,11 +81,11 @@ impl Described for DraftVersion {
     }
 }
 
-impl Described for DraftAttribute {
+impl Described<Description> for DraftAttribute {
     ghost meaning = { drafts.attribute_of };
 
     #[tactic(auto, unfolding(crate::specs::DraftOf::attribute_of))]
-    fn read(alloc: Global, json: &Json) -> Result<DraftAttribute, Cause> {
+    fn read(alloc: Global, json: &Json) -> Result<DraftAttribute, Unread> {
         only(json, &["name", "type", "column", "required", "converter"])?;
         let name = required(alloc, json, "name")?;
         let kind = required(alloc, json, "type")?;
@@ -101,11 +102,11 @@ impl Described for DraftAttribute {
     }
 }
 
-impl Described for DraftRelation {
+impl Described<Description> for DraftRelation {
     ghost meaning = { drafts.relation_of };
 
     #[tactic(auto, unfolding(crate::specs::DraftOf::relation_of))]
-    fn read(alloc: Global, json: &Json) -> Result<DraftRelation, Cause> {
+    fn read(alloc: Global, json: &Json) -> Result<DraftRelation, Unread> {
         only(
             json,
             &[
@@ -140,7 +141,7 @@ impl Described for DraftRelation {
 /// Where a relation is kept: exactly one of `column`, `joinTable` and `mappedBy` tells, with `required` beside
 /// the first alone.
 #[tactic(auto, unfolding(crate::specs::DraftOf::side_of))]
-fn side_of(alloc: Global, json: &Json) -> Result<DraftSide, Cause>
+fn side_of(alloc: Global, json: &Json) -> Result<DraftSide, Unread>
     ensures { Gives same result (drafts.side_at (view json.now)) }
 {
     let says_required = json.get("required").is_some();
@@ -149,26 +150,31 @@ fn side_of(alloc: Global, json: &Json) -> Result<DraftSide, Cause>
         json.get("joinTable"),
         json.get("mappedBy"),
     ) {
-        (Some(column), None, None) => {
-            let column = i64::read(alloc, column)?;
-            let required = flag(json, "required")?;
-            Ok(DraftSide::Column(DraftColumn { column, required }))
+        (Some(_), None, None) => {
+            let column = required(alloc, json, "column")?;
+            let not_null = flag(json, "required")?;
+            Ok(DraftSide::Column(DraftColumn {
+                column,
+                required: not_null,
+            }))
         }
-        (None, Some(table), None) if !says_required => {
-            Ok(DraftSide::JoinTable(i64::read(alloc, table)?))
+        (None, Some(_), None) if !says_required => {
+            let table = required(alloc, json, "joinTable")?;
+            Ok(DraftSide::JoinTable(table))
         }
-        (None, None, Some(owner)) if !says_required => {
-            Ok(DraftSide::MappedBy(Text::read(alloc, owner)?))
+        (None, None, Some(_)) if !says_required => {
+            let owner = required(alloc, json, "mappedBy")?;
+            Ok(DraftSide::MappedBy(owner))
         }
-        _ => Err(shape()),
+        _ => Err(Unread::Form),
     }
 }
 
-impl Described for DraftListener {
+impl Described<Description> for DraftListener {
     ghost meaning = { drafts.listener_of };
 
     #[tactic(auto, unfolding(crate::specs::DraftOf::listener_of))]
-    fn read(alloc: Global, json: &Json) -> Result<DraftListener, Cause> {
+    fn read(alloc: Global, json: &Json) -> Result<DraftListener, Unread> {
         only(json, &["name", "events"])?;
         let name = required(alloc, json, "name")?;
         let events = required(alloc, json, "events")?;

@@ -1,14 +1,10 @@
 //! From the bytes of a description to the metamodel.
-ghost use Rattle.std.specs.Result.{result_map_both};
-ghost use Rattle.serde_json.specs.View.{view};
 ghost use Rattle.jpa_model.specs.Described.{IsUnlessMemory};
-ghost use Rattle.jpa_mapping.specs.MappingOf.{json_of, draft_in, mapping_of};
-ghost use Rattle.jpa_mapping.specs.Outcome.{same};
+ghost use Rattle.jpa_mapping.specs.MappingOf.{draft_in, mapping_of};
 
-use crate::members::Described;
+use jpa_json::{Described, json_of, or_refuse};
 use jpa_model::{Draft, Metamodel, check};
 use jpa_value::{Cause, MappingFault};
-use serde_json::Value as Json;
 use std::alloc::Global;
 
 /// The metamodel that a mapping description describes, a text of JSON in UTF-8 (Jakarta Persistence 3.1, chapters
@@ -29,25 +25,9 @@ pub fn read_mapping(alloc: Global, bytes: &[u8]) -> Result<Metamodel, Cause>
 fn read_draft(alloc: Global, bytes: &[u8]) -> Result<Draft, Cause>
     ensures { IsUnlessMemory result (draft_in bytes.now) }
 {
-    let json = json_of(alloc, bytes)?;
-    Draft::read(alloc, &json)
-}
-
-/// What the bytes say as JSON.
-fn json_of(alloc: Global, bytes: &[u8]) -> Result<Json, Cause>
-    ensures { IsUnlessMemory (result_map_both view same result) (json_of bytes.now) }
-{
-    let Ok(text) = str::from_utf8(bytes) else {
-        return Err(Cause::Mapping(MappingFault::Json));
-    };
-    match Json::from_str(alloc, text) {
-        Ok(json) => Ok(json),
-        Err(error) => {
-            if error.is_memory() {
-                Err(Cause::OutOfMemory)
-            } else {
-                Err(Cause::Mapping(MappingFault::Json))
-            }
-        }
-    }
+    let json = or_refuse(json_of(alloc, bytes), Cause::Mapping(MappingFault::Json))?;
+    or_refuse(
+        Draft::read(alloc, &json),
+        Cause::Mapping(MappingFault::Shape),
+    )
 }

@@ -1,10 +1,12 @@
 //! Descriptions of worked examples, at the limits and past them.
+use crate::mapping::samples::PERSONS_AND_ORDERS;
+use crate::mapping::unit_of;
 use jpa_model::{
-    Draft, DraftAttribute, DraftEntity, DraftOrigin, DraftRoot, Entity, Listener, Member,
-    Metamodel, Part, Relation, Side, check,
+    Draft, DraftEntity, DraftOrigin, DraftRoot, Entity, Listener, Member, Metamodel, Part,
+    Relation, Side, check,
 };
 use jpa_value::{Cause, Kind, LifecycleEvent, MappingFault, Seq, Text};
-use samples::{of_animals, of_persons};
+use samples::ANIMALS;
 use std::alloc::Global;
 use std::process::Abort;
 use std::test::Fail;
@@ -12,53 +14,41 @@ use std::test::Fail;
 mod limits;
 mod samples;
 
-fn text(alloc: Global, words: &str) -> Result<Text, Cause> {
-    Ok(Text::of(alloc, words)?)
-}
-
-fn numbered(alloc: Global, word: &str, number: usize) -> Result<Text, Cause> {
-    Ok(Text::from_string(format!(in alloc; "{word}{number}")?))
-}
-
-fn key(alloc: Global, parts: usize) -> Result<Seq<Part>, Cause> {
-    let mut key = Seq::new(alloc);
-    for part in 0..parts {
-        key.push(Part {
-            name: numbered(alloc, "id", part)?,
-            kind: Kind::Int,
-        })?;
+/// A description of so many entities, each with a table and a key of its own.
+fn drafted(alloc: Global, names: &[&str]) -> Result<Draft, Cause> {
+    let mut entities = Seq::new(alloc);
+    let mut table = 1i64;
+    for name in names {
+        let name = Text::of(alloc, name)?;
+        entities.push(entity(alloc, name, root(alloc, table)?))?;
+        table = table.wrapping_add(1);
     }
-    Ok(key)
+    Ok(Draft {
+        revision: 1,
+        listeners: Seq::new(alloc),
+        entities,
+    })
 }
 
-fn root(alloc: Global, table: i64, parts: usize) -> Result<DraftRoot, Cause> {
+fn root(alloc: Global, table: i64) -> Result<DraftRoot, Cause> {
+    let mut key = Seq::new(alloc);
+    key.push(Part {
+        name: Text::of(alloc, "id")?,
+        kind: Kind::Int,
+    })?;
     Ok(DraftRoot {
         table,
-        key: key(alloc, parts)?,
-        embedded: if parts > 1 {
-            Some(text(alloc, "key")?)
-        } else {
-            None
-        },
+        key,
+        embedded: None,
         generated: false,
         version: None,
     })
 }
 
-fn attribute(name: Text, column: i64) -> DraftAttribute {
-    DraftAttribute {
-        name,
-        kind: Kind::Text,
-        column,
-        required: false,
-        converter: None,
-    }
-}
-
-fn entity(alloc: Global, name: Text, origin: DraftOrigin) -> DraftEntity {
+fn entity(alloc: Global, name: Text, root: DraftRoot) -> DraftEntity {
     DraftEntity {
         name,
-        origin,
+        origin: DraftOrigin::Root(root),
         discriminator: None,
         attributes: Seq::new(alloc),
         relations: Seq::new(alloc),
@@ -69,20 +59,22 @@ fn entity(alloc: Global, name: Text, origin: DraftOrigin) -> DraftEntity {
     }
 }
 
-fn draft(alloc: Global) -> Draft {
-    Draft {
-        revision: 1,
-        listeners: Seq::new(alloc),
-        entities: Seq::new(alloc),
+fn is_refused(alloc: Global, names: &[&str]) -> Result<bool, Cause> {
+    match check(alloc, &drafted(alloc, names)?) {
+        Ok(_) => Ok(false),
+        Err(Cause::Mapping(MappingFault::Model)) => Ok(true),
+        Err(cause) => Err(cause),
     }
 }
 
-fn is_accepted(alloc: Global, draft: &Draft) -> Result<bool, Cause> {
-    match check(alloc, draft) {
-        Ok(_) => Ok(true),
-        Err(Cause::Mapping(MappingFault::Model)) => Ok(false),
-        Err(cause) => Err(cause),
-    }
+#[test]
+fn a_description_is_checked(rt: HostRuntime) -> Result<(), Fail> {
+    let alloc = rt.alloc();
+    let model = check(alloc, &drafted(alloc, &["A", "B"])?)?;
+    assert!(rt; matches!(model.class_of("B"), Some(1)));
+    assert!(rt; is_refused(alloc, &[])?);
+    assert!(rt; is_refused(alloc, &["A", "A"])?);
+    Ok(())
 }
 
 fn is_member(found: Option<Member>, want: Option<Member>) -> bool {
@@ -153,7 +145,7 @@ fn see_relations_of_persons(rt: &impl Abort, model: &Metamodel) {
 
 #[test]
 fn persons_are_found(rt: HostRuntime) -> Result<(), Fail> {
-    let model = of_persons(rt.alloc())?;
+    let model = unit_of(rt.alloc(), PERSONS_AND_ORDERS)?;
     see_persons(&rt, &model);
     see_roots(&rt, &model);
     see_members(&rt, &model);
@@ -179,7 +171,7 @@ fn see_inherited(rt: &impl Abort, model: &Metamodel) {
 
 #[test]
 fn subclasses_have_what_their_superclass_has(rt: HostRuntime) -> Result<(), Fail> {
-    let model = of_animals(rt.alloc())?;
+    let model = unit_of(rt.alloc(), ANIMALS)?;
     see_chains(&rt, &model);
     see_inherited(&rt, &model);
     Ok(())
@@ -204,7 +196,7 @@ fn see_sides(rt: &impl Abort, model: &Metamodel) {
 
 #[test]
 fn relations_have_their_declarers(rt: HostRuntime) -> Result<(), Fail> {
-    let model = of_animals(rt.alloc())?;
+    let model = unit_of(rt.alloc(), ANIMALS)?;
     see_declarers(&rt, &model);
     see_sides(&rt, &model);
     Ok(())
@@ -233,7 +225,7 @@ fn see_listeners(rt: &impl Abort, model: &Metamodel) {
 
 #[test]
 fn listeners_are_found(rt: HostRuntime) -> Result<(), Fail> {
-    let model = of_animals(rt.alloc())?;
+    let model = unit_of(rt.alloc(), ANIMALS)?;
     see_listeners(&rt, &model);
     Ok(())
 }

@@ -3,12 +3,12 @@
 //! A person (class 0, table 1) has a required name, orders (the inverse of an order's person), and a badge in a
 //! one-to-one relation; an employee (class 1) is a person. An order (class 2, table 2) has a required person and
 //! tags (class 3, table 3).
-use jpa_model::{
-    Attribute, Cascades, Column, Entity, Origin, Part, PersistenceUnit, Relation, Root, Side,
-};
+use crate::mapping::unit_of;
+use jpa_model::{Metamodel, PersistenceUnit};
 use jpa_stored::{OpenSet, Stored, StoredSet, integrity, members};
-use jpa_value::{Cause, Identity, Kind, Persist, Seq, Text, TryCopy, Value, is_same_identity};
+use jpa_value::{Cause, Identity, Seq, Text, TryCopy, Value, is_same_identity};
 use std::alloc::Global;
+use std::process::Abort;
 use std::test::Fail;
 
 const PERSON: usize = 0;
@@ -19,94 +19,16 @@ const ORDER: usize = 2;
 
 const TAG: usize = 3;
 
-const NO_CASCADE: Cascades = Cascades {
-    persist: false,
-    merge: false,
-    remove: false,
-    refresh: false,
-    detach: false,
-};
-
-fn relation(alloc: Global, name: &str, side: Side, target: usize) -> Result<Relation, Cause> {
-    Ok(Relation {
-        name: Text::of(alloc, name)?,
-        side,
-        target,
-        cascade: NO_CASCADE,
-        orphan_removal: false,
-    })
-}
-
-fn entity(
-    alloc: Global,
-    name: &str,
-    origin: Origin,
-    attributes: Seq<Attribute>,
-    relations: Seq<Relation>,
-) -> Result<Entity, Cause> {
-    Ok(Entity {
-        name: Text::of(alloc, name)?,
-        origin,
-        discriminator: Text::of(alloc, name)?,
-        attributes,
-        relations,
-        listeners: Seq::new(alloc),
-        callbacks: Seq::new(alloc),
-        exclude_default: false,
-        exclude_super: false,
-    })
-}
-
-fn root(alloc: Global, table: u64) -> Result<Origin, Cause> {
-    let mut key = Seq::new(alloc);
-    key.push(Part {
-        name: Text::of(alloc, "id")?,
-        kind: Kind::Int,
-    })?;
-    Ok(Origin::Root(Root {
-        table,
-        key,
-        embedded: None,
-        generated: false,
-        version: None,
-    }))
-}
-
-fn unit(alloc: Global) -> Result<PersistenceUnit, Cause> {
-    let mut attributes = Seq::new(alloc);
-    attributes.push(Attribute {
-        name: Text::of(alloc, "name")?,
-        kind: Kind::Text,
-        column: 1,
-        required: true,
-        converter: None,
-    })?;
-    let mut of_person = Seq::new(alloc);
-    of_person.push(relation(alloc, "orders", Side::OneToMany(0), ORDER)?)?;
-    let badge = Side::OneToOne(Column {
-        column: 2,
-        required: false,
-    });
-    of_person.push(relation(alloc, "badge", badge, TAG)?)?;
-    let mut of_order = Seq::new(alloc);
-    let person = Side::ManyToOne(Column {
-        column: 1,
-        required: true,
-    });
-    of_order.push(relation(alloc, "person", person, PERSON)?)?;
-    of_order.push(relation(alloc, "tags", Side::ManyToMany(9), TAG)?)?;
-    let none = Seq::new(alloc);
-    let mut entities = Seq::new(alloc);
-    entities.push(entity(alloc, "Person", root(alloc, 1)?, attributes, of_person)?)?;
-    let below = Origin::Extends(PERSON);
-    entities.push(entity(alloc, "Employee", below, Seq::new(alloc), Seq::new(alloc))?)?;
-    entities.push(entity(alloc, "Order", root(alloc, 2)?, Seq::new(alloc), of_order)?)?;
-    entities.push(entity(alloc, "Tag", root(alloc, 3)?, Seq::new(alloc), none)?)?;
-    Ok(PersistenceUnit {
-        listeners: Seq::new(alloc),
-        entities,
-    })
-}
+const UNIT: &str = r#"{"revision":1,"entities":[
+ {"name":"Person","table":1,"key":[{"name":"id","type":"int"}],
+  "attributes":[{"name":"name","type":"text","column":1,"required":true}],
+  "relations":[{"name":"orders","kind":"oneToMany","target":"Order","mappedBy":"person"},
+   {"name":"badge","kind":"oneToOne","target":"Tag","column":2}]},
+ {"name":"Employee","extends":"Person"},
+ {"name":"Order","table":2,"key":[{"name":"id","type":"int"}],
+  "relations":[{"name":"person","kind":"manyToOne","target":"Person","column":1,"required":true},
+   {"name":"tags","kind":"manyToMany","target":"Tag","joinTable":9}]},
+ {"name":"Tag","table":3,"key":[{"name":"id","type":"int"}]}]}"#;
 
 fn identity(alloc: Global, table: u64, number: i64) -> Result<Identity, Cause> {
     let mut key = Seq::new(alloc);
@@ -159,29 +81,103 @@ fn ada(alloc: Global) -> Result<Value, Cause> {
     Ok(Value::Text(Text::of(alloc, "Ada")?))
 }
 
+/// An object to which a link may lead: its table, and its key.
+type Target = (u64, i64);
+
+/// A person or an employee, with a name if that is not null, and perhaps a badge.
+struct PersonRow {
+    number: i64,
+    class: usize,
+    named: bool,
+    badge: Option<Target>,
+}
+
+/// An order, perhaps of a person and with a tag.
+struct OrderRow {
+    number: i64,
+    person: Option<Target>,
+    tag: Option<Target>,
+}
+
+const PERSONS: [PersonRow; 2] = [
+    PersonRow {
+        number: 1,
+        class: PERSON,
+        named: true,
+        badge: Some((3, 7)),
+    },
+    PersonRow {
+        number: 2,
+        class: EMPLOYEE,
+        named: true,
+        badge: None,
+    },
+];
+
+const ORDERS: [OrderRow; 3] = [
+    OrderRow {
+        number: 11,
+        person: Some((1, 1)),
+        tag: Some((3, 7)),
+    },
+    OrderRow {
+        number: 12,
+        person: Some((1, 2)),
+        tag: None,
+    },
+    OrderRow {
+        number: 10,
+        person: Some((1, 1)),
+        tag: None,
+    },
+];
+
+fn links(alloc: Global, target: Option<Target>) -> Result<Seq<Identity>, Cause> {
+    match target {
+        Some((table, number)) => one(alloc, table, number),
+        None => Ok(Seq::new(alloc)),
+    }
+}
+
+fn name_of(alloc: Global, row: &PersonRow) -> Result<Value, Cause> {
+    if row.named {
+        ada(alloc)
+    } else {
+        Ok(Value::Null)
+    }
+}
+
+fn put_person(set: &mut StoredSet, alloc: Global, row: &PersonRow) -> Result<(), Cause> {
+    let name = name_of(alloc, row)?;
+    let badge = links(alloc, row.badge)?;
+    let object = person(alloc, row.class, name, badge)?;
+    set.put(identity(alloc, 1, row.number)?, object)
+}
+
+fn put_order(set: &mut StoredSet, alloc: Global, row: &OrderRow) -> Result<(), Cause> {
+    let of = links(alloc, row.person)?;
+    let object = order(alloc, of, links(alloc, row.tag)?)?;
+    set.put(identity(alloc, 2, row.number)?, object)
+}
+
 /// Person 1 with badge 7, employee 2, orders 10 and 11 of person 1 and 12 of employee 2, tag 7.
 fn sound_set(alloc: Global) -> Result<StoredSet, Cause> {
-    let a = alloc;
-    let mut set = StoredSet::new(a);
-    set.put(identity(a, 2, 11)?, order(a, one(a, 1, 1)?, one(a, 3, 7)?)?)?;
-    set.put(
-        identity(a, 1, 1)?,
-        person(a, PERSON, ada(a)?, one(a, 3, 7)?)?,
-    )?;
-    set.put(identity(a, 2, 12)?, order(a, one(a, 1, 2)?, Seq::new(a))?)?;
-    set.put(
-        identity(a, 1, 2)?,
-        person(a, EMPLOYEE, ada(a)?, Seq::new(a))?,
-    )?;
-    set.put(identity(a, 3, 7)?, tag(a))?;
-    set.put(identity(a, 2, 10)?, order(a, one(a, 1, 1)?, Seq::new(a))?)?;
+    let mut set = StoredSet::new(alloc);
+    for row in ORDERS.as_slice() {
+        put_order(&mut set, alloc, row)?;
+    }
+    for row in PERSONS.as_slice() {
+        put_person(&mut set, alloc, row)?;
+    }
+    set.put(identity(alloc, 3, 7)?, tag(alloc))?;
     Ok(set)
 }
 
-fn fault(unit: &PersistenceUnit, set: &StoredSet) -> Result<Option<Persist>, Cause> {
+/// The part of soundness that fails first, by its name; none where the set is sound.
+fn fault(unit: &PersistenceUnit, set: &StoredSet) -> Result<&'static str, Cause> {
     match integrity(unit, set) {
-        Ok(()) => Ok(None),
-        Err(Cause::Persistence(part)) => Ok(Some(part)),
+        Ok(()) => Ok("none"),
+        Err(Cause::Persistence(part)) => Ok(part.name()),
         Err(other) => Err(other),
     }
 }
@@ -215,137 +211,313 @@ fn class_seen(open: &OpenSet, id: &Identity) -> Option<usize> {
     Some(open.get(id)?.class)
 }
 
-#[test]
-fn what_a_transaction_sees(rt: HostRuntime) -> Result<(), Fail> {
-    let a = rt.alloc();
-    let (second, third, tags) = (identity(a, 1, 2)?, identity(a, 1, 3)?, identity(a, 3, 7)?);
-    let mut open = OpenSet::new(sound_set(a)?);
-    assert!(rt; open.written().is_empty());
-    // tag objects in place of an employee, under an identity of nobody, and twice under that
-    open.put(identity(a, 1, 3)?, tag(a))?;
-    open.put(identity(a, 1, 2)?, tag(a))?;
-    open.put(identity(a, 1, 3)?, person(a, PERSON, ada(a)?, Seq::new(a))?)?;
-    // what was written hides what is committed, and nothing else does
-    assert_eq!(rt; class_seen(&open, &second), Some(TAG));
-    assert_eq!(rt; class_seen(&open, &third), Some(PERSON));
-    assert_eq!(rt; class_seen(&open, &tags), Some(TAG));
-    assert_eq!(rt; class_seen(&open, &identity(a, 1, 4)?), None);
-    // what is committed stands
-    assert!(rt;
-        matches!(
-            open.committed(&second),
-            Some(Stored {
-                class: EMPLOYEE,
-                ..
-            })
-        )
-    );
-    assert!(rt; open.committed(&third).is_none());
-    // each written identity once, rising
-    assert_eq!(rt; open.written().len(), 2);
-    for (entry, number) in open.written().iter().zip([2, 3].as_slice()) {
-        assert!(rt; is_same_identity(&entry.get().0, &identity(a, 1, *number)?));
+/// The class that stands beside each table and number is what a transaction sees there.
+fn all_are_seen(
+    rt: &impl Abort,
+    alloc: Global,
+    open: &OpenSet,
+    seen: &[(u64, i64, Option<usize>)],
+) -> Result<(), Cause> {
+    for (table, number, class) in seen {
+        let id = identity(alloc, *table, *number)?;
+        assert_eq!(rt; class_seen(open, &id), *class, "{table}, {number}");
     }
     Ok(())
 }
 
+/// Tags in place of an employee, and under an identity of nobody.
+fn put_tags(alloc: Global, open: &mut OpenSet) -> Result<(), Cause> {
+    open.put(identity(alloc, 1, 3)?, tag(alloc))?;
+    open.put(identity(alloc, 1, 2)?, tag(alloc))
+}
+
+fn put_ada(alloc: Global, open: &mut OpenSet) -> Result<(), Cause> {
+    let named = person(alloc, PERSON, ada(alloc)?, Seq::new(alloc))?;
+    open.put(identity(alloc, 1, 3)?, named)
+}
+
+/// What is committed under an identity is of this class.
+fn is_committed(alloc: Global, open: &OpenSet, number: i64, class: usize) -> Result<bool, Cause> {
+    let id = identity(alloc, 1, number)?;
+    Ok(match open.committed(&id) {
+        Some(stored) => stored.class == class,
+        None => false,
+    })
+}
+
+/// Each identity once, rising.
+fn are_written(alloc: Global, open: &OpenSet, numbers: &[i64]) -> Result<bool, Cause> {
+    for (entry, number) in open.written().iter().zip(numbers) {
+        if !is_same_identity(&entry.get().0, &identity(alloc, 1, *number)?) {
+            return Ok(false);
+        }
+    }
+    Ok(open.written().len() == numbers.len())
+}
+
+fn see_written(rt: &impl Abort, alloc: Global, open: &mut OpenSet) -> Result<(), Cause> {
+    assert!(rt; open.written().is_empty());
+    put_tags(alloc, open)?;
+    put_ada(alloc, open)?;
+    // what was written hides what is committed, and nothing else does
+    let seen = [
+        (1, 2, Some(TAG)),
+        (1, 3, Some(PERSON)),
+        (3, 7, Some(TAG)),
+        (1, 4, None),
+    ];
+    all_are_seen(rt, alloc, open, &seen)?;
+    assert!(rt; is_committed(alloc, open, 2, EMPLOYEE)?);
+    assert!(rt; !is_committed(alloc, open, 3, PERSON)?);
+    assert!(rt; are_written(alloc, open, &[2, 3])?);
+    Ok(())
+}
+
 #[test]
-fn what_a_transaction_wrote_is_undone_or_kept(rt: HostRuntime) -> Result<(), Fail> {
-    let a = rt.alloc();
-    let (second, third) = (identity(a, 1, 2)?, identity(a, 1, 3)?);
-    let mut open = OpenSet::new(sound_set(a)?);
-    open.put(identity(a, 1, 3)?, tag(a))?;
-    open.put(identity(a, 1, 2)?, tag(a))?;
+fn what_a_transaction_sees(rt: HostRuntime) -> Result<(), Fail> {
+    let mut open = OpenSet::new(sound_set(rt.alloc())?);
+    see_written(&rt, rt.alloc(), &mut open)?;
+    Ok(())
+}
+
+fn see_undone(rt: &impl Abort, alloc: Global, open: &mut OpenSet) -> Result<(), Cause> {
+    put_tags(alloc, open)?;
     open.undo();
     assert!(rt; open.written().is_empty());
-    assert_eq!(rt; class_seen(&open, &second), Some(EMPLOYEE));
-    assert_eq!(rt; class_seen(&open, &third), None);
-    open.put(identity(a, 1, 3)?, tag(a))?;
-    open.put(identity(a, 1, 2)?, tag(a))?;
+    all_are_seen(rt, alloc, open, &[(1, 2, Some(EMPLOYEE)), (1, 3, None)])
+}
+
+fn see_kept(rt: &impl Abort, alloc: Global, open: &mut OpenSet) -> Result<(), Cause> {
+    put_tags(alloc, open)?;
     open.keep();
     assert!(rt; open.written().is_empty());
-    assert!(rt; matches!(open.committed(&second), Some(Stored { class: TAG, .. })));
-    assert_eq!(rt; class_seen(&open, &third), Some(TAG));
+    assert!(rt; is_committed(alloc, open, 2, TAG)?);
+    assert!(rt; is_committed(alloc, open, 3, TAG)?);
     // what was kept is not undone
     open.undo();
-    assert_eq!(rt; class_seen(&open, &second), Some(TAG));
-    assert_eq!(rt; class_seen(&open, &third), Some(TAG));
-    assert_eq!(rt; class_seen(&open, &identity(a, 1, 1)?), Some(PERSON));
+    let seen = [(1, 1, Some(PERSON)), (1, 2, Some(TAG)), (1, 3, Some(TAG))];
+    all_are_seen(rt, alloc, open, &seen)
+}
+
+#[test]
+fn what_a_transaction_wrote_is_undone_or_kept(rt: HostRuntime) -> Result<(), Fail> {
+    let mut open = OpenSet::new(sound_set(rt.alloc())?);
+    see_undone(&rt, rt.alloc(), &mut open)?;
+    see_kept(&rt, rt.alloc(), &mut open)?;
+    Ok(())
+}
+
+/// What is put beside the sound set or goes from it, and the part of soundness that fails first.
+struct Case {
+    person: Option<PersonRow>,
+    another: Option<PersonRow>,
+    order: Option<OrderRow>,
+    gone: Option<Target>,
+    fault: &'static str,
+}
+
+const NAMELESS: PersonRow = PersonRow {
+    number: 3,
+    class: PERSON,
+    named: false,
+    badge: None,
+};
+
+const SECOND_OWNER: PersonRow = PersonRow {
+    number: 3,
+    class: EMPLOYEE,
+    named: true,
+    badge: Some((3, 7)),
+};
+
+const UNCHANGED: Case = Case {
+    person: None,
+    another: None,
+    order: None,
+    gone: None,
+    fault: "none",
+};
+
+const CASES: [Case; 9] = [
+    UNCHANGED,
+    // a name that is null
+    Case {
+        person: Some(NAMELESS),
+        fault: "null",
+        ..UNCHANGED
+    },
+    // the first part is told before the others, whatever stands first
+    Case {
+        person: Some(NAMELESS),
+        another: Some(PersonRow {
+            number: 0,
+            class: PERSON,
+            named: true,
+            badge: Some((3, 8)),
+        }),
+        fault: "null",
+        ..UNCHANGED
+    },
+    // an order of nobody
+    Case {
+        order: Some(OrderRow {
+            number: 13,
+            person: None,
+            tag: None,
+        }),
+        fault: "null",
+        ..UNCHANGED
+    },
+    // an order of a person that is not there
+    Case {
+        gone: Some((1, 2)),
+        fault: "reference",
+        ..UNCHANGED
+    },
+    // an order of another order
+    Case {
+        order: Some(OrderRow {
+            number: 13,
+            person: Some((2, 10)),
+            tag: None,
+        }),
+        fault: "reference",
+        ..UNCHANGED
+    },
+    // a tag that is a person
+    Case {
+        order: Some(OrderRow {
+            number: 13,
+            person: Some((1, 1)),
+            tag: Some((1, 1)),
+        }),
+        fault: "reference",
+        ..UNCHANGED
+    },
+    // a badge that two persons own
+    Case {
+        person: Some(SECOND_OWNER),
+        fault: "unique",
+        ..UNCHANGED
+    },
+    // and a link that leads to nobody
+    Case {
+        person: Some(SECOND_OWNER),
+        order: Some(OrderRow {
+            number: 13,
+            person: Some((1, 9)),
+            tag: None,
+        }),
+        fault: "reference",
+        ..UNCHANGED
+    },
+];
+
+fn changed(alloc: Global, case: &Case) -> Result<StoredSet, Cause> {
+    let mut set = sound_set(alloc)?;
+    if let Some(row) = &case.person {
+        put_person(&mut set, alloc, row)?;
+    }
+    if let Some(row) = &case.another {
+        put_person(&mut set, alloc, row)?;
+    }
+    if let Some(row) = &case.order {
+        put_order(&mut set, alloc, row)?;
+    }
+    if let Some((table, number)) = case.gone {
+        set.remove(&identity(alloc, table, number)?);
+    }
+    Ok(set)
+}
+
+fn see_fault(
+    rt: &impl Abort,
+    unit: &PersistenceUnit,
+    set: &StoredSet,
+    want: &str,
+) -> Result<(), Cause> {
+    assert_eq!(rt; fault(unit, set)?, want);
+    Ok(())
+}
+
+/// Each case's set fails as it says.
+fn all_fail(
+    rt: &impl Abort,
+    alloc: Global,
+    unit: &PersistenceUnit,
+    cases: &[Case],
+) -> Result<(), Cause> {
+    for case in cases {
+        let set = changed(alloc, case)?;
+        see_fault(rt, unit, &set, case.fault)?;
+    }
     Ok(())
 }
 
 #[test]
 fn sound_and_unsound(rt: HostRuntime) -> Result<(), Fail> {
-    let a = rt.alloc();
-    let unit = unit(a)?;
-    assert!(rt; fault(&unit, &StoredSet::new(a))?.is_none());
-    assert!(rt; fault(&unit, &sound_set(a)?)?.is_none());
-    // a name that is null
-    let mut set = sound_set(a)?;
-    set.put(
-        identity(a, 1, 3)?,
-        person(a, PERSON, Value::Null, Seq::new(a))?,
-    )?;
-    assert!(rt; matches!(fault(&unit, &set)?, Some(Persist::Null)));
-    // the first part is told before the others, whatever stands first
-    set.put(
-        identity(a, 1, 0)?,
-        person(a, PERSON, ada(a)?, one(a, 3, 8)?)?,
-    )?;
-    assert!(rt; matches!(fault(&unit, &set)?, Some(Persist::Null)));
-    // an order of nobody
-    let mut set = sound_set(a)?;
-    set.put(identity(a, 2, 13)?, order(a, Seq::new(a), Seq::new(a))?)?;
-    assert!(rt; matches!(fault(&unit, &set)?, Some(Persist::Null)));
-    // an order of a person that is not there
-    let mut set = sound_set(a)?;
-    assert!(rt; set.remove(&identity(a, 1, 2)?));
-    assert!(rt; matches!(fault(&unit, &set)?, Some(Persist::Reference)));
-    // an order of another order, and a tag that is a person
-    let mut set = sound_set(a)?;
-    set.put(identity(a, 2, 13)?, order(a, one(a, 2, 10)?, Seq::new(a))?)?;
-    assert!(rt; matches!(fault(&unit, &set)?, Some(Persist::Reference)));
-    let mut set = sound_set(a)?;
-    set.put(identity(a, 2, 13)?, order(a, one(a, 1, 1)?, one(a, 1, 1)?)?)?;
-    assert!(rt; matches!(fault(&unit, &set)?, Some(Persist::Reference)));
-    // a badge that two persons own, then also a dangling link
-    let mut set = sound_set(a)?;
-    set.put(
-        identity(a, 1, 3)?,
-        person(a, EMPLOYEE, ada(a)?, one(a, 3, 7)?)?,
-    )?;
-    assert!(rt; matches!(fault(&unit, &set)?, Some(Persist::Unique)));
-    set.put(identity(a, 2, 13)?, order(a, one(a, 1, 9)?, Seq::new(a))?)?;
-    assert!(rt; matches!(fault(&unit, &set)?, Some(Persist::Reference)));
+    let metamodel = unit_of(rt.alloc(), UNIT)?;
+    see_fault(&rt, metamodel.unit(), &StoredSet::new(rt.alloc()), "none")?;
+    all_fail(&rt, rt.alloc(), metamodel.unit(), &CASES)?;
+    Ok(())
+}
+
+/// A class, the table and number of an object, a relation, and how many members it has.
+type Counted = (usize, Target, usize, usize);
+
+const COUNTED: [Counted; 6] = [
+    (PERSON, (1, 1), 0, 2),
+    (PERSON, (1, 2), 0, 1),
+    // what is owned
+    (PERSON, (1, 1), 1, 1),
+    (ORDER, (2, 11), 1, 1),
+    // no object there, and one of a class without the relation
+    (PERSON, (1, 9), 0, 0),
+    (PERSON, (3, 7), 1, 0),
+];
+
+fn all_are_counted(
+    rt: &impl Abort,
+    alloc: Global,
+    unit: &PersistenceUnit,
+    set: &StoredSet,
+    counted: &[Counted],
+) -> Result<(), Cause> {
+    for (class, (table, number), relation, count) in counted {
+        let id = identity(alloc, *table, *number)?;
+        let found = members(unit, set, *class, &id, *relation)?;
+        assert_eq!(rt; found.len(), *count);
+    }
+    Ok(())
+}
+
+/// Whether the orders of person 1 are these, rising.
+fn are_orders(
+    alloc: Global,
+    unit: &PersistenceUnit,
+    set: &StoredSet,
+    numbers: &[i64],
+) -> Result<bool, Cause> {
+    let person = identity(alloc, 1, 1)?;
+    let orders = members(unit, set, PERSON, &person, 0)?;
+    for (id, number) in orders.as_slice().iter().zip(numbers) {
+        if !is_same_identity(id, &identity(alloc, 2, *number)?) {
+            return Ok(false);
+        }
+    }
+    Ok(orders.len() == numbers.len())
+}
+
+fn see_related(rt: &impl Abort, alloc: Global, metamodel: &Metamodel) -> Result<(), Cause> {
+    let set = sound_set(alloc)?;
+    all_are_counted(rt, alloc, metamodel.unit(), &set, &COUNTED)?;
+    assert!(rt; are_orders(alloc, metamodel.unit(), &set, &[10, 11])?);
     Ok(())
 }
 
 #[test]
 fn members_of_relations(rt: HostRuntime) -> Result<(), Fail> {
-    let a = rt.alloc();
-    let unit = unit(a)?;
-    let set = sound_set(a)?;
-    // the orders of person 1, rising, and of employee 2 through the relation of a person
-    let orders = members(&unit, &set, PERSON, &identity(a, 1, 1)?, 0)?;
-    assert_eq!(rt; orders.len(), 2);
-    for (id, number) in orders.as_slice().iter().zip([10, 11].as_slice()) {
-        assert!(rt; is_same_identity(id, &identity(a, 2, *number)?));
-    }
-    assert_eq!(rt;
-        members(&unit, &set, PERSON, &identity(a, 1, 2)?, 0)?.len(),
-        1
-    );
-    // what is owned
-    assert_eq!(rt;
-        members(&unit, &set, PERSON, &identity(a, 1, 1)?, 1)?.len(),
-        1
-    );
-    assert_eq!(rt;
-        members(&unit, &set, ORDER, &identity(a, 2, 11)?, 1)?.len(),
-        1
-    );
-    // no object there, and one of a class without the relation
-    assert!(rt; members(&unit, &set, PERSON, &identity(a, 1, 9)?, 0)?.is_empty());
-    assert!(rt; members(&unit, &set, PERSON, &identity(a, 3, 7)?, 1)?.is_empty());
+    let metamodel = unit_of(rt.alloc(), UNIT)?;
+    see_related(&rt, rt.alloc(), &metamodel)?;
     Ok(())
 }

@@ -262,7 +262,7 @@ fn tells(
     number: u64,
     text: &str,
 ) -> Result<(), Fail> {
-    assert_eq!(rt; refusal.number(), number, "{text}");
+    assert_eq!(rt; refusal.number(), number);
     assert_eq!(rt; refusal_text(alloc, refusal)?.as_str(), text);
     Ok(())
 }

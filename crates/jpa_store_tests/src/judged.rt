@@ -21,6 +21,7 @@ use jpa_stored::{Stored, StoredSet};
 use jpa_value::{Bytes, Cause, Identity, Seq};
 use sqlite::{Connection, MemStore};
 use std::alloc::Global;
+use std::process::Abort;
 use std::test::Fail;
 
 /// Persons with generated keys and versions, and orders that each may have a person.
@@ -114,47 +115,57 @@ const SOUND: [(Unit, &str, &str); 8] = [
 ];
 
 /// Rows of no set of persons and orders, with the place that is told.
-const DAMAGED: [(&str, &str); 11] = [
+const DAMAGED: [(Unit, &str, &str); 11] = [
     (
+        Unit::Persons,
         "1 018000000000000001 0:0258",
         "Damaged(1:018000000000000001)",
     ),
-    ("1 01 0:02506572736f6e", "Damaged(1:01)"),
+    (Unit::Persons, "1 01 0:02506572736f6e", "Damaged(1:01)"),
     (
+        Unit::Persons,
         "0 018000000000000001 0:018000000000000001",
         "Damaged(0:018000000000000001)",
     ),
     (
+        Unit::Persons,
         "0 018000000000000000 0:018000000000000002",
         "Damaged(0:018000000000000000)",
     ),
     (
+        Unit::Persons,
         "1 018000000000000001 0:02506572736f6e 1:018000000000000000 2:02416461",
         "Damaged(0:)",
     ),
     (
+        Unit::Persons,
         "2 01800000000000000a 0:024f72646572 2:04018000000000000001",
         "Damaged(0:)",
     ),
     (
+        Unit::Persons,
         "1 018000000000000001 2:02ff",
         "Damaged(1:018000000000000001)",
     ),
     // No version, a column that no member has, and the first of two.
     (
+        Unit::Persons,
         "1 018000000000000001 0:02506572736f6e",
         "Damaged(1:018000000000000001)",
     ),
     (
+        Unit::Persons,
         "2 018000000000000001 0:024f72646572 3:018000000000000001",
         "Damaged(2:018000000000000001)",
     ),
     (
+        Unit::Persons,
         "2 01 0:02\n1 018000000000000009 0:0258",
         "Damaged(1:018000000000000009)",
     ),
     // The key 2 isn't below the next number.
     (
+        Unit::Persons,
         "1 018000000000000002 0:02506572736f6e 1:018000000000000000\n0 018000000000000001 0:018000000000000002",
         "Damaged(0:)",
     ),
@@ -405,14 +416,19 @@ const OBJECTS: [(Unit, &str); 6] = [
     ),
 ];
 
-#[test]
-fn objects_there_and_back(rt: HostRuntime) -> Result<(), Fail> {
-    for (unit, rows) in OBJECTS {
-        let mapping = mapping_of(unit);
-        let found = there_and_back(rt.alloc(), mapping, mapping, rows)?;
-        assert_eq!(rt; found.as_str(), rows);
+/// Each store's rows are written as they were read.
+fn all_are_kept(rt: &impl Abort, alloc: Global, stores: &[(Unit, &str)]) -> Result<(), Fail> {
+    for (unit, rows) in stores {
+        let mapping = mapping_of(*unit);
+        let found = there_and_back(alloc, mapping, mapping, rows)?;
+        assert_eq!(rt; found.as_str(), *rows);
     }
     Ok(())
+}
+
+#[test]
+fn objects_there_and_back(rt: HostRuntime) -> Result<(), Fail> {
+    all_are_kept(&rt, rt.alloc(), &OBJECTS)
 }
 
 // A person with a generated key is written beside the next number, which is a row of its own, and an order leads to her.
@@ -445,40 +461,42 @@ fn a_next_number_is_a_row(rt: HostRuntime) -> Result<(), Fail> {
     Ok(())
 }
 
-#[test]
-fn sound_stores(rt: HostRuntime) -> Result<(), Fail> {
-    for (unit, rows, want) in SOUND {
-        let found = answer(rt.alloc(), mapping_of(unit), rows)?;
-        assert_eq!(rt; found.as_str(), want, "{rows}");
+/// Each store's rows stand for what stands beside them.
+fn all_answer(rt: &impl Abort, alloc: Global, stores: &[(Unit, &str, &str)]) -> Result<(), Fail> {
+    for (unit, rows, want) in stores {
+        let found = answer(alloc, mapping_of(*unit), rows)?;
+        assert_eq!(rt; found.as_str(), *want, "{rows}");
     }
     Ok(())
+}
+
+#[test]
+fn sound_stores(rt: HostRuntime) -> Result<(), Fail> {
+    all_answer(&rt, rt.alloc(), &SOUND)
 }
 
 #[test]
 fn damaged_stores(rt: HostRuntime) -> Result<(), Fail> {
-    for (rows, want) in DAMAGED {
-        let found = answer(rt.alloc(), PERSONS, rows)?;
-        assert_eq!(rt; found.as_str(), want, "{rows}");
-    }
-    Ok(())
+    all_answer(&rt, rt.alloc(), &DAMAGED)
 }
 
 #[test]
 fn damaged_stores_of_other_units(rt: HostRuntime) -> Result<(), Fail> {
-    for (unit, rows, want) in DAMAGED_OTHERS {
-        let found = answer(rt.alloc(), mapping_of(unit), rows)?;
-        assert_eq!(rt; found.as_str(), want, "{rows}");
-    }
-    Ok(())
+    all_answer(&rt, rt.alloc(), &DAMAGED_OTHERS)
+}
+
+/// Whether the functions of one mapping have the names that another one needs.
+fn are_known(alloc: Global, mapping: &str, functions: &str) -> Result<bool, Cause> {
+    let metamodel = read_mapping(alloc, mapping.as_bytes())?;
+    let registry = registry_of(alloc, read_functions(alloc, functions.as_bytes())?)?;
+    Ok(names_are_known(&metamodel, &registry))
 }
 
 #[test]
 fn names_of_functions(rt: HostRuntime) -> Result<(), Fail> {
     let alloc = rt.alloc();
-    let metamodel = read_mapping(alloc, CONVERTED.as_bytes())?;
-    let with_names = registry_of(alloc, read_functions(alloc, WITHOUT_BOB.as_bytes())?)?;
-    assert!(rt; names_are_known(&metamodel, &with_names));
-    let none = registry_of(alloc, read_functions(alloc, PERSONS.as_bytes())?)?;
-    assert!(rt; !names_are_known(&metamodel, &none));
+    for (functions, want) in [(WITHOUT_BOB, true), (PERSONS, false)] {
+        assert!(rt; are_known(alloc, CONVERTED, functions)? == want);
+    }
     Ok(())
 }

@@ -85,10 +85,14 @@ impl Behaviour for Sample {
     ghost representable = { λ listener image h. spec.sets_representable listener.attribute listener.text listener.is_text };
 }
 
+fn add_converter(registry: &mut Registry<Sample>, name: &str, turn: Turn) -> Result<(), Cause> {
+    registry.add_converter(name, turn)
+}
+
 fn two_converters(alloc: Global) -> Result<Registry<Sample>, Cause> {
     let mut registry = Registry::new(alloc);
-    registry.add_converter("one", Turn::Flip)?;
-    registry.add_converter("same", Turn::Same)?;
+    add_converter(&mut registry, "one", Turn::Flip)?;
+    add_converter(&mut registry, "same", Turn::Same)?;
     Ok(registry)
 }
 

@@ -1,6 +1,9 @@
 //! Texts with their trees, taken from the lines of the grammar.
 use crate::shown::outcome;
+use jpa_value::Cause;
 use jpql_text::at_most_one_tree;
+use std::alloc::Global;
+use std::process::Abort;
 use std::test::Fail;
 
 const ITEMS: [(&str, &str); 13] = [
@@ -273,27 +276,17 @@ const EXAMPLES: [(&str, &str); 23] = [
     ),
 ];
 
-#[test]
-fn items_and_ranges(rt: HostRuntime) -> Result<(), Fail> {
-    at_most_one_tree();
-    for (text, want) in ITEMS {
-        assert_eq!(rt; outcome(rt.alloc(), text)?.as_str(), want);
+/// Each text is read as the tree that stands beside it.
+fn all_are_so(rt: &impl Abort, alloc: Global, texts: &[(&str, &str)]) -> Result<(), Cause> {
+    for (text, want) in texts {
+        assert_eq!(rt; outcome(alloc, text)?.as_str(), *want);
     }
     Ok(())
 }
 
-#[test]
-fn values(rt: HostRuntime) -> Result<(), Fail> {
-    for (text, want) in VALUES {
-        assert_eq!(rt; outcome(rt.alloc(), text)?.as_str(), want);
-    }
-    Ok(())
-}
-
-#[test]
-fn tests(rt: HostRuntime) -> Result<(), Fail> {
-    let alloc = rt.alloc();
-    for (test, want) in TESTS {
+/// The same for tests of WHERE.
+fn all_tests_are_so(rt: &impl Abort, alloc: Global, tests: &[(&str, &str)]) -> Result<(), Cause> {
+    for (test, want) in tests {
         let text = format!(in alloc; "SELECT p FROM P p WHERE {test}")?;
         let want = format!(in alloc; "SELECT p; FROM P p; WHERE {want}")?;
         assert_eq!(rt; outcome(alloc, text.as_str())?.as_str(), want.as_str());
@@ -302,17 +295,32 @@ fn tests(rt: HostRuntime) -> Result<(), Fail> {
 }
 
 #[test]
+fn items_and_ranges(rt: HostRuntime) -> Result<(), Fail> {
+    at_most_one_tree();
+    all_are_so(&rt, rt.alloc(), &ITEMS)?;
+    Ok(())
+}
+
+#[test]
+fn values(rt: HostRuntime) -> Result<(), Fail> {
+    all_are_so(&rt, rt.alloc(), &VALUES)?;
+    Ok(())
+}
+
+#[test]
+fn tests(rt: HostRuntime) -> Result<(), Fail> {
+    all_tests_are_so(&rt, rt.alloc(), &TESTS)?;
+    Ok(())
+}
+
+#[test]
 fn statements(rt: HostRuntime) -> Result<(), Fail> {
-    for (text, want) in STATEMENTS {
-        assert_eq!(rt; outcome(rt.alloc(), text)?.as_str(), want);
-    }
+    all_are_so(&rt, rt.alloc(), &STATEMENTS)?;
     Ok(())
 }
 
 #[test]
 fn examples(rt: HostRuntime) -> Result<(), Fail> {
-    for (text, want) in EXAMPLES {
-        assert_eq!(rt; outcome(rt.alloc(), text)?.as_str(), want);
-    }
+    all_are_so(&rt, rt.alloc(), &EXAMPLES)?;
     Ok(())
 }

@@ -1,83 +1,174 @@
 //! Texts at the limits and over them.
 use crate::shown::outcome;
 use jpa_value::Cause;
-use std::alloc::Global;
+use std::alloc::{AllocError, Global};
+use std::process::Abort;
 use std::test::Fail;
 
-/// A text with this many copies of a part between two others.
-fn repeated(
-    alloc: Global,
-    before: &str,
-    part: &str,
+/// A part that stands so many times between two others, and what is read of it; `within` is any answer but the limit.
+struct Repeated<'a> {
+    before: &'a str,
+    part: &'a str,
     count: usize,
-    after: &str,
-) -> Result<String, Cause> {
-    let mut text = String::from_str(alloc, before)?;
-    for _ in 0..count {
-        text.push_str(part)?;
+    after: &'a str,
+    want: &'a str,
+}
+
+const LIMITS: [Repeated<'static>; 17] = [
+    // a text of 16,384 bytes, and longer ones
+    Repeated {
+        before: "SELECT p FROM P p",
+        part: " ",
+        count: 16_367,
+        after: "",
+        want: "SELECT p; FROM P p;",
+    },
+    Repeated {
+        before: "SELECT p FROM P p",
+        part: " ",
+        count: 16_368,
+        after: "",
+        want: "limit",
+    },
+    Repeated {
+        before: "",
+        part: "?",
+        count: 16_385,
+        after: "",
+        want: "limit",
+    },
+    // 32 open parentheses, and 33
+    Repeated {
+        before: "SELECT ",
+        part: "(",
+        count: 32,
+        after: "1 FROM P p",
+        want: "syntax",
+    },
+    Repeated {
+        before: "SELECT ",
+        part: "(",
+        count: 33,
+        after: "1 FROM P p",
+        want: "limit",
+    },
+    Repeated {
+        before: ")) SELECT ",
+        part: "(",
+        count: 32,
+        after: ")",
+        want: "syntax",
+    },
+    Repeated {
+        before: ")) SELECT ",
+        part: "(",
+        count: 33,
+        after: ")",
+        want: "limit",
+    },
+    Repeated {
+        before: "SELECT p FROM P p WHERE 'a",
+        part: "(",
+        count: 40,
+        after: "' IS NULL",
+        want: "within",
+    },
+    Repeated {
+        before: "SELECT p FROM P p WHERE ",
+        part: "(",
+        count: 32,
+        after: "1 = 1))))))))))))))))))))))))))))))))",
+        want: "SELECT p; FROM P p; WHERE (1 = 1)",
+    },
+    // eight variables, and nine
+    Repeated {
+        before: "SELECT p FROM P p",
+        part: ", P q",
+        count: 7,
+        after: "",
+        want: "within",
+    },
+    Repeated {
+        before: "SELECT p FROM P p",
+        part: ", P q",
+        count: 8,
+        after: "",
+        want: "limit",
+    },
+    Repeated {
+        before: "SELECT p FROM P p",
+        part: " JOIN p.a q",
+        count: 7,
+        after: "",
+        want: "within",
+    },
+    Repeated {
+        before: "SELECT p FROM P p",
+        part: " JOIN p.a q",
+        count: 8,
+        after: "",
+        want: "limit",
+    },
+    Repeated {
+        before: "DELETE FROM P p WHERE 1 = 1",
+        part: " AND EXISTS (SELECT 1 FROM Q q)",
+        count: 7,
+        after: "",
+        want: "within",
+    },
+    Repeated {
+        before: "DELETE FROM P p WHERE 1 = 1",
+        part: " AND EXISTS (SELECT 1 FROM Q q)",
+        count: 8,
+        after: "",
+        want: "limit",
+    },
+    Repeated {
+        before: "SELECT p FROM P p",
+        part: ", P q",
+        count: 7,
+        after: " p",
+        want: "syntax",
+    },
+    Repeated {
+        before: "SELECT p FROM P p",
+        part: ", P q",
+        count: 8,
+        after: " p",
+        want: "syntax",
+    },
+];
+
+fn text_of(alloc: Global, repeated: &Repeated<'_>) -> Result<String, AllocError> {
+    let mut text = String::from_str(alloc, repeated.before)?;
+    for _ in 0..repeated.count {
+        text.push_str(repeated.part)?;
     }
-    text.push_str(after)?;
+    text.push_str(repeated.after)?;
     Ok(text)
 }
 
-#[test]
-fn a_text_has_16384_bytes(rt: HostRuntime) -> Result<(), Fail> {
-    let alloc = rt.alloc();
-    let most = repeated(alloc, "SELECT p FROM P p", " ", 16_384 - 17, "")?;
-    assert_eq!(rt;
-        outcome(alloc, most.as_str())?.as_str(),
-        "SELECT p; FROM P p;"
-    );
-    let more = repeated(alloc, "SELECT p FROM P p", " ", 16_385 - 17, "")?;
-    assert_eq!(rt; outcome(alloc, more.as_str())?.as_str(), "limit");
-    let longer = repeated(alloc, "", "?", 16_385, "")?;
-    assert_eq!(rt; outcome(alloc, longer.as_str())?.as_str(), "limit");
+/// What is read of a text; `within` where it is within the limits and its tree is not asked for.
+fn is_read_as(alloc: Global, text: &str, want: &str) -> Result<bool, Cause> {
+    let read = outcome(alloc, text)?;
+    Ok(read.as_str() == want || want == "within" && read.as_str() != "limit")
+}
+
+fn all_are_read(rt: &impl Abort, alloc: Global, limits: &[Repeated<'_>]) -> Result<(), Cause> {
+    for limit in limits {
+        let text = text_of(alloc, limit)?;
+        let before = limit.before;
+        let count = limit.count;
+        assert!(rt;
+            is_read_as(alloc, text.as_str(), limit.want)?,
+            "{before}: {count}"
+        );
+    }
     Ok(())
 }
 
 #[test]
-fn thirty_two_parentheses_are_open(rt: HostRuntime) -> Result<(), Fail> {
-    let alloc = rt.alloc();
-    for (count, want) in [(32, "syntax"), (33, "limit")] {
-        let open = repeated(alloc, "SELECT ", "(", count, "1 FROM P p")?;
-        assert_eq!(rt; outcome(alloc, open.as_str())?.as_str(), want);
-        let closed = repeated(alloc, ")) SELECT ", "(", count, ")")?;
-        assert_eq!(rt; outcome(alloc, closed.as_str())?.as_str(), want);
-    }
-    let quoted = repeated(alloc, "SELECT p FROM P p WHERE 'a", "(", 40, "' IS NULL")?;
-    assert!(rt; outcome(alloc, quoted.as_str())?.as_str() != "limit");
-    let deepest = repeated(
-        alloc,
-        "SELECT p FROM P p WHERE ",
-        "(",
-        32,
-        "1 = 1))))))))))))))))))))))))))))))))",
-    )?;
-    assert_eq!(rt;
-        outcome(alloc, deepest.as_str())?.as_str(),
-        "SELECT p; FROM P p; WHERE (1 = 1)"
-    );
-    Ok(())
-}
-
-#[test]
-fn eight_variables(rt: HostRuntime) -> Result<(), Fail> {
-    let alloc = rt.alloc();
-    for (count, is_limit) in [(7, false), (8, true)] {
-        let ranges = repeated(alloc, "SELECT p FROM P p", ", P q", count, "")?;
-        assert!(rt; (outcome(alloc, ranges.as_str())?.as_str() == "limit") == is_limit);
-        let joins = repeated(alloc, "SELECT p FROM P p", " JOIN p.a q", count, "")?;
-        assert!(rt; (outcome(alloc, joins.as_str())?.as_str() == "limit") == is_limit);
-        let blocks = repeated(
-            alloc,
-            "DELETE FROM P p WHERE 1 = 1",
-            " AND EXISTS (SELECT 1 FROM Q q)",
-            count,
-            "",
-        )?;
-        assert!(rt; (outcome(alloc, blocks.as_str())?.as_str() == "limit") == is_limit);
-        let outside = repeated(alloc, "SELECT p FROM P p", ", P q", count, " p")?;
-        assert_eq!(rt; outcome(alloc, outside.as_str())?.as_str(), "syntax");
-    }
+fn limits_are_the_last_that_is_read(rt: HostRuntime) -> Result<(), Fail> {
+    all_are_read(&rt, rt.alloc(), &LIMITS)?;
     Ok(())
 }

@@ -1,5 +1,8 @@
 //! Texts outside the grammar.
 use crate::shown::outcome;
+use jpa_value::Cause;
+use std::alloc::Global;
+use std::process::Abort;
 use std::test::Fail;
 
 const REFUSED: [&str; 70] = [
@@ -114,15 +117,25 @@ const REFUSED_TESTS: [&str; 36] = [
     "p.a = (1 = 2)",
 ];
 
-#[test]
-fn refused(rt: HostRuntime) -> Result<(), Fail> {
-    let alloc = rt.alloc();
-    for text in REFUSED {
+fn all_are_refused(rt: &impl Abort, alloc: Global, texts: &[&str]) -> Result<(), Cause> {
+    for text in texts {
         assert_eq!(rt; outcome(alloc, text)?.as_str(), "syntax");
     }
-    for test in REFUSED_TESTS {
+    Ok(())
+}
+
+/// The same for tests of WHERE.
+fn all_tests_are_refused(rt: &impl Abort, alloc: Global, tests: &[&str]) -> Result<(), Cause> {
+    for test in tests {
         let text = format!(in alloc; "SELECT p FROM P p WHERE {test}")?;
         assert_eq!(rt; outcome(alloc, text.as_str())?.as_str(), "syntax");
     }
+    Ok(())
+}
+
+#[test]
+fn refused(rt: HostRuntime) -> Result<(), Fail> {
+    all_are_refused(&rt, rt.alloc(), &REFUSED)?;
+    all_tests_are_refused(&rt, rt.alloc(), &REFUSED_TESTS)?;
     Ok(())
 }

@@ -31,8 +31,12 @@ pub const ORDER: ParamType = ParamType::Entity(2);
 
 pub const NULL: ParamType = ParamType::Null;
 
+fn unit_of(alloc: Global, mapping: &str) -> Result<Metamodel, Cause> {
+    read_mapping(alloc, mapping.as_bytes())
+}
+
 pub fn shop(alloc: Global) -> Result<Metamodel, Cause> {
-    read_mapping(alloc, SHOP.as_bytes())
+    unit_of(alloc, SHOP)
 }
 
 /// The name of what is answered.

@@ -1,7 +1,7 @@
 //! Every member of every object: missing, doubled, of another type, and with another one beside it.
 use super::answer;
 use super::places::{
-    ATTRIBUTE, CALLBACK, DEFAULT_LISTENER, INVERSE, KEY_PART, LISTENER, MAPPING, Place,
+    ATTRIBUTE, CALLBACK, DEFAULT_LISTENER, INVERSE, KEY_PART, LISTENER, MAPPING, Member, Place,
     ROOT_ENTITY, SUBCLASS, TO_MANY, TO_ONE, Takes, VERSION,
 };
 use jpa_value::Cause;
@@ -76,6 +76,31 @@ fn is_misshapen(alloc: Global, place: &Place<'_>, at: usize, instead: &str) -> R
     Ok(answer(alloc, text.as_bytes())? == "shape")
 }
 
+// The same with the member once more, with this value.
+fn is_misshapen_with(
+    alloc: Global,
+    place: &Place<'_>,
+    at: usize,
+    name: &str,
+    json: &str,
+) -> Result<bool, Cause> {
+    let member = format!(in alloc; "\"{name}\":{json}")?;
+    is_misshapen(alloc, place, at, member.as_str())
+}
+
+// The same with the member twice.
+fn is_misshapen_twice(
+    alloc: Global,
+    place: &Place<'_>,
+    at: usize,
+    name: &str,
+    values: (&str, &str),
+) -> Result<bool, Cause> {
+    let (first, last) = values;
+    let members = format!(in alloc; "\"{name}\":{first},\"{name}\":{last}")?;
+    is_misshapen(alloc, place, at, members.as_str())
+}
+
 // The member with each value in turn, alone and doubled: the last one counts.
 fn try_values(
     rt: &impl Abort,
@@ -86,69 +111,69 @@ fn try_values(
 ) -> Result<(), Cause> {
     let (name, value, wanted) = member;
     for (json, form) in VALUES {
-        let good = is_taken(wanted, form);
-        let one = format!(in alloc; "\"{name}\":{json}")?;
-        assert_eq!(rt;
-            is_misshapen(alloc, place, at, one.as_str())?,
-            !good,
-            "{name}: {json}"
-        );
-        let last = format!(in alloc; "\"{name}\":{value},\"{name}\":{json}")?;
-        assert_eq!(rt;
-            is_misshapen(alloc, place, at, last.as_str())?,
-            !good,
-            "{name}: {json} last"
-        );
-        let first = format!(in alloc; "\"{name}\":{json},\"{name}\":{value}")?;
-        assert!(rt;
-            !is_misshapen(alloc, place, at, first.as_str())?,
-            "{name}: {json} first"
-        );
+        let bad = !is_taken(wanted, form);
+        let alone = is_misshapen_with(alloc, place, at, name, json)?;
+        let last = is_misshapen_twice(alloc, place, at, name, (value, json))?;
+        let first = is_misshapen_twice(alloc, place, at, name, (json, value))?;
+        assert_eq!(rt; (alone, last, first), (bad, bad, false), "{name}: {json}");
     }
     Ok(())
+}
+
+fn try_member(
+    rt: &impl Abort,
+    alloc: Global,
+    place: &Place<'_>,
+    at: usize,
+    member: &Member<'_>,
+) -> Result<(), Cause> {
+    let (name, value, wanted, is_required) = *member;
+    assert_eq!(rt;
+        is_misshapen(alloc, place, at, "")?,
+        is_required,
+        "no {name}"
+    );
+    let twice = is_misshapen_twice(alloc, place, at, name, (value, value))?;
+    assert!(rt; !twice, "{name} twice");
+    let beside = format!(in alloc; "\"{name}\":{value},\"other\":1")?;
+    let is_refused = is_misshapen(alloc, place, at, beside.as_str())?;
+    assert!(rt; is_refused, "other beside {name}");
+    try_values(rt, alloc, place, at, (name, value, wanted))
 }
 
 fn try_members(rt: &impl Abort, alloc: Global, place: &Place<'_>) -> Result<(), Cause> {
     let whole = is_misshapen(alloc, place, place.members.len(), "")?;
     assert!(rt; !whole, "{}", place.before);
-    for (i, (name, value, wanted, is_required)) in place.members.iter().enumerate() {
-        assert_eq!(rt;
-            is_misshapen(alloc, place, i, "")?,
-            *is_required,
-            "no {name}"
-        );
-        let twice = format!(in alloc; "\"{name}\":{value},\"{name}\":{value}")?;
-        assert!(rt;
-            !is_misshapen(alloc, place, i, twice.as_str())?,
-            "{name} twice"
-        );
-        let beside = format!(in alloc; "\"{name}\":{value},\"other\":1")?;
-        assert!(rt;
-            is_misshapen(alloc, place, i, beside.as_str())?,
-            "other beside {name}"
-        );
-        try_values(rt, alloc, place, i, (name, value, *wanted))?;
+    for (at, member) in place.members.iter().enumerate() {
+        try_member(rt, alloc, place, at, member)?;
     }
     Ok(())
 }
 
+fn try_places(rt: &impl Abort, alloc: Global, places: &[Place<'_>]) -> Result<(), Cause> {
+    for place in places {
+        try_members(rt, alloc, place)?;
+    }
+    Ok(())
+}
+
+const PLACES: [Place<'static>; 12] = [
+    MAPPING,
+    ROOT_ENTITY,
+    SUBCLASS,
+    KEY_PART,
+    VERSION,
+    ATTRIBUTE,
+    TO_ONE,
+    TO_MANY,
+    INVERSE,
+    DEFAULT_LISTENER,
+    LISTENER,
+    CALLBACK,
+];
+
 #[test]
 fn takes_each_member_of_its_type(rt: HostRuntime) -> Result<(), Fail> {
-    for place in [
-        MAPPING,
-        ROOT_ENTITY,
-        SUBCLASS,
-        KEY_PART,
-        VERSION,
-        ATTRIBUTE,
-        TO_ONE,
-        TO_MANY,
-        INVERSE,
-        DEFAULT_LISTENER,
-        LISTENER,
-        CALLBACK,
-    ] {
-        try_members(&rt, rt.alloc(), &place)?;
-    }
+    try_places(&rt, rt.alloc(), &PLACES)?;
     Ok(())
 }

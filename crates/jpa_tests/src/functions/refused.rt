@@ -2,6 +2,7 @@
 use jpa_functions::read_functions;
 use jpa_value::Cause;
 use std::alloc::{AllocError, Global};
+use std::process::Abort;
 use std::test::Fail;
 
 /// `read`, or what is wrong with the mapping.
@@ -18,10 +19,40 @@ fn mapping(alloc: Global, functions: &str) -> Result<String, AllocError> {
     format!(in alloc; "{{\"revision\":1,\"functions\":{functions}}}")
 }
 
+/// Each mapping is answered as stands beside it.
+fn all_answer(rt: &impl Abort, alloc: Global, mappings: &[(&str, &str)]) -> Result<(), Cause> {
+    for (text, want) in mappings {
+        assert_eq!(rt; answer(alloc, text.as_bytes())?, *want, "{text}");
+    }
+    Ok(())
+}
+
+/// The same for mappings of these functions.
+fn all_functions_answer(
+    rt: &impl Abort,
+    alloc: Global,
+    cases: &[(&str, &str)],
+) -> Result<(), Cause> {
+    for (functions, want) in cases {
+        let text = mapping(alloc, functions)?;
+        assert_eq!(rt; answer(alloc, text.as_bytes())?, *want, "{functions}");
+    }
+    Ok(())
+}
+
+/// The same for tables of these pairs.
+fn all_pairs_answer(rt: &impl Abort, alloc: Global, cases: &[(&str, &str)]) -> Result<(), Cause> {
+    for (pairs, want) in cases {
+        let text = with_pairs(alloc, pairs)?;
+        assert_eq!(rt; answer(alloc, text.as_bytes())?, *want, "{pairs}");
+    }
+    Ok(())
+}
+
 #[test]
 fn the_text_is_an_object_of_json(rt: HostRuntime) -> Result<(), Fail> {
     let alloc = rt.alloc();
-    for (text, want) in [
+    let cases = [
         ("{}", "read"),
         (r#"{"revision":1,"entities":[]}"#, "read"),
         (r#"{"functions":[]}"#, "read"),
@@ -31,9 +62,8 @@ fn the_text_is_an_object_of_json(rt: HostRuntime) -> Result<(), Fail> {
         ("null", "shape"),
         (r#"{"functions":null}"#, "function"),
         (r#"{"functions":{}}"#, "function"),
-    ] {
-        assert_eq!(rt; answer(alloc, text.as_bytes())?, want, "{text}");
-    }
+    ];
+    all_answer(&rt, alloc, &cases)?;
     // No UTF-8.
     assert_eq!(rt; answer(alloc, &[123, 255, 125])?, "json");
     Ok(())
@@ -42,7 +72,7 @@ fn the_text_is_an_object_of_json(rt: HostRuntime) -> Result<(), Fail> {
 #[test]
 fn each_make_has_its_members(rt: HostRuntime) -> Result<(), Fail> {
     let alloc = rt.alloc();
-    for (functions, want) in [
+    let cases = [
         (
             r#"[{"name":"x","make":"set_text","attribute":"a","value":"t"}]"#,
             "read",
@@ -58,17 +88,15 @@ fn each_make_has_its_members(rt: HostRuntime) -> Result<(), Fail> {
         (r#"[{"make":"note"}]"#, "function"),
         (r#"[{"name":1,"make":"note"}]"#, "function"),
         (r#"["note"]"#, "function"),
-    ] {
-        let text = mapping(alloc, functions)?;
-        assert_eq!(rt; answer(alloc, text.as_bytes())?, want, "{functions}");
-    }
+    ];
+    all_functions_answer(&rt, alloc, &cases)?;
     Ok(())
 }
 
 #[test]
 fn members_have_their_forms(rt: HostRuntime) -> Result<(), Fail> {
     let alloc = rt.alloc();
-    for (functions, want) in [
+    let cases = [
         (
             r#"[{"name":"x","make":"set_text","attribute":"a","value":null}]"#,
             "function",
@@ -98,10 +126,8 @@ fn members_have_their_forms(rt: HostRuntime) -> Result<(), Fail> {
         ),
         (r#"[{"name":"x","make":"table"}]"#, "function"),
         (r#"[{"name":"x","make":"hextext","more":null}]"#, "function"),
-    ] {
-        let text = mapping(alloc, functions)?;
-        assert_eq!(rt; answer(alloc, text.as_bytes())?, want, "{functions}");
-    }
+    ];
+    all_functions_answer(&rt, alloc, &cases)?;
     Ok(())
 }
 
@@ -113,38 +139,34 @@ fn with_pairs(alloc: Global, pairs: &str) -> Result<String, AllocError> {
 #[test]
 fn pairs_are_two_values(rt: HostRuntime) -> Result<(), Fail> {
     let alloc = rt.alloc();
-    for (pairs, want) in [
+    let cases = [
         ("[]", "read"),
         (r#"[["Ada",1],["Bob",2]]"#, "read"),
         (r#"[[1,2],[2,1]]"#, "read"),
         (r#"[["1",1],[{"hex":"31"},"1"],[1,{"hex":""}]]"#, "read"),
         ("[[9223372036854775807,-9223372036854775808]]", "read"),
-    ] {
-        let text = with_pairs(alloc, pairs)?;
-        assert_eq!(rt; answer(alloc, text.as_bytes())?, want, "{pairs}");
-    }
+    ];
+    all_pairs_answer(&rt, alloc, &cases)?;
     Ok(())
 }
 
 #[test]
 fn pairs_repeat_no_side(rt: HostRuntime) -> Result<(), Fail> {
     let alloc = rt.alloc();
-    for (pairs, want) in [
+    let cases = [
         (r#"[["Ada",1],["Ada",2]]"#, "function"),
         (r#"[["Ada",1],["Cyd",3],["Bob",1]]"#, "function"),
         (r#"[["Ada",1],["Ada",1]]"#, "function"),
         (r#"[[{"hex":"0a"},1],[{"hex":"0A"},2]]"#, "function"),
-    ] {
-        let text = with_pairs(alloc, pairs)?;
-        assert_eq!(rt; answer(alloc, text.as_bytes())?, want, "{pairs}");
-    }
+    ];
+    all_pairs_answer(&rt, alloc, &cases)?;
     Ok(())
 }
 
 #[test]
 fn pairs_have_their_form(rt: HostRuntime) -> Result<(), Fail> {
     let alloc = rt.alloc();
-    for (pairs, want) in [
+    let cases = [
         ("[[1,null]]", "function"),
         ("[[null,1]]", "function"),
         (r#"[[1,{"object":1}]]"#, "function"),
@@ -158,17 +180,15 @@ fn pairs_have_their_form(rt: HostRuntime) -> Result<(), Fail> {
         ("[[1,2,3]]", "function"),
         ("[1]", "function"),
         (r#"{"Ada":1}"#, "function"),
-    ] {
-        let text = with_pairs(alloc, pairs)?;
-        assert_eq!(rt; answer(alloc, text.as_bytes())?, want, "{pairs}");
-    }
+    ];
+    all_pairs_answer(&rt, alloc, &cases)?;
     Ok(())
 }
 
 #[test]
 fn a_name_stands_once_in_its_sort(rt: HostRuntime) -> Result<(), Fail> {
     let alloc = rt.alloc();
-    for (functions, want) in [
+    let cases = [
         (
             r#"[{"name":"x","make":"note"},{"name":"x","make":"flip"}]"#,
             "read",
@@ -189,9 +209,7 @@ fn a_name_stands_once_in_its_sort(rt: HostRuntime) -> Result<(), Fail> {
             r#"[{"name":"x","make":"note"},{"name":"y","make":"note"},{"name":"x","make":"count","attribute":"a"}]"#,
             "function",
         ),
-    ] {
-        let text = mapping(alloc, functions)?;
-        assert_eq!(rt; answer(alloc, text.as_bytes())?, want, "{functions}");
-    }
+    ];
+    all_functions_answer(&rt, alloc, &cases)?;
     Ok(())
 }

@@ -6,7 +6,7 @@ use Rattle.jpa_functions.proofs.values.pair_in.Goals as goal
 
 pub returns-in_default : goal.returns-in_default
 returns-in_default c =
-    rw c.other_form.ensures (not_two c.args.items.now (elim c.in_default.branch [
+    not_two c.args.items.now (elim c.in_default.branch [
       | in_default-via-then-items-lt2 w ↦ λ e. grind (arith, nat_tests)
       | in_default-via-else-items-lt2+else-items-lt3 w ↦ λ e. grind (arith, nat_tests)
-    ]))
+    ])

@@ -6,7 +6,7 @@ pub returns-then-line-gt-LINE_LIMIT-clause-err : goal.returns-then-line-gt-LINE_
 returns-then-line-gt-LINE_LIMIT-clause-err c = inr (long_line c.args.line.now (omega arith))
 
 pub returns-clause-ok : goal.returns-clause-ok
-returns-clause-ok c = call_found c.args.line.now c.call_of_text.result (omega arith) c.call_of_text.ensures
+returns-clause-ok c = rw c.or_refuse.ensures (call_found c.args.line.now c.call_of_text.result (omega arith) c.call_of_text.ensures)
 
 pub returns-clause-err : goal.returns-clause-err
-returns-clause-err c = call_refused c.args.line.now c.call_of_text.result (omega arith) c.call_of_text.ensures
+returns-clause-err c = rw c.or_refuse.ensures (call_refused c.args.line.now c.call_of_text.result (omega arith) c.call_of_text.ensures)

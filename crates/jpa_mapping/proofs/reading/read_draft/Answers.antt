@@ -5,7 +5,7 @@ use Rattle.jpa_mapping.proofs.reading.read_draft.Goals as goal
 pub returns-in_err-json : goal.returns-in_err-json
 returns-in_err-json c =
     let p = err_from_is_err_and c.from_residual.result c.from_residual.ensures.1 in
-    rw (p.1, p.2) (draft_refused c.args.bytes.now _ c.in_err-json.ensures)
+    rw (p.1, p.2) (draft_refused c.args.bytes.now c.json_of.result _ c.json_of.ensures c.in_err-json.ensures)
 
 pub returns : goal.returns
-returns c = draft_answered c.args.bytes.now _ c.read.result c.in_ok-json.ensures c.read.ensures
+returns c = rw c.or_refuse-2.ensures (draft_answered c.args.bytes.now c.json_of.result _ c.read.result c.json_of.ensures c.in_ok-json.ensures c.read.ensures)

@@ -1,0 +1,4 @@
+pub mod Counts
+pub mod Items
+pub mod Refusals
+pub mod Texts
