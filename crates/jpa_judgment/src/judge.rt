@@ -47,7 +47,7 @@ fn is_sound(metamodel: &Metamodel, set: &StoredSet) -> Result<bool, Cause>
     ensures sound { IfOk result (λ sound. IsTrue sound ↔ IsSound metamodel.now set.now) }
     ensures err { IfErr result (λ cause. cause ≡ Cause.OutOfMemory) }
 {
-    match integrity(metamodel.unit(), set) {
+    match integrity(metamodel, set) {
         Ok(()) => Ok(true),
         Err(Cause::OutOfMemory) => Err(Cause::OutOfMemory),
         Err(_) => Ok(false),

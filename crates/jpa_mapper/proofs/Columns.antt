@@ -1,5 +1,5 @@
 -- The numbers of a class's columns fit 32 bits, since those of each entity do.
-use Rattle.std.specs.Prelude.{◌≡◌, ℕ, suc, ◌<◌, ◌≤◌, ◌^◌, List, [], ◌∷◌, ◌++◌, length, All}
+use Rattle.std.specs.Prelude.{ℕ, suc, ◌<◌, ◌^◌, List, [], ◌∷◌, ◌++◌, length, All}
 use Rattle.std.proofs.Common.{arith, get_or}
 use Rattle.std.specs.List.{flat_map, AllByRecursion}
 use Rattle.jpa_model.specs.declared.unit.Attribute.{Attribute}

@@ -1,5 +1,5 @@
 -- What a check of an object's shape tells: with no throw, and no pairs, the object can be stored.
-use Rattle.std.specs.Prelude.{◌≡◌, Bool, true, ◌&&◌, ◌==◌, not, length, nat_lt, List, [], ◌∷◌, false}
+use Rattle.std.specs.Prelude.{◌≡◌, Bool, true, ◌&&◌, ◌==◌, not, length, nat_lt, List, [], ◌∷◌}
 use Rattle.std.proofs.Common.{refl, sym}
 use Rattle.std.specs.List.{list_all}
 use Rattle.jpa_value.specs.declared.value.Value.{Value}
@@ -20,10 +20,6 @@ use Rattle.jpa_view.specs.View.{is_storable}
 use Rattle.jpa_view.proofs.Reading.{storable}
 use Rattle.jpa_mapper.specs.Guess.{is_named_by, is_value, is_version, leads_well, is_sound}
 use Rattle.jpa_mapper.specs.Mapped.{all_pass}
-
-pub and_true : (a b : Bool) → b ≡ true → a ≡ (a && b)
-and_true true b e = sym e
-and_true false b e = refl
 
 -- ---- a test of each pair that is one of the pair and one of its second part
 

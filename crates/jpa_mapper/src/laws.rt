@@ -1,13 +1,12 @@
 //! The laws of objects and their rows.
 ghost use Rattle.std.specs.Prelude.{◌≡◌, ℕ, true};
-ghost use Rattle.std.specs.Str.{is_utf8};
 ghost use Rattle.jpa_model.specs.Chains.{entity_at};
 ghost use Rattle.jpa_view.specs.Unambiguous.{is_class};
 ghost use Rattle.jpa_object_rows.specs.Objects.{is_discriminator};
 ghost use Rattle.jpa_mapper.specs.Laws.{ReadsWhatIsWritten, ReadsOne, StandForOne};
 
 use jpa_model::Metamodel;
-use jpa_value::Text;
+use jpa_rows::text_is_representable;
 
 /// The laws of objects and their rows, for contracts to cite; it does nothing. What is written for an object is read as the
 /// object and as no other, and a store's cells stand for at most one set and next numbers.
@@ -23,13 +22,6 @@ pub fn discriminator_law(metamodel: &Metamodel)
 {
     let _unit = metamodel.unit();
     for entity in metamodel.entities() {
-        text_law(&entity.discriminator);
+        text_is_representable(entity.discriminator.as_str());
     }
-}
-
-/// Each text is in UTF-8.
-fn text_law(text: &Text)
-    ensures { is_utf8 text.now ≡ true }
-{
-    let _text = text.as_str();
 }

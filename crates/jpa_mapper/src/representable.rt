@@ -1,34 +1,13 @@
 //! What an object holds are values of the program: integers of 64 bits, texts in UTF-8 and bytes. For contracts to cite;
 //! these functions read and do nothing.
-ghost use Rattle.std.specs.Prelude.{◌≡◌, true, nat_lt};
+ghost use Rattle.std.specs.Prelude.{◌≡◌, true};
 ghost use Rattle.std.specs.List.{list_all};
-ghost use Rattle.std.specs.Str.{is_utf8};
 ghost use Rattle.jpa_value.specs.Value.{is_representable};
 ghost use Rattle.jpa_rows.specs.Cells as cells;
 
+use jpa_rows::value_is_representable;
 use jpa_stored::Stored;
 use jpa_value::{Identity, Seq, Value};
-
-fn text_is_representable(text: &str)
-    ensures { is_utf8 text.now ≡ true }
-{}
-
-fn bytes_are_representable(bytes: &[u8])
-    ensures { list_all (λ b. nat_lt b 256) bytes.now ≡ true }
-{}
-
-fn value_is_representable(value: &Value)
-    ensures { is_representable value.now ≡ true }
-{
-    match value {
-        Value::Null => {}
-        Value::Int(number) => {
-            let _number = *number;
-        }
-        Value::Text(text) => text_is_representable(text.as_str()),
-        Value::Bytes(bytes) => bytes_are_representable(bytes.as_slice()),
-    }
-}
 
 fn values_are_representable(values: &[Value])
     ensures { list_all is_representable values.now ≡ true }
@@ -38,7 +17,8 @@ fn values_are_representable(values: &[Value])
     }
 }
 
-fn version_is_representable(version: Option<i64>)
+/// A version is an integer of 64 bits.
+pub(crate) fn version_is_representable(version: Option<i64>)
     ensures { cells.version_representable version ≡ true }
 {
     if let Some(number) = version {

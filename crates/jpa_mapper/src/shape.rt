@@ -1,58 +1,28 @@
 //! Whether an object is of the shape of its class.
-ghost use Rattle.std.specs.Prelude.{◌≡◌, ◌<◌, ◌&&◌, All, length, nat_le, nat_lt};
-ghost use Rattle.std.specs.Str.{is_utf8};
+ghost use Rattle.std.specs.Prelude.{◌≡◌, ◌<◌, ◌&&◌, All, length};
 ghost use Rattle.std.specs.List.{list_all};
-ghost use Rattle.jpa_value.specs.Value.{fits, is_i64, is_representable, most_bytes};
+ghost use Rattle.jpa_value.specs.Value.{fits, is_representable};
 ghost use Rattle.jpa_stored.specs.Sets.{each_fits};
 ghost use Rattle.jpa_mapper.specs.Guess as spec;
 
+use crate::representable::version_is_representable;
 use jpa_model::{Attribute, Metamodel, Part, Relation, Root, VersionColumn};
+use jpa_rows::value_is_representable;
 use jpa_stored::Stored;
-use jpa_value::{Identity, Kind, Seq, Text, Value};
-
-/// The most bytes of a text or of a byte string.
-const MOST_BYTES: usize = 65_535;
-
-// Every integer of the program has 64 bits.
-fn is_whole(_number: i64) -> bool
-    ensures { result ≡ is_i64 _number }
-{
-    true
-}
-
-fn is_short_text(text: &Text) -> bool
-    ensures { result ≡ nat_le (length text.now) most_bytes && is_utf8 text.now }
-{
-    let text = text.as_str();
-    text.as_bytes().len() <= MOST_BYTES
-}
-
-fn are_short_bytes(bytes: &[u8]) -> bool
-    ensures { result ≡ nat_le (length bytes.now) most_bytes && list_all (λ b. nat_lt b 256) bytes.now }
-{
-    bytes.len() <= MOST_BYTES
-}
+use jpa_value::{Identity, Kind, Seq, Value, fits};
 
 /// Whether a value is null or one of this kind, and not too long.
 fn is_of_kind(kind: Kind, value: &Value) -> bool
     ensures { result ≡ fits kind value.now && is_representable value.now }
 {
-    match (kind, value) {
-        (_, Value::Null) => true,
-        (Kind::Int, Value::Int(number)) => is_whole(*number),
-        (Kind::Text, Value::Text(text)) => is_short_text(text),
-        (Kind::Bytes, Value::Bytes(bytes)) => are_short_bytes(bytes.as_slice()),
-        _ => false,
-    }
+    value_is_representable(value);
+    fits(kind, value)
 }
 
 fn is_part(part: &Part, value: &Value) -> bool
     ensures { result ≡ spec.is_part part.now value.now }
 {
-    match value {
-        Value::Null => false,
-        _ => is_of_kind(part.kind, value),
-    }
+    !matches!(value, Value::Null) && is_of_kind(part.kind, value)
 }
 
 fn are_parts(parts: &[Part], key: &[Value]) -> bool
@@ -80,11 +50,8 @@ fn is_named_by(root: &Root, id: &Identity) -> bool
 fn is_version(column: &Option<VersionColumn>, version: Option<i64>) -> bool
     ensures { result ≡ spec.is_version column.now version }
 {
-    match (column, version) {
-        (None, None) => true,
-        (Some(_), Some(number)) => is_whole(number),
-        _ => false,
-    }
+    version_is_representable(version);
+    column.is_some() == version.is_some()
 }
 
 fn are_values(attributes: &[Attribute], values: &[Value]) -> bool

@@ -4,7 +4,7 @@
 //! one-to-one relation; an employee (class 1) is a person. An order (class 2, table 2) has a required person and
 //! tags (class 3, table 3).
 use crate::mapping::unit_of;
-use jpa_model::{Metamodel, PersistenceUnit};
+use jpa_model::Metamodel;
 use jpa_stored::{OpenSet, Stored, StoredSet, integrity, members};
 use jpa_value::{Cause, Identity, Seq, Text, TryCopy, Value, is_same_identity};
 use std::alloc::Global;
@@ -174,8 +174,8 @@ fn sound_set(alloc: Global) -> Result<StoredSet, Cause> {
 }
 
 /// The part of soundness that fails first, by its name; none where the set is sound.
-fn fault(unit: &PersistenceUnit, set: &StoredSet) -> Result<&'static str, Cause> {
-    match integrity(unit, set) {
+fn fault(metamodel: &Metamodel, set: &StoredSet) -> Result<&'static str, Cause> {
+    match integrity(metamodel, set) {
         Ok(()) => Ok("none"),
         Err(Cause::Persistence(part)) => Ok(part.name()),
         Err(other) => Err(other),
@@ -432,11 +432,11 @@ fn changed(alloc: Global, case: &Case) -> Result<StoredSet, Cause> {
 
 fn see_fault(
     rt: &impl Abort,
-    unit: &PersistenceUnit,
+    metamodel: &Metamodel,
     set: &StoredSet,
     want: &str,
 ) -> Result<(), Cause> {
-    assert_eq!(rt; fault(unit, set)?, want);
+    assert_eq!(rt; fault(metamodel, set)?, want);
     Ok(())
 }
 
@@ -444,12 +444,12 @@ fn see_fault(
 fn all_fail(
     rt: &impl Abort,
     alloc: Global,
-    unit: &PersistenceUnit,
+    metamodel: &Metamodel,
     cases: &[Case],
 ) -> Result<(), Cause> {
     for case in cases {
         let set = changed(alloc, case)?;
-        see_fault(rt, unit, &set, case.fault)?;
+        see_fault(rt, metamodel, &set, case.fault)?;
     }
     Ok(())
 }
@@ -457,8 +457,8 @@ fn all_fail(
 #[test]
 fn sound_and_unsound(rt: HostRuntime) -> Result<(), Fail> {
     let metamodel = unit_of(rt.alloc(), UNIT)?;
-    see_fault(&rt, metamodel.unit(), &StoredSet::new(rt.alloc()), "none")?;
-    all_fail(&rt, rt.alloc(), metamodel.unit(), &CASES)?;
+    see_fault(&rt, &metamodel, &StoredSet::new(rt.alloc()), "none")?;
+    all_fail(&rt, rt.alloc(), &metamodel, &CASES)?;
     Ok(())
 }
 
@@ -479,13 +479,13 @@ const COUNTED: [Counted; 6] = [
 fn all_are_counted(
     rt: &impl Abort,
     alloc: Global,
-    unit: &PersistenceUnit,
+    metamodel: &Metamodel,
     set: &StoredSet,
     counted: &[Counted],
 ) -> Result<(), Cause> {
     for (class, (table, number), relation, count) in counted {
         let id = identity(alloc, *table, *number)?;
-        let found = members(unit, set, *class, &id, *relation)?;
+        let found = members(metamodel, set, *class, &id, *relation)?;
         assert_eq!(rt; found.len(), *count);
     }
     Ok(())
@@ -494,12 +494,12 @@ fn all_are_counted(
 /// Whether the orders of person 1 are these, rising.
 fn are_orders(
     alloc: Global,
-    unit: &PersistenceUnit,
+    metamodel: &Metamodel,
     set: &StoredSet,
     numbers: &[i64],
 ) -> Result<bool, Cause> {
     let person = identity(alloc, 1, 1)?;
-    let orders = members(unit, set, PERSON, &person, 0)?;
+    let orders = members(metamodel, set, PERSON, &person, 0)?;
     for (id, number) in orders.as_slice().iter().zip(numbers) {
         if !is_same_identity(id, &identity(alloc, 2, *number)?) {
             return Ok(false);
@@ -510,8 +510,8 @@ fn are_orders(
 
 fn see_related(rt: &impl Abort, alloc: Global, metamodel: &Metamodel) -> Result<(), Cause> {
     let set = sound_set(alloc)?;
-    all_are_counted(rt, alloc, metamodel.unit(), &set, &COUNTED)?;
-    assert!(rt; are_orders(alloc, metamodel.unit(), &set, &[10, 11])?);
+    all_are_counted(rt, alloc, metamodel, &set, &COUNTED)?;
+    assert!(rt; are_orders(alloc, metamodel, &set, &[10, 11])?);
     Ok(())
 }
 

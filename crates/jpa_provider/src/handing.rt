@@ -1,10 +1,7 @@
 //! What a call hands in, as the machine takes it.
-ghost use Rattle.std.specs.Prelude.{◌≡◌, ◌<◌, ◌⊎◌, length, nat_lt, true, IfOk, IfErr, IfSome};
+ghost use Rattle.std.specs.Prelude.{◌≡◌, ◌<◌, ◌⊎◌, length, true, IfOk, IfErr, IfSome};
 ghost use Rattle.std.specs.List.{list_all};
-ghost use Rattle.std.specs.Str.{is_utf8};
 ghost use Rattle.jpa_value.specs.declared.refusal.Cause.{Cause};
-ghost use Rattle.jpa_value.specs.Value.{is_representable};
-ghost use Rattle.jpa_behaviour.specs.Behaviour as behaviour;
 ghost use Rattle.jpa_heap.specs.Objects.{place_of};
 ghost use Rattle.jpa_heap.specs.Shape.{IsInHeap};
 ghost use Rattle.jpa_context.specs.Steps.{Meets};
@@ -15,6 +12,7 @@ ghost use Rattle.jpa_provider.specs.Invariant as invariant;
 use jpa_heap::Handed;
 use jpa_model::Part;
 use jpa_protocol::{Call, Given};
+use jpa_rows::{is_short, value_is_representable};
 use jpa_value::{Cause, Key, Seq, TryCopy, Value, fits};
 use std::alloc::Global;
 
@@ -30,23 +28,12 @@ pub(crate) fn place_of(count: usize, number: i64) -> Option<usize>
     if place < count { Some(place) } else { None }
 }
 
-/// Whether a value has at most 65,535 bytes.
-fn has_few_bytes(value: &Value) -> bool
-    ensures { result ≡ behaviour.is_short value.now }
-{
-    match value {
-        Value::Null | Value::Int(_) => true,
-        Value::Text(text) => text.as_bytes().len() <= 65_535,
-        Value::Bytes(bytes) => bytes.as_slice().len() <= 65_535,
-    }
-}
-
 /// Whether a value that is handed in is short enough.
-pub(crate) fn is_short(given: &Given) -> bool
+fn is_short_given(given: &Given) -> bool
     ensures { result ≡ calls.is_short_given given.now }
 {
     match given {
-        Given::Plain(value) => has_few_bytes(value),
+        Given::Plain(value) => is_short(value),
         Given::Object(_) => true,
     }
 }
@@ -56,7 +43,7 @@ pub(crate) fn are_short(given: &[Given]) -> bool
     ensures { result ≡ list_all calls.is_short_given given.now }
 {
     for part in given {
-        if !is_short(part) {
+        if !is_short_given(part) {
             return false;
         }
     }
@@ -72,7 +59,7 @@ pub(crate) fn handed(count: usize, given: Given) -> Result<Handed, Cause>
 {
     match given {
         Given::Plain(value) => {
-            if has_few_bytes(&value) {
+            if is_short(&value) {
                 Ok(Handed::Plain(value))
             } else {
                 Err(Cause::Limit)
@@ -125,36 +112,12 @@ pub(crate) fn whole_key(
     Ok(Some(key))
 }
 
-/// A text is in UTF-8.
-fn text_representable(text: &str)
-    ensures { is_utf8 text.now ≡ true }
-{}
-
-/// A byte string has bytes.
-fn bytes_representable(bytes: &[u8])
-    ensures { list_all (λ b. nat_lt b 256) bytes.now ≡ true }
-{}
-
-/// A value is one of the program.
-fn value_representable(value: &Value)
-    ensures { is_representable value.now ≡ true }
-{
-    match value {
-        Value::Null => {}
-        Value::Int(number) => {
-            let _number = *number;
-        }
-        Value::Text(text) => text_representable(text.as_str()),
-        Value::Bytes(bytes) => bytes_representable(bytes.as_slice()),
-    }
-}
-
 /// What is handed in as a value is one of the program.
 fn given_representable(given: &Given)
     ensures { invariant.given_representable given.now ≡ true }
 {
     match given {
-        Given::Plain(value) => value_representable(value),
+        Given::Plain(value) => value_is_representable(value),
         Given::Object(_) => {}
     }
 }

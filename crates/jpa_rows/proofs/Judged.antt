@@ -14,9 +14,6 @@ use Rattle.jpa_rows.specs.Reading.{rises_from}
 use Rattle.jpa_rows.proofs.Fields.{rises_is, is_rises}
 use Rattle.jpa_rows.proofs.Classes.{other_test}
 
-pub with_true : (a b : Bool) → a ≡ true → b ≡ (a && b)
-with_true a b e = ap (λ x. x && b) (sym e)
-
 -- ---- keys
 
 abbrev is_short_part : Kind × Value → Bool

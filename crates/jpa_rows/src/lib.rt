@@ -16,6 +16,7 @@ mod source;
 mod spell;
 mod tables;
 mod tag;
+mod values;
 mod whole;
 
 pub use copy::copy_row;
@@ -26,4 +27,5 @@ pub use same::is_same_row;
 pub use schema::{ColumnRule, Holds, Schema, TableRule};
 pub use source::RowSource;
 pub use spell::{spell_content, spell_row};
+pub use values::{is_short, text_is_representable, value_is_representable};
 pub use whole::{is_key, is_row_of};

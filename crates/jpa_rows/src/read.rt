@@ -17,21 +17,11 @@ ghost use Rattle.jpa_rows.specs.Reading as reading;
 use crate::row::{Content, Field, Row};
 use crate::schema::{ColumnRule, Holds, TableRule};
 use crate::tag::{BYTES, INT, REFERENCE, TEXT};
-use crate::whole::{MOST_BYTES, is_rising};
+use crate::values::{MOST_BYTES, is_short};
+use crate::whole::is_rising;
 use jpa_key::decode_key;
 use jpa_value::{Bytes, Cause, Key, Kind, Seq, Text, Value};
 use std::alloc::Global;
-
-fn is_short(value: &Value) -> bool
-    ensures { result ≡ behaviour.is_short value.now }
-{
-    match value {
-        Value::Null => true,
-        Value::Int(_) => true,
-        Value::Text(text) => text.as_bytes().len() <= MOST_BYTES,
-        Value::Bytes(bytes) => bytes.as_slice().len() <= MOST_BYTES,
-    }
-}
 
 fn are_short(key: &[Value]) -> bool
     ensures { result ≡ list_all behaviour.is_short key.now }

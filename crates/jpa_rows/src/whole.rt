@@ -11,51 +11,23 @@ ghost use Rattle.jpa_rows.specs.Reading as reading;
 
 use crate::row::{Content, Field, Row};
 use crate::schema::{ColumnRule, Holds, TableRule};
-use jpa_value::{Key, Kind, Text, Value};
-
-/// The most bytes of a text or byte value.
-pub(crate) const MOST_BYTES: usize = 65_535;
-
-fn is_short_text(text: &Text) -> bool
-    ensures { result ≡ (is_representable (Value.Text text.now) && behaviour.is_short (Value.Text text.now)) }
-{
-    text.as_str().len() <= MOST_BYTES
-}
-
-fn are_short_bytes(bytes: &[u8]) -> bool
-    ensures { result ≡ (is_representable (Value.Bytes bytes.now) && behaviour.is_short (Value.Bytes bytes.now)) }
-{
-    bytes.len() <= MOST_BYTES
-}
+use crate::values::{is_short, value_is_representable};
+use jpa_value::{Key, Kind, Value, fits};
 
 /// Whether a value may stand in a column of every kind.
 fn may_stand(value: &Value) -> bool
     ensures { result ≡ (is_given value.now && (is_representable value.now && behaviour.is_short value.now)) }
 {
-    match value {
-        Value::Null => false,
-        Value::Int(number) => {
-            let _number = *number;
-            true
-        }
-        Value::Text(text) => is_short_text(text),
-        Value::Bytes(bytes) => are_short_bytes(bytes.as_slice()),
-    }
+    value_is_representable(value);
+    !matches!(value, Value::Null) && is_short(value)
 }
 
 /// Whether a value may stand in a column of a kind, or in a key.
 fn may_stand_as(kind: Kind, value: &Value) -> bool
     ensures { result ≡ (is_part_of kind value.now && behaviour.is_short value.now) }
 {
-    match (kind, value) {
-        (Kind::Int, Value::Int(number)) => {
-            let _number = *number;
-            true
-        }
-        (Kind::Text, Value::Text(text)) => is_short_text(text),
-        (Kind::Bytes, Value::Bytes(bytes)) => are_short_bytes(bytes.as_slice()),
-        _ => false,
-    }
+    value_is_representable(value);
+    !matches!(value, Value::Null) && fits(kind, value)
 }
 
 fn are_parts(kinds: &[Kind], key: &[Value]) -> bool

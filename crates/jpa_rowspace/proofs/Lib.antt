@@ -1,5 +1,4 @@
 pub mod Pairs
-pub mod Keys
 pub mod Ids
 pub mod Readings
 pub mod After

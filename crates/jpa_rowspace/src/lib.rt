@@ -5,7 +5,6 @@
 //! what it is for a store to hold rows. The crate stands on rows and the store of cells.
 #![tactic(auto)]
 
-mod id;
 mod laws;
 mod read;
 mod select;

@@ -10,11 +10,10 @@ ghost use Rattle.jpa_rowspace.specs.Stored as stored;
 ghost use Rattle.jpa_rowspace.specs.Reading.{IsFound, IsIllFormed, AreRead};
 ghost use Rattle.jpa_rowspace.specs.Space.{HoldsRows, IsStoreCause};
 
-use crate::id::names_row;
 use crate::select::{row_under, rows_under};
 use crate::spell::cell_changes;
 use jpa_cells::CellStore;
-use jpa_rows::{Row, RowChange, RowId, RowSource, Schema};
+use jpa_rows::{Row, RowChange, RowId, RowSource, Schema, is_key};
 use jpa_value::{Bytes, Cause, Seq};
 use sqlite::Alter;
 use std::alloc::Global;
@@ -75,7 +74,7 @@ impl<S: Alter> RowSpace<S> {
     {
         match self.schema.table(id.table) {
             Some(table) => {
-                if names_row(table, id.key.as_slice()) {
+                if is_key(table.key.as_slice(), &id.key) {
                     row_under(self.alloc, &mut self.store, table, &id.key)
                 } else {
                     Ok(None)

@@ -4,6 +4,5 @@ pub mod Changes
 pub mod Puts
 pub mod Distinct
 pub mod Zips
-pub mod Chain
 pub mod Bridge
 pub mod Examples

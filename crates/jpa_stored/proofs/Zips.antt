@@ -1,9 +1,8 @@
 -- One more pair of two lists that are gone through together.
-use Rattle.std.specs.Prelude.{◌≡◌, Bool, true, ◌&&◌, ℕ, zero, suc, ◌+◌, ◌<◌, ◌≤◌, List, [], ◌∷◌, ◌++◌, length, take, drop, map}
-use Rattle.std.proofs.Common.{refl, sym, ap, ◌∙◌, arith, get_or}
-use Rattle.std.specs.List.{zip, flat_map, list_all}
+use Rattle.std.specs.Prelude.{◌≡◌, Bool, true, ℕ, zero, suc, ◌+◌, ◌<◌, ◌≤◌, List, [], ◌∷◌, ◌++◌, length, take, drop}
+use Rattle.std.proofs.Common.{refl, ap, ◌∙◌, arith, get_or}
+use Rattle.std.specs.List.{zip, list_all}
 use Rattle.std.proofs.Math.ListN.{drop_of_length-le}
-use Rattle.std.proofs.lemmas.List.{map-append}
 use Rattle.jpa_stored.proofs.Entries.{earlier}
 
 nothing : (i : ℕ) → i < 0 → ⊥
@@ -35,27 +34,6 @@ module _ {A B : Type 0} where
   pub zip_same : (xs : List A) (ys : List B) (i : ℕ) → length xs ≤ i → zip xs (take (i + 1) ys) ≡ zip xs (take i ys)
   zip_same xs ys i h = ap (λ n. zip xs (take n ys)) (next i) ∙ zip_same_suc xs ys i h
 
-module _ {A B C : Type 0} where
-  pub map-flat_map : (f : B → C) (g : A → List B) (xs : List A) → map f (flat_map g xs) ≡ flat_map (λ x. map f (g x)) xs
-  map-flat_map f g [] = refl
-  map-flat_map f g (x ∷ xs) = map-append f (g x) (flat_map g xs) ∙ ap (λ ys. map f (g x) ++ ys) (map-flat_map f g xs)
-
-module _ {A B : Type 0} where
-  after_suc : (xs : List A) (ys : List B) (i : ℕ) (d : A) (e : B) → i < length xs → i < length ys → zip (drop i xs) (drop i ys) ≡ (get_or xs i d, get_or ys i e) ∷ zip (drop (suc i) xs) (drop (suc i) ys)
-  after_suc [] ys i d e h g = absurd (nothing i h)
-  after_suc (x ∷ xs) [] i d e h g = absurd (nothing i g)
-  after_suc (x ∷ xs) (y ∷ ys) zero d e h g = refl
-  after_suc (x ∷ xs) (y ∷ ys) (suc i) d e h g = after_suc xs ys i d e (earlier i (length xs) h) (earlier i (length ys) g)
-
 module _ {A B : Type 0} (f : A × B → Bool) where
-  -- the pairs from place i on pass where this one does and the later ones do
-  pub all_step : (xs : List A) (ys : List B) (i : ℕ) (d : A) (e : B) → i < length xs → i < length ys
-      → list_all f (zip (drop i xs) (drop i ys)) ≡ (f (get_or xs i d, get_or ys i e) && list_all f (zip (drop (i + 1) xs) (drop (i + 1) ys)))
-  all_step xs ys i d e h g =
-      ap (list_all f) (after_suc xs ys i d e h g) ∙ (λ j. f (get_or xs i d, get_or ys i e) && list_all f (zip (drop (sym (next i) j) xs) (drop (sym (next i) j) ys)))
-
-  pub all_short : (xs : List A) (ys : List B) (i : ℕ) → length xs ≤ i → list_all f (zip (drop i xs) ys) ≡ true
-  all_short xs ys i h = ap (λ zs. list_all f (zip zs ys)) (drop_of_length-le xs h)
-
   pub all_end : (xs : List A) (ys : List B) (i : ℕ) → length ys ≤ i → list_all f (zip xs (drop i ys)) ≡ true
   all_end xs ys i h = ap (λ zs. list_all f (zip xs zs)) (drop_of_length-le ys h) ∙ ap (list_all f) (no_pairs xs)

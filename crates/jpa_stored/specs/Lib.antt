@@ -1,4 +1,3 @@
 pub mod ClaimOrder
-pub mod Lineages
 pub mod Places
 pub mod Sets

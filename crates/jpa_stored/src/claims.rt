@@ -2,14 +2,15 @@
 ghost use Rattle.std.specs.Prelude.{◌≡◌, ◌++◌, Some, refl, IfOk, IfErr, OnOk};
 ghost use Rattle.std.specs.Cmp.{partial_equiv_from_equiv, eq_by_cmp_equiv, partial_order_from_agreeing_total};
 ghost use Rattle.std.specs.List.{flat_map, zip};
+ghost use Rattle.jpa_model.specs.Chains as chains;
 ghost use Rattle.jpa_value.specs.declared.refusal.Cause.{Cause};
 ghost use Rattle.jpa_stored.specs.ClaimOrder.{claim_total};
-ghost use Rattle.jpa_stored.specs.Lineages.{link_claims, entry_claims};
+ghost use Rattle.jpa_stored.specs.Sets as sets;
 ghost use Rattle.jpa_stored.specs.Sets.{one_to_one_column, claims_at, claim_cmp, same_claim, all_distinct};
 
-use crate::lineages::{Lineage, Link};
+use crate::classes::relations_of;
 use crate::stored::Stored;
-use jpa_model::Side;
+use jpa_model::{Metamodel, Relation, Side};
 use jpa_value::{Boxed, Cause, Identity, Seq, TryCopy, order_identities};
 use std::alloc::Global;
 use std::cmp::Ordering;
@@ -92,20 +93,19 @@ fn push_link(out: &mut Vec<Claim>, table: u64, side: Side, ids: &[Identity]) -> 
     Ok(())
 }
 
-/// Adds what an object of this table claims in its relations.
+/// Adds what an object of this table claims in these relations.
 fn push_links(
     out: &mut Vec<Claim>,
     table: u64,
-    links: &[Link],
+    relations: &[Relation],
     owned: &[Seq<Identity>],
 ) -> Result<(), Cause>
-    ensures ok { OnOk result (out.new.items ≡ out.old.items ++ flat_map (link_claims table) (zip links.now owned.now)) }
+    ensures ok { OnOk result (out.new.items ≡ out.old.items ++ flat_map (λ p. claims_at table (one_to_one_column (p.0).side) p.1) (zip relations.now owned.now)) }
     ensures err { IfErr result (λ cause. cause ≡ Cause.OutOfMemory) }
 {
     for (i, ids) in owned.iter().enumerate() {
-        if i < links.len() {
-            let link = links[i];
-            push_link(out, table, link.side, ids.as_slice())?;
+        if i < relations.len() {
+            push_link(out, table, relations[i].side, ids.as_slice())?;
         }
     }
     Ok(())
@@ -114,36 +114,29 @@ fn push_links(
 /// Adds what one entry claims.
 fn push_entry(
     out: &mut Vec<Claim>,
-    lineages: &[Lineage],
+    metamodel: &Metamodel,
     entry: &(Identity, Stored),
 ) -> Result<(), Cause>
-    ensures ok { OnOk result (out.new.items ≡ out.old.items ++ entry_claims lineages.now entry.now) }
+    ensures ok { OnOk result (out.new.items ≡ out.old.items ++ flat_map (λ p. claims_at (entry.now.0).table (one_to_one_column (p.0).side) p.1) (zip (chains.relations_of metamodel.now (entry.now.1).class) (entry.now.1).owned)) }
     ensures err { IfErr result (λ cause. cause ≡ Cause.OutOfMemory) }
 {
     let (id, object) = entry;
-    match lineages.get(object.class) {
-        None => Ok(()),
-        Some(lineage) => push_links(
-            out,
-            id.table,
-            lineage.links.as_slice(),
-            object.owned.as_slice(),
-        ),
-    }
+    let relations = relations_of(metamodel, object.class);
+    push_links(out, id.table, relations, object.owned.as_slice())
 }
 
 /// What the entries of a set claim.
 pub fn claims_of(
     alloc: Global,
-    lineages: &[Lineage],
+    metamodel: &Metamodel,
     entries: &[Boxed<(Identity, Stored)>],
 ) -> Result<Vec<Claim>, Cause>
-    ensures ok { IfOk result (λ claims. claims.items ≡ flat_map (entry_claims lineages.now) entries.now) }
+    ensures ok { IfOk result (λ claims. claims.items ≡ sets.claims metamodel.now entries.now) }
     ensures err { IfErr result (λ cause. cause ≡ Cause.OutOfMemory) }
 {
     let mut out = Vec::new(alloc);
     for entry in entries {
-        push_entry(&mut out, lineages, entry.get())?;
+        push_entry(&mut out, metamodel, entry.get())?;
     }
     Ok(out)
 }

@@ -5,13 +5,12 @@
 //! writes of a transaction, which can be undone or kept. `members` tells what an object holds in a relation, owned or
 //! inverse; `integrity` tells whether a set is sound, and which part fails first.
 //!
-//! `specs/Sets` defines all of this over the persistence unit. `specs/Lineages` says the same over what each class
-//! says through its whole chain, which the code takes together once for a look over a set. The crate stands on
-//! `jpa_value`, `jpa_undo` and `jpa_model`.
+//! `specs/Sets` defines all of this over the persistence unit. What a class says through its whole chain is looked up in
+//! the `Metamodel`, which keeps it. The crate stands on `jpa_value`, `jpa_undo` and `jpa_model`.
 #![tactic(auto)]
 
 mod claims;
-mod lineages;
+mod classes;
 mod open;
 mod related;
 mod set;

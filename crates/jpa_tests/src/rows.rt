@@ -6,7 +6,8 @@ use jpa_model::{
 };
 use jpa_rows::{
     ColumnRule, Content, Field, Holds, Row, RowChange, Schema, TableRule, copy_row, is_key,
-    is_row_of, is_same_row, origin_of, read_content, read_id, read_row, spell_content, spell_row,
+    is_row_of, is_same_row, is_short, origin_of, read_content, read_id, read_row, spell_content,
+    spell_row, text_is_representable, value_is_representable,
 };
 use jpa_value::{Bytes, Cause, Identity, Key, Kind, Seq, Text, TryCopy, Value};
 use std::alloc::Global;
@@ -216,6 +217,20 @@ fn limits(rt: HostRuntime) -> Result<(), Fail> {
     }
     bytes.push(0)?;
     assert!(rt; read_content(a, &Holds::Any, bytes.as_slice())?.is_none());
+    Ok(())
+}
+
+#[test]
+fn short_values(rt: HostRuntime) -> Result<(), Fail> {
+    let a = rt.alloc();
+    for (length, want) in [(65_535, true), (65_536, false)] {
+        let name = "a".repeat(a, length)?;
+        text_is_representable(name.as_str());
+        let name = text(a, name.as_str())?;
+        value_is_representable(&name);
+        assert_eq!(rt; is_short(&name), want);
+    }
+    assert!(rt; is_short(&Value::Null) && is_short(&Value::Int(-1)));
     Ok(())
 }
 

@@ -3,4 +3,4 @@ use Rattle.jpa_stored.proofs.Zips.{all_end}
 use Rattle.jpa_stored.proofs.sound.links_lead.Goals as goal
 
 pub returns : goal.returns
-returns c = sym (c.loop-i.invariant ∙ all_end _ (drop c.loop-i.i c.args.links.now) c.args.owned.now c.loop-i.i c.loop-i-test.false)
+returns c = sym (c.loop-i.invariant ∙ all_end _ (drop c.loop-i.i c.args.relations.now) c.args.owned.now c.loop-i.i c.loop-i-test.false)

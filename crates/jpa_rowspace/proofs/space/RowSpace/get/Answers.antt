@@ -11,8 +11,8 @@ use Rattle.jpa_rowspace.specs.Space.{Space, IsStoreCause}
 use Rattle.jpa_rowspace.proofs.Answers.{got_found, got_refused}
 use Rattle.jpa_rowspace.proofs.space.RowSpace.get.Goals as goal
 
-pub returns-then-names_row-clause-found : goal.returns-then-names_row-clause-found
-returns-then-names_row-clause-found g c clean =
+pub returns-then-is_key-clause-found : goal.returns-then-is_key-clause-found
+returns-then-is_key-clause-found g c clean =
     let rule = c.in-Some.table.now in
     let id = c.args.id.now in
     let is : table_of c.self.inside.schema id.table ≡ Some rule = search rules in
@@ -21,8 +21,8 @@ returns-then-names_row-clause-found g c clean =
     c.self.view_is
     (got_found c.self.inside.schema id rule is named (tables_in g.S.Store c.self.inside.store.conn) c.row_under.result (c.row_under.ensures.found clean))
 
-pub returns-then-names_row-clause-refused : goal.returns-then-names_row-clause-refused
-returns-then-names_row-clause-refused g c =
+pub returns-then-is_key-clause-refused : goal.returns-then-is_key-clause-refused
+returns-then-is_key-clause-refused g c =
     let rule = c.in-Some.table.now in
     let id = c.args.id.now in
     let new = c.row_under.new.store.conn in
