@@ -2,7 +2,14 @@
 //! and writes the replies to standard output.
 #![tactic(auto)]
 
+ghost use Rattle.std.specs.Prelude.{◌≡◌, ◌⊎◌, true, false, None, Ok, IsSome, IfOk, IfErr, IsErrAnd, OnOk};
+ghost use Rattle.jpa_value.specs.declared.refusal.Cause.{Cause};
+ghost use Rattle.jpa_value.specs.declared.refusal.MappingFault.{MappingFault};
+ghost use Rattle.jpa_model.specs.Described.{IsUnlessMemory};
 ghost use Rattle.jpa_cells_meaning.specs.Store.{IsOrderedIfFound};
+ghost use Rattle.jpa_functions.specs.Known as known;
+ghost use Rattle.jpa_provider.specs.Served.{is_served};
+ghost use Rattle.jpa.specs.Served as spec;
 
 use jpa_behaviour::Registry;
 use jpa_functions::{ProgramFunctions, read_functions, registry_of};
@@ -52,7 +59,9 @@ fn settings_of(rt: &HostRuntime) -> Result<Settings, Stop> {
 }
 
 /// The bytes of a mapping file; one that can't be read is no JSON.
-fn mapping_file(rt: &HostRuntime, path: &Text) -> Result<Vec<u8>, Cause> {
+fn mapping_file(rt: &HostRuntime, path: &Text) -> Result<Vec<u8>, Cause>
+    ensures { IfErr result (λ cause. (cause ≡ Cause.OutOfMemory) ⊎ (cause ≡ Cause.Mapping MappingFault.Json)) }
+{
     match fs::read(rt, path.as_str()) {
         Ok(bytes) => Ok(bytes),
         Err(error) if error.kind() == ErrorKind::OutOfMemory => Err(Cause::OutOfMemory),
@@ -61,7 +70,10 @@ fn mapping_file(rt: &HostRuntime, path: &Text) -> Result<Vec<u8>, Cause> {
 }
 
 /// The unit that a mapping's bytes describe: its entities are read before its functions.
-fn described(alloc: Global, bytes: &[u8]) -> Result<Unit, Cause> {
+fn described(alloc: Global, bytes: &[u8]) -> Result<Unit, Cause>
+    ensures unit { IsUnlessMemory result (spec.unit_in bytes.now) }
+    ensures refused { IfErr result spec.IsMappingCause }
+{
     let metamodel = read_mapping(alloc, bytes)?;
     let functions = read_functions(alloc, bytes)?;
     let registry = registry_of(alloc, functions)?;
@@ -72,7 +84,11 @@ fn described(alloc: Global, bytes: &[u8]) -> Result<Unit, Cause> {
 }
 
 /// The unit that is served: that of the mapping file, or without one the program's own persons.
-fn unit_of(rt: &HostRuntime, settings: &Settings) -> Result<Unit, Cause> {
+fn unit_of(rt: &HostRuntime, settings: &Settings) -> Result<Unit, Cause>
+    ensures own { settings.now.mapping ≡ None → IsUnlessMemory result (Ok spec.own_unit) }
+    ensures described { IsSome settings.now.mapping → IfOk result spec.IsDescribed }
+    ensures refused { IfErr result spec.IsMappingCause }
+{
     match &settings.mapping {
         Some(path) => {
             let bytes = mapping_file(rt, path)?;
@@ -92,6 +108,10 @@ fn serve<S: Alter + Drop>(
     unit: Unit,
 ) -> Result<(Stop, Connection<S>), Cause>
     requires { IsOrderedIfFound S.Store conn }
+    ensures unserved { is_served unit.metamodel ≡ false → IsErrAnd result (λ cause. cause ≡ Cause.Mapping MappingFault.Model) }
+    ensures unknown { is_served unit.metamodel ≡ true → known.names_are_known unit.registry unit.metamodel ≡ false → IsErrAnd result (λ cause. cause ≡ Cause.Mapping MappingFault.Function) }
+    ensures served { OnOk result (spec.IsServable unit) }
+    ensures cells { IfOk result (λ served. spec.HoldsUnit S.Store unit served.1) }
 {
     let Unit {
         metamodel,
@@ -113,7 +133,9 @@ fn serve<S: Alter + Drop>(
     Ok((stop, provider.into_rows().store.into_connection()))
 }
 
-fn serve_in_memory(rt: &HostRuntime, unit: Unit) -> Result<Stop, Cause> {
+fn serve_in_memory(rt: &HostRuntime, unit: Unit) -> Result<Stop, Cause>
+    ensures { OnOk result (spec.IsServable unit) }
+{
     let conn = Connection::open_in_memory(rt.alloc())?;
     let (stop, _conn) = serve(rt, conn, unit)?;
     Ok(stop)
@@ -129,7 +151,9 @@ fn cause_of(error: Error) -> Cause {
 
 /// Serves over a store's file, which is made where there is none. What was committed stands in the file and in the log beside
 /// it; where the closing can't bring the log into the file, both stay.
-fn serve_file(rt: &HostRuntime, path: &Text, unit: Unit) -> Result<Stop, Cause> {
+fn serve_file(rt: &HostRuntime, path: &Text, unit: Unit) -> Result<Stop, Cause>
+    ensures { OnOk result (spec.IsServable unit) }
+{
     let conn = match Connection::open_from(rt, path.as_str(), false, Unknown) {
         Ok(conn) => conn,
         Err((error, _)) => return Err(cause_of(error)),
@@ -140,7 +164,9 @@ fn serve_file(rt: &HostRuntime, path: &Text, unit: Unit) -> Result<Stop, Cause> 
 }
 
 /// Serves what the settings say; what is refused is refused before the first line.
-fn serve_as_said(rt: &HostRuntime, settings: &Settings) -> Result<Stop, Cause> {
+fn serve_as_said(rt: &HostRuntime, settings: &Settings) -> Result<Stop, Cause>
+    ensures { IsSome settings.now.mapping → OnOk result spec.DescribesServable }
+{
     let unit = unit_of(rt, settings)?;
     match &settings.db {
         Some(path) => serve_file(rt, path, unit),

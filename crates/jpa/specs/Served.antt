@@ -1,0 +1,50 @@
+-- Which unit the program serves, and what a store that was served holds.
+use Rattle.std.specs.Prelude.{◌≡◌, ◌⊎◌, ℕ, List, [], Result, Ok, true}
+use Rattle.sqlite_trees.specs.declared.store.Store.{Ghosts}
+use Rattle.sqlite.specs.Held.{Held}
+use Rattle.jpa_value.specs.declared.refusal.Cause.{Cause}
+use Rattle.jpa_value.specs.declared.refusal.MappingFault.{MappingFault}
+use Rattle.jpa_behaviour.specs.Registered.{world_of}
+use Rattle.jpa_stored.specs.Sets.{StoredSet}
+use Rattle.jpa_json.specs.Outcome.{and_then}
+use Rattle.jpa_mapping.specs.MappingOf.{mapping_of}
+use Rattle.jpa_functions.specs.Functions.{meaning}
+use Rattle.jpa_functions.specs.FunctionsIn.{functions_in}
+use Rattle.jpa_functions.specs.Known.{names_are_known}
+use Rattle.jpa_functions.specs.Sorts.{registered}
+use Rattle.jpa_provider.specs.Served.{is_served}
+use Rattle.jpa_program.specs.Opening.{HoldsCells}
+use Rattle.jpa_program.specs.Persons.{persons}
+use Rattle.jpa.specs.declared.Unit.{Unit}
+
+-- the unit that the bytes of a mapping describe, or the first that is wrong: with its entities, then with its functions
+abbrev pub unit_in : List ℕ → Result Unit Cause
+unit_in bytes =
+    and_then (mapping_of bytes) (λ metamodel.
+    and_then (functions_in bytes) (λ functions.
+    and_then (registered functions) (λ registry. Ok (record { metamodel = metamodel; registry = registry }))))
+
+-- a unit that the bytes of some mapping describe
+abbrev pub IsDescribed : Unit → Type 0
+IsDescribed unit = (bytes : List ℕ) × (unit_in bytes ≡ Ok unit)
+
+-- the unit that is served without a mapping: the program's own persons, and no function
+abbrev pub own_unit : Unit
+own_unit = record { metamodel = persons; registry = record { listeners = []; converters = [] } }
+
+-- want of memory, or a fault of the mapping
+abbrev pub IsMappingCause : Cause → Type 0
+IsMappingCause cause = (cause ≡ Cause.OutOfMemory) ⊎ ((fault : MappingFault) × (cause ≡ Cause.Mapping fault))
+
+-- the calls of this version serve the unit, and each function that it names is registered
+abbrev pub IsServable : Unit → Type 0
+IsServable unit = (is_served unit.metamodel ≡ true) × (names_are_known unit.registry unit.metamodel ≡ true)
+
+-- some mapping describes a unit that can be served
+abbrev pub DescribesServable : Type 0
+DescribesServable = (unit : Unit) × IsDescribed unit × IsServable unit
+
+module _ {S : Type 0} (g : Ghosts S) where
+  -- the cells of the unit's tables are those of a set of its objects and of next numbers, and no others
+  abbrev pub HoldsUnit : Unit → Held S → Type 0
+  HoldsUnit unit conn = (set : StoredSet) × (numbers : List ℕ) × HoldsCells g (world_of meaning unit.metamodel unit.registry) conn set numbers
