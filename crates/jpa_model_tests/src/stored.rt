@@ -182,27 +182,62 @@ fn fault(metamodel: &Metamodel, set: &StoredSet) -> Result<&'static str, Cause> 
     }
 }
 
+/// The class of the object under an identity.
+fn class_at(set: &StoredSet, id: &Identity) -> Option<usize> {
+    Some(set.get(id)?.class)
+}
+
+/// The class that stands beside each table and number is that of the object there.
+fn all_stand(
+    rt: &impl Abort,
+    alloc: Global,
+    set: &StoredSet,
+    standing: &[(u64, i64, Option<usize>)],
+) -> Result<(), Cause> {
+    for (table, number, class) in standing {
+        let id = identity(alloc, *table, *number)?;
+        assert_eq!(rt; class_at(set, &id), *class, "{table}, {number}");
+    }
+    Ok(())
+}
+
+/// The entries are under these tables and numbers, in this order.
+fn all_rise(
+    rt: &impl Abort,
+    alloc: Global,
+    set: &StoredSet,
+    rising: &[(u64, i64)],
+) -> Result<(), Cause> {
+    assert_eq!(rt; set.len(), rising.len());
+    for (entry, (table, number)) in set.entries().iter().zip(rising) {
+        assert!(rt; is_same_identity(&entry.get().0, &identity(alloc, *table, *number)?));
+    }
+    Ok(())
+}
+
+/// A tag takes an employee's place, and leaves it.
+fn see_replaced(rt: &impl Abort, alloc: Global, set: &mut StoredSet) -> Result<(), Cause> {
+    set.put(identity(alloc, 1, 2)?, tag(alloc))?;
+    assert_eq!(rt; set.len(), 6);
+    all_stand(rt, alloc, set, &[(1, 2, Some(3))])?;
+    let id = identity(alloc, 1, 2)?;
+    assert!(rt; set.remove(&id));
+    assert!(rt; !set.remove(&id));
+    Ok(())
+}
+
 #[test]
 fn a_map_of_identities(rt: HostRuntime) -> Result<(), Fail> {
     let a = rt.alloc();
     assert!(rt; StoredSet::new(a).is_empty());
     let mut set = sound_set(a)?;
-    assert_eq!(rt; set.len(), 6);
     let rising = [(1, 1), (1, 2), (2, 10), (2, 11), (2, 12), (3, 7)];
-    for (entry, (table, number)) in set.entries().iter().zip(rising.as_slice()) {
-        assert!(rt; is_same_identity(&entry.get().0, &identity(a, *table, *number)?));
-    }
-    assert!(rt; matches!(set.get(&identity(a, 1, 2)?), Some(Stored { class: 1, .. })));
-    assert!(rt; set.get(&identity(a, 1, 3)?).is_none());
-    set.put(identity(a, 1, 2)?, tag(a))?;
-    assert_eq!(rt; set.len(), 6);
-    assert!(rt; matches!(set.get(&identity(a, 1, 2)?), Some(Stored { class: 3, .. })));
-    assert!(rt; set.remove(&identity(a, 1, 2)?));
-    assert!(rt; !set.remove(&identity(a, 1, 2)?));
-    assert_eq!(rt; set.len(), 5);
+    all_rise(&rt, a, &set, rising.as_slice())?;
+    all_stand(&rt, a, &set, &[(1, 2, Some(1)), (1, 3, None)])?;
+    see_replaced(&rt, a, &mut set)?;
     let copy = set.try_copy()?;
     assert_eq!(rt; copy.len(), 5);
-    assert!(rt; copy.get(&identity(a, 2, 12)?).is_some());
+    all_stand(&rt, a, &copy, &[(2, 12, Some(2)), (1, 2, None)])?;
     Ok(())
 }
 
