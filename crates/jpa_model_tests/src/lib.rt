@@ -1,13 +1,11 @@
-//! Tests of values, keys, metamodels, mappings and stored sets, a module for each crate. They stand in a crate of their own,
-//! so that they are proved over those crates and not with them once more.
+//! Tests of values, keys, mappings and stored sets, a module for each crate. They stand in a crate of their own, so that they
+//! are proved over those crates and not with them once more. Examples of mappings and metamodels are in crates/jpa_examples.
 #![tactic(auto)]
 
 #[cfg(test)]
 mod key;
 #[cfg(test)]
 mod mapping;
-#[cfg(test)]
-mod model;
 #[cfg(test)]
 mod stored;
 #[cfg(test)]

@@ -1,11 +1,12 @@
-ghost use Rattle.std.specs.Prelude.{IsTrue, IfOk};
+ghost use Rattle.std.specs.Prelude.{IsTrue, IfOk, IfErr};
 ghost use Rattle.sqlite_disk.specs.Memory.{memory_is_usable};
 
 use jpa_cells::{Cell, CellChange, CellRow, CellStore, RowSink};
 use jpa_value::{Bytes, Cause, Seq};
 use sqlite::{Alter, Connection, Error, ErrorCode, FileStore, Files, MemStore, Options};
 use sqlite_disk::{Disk, Fuse, Memory};
-use std::alloc::{AllocError, Global};
+use std::alloc::Global;
+use std::process::Abort;
 use std::test::Fail;
 
 /// A cell as a line: table, row, column and bytes.
@@ -28,51 +29,62 @@ const SECOND: &[Line] = &[
     (2, b"\x01\x80", 7, b"seven"),
 ];
 
+/// A change: table, row, and its cells as columns and bytes.
+type Changed = (i64, &'static [u8], &'static [(i64, &'static [u8])]);
+
+/// The changes that lead from nothing to `FIRST`.
+const FIRST_CHANGES: &[Changed] = &[
+    (
+        1,
+        ONE,
+        &[
+            (2, b"\x02Ada"),
+            (0, b"\x02Person"),
+            (1, b"\x01\x80\x00\x00\x00\x00\x00\x00\x00"),
+        ],
+    ),
+    (0, ONE, &[(0, b"\x01\x80\x00\x00\x00\x00\x00\x00\x02")]),
+];
+
+/// The changes that lead from `FIRST` to `SECOND`.
+const SECOND_CHANGES: &[Changed] = &[
+    (2, b"\x01\x80", &[(7, b"seven")]),
+    (1, ONE, &[]),
+    (2, b"\x01", &[(-9, b"")]),
+    (0, ONE, &[(0, b"\x01\x80\x00\x00\x00\x00\x00\x00\x03")]),
+];
+
+/// Changes of which the second names a column twice.
+const TWICE: &[Changed] = &[(0, ONE, &[]), (2, b"\x01", &[(5, b"five"), (5, b"fifth")])];
+
 // These have no clause, so that the proof of a test does not carry the state of each call.
 
-fn cell(alloc: Global, column: i64, value: &[u8]) -> Result<Cell, AllocError> {
-    Ok(Cell {
-        column,
-        value: Bytes::of(value.to_vec(alloc)?),
-    })
+fn cells_of(alloc: Global, cells: &[(i64, &[u8])]) -> Result<Seq<Cell>, Cause> {
+    let mut out = Seq::new(alloc);
+    for (column, value) in cells {
+        out.push(Cell {
+            column: *column,
+            value: Bytes::of(value.to_vec(alloc)?),
+        })?;
+    }
+    Ok(out)
 }
 
-fn change(
-    alloc: Global,
-    table: i64,
-    row: &[u8],
-    cells: Vec<Cell>,
-) -> Result<CellChange, AllocError> {
+fn change_of(alloc: Global, changed: &Changed) -> Result<CellChange, Cause> {
+    let (table, row, cells) = *changed;
     Ok(CellChange {
         table,
         row: Bytes::of(row.to_vec(alloc)?),
-        cells: Seq::of(cells),
+        cells: cells_of(alloc, cells)?,
     })
 }
 
-fn first_changes(alloc: Global) -> Result<Vec<CellChange>, AllocError> {
-    let next = vec![in alloc; cell(alloc, 0, b"\x01\x80\x00\x00\x00\x00\x00\x00\x02")?]?;
-    let person = vec![in alloc;
-        cell(alloc, 2, b"\x02Ada")?,
-        cell(alloc, 0, b"\x02Person")?,
-        cell(alloc, 1, b"\x01\x80\x00\x00\x00\x00\x00\x00\x00")?,
-    ]?;
-    Ok(vec![in alloc;
-        change(alloc, 1, ONE, person)?,
-        change(alloc, 0, ONE, next)?,
-    ]?)
-}
-
-fn second_changes(alloc: Global) -> Result<Vec<CellChange>, AllocError> {
-    let next = vec![in alloc; cell(alloc, 0, b"\x01\x80\x00\x00\x00\x00\x00\x00\x03")?]?;
-    let seven = vec![in alloc; cell(alloc, 7, b"seven")?]?;
-    let empty = vec![in alloc; cell(alloc, -9, b"")?]?;
-    Ok(vec![in alloc;
-        change(alloc, 2, b"\x01\x80", seven)?,
-        change(alloc, 1, ONE, Vec::new(alloc))?,
-        change(alloc, 2, b"\x01", empty)?,
-        change(alloc, 0, ONE, next)?,
-    ]?)
+fn changes_of(alloc: Global, changed: &[Changed]) -> Result<Vec<CellChange>, Cause> {
+    let mut out = Vec::new(alloc);
+    for change in changed {
+        out.push(change_of(alloc, change)?)?;
+    }
+    Ok(out)
 }
 
 /// Whether the tables 0 to 2 have these cells in this order, and no others.
@@ -118,24 +130,35 @@ fn is_refused<S: Alter>(store: &mut CellStore<S>, changes: &[CellChange]) -> Res
     }
 }
 
-#[test]
-fn cells_are_written_read_back_and_dropped(rt: HostRuntime) -> Result<(), Fail> {
-    let alloc = rt.alloc();
-    let mut store = in_memory(alloc)?;
-    assert!(rt; shows(&mut store, &[])?);
-    store.apply(first_changes(alloc)?.as_slice())?;
-    assert!(rt; shows(&mut store, FIRST)?);
-    let person = store.row(1, ONE)?;
-    assert_eq!(rt; person.len(), 3);
+/// The first cells are written and read back, by so many statements.
+fn see_first(rt: &impl Abort, alloc: Global, store: &mut CellStore<MemStore>) -> Result<(), Fail> {
+    assert!(rt; shows(store, &[])?);
+    store.apply(changes_of(alloc, FIRST_CHANGES)?.as_slice())?;
+    assert!(rt; shows(store, FIRST)?);
+    assert_eq!(rt; store.row(1, ONE)?.len(), 3);
     assert_eq!(rt; store.row(1, b"\x01")?.len(), 0);
     assert_eq!(rt;
         (store.writes(), store.selects(), store.statements()),
         (6, 8, 15)
     );
+    Ok(())
+}
+
+/// No changes run no statement, and the second ones drop a row.
+fn see_second(rt: &impl Abort, alloc: Global, store: &mut CellStore<MemStore>) -> Result<(), Fail> {
     store.apply(&[])?;
     assert_eq!(rt; store.statements(), 15);
-    store.apply(second_changes(alloc)?.as_slice())?;
-    assert!(rt; shows(&mut store, SECOND)?);
+    store.apply(changes_of(alloc, SECOND_CHANGES)?.as_slice())?;
+    assert!(rt; shows(store, SECOND)?);
+    Ok(())
+}
+
+#[test]
+fn cells_are_written_read_back_and_dropped(rt: HostRuntime) -> Result<(), Fail> {
+    let alloc = rt.alloc();
+    let mut store = in_memory(alloc)?;
+    see_first(&rt, alloc, &mut store)?;
+    see_second(&rt, alloc, &mut store)?;
     let mut store = again(alloc, store)?;
     assert_eq!(rt; store.statements(), 0);
     assert!(rt; shows(&mut store, SECOND)?);
@@ -146,15 +169,11 @@ fn cells_are_written_read_back_and_dropped(rt: HostRuntime) -> Result<(), Fail> 
 fn a_column_named_twice_changes_nothing(rt: HostRuntime) -> Result<(), Fail> {
     let alloc = rt.alloc();
     let mut store = in_memory(alloc)?;
-    store.apply(first_changes(alloc)?.as_slice())?;
-    let twice = vec![in alloc; cell(alloc, 5, b"five")?, cell(alloc, 5, b"fifth")?]?;
-    let changes = vec![in alloc;
-        change(alloc, 0, ONE, Vec::new(alloc))?,
-        change(alloc, 2, b"\x01", twice)?,
-    ]?;
+    store.apply(changes_of(alloc, FIRST_CHANGES)?.as_slice())?;
+    let changes = changes_of(alloc, TWICE)?;
     assert!(rt; is_refused(&mut store, changes.as_slice())?);
     assert!(rt; shows(&mut store, FIRST)?);
-    store.apply(second_changes(alloc)?.as_slice())?;
+    store.apply(changes_of(alloc, SECOND_CHANGES)?.as_slice())?;
     assert!(rt; shows(&mut store, SECOND)?);
     Ok(())
 }
@@ -200,7 +219,7 @@ fn is_limited<S: Alter>(store: &mut CellStore<S>, sink: &mut Kept) -> Result<boo
 fn rows_are_handed_on_in_order_until_no_more_are_wanted(rt: HostRuntime) -> Result<(), Fail> {
     let alloc = rt.alloc();
     let mut store = in_memory(alloc)?;
-    store.apply(second_changes(alloc)?.as_slice())?;
+    store.apply(changes_of(alloc, SECOND_CHANGES)?.as_slice())?;
     for (most, taken) in [(5, 2), (1, 1)] {
         let mut kept = Kept {
             rows: Vec::new(alloc),
@@ -280,9 +299,13 @@ fn close(
     }
 }
 
-/// Opens, and writes the first cells and then the second, until the disk stops.
-fn run(alloc: Global, log_calls: u64, db_calls: u64) -> Result<Left, Fail>
-    ensures { IfOk result (λ left. IsTrue (memory_is_usable left.files.log) × IsTrue (memory_is_usable left.files.db)) }
+/// A store over disks that stop after so many calls, or what they left where they stopped before it was opened.
+fn opened(
+    alloc: Global,
+    log_calls: u64,
+    db_calls: u64,
+) -> Result<Result<CellStore<FileStore<Device>>, Left>, Fail>
+    ensures { IfOk result (λ opened. IfErr opened (λ left. IsTrue (memory_is_usable left.files.log) × IsTrue (memory_is_usable left.files.db))) }
 {
     let files = Files {
         log: Fuse::new(Memory::new(alloc), log_calls),
@@ -293,20 +316,37 @@ fn run(alloc: Global, log_calls: u64, db_calls: u64) -> Result<Left, Fail>
         Err((Error::SqliteFailure(ErrorCode::OutOfMemory), _)) => return Err(Fail::from(
             Cause::OutOfMemory,
         )),
-        Err((_, rest)) => return leave(alloc, 0, true, rest.into_files()),
+        Err((_, rest)) => return Ok(Err(leave(alloc, 0, true, rest.into_files())?)),
     };
-    let mut store = match CellStore::open(alloc, conn) {
-        Ok(store) => store,
-        Err((Cause::StoreFault, conn)) => return close(alloc, 0, true, conn),
-        Err((cause, _)) => return Err(Fail::from(cause)),
-    };
-    if is_refused(&mut store, first_changes(alloc)?.as_slice())? {
-        return close(alloc, 1, true, store.into_connection());
+    match CellStore::open(alloc, conn) {
+        Ok(store) => Ok(Ok(store)),
+        Err((Cause::StoreFault, conn)) => Ok(Err(close(alloc, 0, true, conn)?)),
+        Err((cause, _)) => Err(Fail::from(cause)),
     }
-    if is_refused(&mut store, second_changes(alloc)?.as_slice())? {
-        return close(alloc, 2, true, store.into_connection());
+}
+
+/// Writes the first cells and then the second, until the disk stops, and answers how many steps were acknowledged.
+fn write_steps(alloc: Global, store: &mut CellStore<FileStore<Device>>) -> Result<usize, Fail> {
+    if is_refused(store, changes_of(alloc, FIRST_CHANGES)?.as_slice())? {
+        return Ok(1);
     }
-    close(alloc, 3, false, store.into_connection())
+    if is_refused(store, changes_of(alloc, SECOND_CHANGES)?.as_slice())? {
+        return Ok(2);
+    }
+    Ok(3)
+}
+
+/// Opens, and writes the first cells and then the second, until the disk stops.
+fn run(alloc: Global, log_calls: u64, db_calls: u64) -> Result<Left, Fail>
+    ensures { IfOk result (λ left. IsTrue (memory_is_usable left.files.log) × IsTrue (memory_is_usable left.files.db)) }
+{
+    match opened(alloc, log_calls, db_calls)? {
+        Ok(mut store) => {
+            let steps = write_steps(alloc, &mut store)?;
+            close(alloc, steps, steps < 3, store.into_connection())
+        }
+        Err(left) => Ok(left),
+    }
 }
 
 /// The cells after so many steps.
@@ -318,20 +358,28 @@ fn lines(steps: usize) -> &'static [Line] {
     }
 }
 
+/// The store that files hold.
+fn reopened(alloc: Global, files: Files<Memory>) -> Result<CellStore<FileStore<Memory>>, Fail>
+    requires { IsTrue (memory_is_usable files.log) × IsTrue (memory_is_usable files.db) }
+{
+    let conn = match Connection::open_files(alloc, files, Options::new(7)) {
+        Ok(conn) => conn,
+        Err((error, _)) => return Err(Fail::from(error)),
+    };
+    match CellStore::open(alloc, conn) {
+        Ok(store) => Ok(store),
+        Err((cause, _)) => Err(Fail::from(cause)),
+    }
+}
+
 /// Opens the files again, and finds the cells of the last step that was acknowledged, or of the next one.
 fn is_whole(alloc: Global, left: Left) -> Result<bool, Fail>
     requires { IsTrue (memory_is_usable left.files.log) × IsTrue (memory_is_usable left.files.db) }
 {
     let steps = left.acknowledged.min(3);
-    let conn = match Connection::open_files(alloc, left.files, Options::new(7)) {
-        Ok(conn) => conn,
-        Err((error, _)) => return Err(Fail::from(error)),
-    };
-    let mut store = match CellStore::open(alloc, conn) {
-        Ok(store) => store,
-        Err((cause, _)) => return Err(Fail::from(cause)),
-    };
-    Ok(shows(&mut store, lines(steps))? || shows(&mut store, lines(steps + 1))?)
+    let mut store = reopened(alloc, left.files)?;
+    let stands = shows(&mut store, lines(steps))? || shows(&mut store, lines(steps + 1))?;
+    Ok(stands)
 }
 
 fn stops_whole(alloc: Global, log_calls: u64, db_calls: u64) -> Result<bool, Fail> {

@@ -5,8 +5,6 @@
 #[cfg(test)]
 mod cells;
 #[cfg(test)]
-mod judged;
-#[cfg(test)]
 mod program;
 #[cfg(test)]
 mod rowspace;

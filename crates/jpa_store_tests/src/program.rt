@@ -1,13 +1,12 @@
-//! Runs of the program: the bytes that are written, and the cells that are left.
-ghost use Rattle.std.specs.Prelude.{◌≡◌, IfOk};
+//! Runs of the program over a store in memory: input that ends anywhere, reads and writes that fail, and memory that is
+//! refused. What the worked examples answer is told by `jpa_examples`.
+ghost use Rattle.std.specs.Prelude.{◌≡◌};
 ghost use Rattle.jpa_cells_meaning.specs.Store.{IsOrderedIfFound};
 
-use crate::judged::write_rows;
 use jpa_behaviour::Registry;
 use jpa_cells::{CellRow, CellStore};
-use jpa_functions::{ProgramFunctions, read_functions, registry_of};
+use jpa_functions::ProgramFunctions;
 use jpa_lines::RunFault;
-use jpa_mapping::read_mapping;
 use jpa_program::{first_unit, open, run};
 use jpa_provider::Provider;
 use jpa_rowspace::RowSpace;
@@ -17,17 +16,67 @@ use std::io::{Read, Write};
 use std::process::Abort;
 use std::test::Fail;
 
-mod examples;
 mod hostile;
-mod managers;
-mod opening;
-mod values;
+mod refused;
 
-/// Persons with generated keys and versions, and orders.
-const FLAT: &str = r#"{"revision":1,"entities":[
-{"name":"Person","table":1,"key":[{"name":"id","type":"int"}],"generated":true,"version":{"name":"version","column":1},
- "attributes":[{"name":"name","type":"text","column":2}]},
-{"name":"Order","table":2,"key":[{"name":"number","type":"int"}],"attributes":[{"name":"amount","type":"int","column":1}]}]}"#;
+// ---- a person is persisted and found
+
+const FIRST_CALLS: [&str; 7] = [
+    "{\"call\":\"createEntityManager\"}",
+    "{\"call\":\"new\",\"entity\":\"Person\"}",
+    "{\"call\":\"set\",\"object\":1,\"name\":\"name\",\"value\":\"Ada\"}",
+    "{\"call\":\"begin\",\"em\":1}",
+    "{\"call\":\"persist\",\"em\":1,\"object\":1}",
+    "{\"call\":\"commit\",\"em\":1}",
+    "{\"call\":\"find\",\"em\":1,\"entity\":\"Person\",\"key\":[1]}",
+];
+
+const FIRST_REPLIES: [&str; 7] = [
+    "{\"events\":[],\"ok\":1}",
+    "{\"events\":[],\"ok\":{\"object\":1}}",
+    "{\"events\":[],\"ok\":null}",
+    "{\"events\":[],\"ok\":null}",
+    "{\"events\":[[\"PrePersist\",1]],\"ok\":null}",
+    "{\"events\":[[\"PostPersist\",1]],\"ok\":null}",
+    "{\"events\":[],\"ok\":{\"object\":1}}",
+];
+
+const FIRST_CELLS: [&str; 4] = [
+    "0, 018000000000000001, 0, 018000000000000002",
+    "1, 018000000000000001, 0, 02506572736f6e",
+    "1, 018000000000000001, 1, 018000000000000000",
+    "1, 018000000000000001, 2, 02416461",
+];
+
+// ---- lines that are no calls
+
+const BAD_REPLIES: [&str; 4] = [
+    "{\"events\":[],\"ok\":1}",
+    "{\"error\":{\"name\":\"BadLine\",\"no\":3},\"events\":[]}",
+    "{\"error\":{\"name\":\"BadLine\",\"no\":3},\"events\":[]}",
+    "{\"error\":{\"name\":\"BadLine\",\"no\":3},\"events\":[]}",
+];
+
+// ---- a text of the greatest length, and one byte more
+
+const LENGTHS_REPLIES: [&str; 4] = [
+    "{\"events\":[],\"ok\":1}",
+    "{\"events\":[],\"ok\":{\"object\":1}}",
+    "{\"events\":[],\"ok\":null}",
+    "{\"error\":{\"name\":\"Limit\",\"no\":19},\"events\":[]}",
+];
+
+/// A call that names the first person by a text of so many letters.
+fn naming(alloc: Global, letters: usize) -> Result<Vec<u8>, AllocError> {
+    let mut line = Vec::new(alloc);
+    line.extend_from_slice(b"{\"call\":\"set\",\"object\":1,\"name\":\"name\",\"value\":\"")?;
+    let end = line.len().saturating_add(letters);
+    line.resize(end, b'a')?;
+    line.extend_from_slice(b"\"}\n")?;
+    Ok(line)
+}
+
+// ---- runs
 
 /// A provider of persons over a store in memory.
 fn opened(alloc: Global) -> Result<Provider<RowSpace<MemStore>, ProgramFunctions>, Fail> {
@@ -114,82 +163,44 @@ fn shows(
     Ok(())
 }
 
-/// A store in memory with these rows.
-fn store_of(alloc: Global, rows: &str) -> Result<CellStore<MemStore>, Fail> {
-    let mut store = match CellStore::open(alloc, Connection::open_in_memory(alloc)?) {
-        Ok(store) => store,
-        Err((cause, _)) => return Err(Fail::from(cause)),
-    };
-    write_rows(alloc, &mut store, rows)?;
-    Ok(store)
-}
+// ---- the tests
 
-/// A provider of a mapping's unit over the cells of a database.
-fn opened_over<S: Alter + Drop>(
-    alloc: Global,
-    mapping: &str,
-    conn: Connection<S>,
-) -> Result<Provider<RowSpace<S>, ProgramFunctions>, Fail>
-    requires { IsOrderedIfFound S.Store conn }
-{
-    let metamodel = read_mapping(alloc, mapping.as_bytes())?;
-    let registry = registry_of(alloc, read_functions(alloc, mapping.as_bytes())?)?;
-    match open(alloc, conn, metamodel, registry) {
-        Ok(provider) => Ok(provider),
-        Err((cause, _)) => Err(Fail::from(cause)),
-    }
-}
-
-/// What a run over the whole input writes, and the database that it leaves.
-fn ran_over<S: Alter + Drop>(
-    alloc: Global,
-    mapping: &str,
-    conn: Connection<S>,
-    input: &[u8],
-) -> Result<(Vec<u8>, Connection<S>), Fail>
-    requires { IsOrderedIfFound S.Store conn }
-    ensures { IfOk result (λ ran. IsOrderedIfFound S.Store ran.1) }
-{
-    let mut reader = input;
-    let mut writer = Vec::with_capacity(alloc, 4096)?;
-    let mut provider = opened_over(alloc, mapping, conn)?;
-    let ended = run(alloc, &mut reader, &mut writer, &mut provider);
-    let left = provider.into_rows().store.into_connection();
-    match ended {
-        Ok(()) => Ok((writer, left)),
-        Err(fault) => Err(Fail::from(fault)),
-    }
-}
-
-/// The run over the input, in a database, writes the replies and leaves the cells.
-fn shows_over<S: Alter + Drop>(
-    rt: &impl Abort,
-    alloc: Global,
-    mapping: &str,
-    conn: Connection<S>,
-    input: &[u8],
-    replies: &[&str],
-    cells: &[&str],
-) -> Result<(), Fail>
-    requires { IsOrderedIfFound S.Store conn }
-{
-    let (written, left) = ran_over(alloc, mapping, conn, input)?;
-    let found = cells_in(alloc, left)?;
-    assert_eq!(rt; written.as_slice(), joined(alloc, replies)?.as_bytes());
-    assert_eq!(rt; found.as_str(), joined(alloc, cells)?.as_str());
+// The opening makes the table and looks at two tables; the commit writes two rows, the person and the next number.
+#[test]
+fn first_run_counts(rt: HostRuntime) -> Result<(), Fail> {
+    let a = rt.alloc();
+    let input = joined(a, &FIRST_CALLS)?;
+    let mut writer = Vec::with_capacity(a, 4096)?;
+    let mut provider = opened(a)?;
+    let ended = run(a, &mut input.as_bytes(), &mut writer, &mut provider);
+    let store = provider.into_rows().store;
+    let counts = [store.selects(), store.writes(), store.statements()];
+    drop(store);
+    ended?;
+    assert_eq!(rt; counts, [2u64, 6, 9]);
     Ok(())
 }
 
-/// The run over the calls, in an empty store, writes the replies and leaves the cells.
-fn shows_of(
-    rt: &impl Abort,
-    alloc: Global,
-    mapping: &str,
-    calls: &[&str],
-    replies: &[&str],
-    cells: &[&str],
-) -> Result<(), Fail> {
-    let input = joined(alloc, calls)?;
-    let conn: Connection<MemStore> = Connection::open_in_memory(alloc)?;
-    shows_over(rt, alloc, mapping, conn, input.as_bytes(), replies, cells)
+#[test]
+fn lines_that_are_no_calls(rt: HostRuntime) -> Result<(), Fail> {
+    let a = rt.alloc();
+    let mut input = Vec::new(a);
+    input.extend_from_slice(b"{\"call\":\"createEntityManager\"}\n{\"call\":\"find\"\n")?;
+    input.push(255)?;
+    input.extend_from_slice(b"\n{\"call\":\"x\"}\n")?;
+    shows(&rt, a, input.as_slice(), &BAD_REPLIES, &[])
+}
+
+#[test]
+fn the_two_lengths_of_a_text(rt: HostRuntime) -> Result<(), Fail> {
+    let a = rt.alloc();
+    let mut input = Vec::new(a);
+    for line in &FIRST_CALLS[..2] {
+        input.extend_from_slice(line.as_bytes())?;
+        input.push(b'\n')?;
+    }
+    for letters in [65_535, 65_536] {
+        input.extend_from_slice(naming(a, letters)?.as_slice())?;
+    }
+    shows(&rt, a, input.as_slice(), &LENGTHS_REPLIES, &[])
 }

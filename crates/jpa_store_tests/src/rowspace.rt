@@ -172,20 +172,33 @@ fn commit_seven(alloc: Global, space: &mut RowSpace<MemStore>) -> Result<(), Cau
     space.commit(&[change])
 }
 
+/// The row of this number.
+fn found(alloc: Global, space: &mut RowSpace<MemStore>, number: i64) -> Result<String, Cause> {
+    let id = id(alloc, 1, number)?;
+    got(alloc, space, &id)
+}
+
+/// The first row is seen, and no other one.
+fn see_first_row(
+    rt: &impl Abort,
+    alloc: Global,
+    space: &mut RowSpace<MemStore>,
+) -> Result<(), Fail> {
+    assert_eq!(rt; (space.store.writes(), space.store.selects()), (2, 0));
+    assert_eq!(rt; found(alloc, space, 1)?.as_str(), "1: 0=7;");
+    assert_eq!(rt; scanned(alloc, space, 1)?.as_str(), "1: 0=7;");
+    assert_eq!(rt; found(alloc, space, 2)?.as_str(), "none");
+    assert_eq!(rt; (space.store.writes(), space.store.selects()), (2, 3));
+    assert_eq!(rt; space.schema().tables.len(), 1);
+    Ok(())
+}
+
 #[test]
 fn commits_and_reads_the_first_row(rt: HostRuntime) -> Result<(), Fail> {
     let alloc = rt.alloc();
     let mut space = opened(alloc)?;
     commit_seven(alloc, &mut space)?;
-    assert_eq!(rt; (space.store.writes(), space.store.selects()), (2, 0));
-    let first = id(alloc, 1, 1)?;
-    assert_eq!(rt; got(alloc, &mut space, &first)?.as_str(), "1: 0=7;");
-    assert_eq!(rt; scanned(alloc, &mut space, 1)?.as_str(), "1: 0=7;");
-    let second = id(alloc, 1, 2)?;
-    assert_eq!(rt; got(alloc, &mut space, &second)?.as_str(), "none");
-    assert_eq!(rt; (space.store.writes(), space.store.selects()), (2, 3));
-    assert_eq!(rt; space.schema().tables.len(), 1);
-    Ok(())
+    see_first_row(&rt, alloc, &mut space)
 }
 
 #[test]

@@ -1,0 +1,43 @@
+//! Worked examples of queries (the docs of `examples` tell the form of their files).
+//!
+//! The kinds `query` and `repeated` (src/queries.rt) answer trees of texts, `typed` and `places` (src/typed.rt) what the
+//! mapping says of them, and those of src/parts.rt what single readers of the grammar make of a text. Each answers a line
+//! for each that is given; in a given line a backslash and two hexadecimal digits stand for a character (src/given.rt).
+#![tactic(auto)]
+
+mod given;
+mod parts;
+mod places;
+mod queries;
+mod shown;
+mod typed;
+
+use examples::{Answers, Stop, Unit, tell};
+use std::alloc::Global;
+use std::process::ExitCode;
+
+/// What this program answers.
+struct Program;
+
+impl Answers for Program {
+    fn answer(
+        &self,
+        alloc: Global,
+        unit: Unit<'_>,
+        kind: &str,
+        rows: &str,
+        given: &str,
+    ) -> Result<String, Stop> {
+        match kind {
+            "query" => queries::query_answers(alloc, given),
+            "repeated" => queries::repeated_answer(alloc, rows, given),
+            "typed" => typed::typed_answers(alloc, unit, rows, given),
+            "places" => places::places_answers(alloc, unit, rows, given),
+            _ => parts::part_answers(alloc, kind, rows, given),
+        }
+    }
+}
+
+fn main(rt: HostRuntime) -> ExitCode {
+    tell(&rt, &Program)
+}

@@ -1,0 +1,71 @@
+//! Texts of queries, which answer whether a mapping gives them types.
+use crate::given::{number, text_of};
+use examples::{Stop, Unit};
+use jpa_mapping::read_mapping;
+use jpa_model::Metamodel;
+use jpa_value::{Argument, Cause, Kind, Seq, Text};
+use jpql_text::read_query;
+use jpql_types::{ParamType, Typed, check_query};
+use std::alloc::Global;
+
+/// What a parameter is of: a kind, null, or an entity of the class of this number.
+fn sort(word: &str) -> Result<ParamType, Stop> {
+    match word {
+        "int" => Ok(ParamType::Basic(Kind::Int)),
+        "text" => Ok(ParamType::Basic(Kind::Text)),
+        "null" => Ok(ParamType::Null),
+        _ => Ok(ParamType::Entity(number(word)?)),
+    }
+}
+
+/// The parameters on lines, each its name and what it is of.
+pub(crate) fn parameters(alloc: Global, rows: &str) -> Result<Seq<(Text, ParamType)>, Stop> {
+    let mut parameters = Seq::new(alloc);
+    for line in rows.lines() {
+        let Some((name, word)) = line.split_once(' ') else {
+            return Err(Stop::Form);
+        };
+        let sort = sort(word)?;
+        parameters.push((Text::of(alloc, name)?, sort))?;
+    }
+    Ok(parameters)
+}
+
+/// The typed tree of a text, with these parameters.
+pub(crate) fn typed(
+    alloc: Global,
+    metamodel: &Metamodel,
+    parameters: &[(Text, ParamType)],
+    text: &str,
+) -> Result<Typed, Cause> {
+    let query = read_query(alloc, text)?;
+    check_query(alloc, metamodel, query, parameters)
+}
+
+/// The name of what is answered.
+fn name<T: Drop>(answer: Result<T, Cause>) -> Result<&'static str, Stop> {
+    match answer {
+        Ok(_) => Ok("typed\n"),
+        Err(Cause::IllegalArgument(Argument::Typing)) => Ok("typing\n"),
+        Err(Cause::IllegalArgument(Argument::Parameter)) => Ok("parameter\n"),
+        Err(Cause::IllegalArgument(Argument::Syntax)) => Ok("syntax\n"),
+        Err(cause) => Err(Stop::Refused(cause)),
+    }
+}
+
+/// Whether each text is typed with the parameters on the rows, or why it isn't.
+pub(crate) fn typed_answers(
+    alloc: Global,
+    unit: Unit<'_>,
+    rows: &str,
+    given: &str,
+) -> Result<String, Stop> {
+    let metamodel = read_mapping(alloc, unit.mapping.as_bytes())?;
+    let parameters = parameters(alloc, rows)?;
+    let mut out = String::new(alloc);
+    for line in given.lines() {
+        let text = text_of(alloc, line)?;
+        out.push_str(name(typed(alloc, &metamodel, parameters.as_slice(), text.as_str()))?)?;
+    }
+    Ok(out)
+}
