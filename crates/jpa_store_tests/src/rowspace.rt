@@ -339,10 +339,18 @@ fn first_rows(alloc: Global) -> Result<Vec<RowChange>, Cause>
 }
 
 #[tactic(auto, using(jpa_rowspace::proofs::Samples::are_changes))]
+fn commit_rows(space: &mut RowSpace<MemStore>, rows: &[RowChange]) -> Result<(), Cause>
+    requires schema { space.old.schema ≡ samples.shop }
+    requires rows { rows.now ≡ samples.first_rows }
+{
+    space.commit(rows)
+}
+
 fn commit_first(alloc: Global, space: &mut RowSpace<MemStore>) -> Result<(), Cause>
     requires { space.old.schema ≡ samples.shop }
 {
-    space.commit(first_rows(alloc)?.as_slice())
+    let rows = first_rows(alloc)?;
+    commit_rows(space, rows.as_slice())
 }
 
 /// Whether a table has the cells of these lines in this order, and no others.
