@@ -18,7 +18,7 @@ pub enum Stop {
 
 impl Stop {
     /// What is told of it.
-    pub fn name(&self) -> &'static str {
+    pub(crate) fn name(&self) -> &'static str {
         match self {
             Stop::Refused(cause) => cause.name(),
             Stop::Form => "an example has another form",
