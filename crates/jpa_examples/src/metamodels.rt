@@ -9,7 +9,7 @@ ghost use Rattle.jpa_model.specs.Chains as chains;
 use crate::texts::long_text;
 use examples::Stop;
 use jpa_mapping::read_mapping;
-use jpa_model::Metamodel;
+use jpa_model::{Cascades, Column, Listener, Member, Metamodel, Side};
 use std::alloc::{AllocError, Global};
 
 /// The class of this name.
@@ -33,10 +33,67 @@ fn place_in(metamodel: &Metamodel, class: usize, word: &str) -> Result<usize, St
     }
 }
 
+/// Listeners with their events.
+fn listeners_text(alloc: Global, listeners: &[Listener]) -> Result<String, AllocError> {
+    let mut out = String::new(alloc);
+    for listener in listeners {
+        let name = listener.name.as_str();
+        let events = listener.events.as_slice();
+        write!(out, "{name} on {events:?};")?;
+    }
+    Ok(out)
+}
+
+fn member_text(alloc: Global, member: Option<Member>) -> Result<String, AllocError> {
+    match member {
+        None => String::from_str(alloc, "none"),
+        Some(Member::KeyPart(place)) => format!(in alloc; "KeyPart({place})"),
+        Some(Member::Version) => String::from_str(alloc, "Version"),
+        Some(Member::Attribute(place)) => format!(in alloc; "Attribute({place})"),
+        Some(Member::Relation(place)) => format!(in alloc; "Relation({place})"),
+    }
+}
+
+fn column_text(alloc: Global, column: Option<Column>) -> Result<String, AllocError> {
+    match column {
+        None => String::from_str(alloc, "none"),
+        Some(Column { column, required }) => format!(in alloc; "{column} required {required}"),
+    }
+}
+
+/// The kind of a side, and its column, its join table or the place of its owner.
+fn side_text(alloc: Global, side: Side) -> Result<String, AllocError> {
+    let kind = match side {
+        Side::ManyToOne(_) => "ManyToOne",
+        Side::OneToOne(_) => "OneToOne",
+        Side::OneToOneInverse(owner) => return format!(in alloc; "OneToOneInverse({owner})"),
+        Side::OneToMany(owner) => return format!(in alloc; "OneToMany({owner})"),
+        Side::ManyToMany(table) => return format!(in alloc; "ManyToMany({table})"),
+        Side::ManyToManyInverse(owner) => return format!(in alloc; "ManyToManyInverse({owner})"),
+    };
+    let column = column_text(alloc, side.column())?;
+    let column = column.as_str();
+    format!(in alloc; "{kind}(column {column})")
+}
+
+fn cascades_text(alloc: Global, cascades: Cascades) -> Result<String, AllocError> {
+    let Cascades {
+        persist,
+        merge,
+        remove,
+        refresh,
+        detach,
+    } = cascades;
+    format!(in alloc;
+        "persist {persist}, merge {merge}, remove {remove}, refresh {refresh}, detach {detach}"
+    )
+}
+
 fn unit_text(alloc: Global, metamodel: &Metamodel) -> Result<String, AllocError> {
     let count = metamodel.entities().len();
-    let listeners = metamodel.unit().listeners.as_slice();
-    format!(in alloc; "{count} entities, listeners {listeners:?}")
+    let listeners = listeners_text(alloc, metamodel.unit().listeners.as_slice())?;
+    let listeners = listeners.as_str();
+    format!(in alloc; "{count} entities, listeners [{listeners}]")
 }
 
 fn class_text(alloc: Global, metamodel: &Metamodel, class: usize) -> Result<String, AllocError>
@@ -60,10 +117,11 @@ fn entity_text(alloc: Global, metamodel: &Metamodel, class: usize) -> Result<Str
     let entity = metamodel.entity(class);
     let name = entity.name.as_str();
     let discriminator = entity.discriminator.as_str();
-    let listeners = entity.listeners.as_slice();
-    let callbacks = entity.callbacks.as_slice();
+    let listeners = listeners_text(alloc, entity.listeners.as_slice())?;
+    let callbacks = listeners_text(alloc, entity.callbacks.as_slice())?;
+    let (listeners, callbacks) = (listeners.as_str(), callbacks.as_str());
     format!(in alloc;
-        "class {class}, {name}, {discriminator}, listeners {listeners:?}, callbacks {callbacks:?}"
+        "class {class}, {name}, {discriminator}, listeners [{listeners}], callbacks [{callbacks}]"
     )
 }
 
@@ -78,13 +136,23 @@ fn relation_text(
 {
     let declarer = metamodel.declarer_of(class, place);
     let relation = metamodel.relation_at(class, place);
-    let (to_one, owner, column) = (
+    let column = column_text(alloc, relation.side.column())?;
+    let side = side_text(alloc, relation.side)?;
+    let cascades = cascades_text(alloc, relation.cascade)?;
+    let (to_one, owner, target, orphan_removal) = (
         relation.side.is_to_one(),
         relation.side.owner(),
-        relation.side.column(),
+        relation.target,
+        relation.orphan_removal,
+    );
+    let (name, column, side, cascades) = (
+        relation.name.as_str(),
+        column.as_str(),
+        side.as_str(),
+        cascades.as_str(),
     );
     format!(in alloc;
-        "of {declarer}, to one {to_one}, owner {owner:?}, column {column:?}, {relation:?}"
+        "of {declarer}, to one {to_one}, owner {owner:?}, column {column}, {name} {side} to class {target}, {cascades}, orphan removal {orphan_removal}"
     )
 }
 
@@ -103,8 +171,7 @@ fn answer(alloc: Global, metamodel: &Metamodel, words: &[&str]) -> Result<String
         },
         ["member", name, member] => {
             let class = class_named(metamodel, name)?;
-            let member = metamodel.member_of(class, member);
-            Ok(format!(in alloc; "{member:?}")?)
+            Ok(member_text(alloc, metamodel.member_of(class, member))?)
         }
         ["relation", name, place] => {
             let class = class_named(metamodel, name)?;

@@ -3,14 +3,14 @@ use crate::unit::Part;
 use jpa_value::{Kind, Seq, Text};
 
 /// The version attribute of a hierarchy.
-#[derive(Debug, Drop)]
+#[derive(Drop)]
 pub struct DraftVersion {
     pub name: Text,
     pub column: i64,
 }
 
 /// What the root of a hierarchy says for all its classes.
-#[derive(Debug, Drop)]
+#[derive(Drop)]
 pub struct DraftRoot {
     pub table: i64,
     pub key: Seq<Part>,
@@ -21,7 +21,7 @@ pub struct DraftRoot {
 }
 
 /// Where a class stands in its hierarchy.
-#[derive(Debug, Drop)]
+#[derive(Drop)]
 pub enum DraftOrigin {
     /// It begins one.
     Root(DraftRoot),
@@ -30,7 +30,7 @@ pub enum DraftOrigin {
 }
 
 /// An attribute with one value.
-#[derive(Debug, Drop)]
+#[derive(Drop)]
 pub struct DraftAttribute {
     pub name: Text,
     pub kind: Kind,
@@ -41,7 +41,7 @@ pub struct DraftAttribute {
 }
 
 /// How many objects stand on the two sides of a relation: first on the declaring side, then on the target's.
-#[derive(Clone, Copy, Debug)]
+#[derive(Clone, Copy)]
 pub enum RelationKind {
     ManyToOne,
     OneToMany,
@@ -50,14 +50,14 @@ pub enum RelationKind {
 }
 
 /// The column of an owning to-one relation.
-#[derive(Clone, Copy, Debug)]
+#[derive(Clone, Copy)]
 pub struct DraftColumn {
     pub column: i64,
     pub required: bool,
 }
 
 /// Where a relation is kept.
-#[derive(Debug, Drop)]
+#[derive(Drop)]
 pub enum DraftSide {
     /// In a column of the declaring entity's table.
     Column(DraftColumn),
@@ -68,7 +68,7 @@ pub enum DraftSide {
 }
 
 /// An operation that goes along a relation, or all of them.
-#[derive(Clone, Copy, Debug)]
+#[derive(Clone, Copy)]
 pub enum Cascade {
     Persist,
     Merge,
@@ -79,7 +79,7 @@ pub enum Cascade {
 }
 
 /// A relation to another entity.
-#[derive(Debug, Drop)]
+#[derive(Drop)]
 pub struct DraftRelation {
     pub name: Text,
     pub kind: RelationKind,
@@ -91,14 +91,14 @@ pub struct DraftRelation {
 }
 
 /// A listener or a callback, with the names of the events that it hears.
-#[derive(Debug, Drop)]
+#[derive(Drop)]
 pub struct DraftListener {
     pub name: Text,
     pub events: Seq<Text>,
 }
 
 /// An entity class.
-#[derive(Debug, Drop)]
+#[derive(Drop)]
 pub struct DraftEntity {
     pub name: Text,
     pub origin: DraftOrigin,
@@ -113,7 +113,7 @@ pub struct DraftEntity {
 }
 
 /// A whole description: its revision, the default listeners and the entities.
-#[derive(Debug, Drop)]
+#[derive(Drop)]
 pub struct Draft {
     pub revision: i64,
     pub listeners: Seq<DraftListener>,

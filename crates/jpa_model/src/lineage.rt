@@ -10,7 +10,7 @@ use jpa_value::{Cause, Seq, TryCopy};
 use std::alloc::Global;
 
 /// What a class has along its chain.
-#[derive(Debug, Drop)]
+#[derive(Drop)]
 pub(crate) struct Lineage {
     /// The classes from the root to this one.
     pub(crate) chain: Seq<usize>,

@@ -2,14 +2,14 @@
 use jpa_value::{Kind, LifecycleEvent, Seq, Text};
 
 /// A part of a primary key (chapter 2.4).
-#[derive(Debug, Drop)]
+#[derive(Drop)]
 pub struct Part {
     pub name: Text,
     pub kind: Kind,
 }
 
 /// The version attribute of a hierarchy (chapter 3.4.2).
-#[derive(Debug, Drop)]
+#[derive(Drop)]
 pub struct VersionColumn {
     pub name: Text,
     /// From 1 to 1,000,000.
@@ -17,7 +17,7 @@ pub struct VersionColumn {
 }
 
 /// What the root of a hierarchy says for all its classes (chapters 2.4 and 2.12).
-#[derive(Debug, Drop)]
+#[derive(Drop)]
 pub struct Root {
     /// From 1 to 1,000,000.
     pub table: u64,
@@ -31,7 +31,7 @@ pub struct Root {
 }
 
 /// Where a class stands in its hierarchy (chapter 2.11).
-#[derive(Debug, Drop)]
+#[derive(Drop)]
 pub enum Origin {
     /// It begins one.
     Root(Root),
@@ -40,7 +40,7 @@ pub enum Origin {
 }
 
 /// An attribute with one value (chapter 2.2).
-#[derive(Debug, Drop)]
+#[derive(Drop)]
 pub struct Attribute {
     pub name: Text,
     pub kind: Kind,
@@ -53,7 +53,7 @@ pub struct Attribute {
 }
 
 /// The column of an owning to-one relation (chapter 2.10).
-#[derive(Clone, Copy, Debug)]
+#[derive(Clone, Copy)]
 pub struct Column {
     /// From 1 to 1,000,000.
     pub column: u64,
@@ -63,7 +63,7 @@ pub struct Column {
 
 /// A side of a relation (chapter 2.9). An inverse side names the place of its owner among the relations of the
 /// target's chain.
-#[derive(Clone, Copy, Debug)]
+#[derive(Clone, Copy)]
 pub enum Side {
     ManyToOne(Column),
     OneToOne(Column),
@@ -112,7 +112,7 @@ impl Side {
 }
 
 /// Which operations go along a relation (chapter 3.2).
-#[derive(Clone, Copy, Debug)]
+#[derive(Clone, Copy)]
 pub struct Cascades {
     pub persist: bool,
     pub merge: bool,
@@ -122,7 +122,7 @@ pub struct Cascades {
 }
 
 /// A relation to another entity (chapter 2.9).
-#[derive(Debug, Drop)]
+#[derive(Drop)]
 pub struct Relation {
     pub name: Text,
     pub side: Side,
@@ -133,14 +133,14 @@ pub struct Relation {
 }
 
 /// A listener or a callback, with the events that it hears (chapter 3.5).
-#[derive(Debug, Drop)]
+#[derive(Drop)]
 pub struct Listener {
     pub name: Text,
     pub events: Seq<LifecycleEvent>,
 }
 
 /// An entity class (chapter 2.1).
-#[derive(Debug, Drop)]
+#[derive(Drop)]
 pub struct Entity {
     pub name: Text,
     pub origin: Origin,
@@ -162,7 +162,7 @@ pub struct Entity {
 
 /// What a name means for an object: a part of the key, the version, an attribute or a relation, by its place in
 /// the chain of the class.
-#[derive(Clone, Copy, Debug)]
+#[derive(Clone, Copy)]
 pub enum Member {
     KeyPart(usize),
     Version,
@@ -171,7 +171,7 @@ pub enum Member {
 }
 
 /// The default listeners and the entities, in the order of the description.
-#[derive(Debug, Drop)]
+#[derive(Drop)]
 pub struct PersistenceUnit {
     pub listeners: Seq<Listener>,
     pub entities: Seq<Entity>,

@@ -5,7 +5,7 @@ use jpa_value::{Identity, Key, Seq, Value};
 pub type RowId = Identity;
 
 /// What a column of a row holds. Null stands in no column.
-#[derive(Debug, Drop)]
+#[derive(Drop)]
 pub enum Content {
     /// A value, which is not null.
     Value(Value),
@@ -14,7 +14,7 @@ pub enum Content {
 }
 
 /// A column of a row, and what it holds.
-#[derive(Debug, Drop)]
+#[derive(Drop)]
 pub struct Field {
     pub column: u32,
     pub content: Content,
@@ -24,7 +24,7 @@ pub struct Field {
 pub type Row = Seq<Field>;
 
 /// What becomes of a row: this one in place of what stands there, or none.
-#[derive(Debug, Drop)]
+#[derive(Drop)]
 pub struct RowChange {
     pub id: RowId,
     pub row: Option<Row>,

@@ -2,7 +2,7 @@
 use jpa_value::{Kind, Seq};
 
 /// What a column may hold.
-#[derive(Debug, Drop)]
+#[derive(Drop)]
 pub enum Holds {
     /// Values of a kind.
     Kind(Kind),
@@ -13,14 +13,14 @@ pub enum Holds {
 }
 
 /// A column, and what it may hold.
-#[derive(Debug, Drop)]
+#[derive(Drop)]
 pub struct ColumnRule {
     pub column: u32,
     pub holds: Holds,
 }
 
 /// A table: the kinds of the parts that name its rows, and its columns.
-#[derive(Debug, Drop)]
+#[derive(Drop)]
 pub struct TableRule {
     pub table: u32,
     pub key: Seq<Kind>,
@@ -28,7 +28,7 @@ pub struct TableRule {
 }
 
 /// The tables that a unit names.
-#[derive(Debug, Drop)]
+#[derive(Drop)]
 pub struct Schema {
     pub tables: Seq<TableRule>,
 }

@@ -18,7 +18,7 @@ use std::collections::BTreeSet;
 
 /// A target that an object owns in a one-to-one relation, with the table and the column that the relation is
 /// kept in.
-#[derive(Debug, Drop)]
+#[derive(Drop)]
 pub struct Claim {
     pub table: u64,
     pub column: u64,
