@@ -3,6 +3,7 @@ use crate::given::text_of;
 use crate::typed::{parameters, typed};
 use examples::{Stop, Unit};
 use jpa_mapping::read_mapping;
+use jpa_model::Member;
 use jpql_types::{
     Typed, TypedAssignment, TypedKey, TypedOrigin, TypedPath, TypedSelect, TypedSorted,
     TypedSource, TypedValue,
@@ -11,12 +12,23 @@ use std::alloc::{AllocError, Global};
 
 type Written = Result<(), AllocError>;
 
+fn member(out: &mut String, member: Member) -> Written {
+    match member {
+        Member::KeyPart(place) => write!(out, "KeyPart({place})"),
+        Member::Version => out.push_str("Version"),
+        Member::Attribute(place) => write!(out, "Attribute({place})"),
+        Member::Relation(place) => write!(out, "Relation({place})"),
+    }
+}
+
 fn path(out: &mut String, path: &TypedPath) -> Written {
     let variable = path.variable;
     let class = path.class;
     write!(out, " variable {variable} of class {class}")?;
     for step in path.steps.as_slice() {
-        write!(out, ", {:?} of class {}", step.member, step.class)?;
+        out.push_str(", ")?;
+        member(out, step.member)?;
+        write!(out, " of class {}", step.class)?;
     }
     Ok(())
 }
@@ -77,7 +89,8 @@ fn select(out: &mut String, select: &TypedSelect) -> Written {
 }
 
 fn assignment(out: &mut String, assignment: &TypedAssignment) -> Written {
-    write!(out, " SET {:?}", assignment.member)?;
+    out.push_str(" SET ")?;
+    member(out, assignment.member)?;
     match &assignment.value {
         None => out.push_str(" NULL"),
         Some(new) => value(out, new),

@@ -1,8 +1,3 @@
-mod Shop
-mod Texts
-mod Samples
-mod StatementSamples
-mod CheckSamples
 mod SameName
 mod Calls
 mod Blocks

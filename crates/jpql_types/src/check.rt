@@ -1,5 +1,5 @@
 //! What a check of a statement answers.
-ghost use Rattle.std.specs.Prelude.{◌≡◌, [], map, IfOk};
+ghost use Rattle.std.specs.Prelude.{◌≡◌, [], not, map, if◌then◌else◌, Ok, Err, IfOk};
 ghost use Rattle.jpa_model.specs.Described.{IsUnlessMemory};
 ghost use Rattle.jpql_types.specs.Gives.{IsJudged};
 ghost use Rattle.jpql_types.specs.Typing as typing;
@@ -63,10 +63,10 @@ fn update_of(
         (map (trees.typed_assignment context.now.metamodel.now context.now.parameters.now scope.now) assignments.now)
         (trees.typed_filter context.now.metamodel.now context.now.parameters.now scope.now filter.now)) }
 {
-    let found = typed_assignments(alloc, context, scope, assignments)?;
     if !are_distinct_assignments(assignments) {
         return Err(TypingError::Typing);
     }
+    let found = typed_assignments(alloc, context, scope, assignments)?;
     let filter = typed_filter(alloc, context, scope, Clause::Where, filter)?;
     Ok(Typed::Update {
         class,
@@ -175,6 +175,38 @@ fn typed_query(
     typed_statement(alloc, metamodel, parameters, query)
 }
 
+// It holds for any tree, so that the check need not look into the one that is let go.
+/// A tree, where each parameter of a statement is given, and no other.
+fn with_parameters<T: Drop>(
+    alloc: Global,
+    parameters: &[(Text, Sort)],
+    query: &Query,
+    tree: T,
+) -> Result<T, Cause>
+    ensures { IsUnlessMemory result (if not (spec.are_given parameters.now query.now) then Err (Cause.IllegalArgument Argument.Parameter) else Ok tree) }
+{
+    if are_given(alloc, parameters, query)? {
+        Ok(tree)
+    } else {
+        Err(Cause::IllegalArgument(Argument::Parameter))
+    }
+}
+
+fn checked_query(
+    alloc: Global,
+    metamodel: &Metamodel,
+    query: &Query,
+    parameters: &[(Text, Sort)],
+) -> Result<Typed, Cause>
+    ensures { IsUnlessMemory result (spec.checked metamodel.now query.now parameters.now) }
+{
+    match typed_query(alloc, metamodel, parameters, query) {
+        Err(TypingError::Memory) => Err(Cause::OutOfMemory),
+        Err(TypingError::Typing) => Err(Cause::IllegalArgument(Argument::Typing)),
+        Ok(typed) => with_parameters(alloc, parameters, query, typed),
+    }
+}
+
 /// The typed tree of a statement, whose parameters are of these sorts (chapters 4.2 to 4.10).
 ///
 /// `IllegalArgument(Typing)` where the statement isn't well typed, a parameter that isn't given being of all sorts;
@@ -188,15 +220,7 @@ pub fn check_query(
 ) -> Result<Typed, Cause>
     ensures { IsUnlessMemory result (spec.checked metamodel.now query parameters.now) }
 {
-    match typed_query(alloc, metamodel, parameters, &query) {
-        Err(TypingError::Memory) => Err(Cause::OutOfMemory),
-        Err(TypingError::Typing) => Err(Cause::IllegalArgument(Argument::Typing)),
-        Ok(typed) => {
-            if are_given(alloc, parameters, &query)? {
-                Ok(typed)
-            } else {
-                Err(Cause::IllegalArgument(Argument::Parameter))
-            }
-        }
-    }
+    let checked = checked_query(alloc, metamodel, &query, parameters);
+    drop(query);
+    checked
 }

@@ -1,5 +1,5 @@
 //! Which conditions and nested SELECTs are well typed, the variables that FROM brings into scope, and their trees.
-ghost use Rattle.std.specs.Prelude.{◌≡◌, map, IfOk};
+ghost use Rattle.std.specs.Prelude.{◌≡◌, ◌&&◌, map, IfOk};
 ghost use Rattle.jpa_model.specs.WellFormed.{if_some};
 ghost use Rattle.jpql_types.specs.Gives.{Gives, IsJudged};
 ghost use Rattle.jpql_types.specs.Typing as typing;
@@ -37,18 +37,18 @@ pub(crate) fn typed_condition(
 {
     match condition {
         Condition::Or(left, right) => {
-            let left = typed_condition(alloc, context, scope, clause, left.get())?;
-            let (left, right) = with_left(alloc, context, scope, clause, right.get(), left)?;
+            let left = boxed_condition(alloc, context, scope, clause, left.get())?;
+            let (left, right) = with_right(alloc, context, scope, clause, right.get(), left)?;
             Ok(TypedCondition::Or(left, right))
         }
         Condition::And(left, right) => {
-            let left = typed_condition(alloc, context, scope, clause, left.get())?;
-            let (left, right) = with_left(alloc, context, scope, clause, right.get(), left)?;
+            let left = boxed_condition(alloc, context, scope, clause, left.get())?;
+            let (left, right) = with_right(alloc, context, scope, clause, right.get(), left)?;
             Ok(TypedCondition::And(left, right))
         }
         Condition::Not(inner) => {
-            let inner = typed_condition(alloc, context, scope, clause, inner.get())?;
-            nodes::opposite(alloc, inner)
+            let inner = boxed_condition(alloc, context, scope, clause, inner.get())?;
+            Ok(TypedCondition::Not(inner))
         }
         Condition::Compare(comparison, left, right) => {
             simple::compare(alloc, context, scope, clause, *comparison, left, right)
@@ -67,42 +67,67 @@ pub(crate) fn typed_condition(
         Condition::Member(value, path) => {
             simple::member(alloc, context, scope, clause, value, path)
         }
-        Condition::Exists(block) => {
-            if !allows_exists(clause) {
-                return Err(TypingError::Typing);
-            }
-            let block = typed_block(alloc, context, scope, block.get())?;
-            nodes::exists(alloc, block)
-        }
+        Condition::Exists(block) => typed_exists(alloc, context, scope, clause, block.get()),
         Condition::Type(variable, names) => {
             simple::type_of(alloc, context, scope, clause, variable, names.as_slice())
         }
     }
 }
 
-// The left condition is dropped here, by a call: where `typed_condition` drops it, the check runs out of memory.
-/// A typed condition, and the one to its right, where that is well typed in a clause.
+/// A condition on the heap, where it is well typed in a clause.
 #[cycle(typed_condition)]
-fn with_left(
+fn boxed_condition(
+    alloc: Global,
+    context: &Context<'_>,
+    scope: &[Variable],
+    clause: Clause,
+    condition: &Condition,
+) -> Result<Boxed<TypedCondition>, TypingError>
+    requires { IsScope context.now.metamodel.now scope.now }
+    ensures typed { IsJudged result (typing.is_condition_typed context.now.metamodel.now context.now.parameters.now context.now.groups.now scope.now clause condition.now) }
+    ensures tree { IfOk result (λ found. found ≡ trees.typed_condition context.now.metamodel.now context.now.parameters.now condition.now scope.now) }
+{
+    let condition = typed_condition(alloc, context, scope, clause, condition)?;
+    Ok(Boxed::new(alloc, condition)?)
+}
+
+/// A condition beside the one to its right, where that is well typed in a clause.
+#[cycle(typed_condition)]
+fn with_right(
     alloc: Global,
     context: &Context<'_>,
     scope: &[Variable],
     clause: Clause,
     right: &Condition,
-    left: TypedCondition,
+    left: Boxed<TypedCondition>,
 ) -> Result<(Boxed<TypedCondition>, Boxed<TypedCondition>), TypingError>
     requires { IsScope context.now.metamodel.now scope.now }
     ensures typed { IsJudged result (typing.is_condition_typed context.now.metamodel.now context.now.parameters.now context.now.groups.now scope.now clause right.now) }
     ensures left { IfOk result (λ found. found.0 ≡ left) }
     ensures right { IfOk result (λ found. found.1 ≡ trees.typed_condition context.now.metamodel.now context.now.parameters.now right.now scope.now) }
 {
-    match typed_condition(alloc, context, scope, clause, right) {
-        Ok(right) => nodes::boxed(alloc, left, right),
-        Err(error) => {
-            drop(left);
-            Err(error)
-        }
+    let right = boxed_condition(alloc, context, scope, clause, right)?;
+    Ok((left, right))
+}
+
+/// EXISTS (chapter 4.6.16).
+#[cycle(typed_condition)]
+fn typed_exists(
+    alloc: Global,
+    context: &Context<'_>,
+    scope: &[Variable],
+    clause: Clause,
+    block: &Block,
+) -> Result<TypedCondition, TypingError>
+    requires { IsScope context.now.metamodel.now scope.now }
+    ensures typed { IsJudged result (typing.allows_exists clause && typing.is_block_typed context.now.metamodel.now context.now.parameters.now context.now.groups.now block.now scope.now) }
+    ensures tree { IfOk result (λ found. found ≡ TypedCondition.Exists (trees.typed_block context.now.metamodel.now context.now.parameters.now block.now scope.now)) }
+{
+    if !allows_exists(clause) {
+        return Err(TypingError::Typing);
     }
+    let block = typed_block(alloc, context, scope, block)?;
+    nodes::exists(alloc, block)
 }
 
 /// A condition, where there is one and it is well typed in a clause.
@@ -120,10 +145,7 @@ pub(crate) fn typed_filter(
 {
     match filter {
         None => Ok(None),
-        Some(filter) => {
-            let filter = typed_condition(alloc, context, scope, clause, filter.get())?;
-            Ok(Some(Boxed::new(alloc, filter)?))
-        }
+        Some(filter) => Ok(Some(boxed_condition(alloc, context, scope, clause, filter.get())?)),
     }
 }
 

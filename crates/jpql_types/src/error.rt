@@ -5,7 +5,7 @@ ghost use Rattle.jpql_types.specs.declared.error.TypingError.TheVariants.{Memory
 use std::alloc::{AllocError, AllocFailed};
 
 /// Why nothing was typed.
-#[derive(Debug, Drop)]
+#[derive(Drop)]
 pub(crate) enum TypingError {
     /// A growth was refused.
     Memory,

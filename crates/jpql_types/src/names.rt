@@ -8,7 +8,7 @@ use jpql_tree::{Assignment, Block, Condition, Item, Join, Query, Select, Source,
 use std::alloc::{AllocError, Global};
 
 /// Which names are listed.
-#[derive(Clone, Copy, Debug)]
+#[derive(Clone, Copy)]
 pub(crate) enum Names {
     /// The variables that FROM, joins, UPDATE and DELETE declare.
     Variables,

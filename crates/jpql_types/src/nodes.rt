@@ -18,9 +18,9 @@ pub(crate) fn signed(
     ensures sort { Gives (λ found. found.1) result (sorts.arithmetic_sort (operand.1 ∷ [])) }
     ensures tree { IfOk result (λ found. found.0 ≡ TypedValue.Signed sign operand.0) }
 {
-    let sort = arithmetic_sort(&[operand.1]).ok_or(TypingError::Typing)?;
+    let sort = arithmetic_sort(&[operand.1]);
     let operand = Boxed::new(alloc, operand.0)?;
-    Ok((TypedValue::Signed(sign, operand), sort))
+    beside(TypedValue::Signed(sign, operand), sort)
 }
 
 pub(crate) fn arithmetic(
@@ -32,10 +32,9 @@ pub(crate) fn arithmetic(
     ensures sort { Gives (λ found. found.1) result (sorts.arithmetic_sort (left.1 ∷ right.1 ∷ [])) }
     ensures tree { IfOk result (λ found. found.0 ≡ TypedValue.Arithmetic operation left.0 right.0) }
 {
-    let sort = arithmetic_sort(&[left.1, right.1]).ok_or(TypingError::Typing)?;
-    let left = Boxed::new(alloc, left.0)?;
-    let right = Boxed::new(alloc, right.0)?;
-    Ok((TypedValue::Arithmetic(operation, left, right), sort))
+    let sort = arithmetic_sort(&[left.1, right.1]);
+    let (left, right) = boxed(alloc, left.0, right.0)?;
+    beside(TypedValue::Arithmetic(operation, left, right), sort)
 }
 
 pub(crate) fn call(
@@ -46,8 +45,8 @@ pub(crate) fn call(
     ensures sort { Gives (λ found. found.1) result (sorts.call_sort function all) }
     ensures tree { IfOk result (λ found. found.0 ≡ TypedValue.Call function arguments) }
 {
-    let sort = call_sort(function, all.as_slice()).ok_or(TypingError::Typing)?;
-    Ok((TypedValue::Call(function, arguments), sort))
+    let sort = call_sort(function, all.as_slice());
+    beside(TypedValue::Call(function, arguments), sort)
 }
 
 pub(crate) fn aggregate(
@@ -59,16 +58,37 @@ pub(crate) fn aggregate(
     ensures sort { Gives (λ found. found.1) result (sorts.aggregate_sort aggregate operand.1) }
     ensures tree { IfOk result (λ found. found.0 ≡ TypedValue.Aggregate aggregate is_distinct operand.0) }
 {
-    let sort = aggregate_sort(aggregate, operand.1).ok_or(TypingError::Typing)?;
+    let sort = aggregate_sort(aggregate, operand.1);
     let operand = Boxed::new(alloc, operand.0)?;
-    Ok((TypedValue::Aggregate(aggregate, is_distinct, operand), sort))
+    beside(TypedValue::Aggregate(aggregate, is_distinct, operand), sort)
 }
 
-pub(crate) fn boxed(
-    alloc: Global,
-    left: TypedCondition,
-    right: TypedCondition,
-) -> Result<(Boxed<TypedCondition>, Boxed<TypedCondition>), TypingError>
+// These hold for any trees, so that the check need not look into those that are let go.
+/// A tree beside what it is of, where that is known.
+pub(crate) fn beside<T: Drop, S: Copy>(tree: T, of: Option<S>) -> Result<(T, S), TypingError>
+    ensures of { Gives (λ found. found.1) result of }
+    ensures tree { IfOk result (λ found. found.0 ≡ tree) }
+{
+    match of {
+        None => Err(TypingError::Typing),
+        Some(of) => Ok((tree, of)),
+    }
+}
+
+/// A tree, where it is well typed.
+pub(crate) fn judged<T: Drop>(is_typed: bool, tree: T) -> Result<T, TypingError>
+    ensures typed { IsJudged result is_typed }
+    ensures tree { IfOk result (λ found. found ≡ tree) }
+{
+    if is_typed {
+        Ok(tree)
+    } else {
+        Err(TypingError::Typing)
+    }
+}
+
+/// Two trees on the heap; fails for want of memory alone.
+fn boxed<T: Drop>(alloc: Global, left: T, right: T) -> Result<(Boxed<T>, Boxed<T>), TypingError>
     ensures memory { IsJudged result true }
     ensures left { IfOk result (λ found. found.0 ≡ left) }
     ensures right { IfOk result (λ found. found.1 ≡ right) }
@@ -76,16 +96,6 @@ pub(crate) fn boxed(
     let left = Boxed::new(alloc, left)?;
     let right = Boxed::new(alloc, right)?;
     Ok((left, right))
-}
-
-pub(crate) fn opposite(
-    alloc: Global,
-    condition: TypedCondition,
-) -> Result<TypedCondition, TypingError>
-    ensures memory { IsJudged result true }
-    ensures tree { IfOk result (λ found. found ≡ TypedCondition.Not condition) }
-{
-    Ok(TypedCondition::Not(Boxed::new(alloc, condition)?))
 }
 
 pub(crate) fn exists(alloc: Global, block: TypedBlock) -> Result<TypedCondition, TypingError>

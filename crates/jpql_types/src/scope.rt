@@ -10,7 +10,7 @@ pub(crate) struct Variable {
 }
 
 /// The clause that an expression stands in, as far as the rules differ.
-#[derive(Clone, Copy, Debug)]
+#[derive(Clone, Copy)]
 pub(crate) enum Clause {
     /// It may have aggregates; ORDER BY too.
     Select,
@@ -25,7 +25,7 @@ pub(crate) enum Clause {
 }
 
 /// A step of a path: a member of the class that it is taken from.
-#[derive(Clone, Copy, Debug)]
+#[derive(Clone, Copy)]
 pub struct Step {
     pub class: usize,
     pub member: Member,

@@ -1,7 +1,9 @@
 //! What SET sets members to (chapter 4.10).
 ghost use Rattle.std.specs.Prelude.{◌≡◌, [], map, option_map, IfOk};
 ghost use Rattle.std.specs.List.{list_all};
+ghost use Rattle.jpa_model.specs.WellFormed.{is_some_that};
 ghost use Rattle.jpql_types.specs.Gives.{IsJudged};
+ghost use Rattle.jpql_types.specs.Sorts.{goes_with};
 ghost use Rattle.jpql_types.specs.Statements as spec;
 ghost use Rattle.jpql_types.specs.Trees as trees;
 ghost use Rattle.jpql_types.specs.Within.{IsClass, IsScope};
@@ -9,6 +11,7 @@ ghost use Rattle.jpql_types.specs.Within.{IsClass, IsScope};
 use crate::context::Context;
 use crate::ends::step_sort;
 use crate::error::TypingError;
+use crate::nodes::judged;
 use crate::paths::{relation_of, step_from};
 use crate::scope::{Clause, Step, Variable};
 use crate::sort::Sort;
@@ -49,6 +52,16 @@ fn allows_value(member: Member, value: &Option<Value>) -> bool
     }
 }
 
+/// Whether there is a sort that goes with this one.
+fn is_of(asked: Option<Sort>, sort: Sort) -> bool
+    ensures { result ≡ is_some_that (λ s. goes_with s sort) asked }
+{
+    match asked {
+        None => false,
+        Some(asked) => asked.goes_with(sort),
+    }
+}
+
 /// A value that goes with a sort.
 fn value_of(
     alloc: Global,
@@ -63,10 +76,7 @@ fn value_of(
     ensures tree { IfOk result (λ found. found ≡ trees.typed_value context.now.metamodel.now context.now.parameters.now scope.now value.now) }
 {
     let (value, found) = typed_value(alloc, context, scope, Clause::Where, value)?;
-    match sort {
-        Some(sort) if sort.goes_with(found) => Ok(value),
-        _ => Err(TypingError::Typing),
-    }
+    judged(is_of(sort, found), value)
 }
 
 /// What a step is set to.

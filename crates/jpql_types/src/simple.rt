@@ -11,11 +11,12 @@ ghost use Rattle.jpql_types.specs.Within.{IsClass, IsScope};
 
 use crate::context::Context;
 use crate::error::TypingError;
+use crate::nodes::judged;
 use crate::paths::resolved;
 use crate::scope::{Clause, TypedPath, Variable};
 use crate::sort::{Sort, TEXT, all_go_with, are_comparable, joined_basic, joined_with};
 use crate::typed::TypedCondition;
-use crate::values::{typed_collection, typed_value, typed_values};
+use crate::values::{typed_collection, typed_value, typed_values, with_value};
 use jpa_value::{Seq, Text};
 use jpql_tree::{Comparison, Path, Value};
 use std::alloc::Global;
@@ -35,12 +36,10 @@ pub(crate) fn compare(
     ensures tree { IfOk result (λ found. found ≡ trees.test_step context.now.metamodel.now context.now.parameters.now (test.Compare comparison left.now right.now) scope.now) }
 {
     let (left, left_sort) = typed_value(alloc, context, scope, clause, left)?;
-    let (right, right_sort) = typed_value(alloc, context, scope, clause, right)?;
-    if are_comparable(comparison, left_sort, right_sort) {
-        Ok(TypedCondition::Compare(comparison, left, right))
-    } else {
-        Err(TypingError::Typing)
-    }
+    let (left, (right, right_sort)) = with_value(alloc, context, scope, clause, right, left)?;
+    let is_typed = are_comparable(comparison, left_sort, right_sort);
+    let (left, right) = judged(is_typed, (left, right))?;
+    Ok(TypedCondition::Compare(comparison, left, right))
 }
 
 /// BETWEEN (chapter 4.6.8).
@@ -58,12 +57,12 @@ pub(crate) fn between(
     ensures tree { IfOk result (λ found. found ≡ trees.test_step context.now.metamodel.now context.now.parameters.now (test.Between value.now low.now high.now) scope.now) }
 {
     let (value, sort) = typed_value(alloc, context, scope, clause, value)?;
-    let (low, low_sort) = typed_value(alloc, context, scope, clause, low)?;
-    let (high, high_sort) = typed_value(alloc, context, scope, clause, high)?;
-    match joined_basic(&[sort, low_sort, high_sort]) {
-        None => Err(TypingError::Typing),
-        Some(_) => Ok(TypedCondition::Between(value, low, high)),
-    }
+    let (value, (low, low_sort)) = with_value(alloc, context, scope, clause, low, value)?;
+    let values = (value, low);
+    let (values, (high, high_sort)) = with_value(alloc, context, scope, clause, high, values)?;
+    let joined = joined_basic(&[sort, low_sort, high_sort]);
+    let ((value, low), high) = judged(joined.is_some(), (values, high))?;
+    Ok(TypedCondition::Between(value, low, high))
 }
 
 /// IN (chapter 4.6.9).
@@ -79,12 +78,11 @@ pub(crate) fn among(
     ensures typed { IsJudged result (typing.condition_step context.now.metamodel.now context.now.parameters.now context.now.groups.now (test.In value.now all.now) scope.now clause) }
     ensures tree { IfOk result (λ found. found ≡ trees.test_step context.now.metamodel.now context.now.parameters.now (test.In value.now all.now) scope.now) }
 {
-    let (value, sort) = typed_value(alloc, context, scope, clause, value)?;
     let (all, others) = typed_values(alloc, context, scope, clause, all)?;
-    match joined_with(sort, others.as_slice()) {
-        None => Err(TypingError::Typing),
-        Some(_) => Ok(TypedCondition::In(value, all)),
-    }
+    let (all, (value, sort)) = with_value(alloc, context, scope, clause, value, all)?;
+    let joined = joined_with(sort, others.as_slice());
+    let (value, all) = judged(joined.is_some(), (value, all))?;
+    Ok(TypedCondition::In(value, all))
 }
 
 /// Whether a byte of a text goes on with a character that began before it.
@@ -140,15 +138,15 @@ pub(crate) fn like(
     ensures typed { IsJudged result (typing.condition_step context.now.metamodel.now context.now.parameters.now context.now.groups.now (test.Like value.now pattern.now escape.now) scope.now clause) }
     ensures tree { IfOk result (λ found. found ≡ trees.test_step context.now.metamodel.now context.now.parameters.now (test.Like value.now pattern.now escape.now) scope.now) }
 {
-    let (value, sort) = typed_value(alloc, context, scope, clause, value)?;
-    let (pattern, pattern_sort) = typed_value(alloc, context, scope, clause, pattern)?;
-    let are_texts = all_go_with(TEXT, &[sort, pattern_sort]);
-    if are_texts && allows_escape(escape) {
-        let escape = copied(alloc, escape)?;
-        Ok(TypedCondition::Like(value, pattern, escape))
-    } else {
-        Err(TypingError::Typing)
-    }
+    let copy = copied(alloc, escape)?;
+    let (copy, (value, sort)) = with_value(alloc, context, scope, clause, value, copy)?;
+    let values = (copy, value);
+    let (values, (pattern, pattern_sort)) = with_value(
+        alloc, context, scope, clause, pattern, values,
+    )?;
+    let is_typed = all_go_with(TEXT, &[sort, pattern_sort]) && allows_escape(escape);
+    let ((copy, value), pattern) = judged(is_typed, (values, pattern))?;
+    Ok(TypedCondition::Like(value, pattern, copy))
 }
 
 /// IS NULL (chapter 4.6.11).
@@ -196,14 +194,12 @@ pub(crate) fn member(
     ensures typed { IsJudged result (typing.condition_step context.now.metamodel.now context.now.parameters.now context.now.groups.now (test.Member value.now path.now) scope.now clause) }
     ensures tree { IfOk result (λ found. found ≡ trees.test_step context.now.metamodel.now context.now.parameters.now (test.Member value.now path.now) scope.now) }
 {
-    let (value, sort) = typed_value(alloc, context, scope, clause, value)?;
     let (path, class) = typed_collection(alloc, context, scope, clause, path)?;
+    let (path, (value, sort)) = with_value(alloc, context, scope, clause, value, path)?;
     let root = context.metamodel.root_class(class);
-    if Sort::Entity(root).goes_with(sort) {
-        Ok(TypedCondition::Member(value, path))
-    } else {
-        Err(TypingError::Typing)
-    }
+    let is_typed = Sort::Entity(root).goes_with(sort);
+    let (value, path) = judged(is_typed, (value, path))?;
+    Ok(TypedCondition::Member(value, path))
 }
 
 /// The class of this name in the hierarchy of another.

@@ -7,7 +7,7 @@ use jpa_value::Kind;
 use jpql_tree::{Aggregate, Comparison, Function};
 
 /// What a value of a query is of (chapter 4.7).
-#[derive(Clone, Copy, Debug)]
+#[derive(Clone, Copy)]
 pub enum Sort {
     /// A value of this kind.
     Basic(Kind),

@@ -17,7 +17,7 @@ use crate::scope::{Clause, TypedPath, Variable};
 use crate::sort::{INTEGER, Sort, TEXT};
 use crate::typed::TypedValue;
 use jpa_value::{Seq, Text};
-use jpql_tree::{Aggregate, Function, Path, Sign, Value};
+use jpql_tree::{Aggregate, Arithmetic, Function, Path, Sign, Value};
 use std::alloc::Global;
 
 fn parameter_sort(parameters: &[(Text, Sort)], name: &Text) -> Sort
@@ -51,8 +51,8 @@ pub(crate) fn typed_path(
     ensures meaning { IfOk result (λ found. path_of context.now.metamodel.now scope.now path.now ≡ Some found.0) }
 {
     let path = resolved(alloc, context, scope, clause, path)?;
-    let sort = path_sort(context.metamodel, &path).ok_or(TypingError::Typing)?;
-    Ok((path, sort))
+    let sort = path_sort(context.metamodel, &path);
+    nodes::beside(path, sort)
 }
 
 /// What a path means, and the class of the collection that it leads to.
@@ -69,8 +69,8 @@ pub(crate) fn typed_collection(
     ensures within { IfOk result (λ found. IsClass context.now.metamodel.now found.1) }
 {
     let path = resolved(alloc, context, scope, clause, path)?;
-    let class = collection_class(context.metamodel, &path).ok_or(TypingError::Typing)?;
-    Ok((path, class))
+    let class = collection_class(context.metamodel, &path);
+    nodes::beside(path, class)
 }
 
 fn place_of_parameter(parameters: &[(Text, Sort)], name: &Text) -> usize
@@ -160,8 +160,7 @@ pub(crate) fn typed_value(
         }
         Value::Arithmetic(operation, left, right) => {
             let left = typed_value(alloc, context, scope, clause, left.get())?;
-            let right = typed_value(alloc, context, scope, clause, right.get())?;
-            nodes::arithmetic(alloc, *operation, left, right)
+            typed_right(alloc, context, scope, clause, *operation, left, right.get())
         }
         Value::Call(function, arguments) => {
             typed_call(
@@ -202,6 +201,27 @@ fn typed_sign(
 {
     let operand = typed_value(alloc, context, scope, clause, operand)?;
     nodes::signed(alloc, sign, operand)
+}
+
+/// What arithmetic gives of an operand that is typed, and the one to its right.
+#[cycle(typed_value)]
+#[inline(never)]
+fn typed_right(
+    alloc: Global,
+    context: &Context<'_>,
+    scope: &[Variable],
+    clause: Clause,
+    operation: Arithmetic,
+    left: (TypedValue, Sort),
+    right: &Value,
+) -> Result<(TypedValue, Sort), TypingError>
+    requires { IsScope context.now.metamodel.now scope.now }
+    ensures sort { Gives (λ found. found.1) result (typing.sort_step context.now.metamodel.now context.now.parameters.now context.now.groups.now scope.now
+        (part.Arithmetic operation (λ _. Some left.1) (λ c. typing.value_sort context.now.metamodel.now context.now.parameters.now context.now.groups.now scope.now c right.now)) clause) }
+    ensures tree { IfOk result (λ found. found.0 ≡ TypedValue.Arithmetic operation left.0 (trees.typed_value context.now.metamodel.now context.now.parameters.now scope.now right.now)) }
+{
+    let right = typed_value(alloc, context, scope, clause, right)?;
+    nodes::arithmetic(alloc, operation, left, right)
 }
 
 #[cycle(typed_value)]
@@ -265,4 +285,23 @@ pub(crate) fn typed_values(
         sorts.push(sort)?;
     }
     Ok((found, sorts))
+}
+
+// It holds for any tree, so that the check need not look into the one that is let go.
+/// A tree beside a value, and what that is of, where the value is well typed in a clause.
+pub(crate) fn with_value<T: Drop>(
+    alloc: Global,
+    context: &Context<'_>,
+    scope: &[Variable],
+    clause: Clause,
+    value: &Value,
+    tree: T,
+) -> Result<(T, (TypedValue, Sort)), TypingError>
+    requires { IsScope context.now.metamodel.now scope.now }
+    ensures sort { Gives (λ found. found.1.1) result (typing.value_sort context.now.metamodel.now context.now.parameters.now context.now.groups.now scope.now clause value.now) }
+    ensures beside { IfOk result (λ found. found.0 ≡ tree) }
+    ensures tree { IfOk result (λ found. found.1.0 ≡ trees.typed_value context.now.metamodel.now context.now.parameters.now scope.now value.now) }
+{
+    let found = typed_value(alloc, context, scope, clause, value)?;
+    Ok((tree, found))
 }

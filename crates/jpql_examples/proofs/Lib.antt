@@ -1,0 +1,5 @@
+mod Shop
+mod Texts
+mod Samples
+mod StatementSamples
+mod CheckSamples
