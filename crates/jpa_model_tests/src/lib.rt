@@ -7,6 +7,8 @@ mod key;
 #[cfg(test)]
 mod mapping;
 #[cfg(test)]
+mod samples;
+#[cfg(test)]
 mod stored;
 #[cfg(test)]
 mod value;

@@ -4,9 +4,10 @@
 //! one-to-one relation; an employee (class 1) is a person. An order (class 2, table 2) has a required person and
 //! tags (class 3, table 3).
 use crate::mapping::unit_of;
+use crate::samples::{Sample, identity, key};
 use jpa_model::Metamodel;
 use jpa_stored::{OpenSet, Stored, StoredSet, integrity, members};
-use jpa_value::{Cause, Identity, Seq, Text, TryCopy, Value, is_same_identity};
+use jpa_value::{Cause, Identity, Seq, TryCopy, is_same_identity};
 use std::alloc::Global;
 use std::process::Abort;
 use std::test::Fail;
@@ -30,248 +31,163 @@ const UNIT: &str = r#"{"revision":1,"entities":[
    {"name":"tags","kind":"manyToMany","target":"Tag","joinTable":9}]},
  {"name":"Tag","table":3,"key":[{"name":"id","type":"int"}]}]}"#;
 
-fn identity(alloc: Global, table: u64, number: i64) -> Result<Identity, Cause> {
-    let mut key = Seq::new(alloc);
-    key.push(Value::Int(number))?;
-    Ok(Identity { table, key })
+/// An object to which a link may lead: its table, and its key.
+type Target = (u64, i64);
+
+/// An object under its table and key: its class, its values, and for each relation the object to which it leads.
+type Row = (Target, usize, &'static [Sample], &'static [Option<Target>]);
+
+const ADA: &[Sample] = &[Sample::Text("Ada")];
+
+/// Orders 10 and 11 of person 1 and 12 of employee 2, person 1 with badge 7, employee 2, tag 7.
+const SOUND: [Row; 6] = [
+    ((2, 11), ORDER, &[], &[Some((1, 1)), Some((3, 7))]),
+    ((2, 12), ORDER, &[], &[Some((1, 2)), None]),
+    ((2, 10), ORDER, &[], &[Some((1, 1)), None]),
+    ((1, 1), PERSON, ADA, &[None, Some((3, 7))]),
+    ((1, 2), EMPLOYEE, ADA, &[None, None]),
+    ((3, 7), TAG, &[], &[]),
+];
+
+/// What holds objects under their identities.
+trait Objects {
+    fn put_object(&mut self, id: Identity, object: Stored) -> Result<(), Cause>;
+
+    /// The class of the object under an identity.
+    fn class_at(&self, id: &Identity) -> Option<usize>;
 }
 
-fn person(alloc: Global, class: usize, name: Value, badge: Seq<Identity>) -> Result<Stored, Cause> {
-    let mut values = Seq::new(alloc);
-    values.push(name)?;
+impl Objects for StoredSet {
+    fn put_object(&mut self, id: Identity, object: Stored) -> Result<(), Cause> {
+        self.put(id, object)
+    }
+
+    fn class_at(&self, id: &Identity) -> Option<usize> {
+        Some(self.get(id)?.class)
+    }
+}
+
+impl Objects for OpenSet {
+    fn put_object(&mut self, id: Identity, object: Stored) -> Result<(), Cause> {
+        self.put(id, object)
+    }
+
+    fn class_at(&self, id: &Identity) -> Option<usize> {
+        Some(self.get(id)?.class)
+    }
+}
+
+fn one_or_none(alloc: Global, target: Option<Target>) -> Result<Seq<Identity>, Cause> {
+    let mut ids = Seq::new(alloc);
+    if let Some((table, number)) = target {
+        ids.push(identity(alloc, table, number)?)?;
+    }
+    Ok(ids)
+}
+
+fn owned(alloc: Global, targets: &[Option<Target>]) -> Result<Seq<Seq<Identity>>, Cause> {
     let mut owned = Seq::new(alloc);
-    owned.push(Seq::new(alloc))?;
-    owned.push(badge)?;
+    for target in targets {
+        owned.push(one_or_none(alloc, *target)?)?;
+    }
+    Ok(owned)
+}
+
+fn object(alloc: Global, row: &Row) -> Result<Stored, Cause> {
+    let values = key(alloc, row.2)?;
+    let owned = owned(alloc, row.3)?;
     Ok(Stored {
-        class,
+        class: row.1,
         version: None,
         values,
         owned,
     })
 }
 
-fn order(alloc: Global, person: Seq<Identity>, tags: Seq<Identity>) -> Result<Stored, Cause> {
-    let mut owned = Seq::new(alloc);
-    owned.push(person)?;
-    owned.push(tags)?;
-    Ok(Stored {
-        class: ORDER,
-        version: None,
-        values: Seq::new(alloc),
-        owned,
-    })
+fn put<T: Objects>(alloc: Global, objects: &mut T, row: &Row) -> Result<(), Cause> {
+    let (table, number) = row.0;
+    let id = identity(alloc, table, number)?;
+    objects.put_object(id, object(alloc, row)?)
 }
 
-fn tag(alloc: Global) -> Stored {
-    Stored {
-        class: TAG,
-        version: None,
-        values: Seq::new(alloc),
-        owned: Seq::new(alloc),
+fn put_all<T: Objects>(alloc: Global, objects: &mut T, rows: &[Row]) -> Result<(), Cause> {
+    for row in rows {
+        put(alloc, objects, row)?;
     }
+    Ok(())
 }
 
-fn one(alloc: Global, table: u64, number: i64) -> Result<Seq<Identity>, Cause> {
-    let mut ids = Seq::new(alloc);
-    ids.push(identity(alloc, table, number)?)?;
-    Ok(ids)
-}
-
-fn ada(alloc: Global) -> Result<Value, Cause> {
-    Ok(Value::Text(Text::of(alloc, "Ada")?))
-}
-
-/// An object to which a link may lead: its table, and its key.
-type Target = (u64, i64);
-
-/// A person or an employee, with a name if that is not null, and perhaps a badge.
-struct PersonRow {
-    number: i64,
-    class: usize,
-    named: bool,
-    badge: Option<Target>,
-}
-
-/// An order, perhaps of a person and with a tag.
-struct OrderRow {
-    number: i64,
-    person: Option<Target>,
-    tag: Option<Target>,
-}
-
-const PERSONS: [PersonRow; 2] = [
-    PersonRow {
-        number: 1,
-        class: PERSON,
-        named: true,
-        badge: Some((3, 7)),
-    },
-    PersonRow {
-        number: 2,
-        class: EMPLOYEE,
-        named: true,
-        badge: None,
-    },
-];
-
-const ORDERS: [OrderRow; 3] = [
-    OrderRow {
-        number: 11,
-        person: Some((1, 1)),
-        tag: Some((3, 7)),
-    },
-    OrderRow {
-        number: 12,
-        person: Some((1, 2)),
-        tag: None,
-    },
-    OrderRow {
-        number: 10,
-        person: Some((1, 1)),
-        tag: None,
-    },
-];
-
-fn links(alloc: Global, target: Option<Target>) -> Result<Seq<Identity>, Cause> {
-    match target {
-        Some((table, number)) => one(alloc, table, number),
-        None => Ok(Seq::new(alloc)),
-    }
-}
-
-fn name_of(alloc: Global, row: &PersonRow) -> Result<Value, Cause> {
-    if row.named {
-        ada(alloc)
-    } else {
-        Ok(Value::Null)
-    }
-}
-
-fn put_person(set: &mut StoredSet, alloc: Global, row: &PersonRow) -> Result<(), Cause> {
-    let name = name_of(alloc, row)?;
-    let badge = links(alloc, row.badge)?;
-    let object = person(alloc, row.class, name, badge)?;
-    set.put(identity(alloc, 1, row.number)?, object)
-}
-
-fn put_order(set: &mut StoredSet, alloc: Global, row: &OrderRow) -> Result<(), Cause> {
-    let of = links(alloc, row.person)?;
-    let object = order(alloc, of, links(alloc, row.tag)?)?;
-    set.put(identity(alloc, 2, row.number)?, object)
-}
-
-/// Person 1 with badge 7, employee 2, orders 10 and 11 of person 1 and 12 of employee 2, tag 7.
 fn sound_set(alloc: Global) -> Result<StoredSet, Cause> {
     let mut set = StoredSet::new(alloc);
-    for row in ORDERS.as_slice() {
-        put_order(&mut set, alloc, row)?;
-    }
-    for row in PERSONS.as_slice() {
-        put_person(&mut set, alloc, row)?;
-    }
-    set.put(identity(alloc, 3, 7)?, tag(alloc))?;
+    put_all(alloc, &mut set, &SOUND)?;
     Ok(set)
 }
 
-/// The part of soundness that fails first, by its name; none where the set is sound.
-fn fault(metamodel: &Metamodel, set: &StoredSet) -> Result<&'static str, Cause> {
-    match integrity(metamodel, set) {
-        Ok(()) => Ok("none"),
-        Err(Cause::Persistence(part)) => Ok(part.name()),
-        Err(other) => Err(other),
-    }
-}
-
-/// The class of the object under an identity.
-fn class_at(set: &StoredSet, id: &Identity) -> Option<usize> {
-    Some(set.get(id)?.class)
-}
-
 /// The class that stands beside each table and number is that of the object there.
-fn all_stand(
+fn all_stand<T: Objects>(
     rt: &impl Abort,
     alloc: Global,
-    set: &StoredSet,
+    objects: &T,
     standing: &[(u64, i64, Option<usize>)],
 ) -> Result<(), Cause> {
     for (table, number, class) in standing {
         let id = identity(alloc, *table, *number)?;
-        assert_eq!(rt; class_at(set, &id), *class, "{table}, {number}");
+        assert!(rt; objects.class_at(&id) == *class, "{table}, {number}");
     }
     Ok(())
 }
 
-/// The entries are under these tables and numbers, in this order.
-fn all_rise(
-    rt: &impl Abort,
-    alloc: Global,
-    set: &StoredSet,
-    rising: &[(u64, i64)],
-) -> Result<(), Cause> {
-    assert_eq!(rt; set.len(), rising.len());
+/// Whether the entries are under these tables and numbers, in this order.
+fn are_entries(alloc: Global, set: &StoredSet, rising: &[Target]) -> Result<bool, Cause> {
     for (entry, (table, number)) in set.entries().iter().zip(rising) {
-        assert!(rt; is_same_identity(&entry.get().0, &identity(alloc, *table, *number)?));
+        if !is_same_identity(&entry.get().0, &identity(alloc, *table, *number)?) {
+            return Ok(false);
+        }
     }
-    Ok(())
+    Ok(set.len() == rising.len())
 }
+
+/// Whether an object goes, and is then no more there to go.
+fn goes_once(alloc: Global, set: &mut StoredSet, number: i64) -> Result<bool, Cause> {
+    let id = identity(alloc, 1, number)?;
+    let first = set.remove(&id);
+    Ok(first && !set.remove(&id))
+}
+
+/// A tag in the place of employee 2, and one under an identity of nobody.
+const TAGS: [Row; 2] = [((1, 3), TAG, &[], &[]), ((1, 2), TAG, &[], &[])];
 
 /// A tag takes an employee's place, and leaves it.
 fn see_replaced(rt: &impl Abort, alloc: Global, set: &mut StoredSet) -> Result<(), Cause> {
-    set.put(identity(alloc, 1, 2)?, tag(alloc))?;
-    assert_eq!(rt; set.len(), 6);
-    all_stand(rt, alloc, set, &[(1, 2, Some(3))])?;
-    let id = identity(alloc, 1, 2)?;
-    assert!(rt; set.remove(&id));
-    assert!(rt; !set.remove(&id));
+    put(alloc, set, &TAGS[1])?;
+    assert!(rt; set.len() == 6);
+    all_stand(rt, alloc, set, &[(1, 2, Some(TAG))])?;
+    assert!(rt; goes_once(alloc, set, 2)?);
     Ok(())
+}
+
+/// A copy without employee 2.
+fn see_copied(rt: &impl Abort, alloc: Global, set: &StoredSet) -> Result<(), Cause> {
+    assert!(rt; set.len() == 5);
+    all_stand(rt, alloc, set, &[(2, 12, Some(ORDER)), (1, 2, None)])
+}
+
+fn see_map(rt: &impl Abort, alloc: Global, set: &mut StoredSet) -> Result<(), Cause> {
+    let rising = [(1, 1), (1, 2), (2, 10), (2, 11), (2, 12), (3, 7)];
+    assert!(rt; are_entries(alloc, set, &rising)?);
+    all_stand(rt, alloc, set, &[(1, 2, Some(EMPLOYEE)), (1, 3, None)])?;
+    see_replaced(rt, alloc, set)?;
+    see_copied(rt, alloc, &set.try_copy()?)
 }
 
 #[test]
 fn a_map_of_identities(rt: HostRuntime) -> Result<(), Fail> {
-    let a = rt.alloc();
-    assert!(rt; StoredSet::new(a).is_empty());
-    let mut set = sound_set(a)?;
-    let rising = [(1, 1), (1, 2), (2, 10), (2, 11), (2, 12), (3, 7)];
-    all_rise(&rt, a, &set, rising.as_slice())?;
-    all_stand(&rt, a, &set, &[(1, 2, Some(1)), (1, 3, None)])?;
-    see_replaced(&rt, a, &mut set)?;
-    let copy = set.try_copy()?;
-    assert_eq!(rt; copy.len(), 5);
-    all_stand(&rt, a, &copy, &[(2, 12, Some(2)), (1, 2, None)])?;
+    assert!(rt; StoredSet::new(rt.alloc()).is_empty());
+    see_map(&rt, rt.alloc(), &mut sound_set(rt.alloc())?)?;
     Ok(())
 }
 
-/// The class of the object that a transaction sees under an identity.
-fn class_seen(open: &OpenSet, id: &Identity) -> Option<usize> {
-    Some(open.get(id)?.class)
-}
-
-/// The class that stands beside each table and number is what a transaction sees there.
-fn all_are_seen(
-    rt: &impl Abort,
-    alloc: Global,
-    open: &OpenSet,
-    seen: &[(u64, i64, Option<usize>)],
-) -> Result<(), Cause> {
-    for (table, number, class) in seen {
-        let id = identity(alloc, *table, *number)?;
-        assert_eq!(rt; class_seen(open, &id), *class, "{table}, {number}");
-    }
-    Ok(())
-}
-
-/// Tags in place of an employee, and under an identity of nobody.
-fn put_tags(alloc: Global, open: &mut OpenSet) -> Result<(), Cause> {
-    open.put(identity(alloc, 1, 3)?, tag(alloc))?;
-    open.put(identity(alloc, 1, 2)?, tag(alloc))
-}
-
-fn put_ada(alloc: Global, open: &mut OpenSet) -> Result<(), Cause> {
-    let named = person(alloc, PERSON, ada(alloc)?, Seq::new(alloc))?;
-    open.put(identity(alloc, 1, 3)?, named)
-}
-
-/// What is committed under an identity is of this class.
+/// Whether what is committed under an identity is of this class.
 fn is_committed(alloc: Global, open: &OpenSet, number: i64, class: usize) -> Result<bool, Cause> {
     let id = identity(alloc, 1, number)?;
     Ok(match open.committed(&id) {
@@ -280,7 +196,7 @@ fn is_committed(alloc: Global, open: &OpenSet, number: i64, class: usize) -> Res
     })
 }
 
-/// Each identity once, rising.
+/// Whether these were written, each identity once, rising.
 fn are_written(alloc: Global, open: &OpenSet, numbers: &[i64]) -> Result<bool, Cause> {
     for (entry, number) in open.written().iter().zip(numbers) {
         if !is_same_identity(&entry.get().0, &identity(alloc, 1, *number)?) {
@@ -292,8 +208,8 @@ fn are_written(alloc: Global, open: &OpenSet, numbers: &[i64]) -> Result<bool, C
 
 fn see_written(rt: &impl Abort, alloc: Global, open: &mut OpenSet) -> Result<(), Cause> {
     assert!(rt; open.written().is_empty());
-    put_tags(alloc, open)?;
-    put_ada(alloc, open)?;
+    put_all(alloc, open, &TAGS)?;
+    put(alloc, open, &((1, 3), PERSON, ADA, &[None, None]))?;
     // what was written hides what is committed, and nothing else does
     let seen = [
         (1, 2, Some(TAG)),
@@ -301,7 +217,7 @@ fn see_written(rt: &impl Abort, alloc: Global, open: &mut OpenSet) -> Result<(),
         (3, 7, Some(TAG)),
         (1, 4, None),
     ];
-    all_are_seen(rt, alloc, open, &seen)?;
+    all_stand(rt, alloc, open, &seen)?;
     assert!(rt; is_committed(alloc, open, 2, EMPLOYEE)?);
     assert!(rt; !is_committed(alloc, open, 3, PERSON)?);
     assert!(rt; are_written(alloc, open, &[2, 3])?);
@@ -316,14 +232,14 @@ fn what_a_transaction_sees(rt: HostRuntime) -> Result<(), Fail> {
 }
 
 fn see_undone(rt: &impl Abort, alloc: Global, open: &mut OpenSet) -> Result<(), Cause> {
-    put_tags(alloc, open)?;
+    put_all(alloc, open, &TAGS)?;
     open.undo();
     assert!(rt; open.written().is_empty());
-    all_are_seen(rt, alloc, open, &[(1, 2, Some(EMPLOYEE)), (1, 3, None)])
+    all_stand(rt, alloc, open, &[(1, 2, Some(EMPLOYEE)), (1, 3, None)])
 }
 
 fn see_kept(rt: &impl Abort, alloc: Global, open: &mut OpenSet) -> Result<(), Cause> {
-    put_tags(alloc, open)?;
+    put_all(alloc, open, &TAGS)?;
     open.keep();
     assert!(rt; open.written().is_empty());
     assert!(rt; is_committed(alloc, open, 2, TAG)?);
@@ -331,169 +247,122 @@ fn see_kept(rt: &impl Abort, alloc: Global, open: &mut OpenSet) -> Result<(), Ca
     // what was kept is not undone
     open.undo();
     let seen = [(1, 1, Some(PERSON)), (1, 2, Some(TAG)), (1, 3, Some(TAG))];
-    all_are_seen(rt, alloc, open, &seen)
+    all_stand(rt, alloc, open, &seen)
+}
+
+fn see_undone_and_kept(rt: &impl Abort, alloc: Global, open: &mut OpenSet) -> Result<(), Cause> {
+    see_undone(rt, alloc, open)?;
+    see_kept(rt, alloc, open)
 }
 
 #[test]
 fn what_a_transaction_wrote_is_undone_or_kept(rt: HostRuntime) -> Result<(), Fail> {
     let mut open = OpenSet::new(sound_set(rt.alloc())?);
-    see_undone(&rt, rt.alloc(), &mut open)?;
-    see_kept(&rt, rt.alloc(), &mut open)?;
+    see_undone_and_kept(&rt, rt.alloc(), &mut open)?;
     Ok(())
 }
 
-/// What is put beside the sound set or goes from it, and the part of soundness that fails first.
-struct Case {
-    person: Option<PersonRow>,
-    another: Option<PersonRow>,
-    order: Option<OrderRow>,
-    gone: Option<Target>,
-    fault: &'static str,
-}
+/// What is put beside the sound set, what goes from it, and the part of soundness that fails first.
+type Changed = (&'static [Row], Option<Target>, &'static str);
 
-const NAMELESS: PersonRow = PersonRow {
-    number: 3,
-    class: PERSON,
-    named: false,
-    badge: None,
-};
+/// A person without a name.
+const NAMELESS: Row = ((1, 3), PERSON, &[Sample::Null], &[None, None]);
 
-const SECOND_OWNER: PersonRow = PersonRow {
-    number: 3,
-    class: EMPLOYEE,
-    named: true,
-    badge: Some((3, 7)),
-};
+/// An employee with the badge of person 1.
+const SECOND_OWNER: Row = ((1, 3), EMPLOYEE, ADA, &[None, Some((3, 7))]);
 
-const UNCHANGED: Case = Case {
-    person: None,
-    another: None,
-    order: None,
-    gone: None,
-    fault: "none",
-};
-
-const CASES: [Case; 9] = [
-    UNCHANGED,
+const CHANGED: [Changed; 9] = [
+    (&[], None, "none"),
     // a name that is null
-    Case {
-        person: Some(NAMELESS),
-        fault: "null",
-        ..UNCHANGED
-    },
+    (&[NAMELESS], None, "null"),
     // the first part is told before the others, whatever stands first
-    Case {
-        person: Some(NAMELESS),
-        another: Some(PersonRow {
-            number: 0,
-            class: PERSON,
-            named: true,
-            badge: Some((3, 8)),
-        }),
-        fault: "null",
-        ..UNCHANGED
-    },
+    (
+        &[NAMELESS, ((1, 0), PERSON, ADA, &[None, Some((3, 8))])],
+        None,
+        "null",
+    ),
     // an order of nobody
-    Case {
-        order: Some(OrderRow {
-            number: 13,
-            person: None,
-            tag: None,
-        }),
-        fault: "null",
-        ..UNCHANGED
-    },
+    (&[((2, 13), ORDER, &[], &[None, None])], None, "null"),
     // an order of a person that is not there
-    Case {
-        gone: Some((1, 2)),
-        fault: "reference",
-        ..UNCHANGED
-    },
+    (&[], Some((1, 2)), "reference"),
     // an order of another order
-    Case {
-        order: Some(OrderRow {
-            number: 13,
-            person: Some((2, 10)),
-            tag: None,
-        }),
-        fault: "reference",
-        ..UNCHANGED
-    },
+    (
+        &[((2, 13), ORDER, &[], &[Some((2, 10)), None])],
+        None,
+        "reference",
+    ),
     // a tag that is a person
-    Case {
-        order: Some(OrderRow {
-            number: 13,
-            person: Some((1, 1)),
-            tag: Some((1, 1)),
-        }),
-        fault: "reference",
-        ..UNCHANGED
-    },
+    (
+        &[((2, 13), ORDER, &[], &[Some((1, 1)), Some((1, 1))])],
+        None,
+        "reference",
+    ),
     // a badge that two persons own
-    Case {
-        person: Some(SECOND_OWNER),
-        fault: "unique",
-        ..UNCHANGED
-    },
+    (&[SECOND_OWNER], None, "unique"),
     // and a link that leads to nobody
-    Case {
-        person: Some(SECOND_OWNER),
-        order: Some(OrderRow {
-            number: 13,
-            person: Some((1, 9)),
-            tag: None,
-        }),
-        fault: "reference",
-        ..UNCHANGED
-    },
+    (
+        &[SECOND_OWNER, ((2, 13), ORDER, &[], &[Some((1, 9)), None])],
+        None,
+        "reference",
+    ),
 ];
 
-fn changed(alloc: Global, case: &Case) -> Result<StoredSet, Cause> {
-    let mut set = sound_set(alloc)?;
-    if let Some(row) = &case.person {
-        put_person(&mut set, alloc, row)?;
-    }
-    if let Some(row) = &case.another {
-        put_person(&mut set, alloc, row)?;
-    }
-    if let Some(row) = &case.order {
-        put_order(&mut set, alloc, row)?;
-    }
-    if let Some((table, number)) = case.gone {
+fn change(alloc: Global, set: &mut StoredSet, changed: &Changed) -> Result<(), Cause> {
+    put_all(alloc, set, changed.0)?;
+    if let Some((table, number)) = changed.1 {
         set.remove(&identity(alloc, table, number)?);
     }
-    Ok(set)
-}
-
-fn see_fault(
-    rt: &impl Abort,
-    metamodel: &Metamodel,
-    set: &StoredSet,
-    want: &str,
-) -> Result<(), Cause> {
-    assert_eq!(rt; fault(metamodel, set)?, want);
     Ok(())
 }
 
-/// Each case's set fails as it says.
+/// The part of soundness that fails first, by its name; none where the set is sound.
+fn fault(metamodel: &Metamodel, set: &StoredSet) -> Result<&'static str, Cause> {
+    match integrity(metamodel, set) {
+        Ok(()) => Ok("none"),
+        Err(Cause::Persistence(part)) => Ok(part.name()),
+        Err(other) => Err(other),
+    }
+}
+
+/// The fault of a set once it was changed.
+fn fault_after(
+    alloc: Global,
+    metamodel: &Metamodel,
+    set: &mut StoredSet,
+    changed: &Changed,
+) -> Result<&'static str, Cause> {
+    change(alloc, set, changed)?;
+    fault(metamodel, set)
+}
+
+/// The sound set fails as each row says.
 fn all_fail(
     rt: &impl Abort,
     alloc: Global,
     metamodel: &Metamodel,
-    cases: &[Case],
+    rows: &[Changed],
 ) -> Result<(), Cause> {
-    for case in cases {
-        let set = changed(alloc, case)?;
-        see_fault(rt, metamodel, &set, case.fault)?;
+    for number in 0..rows.len() {
+        let found = fault_after(alloc, metamodel, &mut sound_set(alloc)?, &rows[number])?;
+        assert!(rt; found == rows[number].2, "row {number}");
     }
     Ok(())
+}
+
+/// Whether the set of no objects is sound.
+fn nothing_is_sound(alloc: Global, metamodel: &Metamodel) -> Result<bool, Cause> {
+    Ok(fault(metamodel, &StoredSet::new(alloc))? == "none")
+}
+
+fn see_faults(rt: &impl Abort, alloc: Global, metamodel: &Metamodel) -> Result<(), Cause> {
+    assert!(rt; nothing_is_sound(alloc, metamodel)?);
+    all_fail(rt, alloc, metamodel, &CHANGED)
 }
 
 #[test]
 fn sound_and_unsound(rt: HostRuntime) -> Result<(), Fail> {
     let metamodel = unit_of(rt.alloc(), UNIT)?;
-    see_fault(&rt, &metamodel, &StoredSet::new(rt.alloc()), "none")?;
-    all_fail(&rt, rt.alloc(), &metamodel, &CASES)?;
+    see_faults(&rt, rt.alloc(), &metamodel)?;
     Ok(())
 }
 
@@ -511,19 +380,25 @@ const COUNTED: [Counted; 6] = [
     (PERSON, (3, 7), 1, 0),
 ];
 
-fn all_are_counted(
-    rt: &impl Abort,
+fn is_counted(
     alloc: Global,
     metamodel: &Metamodel,
     set: &StoredSet,
-    counted: &[Counted],
-) -> Result<(), Cause> {
-    for (class, (table, number), relation, count) in counted {
-        let id = identity(alloc, *table, *number)?;
-        let found = members(metamodel, set, *class, &id, *relation)?;
-        assert_eq!(rt; found.len(), *count);
+    counted: &Counted,
+) -> Result<bool, Cause> {
+    let (class, (table, number), relation, count) = *counted;
+    let id = identity(alloc, table, number)?;
+    Ok(members(metamodel, set, class, &id, relation)?.len() == count)
+}
+
+/// Whether these are orders of these numbers.
+fn are_numbered(alloc: Global, orders: &[Identity], numbers: &[i64]) -> Result<bool, Cause> {
+    for (id, number) in orders.iter().zip(numbers) {
+        if !is_same_identity(id, &identity(alloc, 2, *number)?) {
+            return Ok(false);
+        }
     }
-    Ok(())
+    Ok(orders.len() == numbers.len())
 }
 
 /// Whether the orders of person 1 are these, rising.
@@ -535,24 +410,34 @@ fn are_orders(
 ) -> Result<bool, Cause> {
     let person = identity(alloc, 1, 1)?;
     let orders = members(metamodel, set, PERSON, &person, 0)?;
-    for (id, number) in orders.as_slice().iter().zip(numbers) {
-        if !is_same_identity(id, &identity(alloc, 2, *number)?) {
-            return Ok(false);
-        }
-    }
-    Ok(orders.len() == numbers.len())
+    are_numbered(alloc, orders.as_slice(), numbers)
 }
 
-fn see_related(rt: &impl Abort, alloc: Global, metamodel: &Metamodel) -> Result<(), Cause> {
-    let set = sound_set(alloc)?;
-    all_are_counted(rt, alloc, metamodel, &set, &COUNTED)?;
-    assert!(rt; are_orders(alloc, metamodel, &set, &[10, 11])?);
+fn see_related(
+    rt: &impl Abort,
+    alloc: Global,
+    metamodel: &Metamodel,
+    set: &StoredSet,
+) -> Result<(), Cause> {
+    let rows = COUNTED.as_slice();
+    for number in 0..rows.len() {
+        assert!(rt;
+            is_counted(alloc, metamodel, set, &rows[number])?,
+            "row {number}"
+        );
+    }
+    assert!(rt; are_orders(alloc, metamodel, set, &[10, 11])?);
     Ok(())
+}
+
+fn see_members(rt: &impl Abort, alloc: Global, metamodel: &Metamodel) -> Result<(), Cause> {
+    let set = sound_set(alloc)?;
+    see_related(rt, alloc, metamodel, &set)
 }
 
 #[test]
 fn members_of_relations(rt: HostRuntime) -> Result<(), Fail> {
     let metamodel = unit_of(rt.alloc(), UNIT)?;
-    see_related(&rt, rt.alloc(), &metamodel)?;
+    see_members(&rt, rt.alloc(), &metamodel)?;
     Ok(())
 }
