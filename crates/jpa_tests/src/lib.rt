@@ -1,4 +1,4 @@
-//! Tests of stored functions, settings, lines and rows, which stand on no store, a module for each crate. They stand in a crate of their own, so
+//! Tests of stored functions by name, managers' contexts and rows, which stand on no store, a module for each crate. They stand in a crate of their own, so
 //! that they are proved over those crates and not with them once more.
 #![tactic(auto)]
 
@@ -7,12 +7,6 @@ mod behaviour;
 #[cfg(test)]
 mod context;
 #[cfg(test)]
-mod functions;
-#[cfg(test)]
-mod lines;
-#[cfg(test)]
 mod overlay;
 #[cfg(test)]
 mod rows;
-#[cfg(test)]
-mod settings;
