@@ -3,8 +3,6 @@
 //! The kinds `query` and `repeated` (src/queries.rt) answer trees of texts, `typed` and `places` (src/typed.rt) what the
 //! mapping says of them, and those of src/parts.rt what single readers of the grammar make of a text. Each answers a line
 //! for each that is given; in a given line a backslash and two hexadecimal digits stand for a character (src/given.rt).
-//!
-//! proofs/ has samples of what `jpql_types` defines: of texts of queries, whether they are well typed, and their trees.
 #![tactic(auto)]
 
 mod given;

@@ -2,7 +2,7 @@
 use Rattle.std.proofs.Common.{◌≡◌, true, false, [], ◌∷◌, Some}
 use Rattle.std.specs.Prelude.{codes}
 use Rattle.jpql_types.specs.declared.sort.Sort.{Sort}
-use Rattle.jpql_examples.proofs.Texts.{query, typed, typed_with, stored, evaluated}
+use Rattle.jpql_samples.proofs.Texts.{query, typed, typed_with, stored, evaluated}
 
 -- aggregates stand in SELECT and HAVING, not in each other nor in nested SELECTs
 

@@ -16,7 +16,7 @@ use Rattle.jpql_types.specs.declared.typed.TypedSource.{roll-TypedSource}
 use Rattle.jpql_types.specs.declared.typed.TypedJoin.{roll-TypedJoin}
 use Rattle.jpql_types.specs.declared.typed.TypedBlock.{roll-TypedBlock}
 use Rattle.jpql_types.specs.declared.typed.TypedSorted.{TypedSorted}
-use Rattle.jpql_examples.proofs.Texts.{query, answered, evaluated}
+use Rattle.jpql_samples.proofs.Texts.{query, answered, evaluated}
 
 missing : answered [] "SELECT p FROM Person p WHERE p.id = :a" ≡ Some (Err (Cause.IllegalArgument Argument.Parameter))
 unfolding query

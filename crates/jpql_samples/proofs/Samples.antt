@@ -2,7 +2,7 @@
 use Rattle.std.proofs.Common.{◌≡◌, true, false, [], ◌∷◌, Some}
 use Rattle.std.specs.Prelude.{codes}
 use Rattle.jpql_types.specs.declared.sort.Sort.{Sort}
-use Rattle.jpql_examples.proofs.Texts.{query, typed, typed_with, stored, evaluated}
+use Rattle.jpql_samples.proofs.Texts.{query, typed, typed_with, stored, evaluated}
 
 -- variables ignore case, are distinct over the statement, and stand in their block and those within it
 

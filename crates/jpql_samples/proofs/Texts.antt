@@ -17,7 +17,7 @@ use Rattle.jpql_tree.specs.Statements as s
 use Rattle.jpql_types.specs.declared.sort.Sort.{Sort}
 use Rattle.jpql_types.specs.declared.typed.Typed.{Typed}
 use Rattle.jpql_types.specs.Statements.{is_typed, checked}
-use Rattle.jpql_examples.proofs.Shop.{shop, depot}
+use Rattle.jpql_samples.proofs.Shop.{shop, depot}
 
 -- the query that a text is
 unfoldable pub query : Text → Option Query
