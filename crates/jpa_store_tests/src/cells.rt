@@ -1,5 +1,7 @@
-ghost use Rattle.std.specs.Prelude.{IsTrue, IfOk, IfErr};
+//! Cells over stores in memory and over disks that stop.
+ghost use Rattle.std.specs.Prelude.{IsTrue, IfOk};
 ghost use Rattle.sqlite_disk.specs.Memory.{memory_is_usable};
+ghost use Rattle.jpa_cells_meaning.specs.Store.{IsOrderedIfFound};
 
 use jpa_cells::{Cell, CellChange, CellRow, CellStore, RowSink};
 use jpa_value::{Bytes, Cause, Seq};
@@ -144,13 +146,22 @@ fn see_first(rt: &impl Abort, alloc: Global, store: &mut CellStore<MemStore>) ->
     Ok(())
 }
 
-/// No changes run no statement, and the second ones drop a row.
-fn see_second(rt: &impl Abort, alloc: Global, store: &mut CellStore<MemStore>) -> Result<(), Fail> {
-    store.apply(&[])?;
-    assert_eq!(rt; store.statements(), 15);
+/// The second changes drop a row.
+fn see_second_cells(
+    rt: &impl Abort,
+    alloc: Global,
+    store: &mut CellStore<MemStore>,
+) -> Result<(), Fail> {
     store.apply(changes_of(alloc, SECOND_CHANGES)?.as_slice())?;
     assert!(rt; shows(store, SECOND)?);
     Ok(())
+}
+
+/// No changes run no statement, and the second ones are made.
+fn see_second(rt: &impl Abort, alloc: Global, store: &mut CellStore<MemStore>) -> Result<(), Fail> {
+    store.apply(&[])?;
+    assert_eq!(rt; store.statements(), 15);
+    see_second_cells(rt, alloc, store)
 }
 
 #[test]
@@ -165,17 +176,19 @@ fn cells_are_written_read_back_and_dropped(rt: HostRuntime) -> Result<(), Fail> 
     Ok(())
 }
 
+/// Changes that name a column twice are refused and change nothing; the next ones are made.
+fn see_refused(rt: &impl Abort, alloc: Global, store: &mut CellStore<MemStore>) -> Result<(), Fail> {
+    store.apply(changes_of(alloc, FIRST_CHANGES)?.as_slice())?;
+    assert!(rt; is_refused(store, changes_of(alloc, TWICE)?.as_slice())?);
+    assert!(rt; shows(store, FIRST)?);
+    see_second_cells(rt, alloc, store)
+}
+
 #[test]
 fn a_column_named_twice_changes_nothing(rt: HostRuntime) -> Result<(), Fail> {
     let alloc = rt.alloc();
     let mut store = in_memory(alloc)?;
-    store.apply(changes_of(alloc, FIRST_CHANGES)?.as_slice())?;
-    let changes = changes_of(alloc, TWICE)?;
-    assert!(rt; is_refused(&mut store, changes.as_slice())?);
-    assert!(rt; shows(&mut store, FIRST)?);
-    store.apply(changes_of(alloc, SECOND_CHANGES)?.as_slice())?;
-    assert!(rt; shows(&mut store, SECOND)?);
-    Ok(())
+    see_refused(&rt, alloc, &mut store)
 }
 
 // ---- rows one at a time
@@ -215,44 +228,140 @@ fn is_limited<S: Alter>(store: &mut CellStore<S>, sink: &mut Kept) -> Result<boo
     }
 }
 
-#[test]
-fn rows_are_handed_on_in_order_until_no_more_are_wanted(rt: HostRuntime) -> Result<(), Fail> {
-    let alloc = rt.alloc();
-    let mut store = in_memory(alloc)?;
-    store.apply(changes_of(alloc, SECOND_CHANGES)?.as_slice())?;
-    for (most, taken) in [(5, 2), (1, 1)] {
-        let mut kept = Kept {
-            rows: Vec::new(alloc),
-            most,
-        };
-        store.each(2, &mut kept)?;
-        assert_eq!(rt; kept.rows.len(), taken);
-        match kept.rows.as_slice() {
-            [first, ..] => assert_eq!(rt; first.row.as_slice(), b"\x01".as_slice()),
-            [] => return Err(Fail::from("no row was handed on")),
-        }
+/// So many rows of table 2 are taken where so many are wanted, the first one first.
+fn see_taken(
+    rt: &impl Abort,
+    alloc: Global,
+    store: &mut CellStore<MemStore>,
+    most: usize,
+    taken: usize,
+) -> Result<(), Fail> {
+    let mut kept = Kept {
+        rows: Vec::new(alloc),
+        most,
+    };
+    store.each(2, &mut kept)?;
+    assert_eq!(rt; kept.rows.len(), taken);
+    match kept.rows.as_slice() {
+        [first, ..] => assert_eq!(rt; first.row.as_slice(), b"\x01".as_slice()),
+        [] => return Err(Fail::from("no row was handed on")),
     }
+    Ok(())
+}
+
+/// A sink that wants none refuses the first row, and is not asked where there is none.
+fn see_limited(rt: &impl Abort, alloc: Global, store: &mut CellStore<MemStore>) -> Result<(), Fail> {
     let mut none = Kept {
         rows: Vec::new(alloc),
         most: 0,
     };
-    assert!(rt; is_limited(&mut store, &mut none)?);
+    assert!(rt; is_limited(store, &mut none)?);
     store.each(1, &mut none)?;
     assert!(rt; none.rows.is_empty());
     assert_eq!(rt; store.selects(), 4);
     Ok(())
 }
 
+#[test]
+fn rows_are_handed_on_in_order_until_no_more_are_wanted(rt: HostRuntime) -> Result<(), Fail> {
+    let alloc = rt.alloc();
+    let mut store = in_memory(alloc)?;
+    store.apply(changes_of(alloc, SECOND_CHANGES)?.as_slice())?;
+    see_taken(&rt, alloc, &mut store, 5, 2)?;
+    see_taken(&rt, alloc, &mut store, 1, 1)?;
+    see_limited(&rt, alloc, &mut store)
+}
+
 // ---- stops at a call of the disk
 
 type Device = Fuse<Memory>;
 
-/// How many steps of a run were acknowledged, whether the disk stopped, and what it left.
+/// How many steps of a run were acknowledged, whether the disk stopped, and the files that are left.
 #[derive(Drop)]
-struct Left {
+struct Left<D> {
     acknowledged: usize,
     stopped: bool,
-    files: Files<Memory>,
+    files: Files<D>,
+}
+
+/// Passes on that memory was refused; any other error is a stop of the disk.
+fn stopped_by(error: &Error) -> Result<(), Fail> {
+    match error {
+        Error::SqliteFailure(ErrorCode::OutOfMemory) => Err(Fail::from(Cause::OutOfMemory)),
+        _ => Ok(()),
+    }
+}
+
+/// Closes the files, as far as the disk allows.
+fn closed<D: Disk + Drop>(
+    conn: Connection<FileStore<D>>,
+    acknowledged: usize,
+) -> Result<Left<D>, Fail> {
+    match conn.close_files() {
+        Ok(files) => Ok(Left {
+            acknowledged,
+            stopped: acknowledged < 3,
+            files,
+        }),
+        Err((error, store)) => {
+            let files = store.close();
+            stopped_by(&error)?;
+            Ok(Left {
+                acknowledged,
+                stopped: true,
+                files,
+            })
+        }
+    }
+}
+
+/// Writes the first cells and then the second, until the disk stops, and answers how many steps were acknowledged.
+fn write_steps<S: Alter>(alloc: Global, store: &mut CellStore<S>) -> Result<usize, Fail> {
+    if is_refused(store, changes_of(alloc, FIRST_CHANGES)?.as_slice())? {
+        return Ok(1);
+    }
+    if is_refused(store, changes_of(alloc, SECOND_CHANGES)?.as_slice())? {
+        return Ok(2);
+    }
+    Ok(3)
+}
+
+/// The steps over a connection: how many were acknowledged, of which the opening is the first.
+fn written<S: Alter + Drop>(
+    alloc: Global,
+    conn: Connection<S>,
+) -> Result<(usize, Connection<S>), Fail>
+    requires { IsOrderedIfFound S.Store conn }
+{
+    let mut store = match CellStore::open(alloc, conn) {
+        Ok(store) => store,
+        Err((Cause::StoreFault, conn)) => return Ok((0, conn)),
+        Err((cause, _)) => return Err(Fail::from(cause)),
+    };
+    let steps = write_steps(alloc, &mut store)?;
+    Ok((steps, store.into_connection()))
+}
+
+/// Opens, and writes the first cells and then the second, until the disk stops.
+fn run<D: Disk + Drop>(alloc: Global, files: Files<D>) -> Result<Left<D>, Fail>
+    requires log { IsTrue (D.Disk.is_usable files.log) }
+    requires db { IsTrue (D.Disk.is_usable files.db) }
+{
+    match Connection::open_files(alloc, files, Options::new(7)) {
+        Ok(conn) => {
+            let (steps, conn) = written(alloc, conn)?;
+            closed(conn, steps)
+        }
+        Err((error, rest)) => {
+            let files = rest.into_files();
+            stopped_by(&error)?;
+            Ok(Left {
+                acknowledged: 0,
+                stopped: true,
+                files,
+            })
+        }
+    }
 }
 
 fn copy(alloc: Global, device: &Device) -> Result<Memory, Fail>
@@ -263,90 +372,13 @@ fn copy(alloc: Global, device: &Device) -> Result<Memory, Fail>
     Ok(memory)
 }
 
-fn leave(
-    alloc: Global,
-    acknowledged: usize,
-    stopped: bool,
-    files: Files<Device>,
-) -> Result<Left, Fail>
-    ensures { IfOk result (λ left. IsTrue (memory_is_usable left.files.log) × IsTrue (memory_is_usable left.files.db)) }
+fn copies(alloc: Global, files: &Files<Device>) -> Result<Files<Memory>, Fail>
+    ensures { IfOk result (λ files. IsTrue (memory_is_usable files.log) × IsTrue (memory_is_usable files.db)) }
 {
-    Ok(Left {
-        acknowledged,
-        stopped,
-        files: Files {
-            log: copy(alloc, &files.log)?,
-            db: copy(alloc, &files.db)?,
-        },
+    Ok(Files {
+        log: copy(alloc, &files.log)?,
+        db: copy(alloc, &files.db)?,
     })
-}
-
-/// Closes the files, as far as the disk allows.
-fn close(
-    alloc: Global,
-    acknowledged: usize,
-    stopped: bool,
-    conn: Connection<FileStore<Device>>,
-) -> Result<Left, Fail>
-    ensures { IfOk result (λ left. IsTrue (memory_is_usable left.files.log) × IsTrue (memory_is_usable left.files.db)) }
-{
-    match conn.close_files() {
-        Ok(files) => leave(alloc, acknowledged, stopped, files),
-        Err((Error::SqliteFailure(ErrorCode::OutOfMemory), _)) => Err(Fail::from(
-            Cause::OutOfMemory,
-        )),
-        Err((_, store)) => leave(alloc, acknowledged, true, store.close()),
-    }
-}
-
-/// A store over disks that stop after so many calls, or what they left where they stopped before it was opened.
-fn opened(
-    alloc: Global,
-    log_calls: u64,
-    db_calls: u64,
-) -> Result<Result<CellStore<FileStore<Device>>, Left>, Fail>
-    ensures { IfOk result (λ opened. IfErr opened (λ left. IsTrue (memory_is_usable left.files.log) × IsTrue (memory_is_usable left.files.db))) }
-{
-    let files = Files {
-        log: Fuse::new(Memory::new(alloc), log_calls),
-        db: Fuse::new(Memory::new(alloc), db_calls),
-    };
-    let conn = match Connection::open_files(alloc, files, Options::new(7)) {
-        Ok(conn) => conn,
-        Err((Error::SqliteFailure(ErrorCode::OutOfMemory), _)) => return Err(Fail::from(
-            Cause::OutOfMemory,
-        )),
-        Err((_, rest)) => return Ok(Err(leave(alloc, 0, true, rest.into_files())?)),
-    };
-    match CellStore::open(alloc, conn) {
-        Ok(store) => Ok(Ok(store)),
-        Err((Cause::StoreFault, conn)) => Ok(Err(close(alloc, 0, true, conn)?)),
-        Err((cause, _)) => Err(Fail::from(cause)),
-    }
-}
-
-/// Writes the first cells and then the second, until the disk stops, and answers how many steps were acknowledged.
-fn write_steps(alloc: Global, store: &mut CellStore<FileStore<Device>>) -> Result<usize, Fail> {
-    if is_refused(store, changes_of(alloc, FIRST_CHANGES)?.as_slice())? {
-        return Ok(1);
-    }
-    if is_refused(store, changes_of(alloc, SECOND_CHANGES)?.as_slice())? {
-        return Ok(2);
-    }
-    Ok(3)
-}
-
-/// Opens, and writes the first cells and then the second, until the disk stops.
-fn run(alloc: Global, log_calls: u64, db_calls: u64) -> Result<Left, Fail>
-    ensures { IfOk result (λ left. IsTrue (memory_is_usable left.files.log) × IsTrue (memory_is_usable left.files.db)) }
-{
-    match opened(alloc, log_calls, db_calls)? {
-        Ok(mut store) => {
-            let steps = write_steps(alloc, &mut store)?;
-            close(alloc, steps, steps < 3, store.into_connection())
-        }
-        Err(left) => Ok(left),
-    }
 }
 
 /// The cells after so many steps.
@@ -358,37 +390,55 @@ fn lines(steps: usize) -> &'static [Line] {
     }
 }
 
-/// The store that files hold.
-fn reopened(alloc: Global, files: Files<Memory>) -> Result<CellStore<FileStore<Memory>>, Fail>
-    requires { IsTrue (memory_is_usable files.log) × IsTrue (memory_is_usable files.db) }
+/// Whether the cells are those after so many steps, or after the next one.
+fn stands<S: Alter>(store: &mut CellStore<S>, steps: usize) -> Result<bool, Cause> {
+    if shows(store, lines(steps))? {
+        return Ok(true);
+    }
+    shows(store, lines(steps.saturating_add(1)))
+}
+
+/// Opens the files again, and finds the cells of the last step that was acknowledged, or of the next one.
+fn is_whole<D: Disk + Drop>(
+    alloc: Global,
+    acknowledged: usize,
+    files: Files<D>,
+) -> Result<bool, Fail>
+    requires log { IsTrue (D.Disk.is_usable files.log) }
+    requires db { IsTrue (D.Disk.is_usable files.db) }
 {
     let conn = match Connection::open_files(alloc, files, Options::new(7)) {
         Ok(conn) => conn,
         Err((error, _)) => return Err(Fail::from(error)),
     };
-    match CellStore::open(alloc, conn) {
-        Ok(store) => Ok(store),
-        Err((cause, _)) => Err(Fail::from(cause)),
-    }
+    is_whole_over(alloc, acknowledged, conn)
 }
 
-/// Opens the files again, and finds the cells of the last step that was acknowledged, or of the next one.
-fn is_whole(alloc: Global, left: Left) -> Result<bool, Fail>
-    requires { IsTrue (memory_is_usable left.files.log) × IsTrue (memory_is_usable left.files.db) }
+fn is_whole_over<S: Alter + Drop>(
+    alloc: Global,
+    acknowledged: usize,
+    conn: Connection<S>,
+) -> Result<bool, Fail>
+    requires { IsOrderedIfFound S.Store conn }
 {
-    let steps = left.acknowledged.min(3);
-    let mut store = reopened(alloc, left.files)?;
-    let stands = shows(&mut store, lines(steps))? || shows(&mut store, lines(steps + 1))?;
-    Ok(stands)
+    let mut store = match CellStore::open(alloc, conn) {
+        Ok(store) => store,
+        Err((cause, _)) => return Err(Fail::from(cause)),
+    };
+    Ok(stands(&mut store, acknowledged)?)
 }
 
 fn stops_whole(alloc: Global, log_calls: u64, db_calls: u64) -> Result<bool, Fail> {
-    let left = run(alloc, log_calls, db_calls)?;
-    let stopped = left.stopped;
-    if !is_whole(alloc, left)? {
+    let files = Files {
+        log: Fuse::new(Memory::new(alloc), log_calls),
+        db: Fuse::new(Memory::new(alloc), db_calls),
+    };
+    let left = run(alloc, files)?;
+    let files = copies(alloc, &left.files)?;
+    if !is_whole(alloc, left.acknowledged, files)? {
         return Err(Fail::from("a stop left cells in between"));
     }
-    Ok(stopped)
+    Ok(left.stopped)
 }
 
 #[test]

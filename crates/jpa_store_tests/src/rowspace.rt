@@ -1,3 +1,4 @@
+//! Rows over a store of cells in memory: what is read, what is damaged, and changes over it.
 ghost use Rattle.std.specs.Prelude.{◌≡◌, ◌∷◌, [], IfOk};
 ghost use Rattle.jpa_value.specs.declared.value.Kind.{Kind};
 ghost use Rattle.jpa_value.specs.declared.value.Value.{Value};
