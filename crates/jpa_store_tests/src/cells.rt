@@ -278,7 +278,7 @@ type Device = Fuse<Memory>;
 
 /// How many steps of a run were acknowledged, whether the disk stopped, and the files that are left.
 #[derive(Drop)]
-struct Left<D> {
+struct Left<D: Disk> {
     acknowledged: usize,
     stopped: bool,
     files: Files<D>,
