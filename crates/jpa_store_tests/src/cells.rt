@@ -61,13 +61,17 @@ const TWICE: &[Changed] = &[(0, ONE, &[]), (2, b"\x01", &[(5, b"five"), (5, b"fi
 
 // These have no clause, so that the proof of a test does not carry the state of each call.
 
+fn cell_of(alloc: Global, column: i64, value: &[u8]) -> Result<Cell, Cause> {
+    Ok(Cell {
+        column,
+        value: Bytes::of(value.to_vec(alloc)?),
+    })
+}
+
 fn cells_of(alloc: Global, cells: &[(i64, &[u8])]) -> Result<Seq<Cell>, Cause> {
     let mut out = Seq::new(alloc);
     for (column, value) in cells {
-        out.push(Cell {
-            column: *column,
-            value: Bytes::of(value.to_vec(alloc)?),
-        })?;
+        out.push(cell_of(alloc, *column, value)?)?;
     }
     Ok(out)
 }
@@ -89,24 +93,44 @@ fn changes_of(alloc: Global, changed: &[Changed]) -> Result<Vec<CellChange>, Cau
     Ok(out)
 }
 
-/// Whether the tables 0 to 2 have these cells in this order, and no others.
-fn shows<S: Alter>(store: &mut CellStore<S>, lines: &[Line]) -> Result<bool, Cause> {
-    let mut at = 0;
-    for table in 0..3 {
-        for row in store.table(table)?.as_slice() {
-            for cell in row.cells.as_slice() {
-                match lines.get(at) {
-                    Some(line)
-                        if line.0 == table
-                            && line.1 == row.row.as_slice()
-                            && line.2 == cell.column
-                            && line.3 == cell.value.as_slice() => at += 1,
-                    _ => return Ok(false),
-                }
+fn is_line(line: &Line, table: i64, row: &[u8], cell: &Cell) -> bool {
+    line.0 == table && line.1 == row && line.2 == cell.column && line.3 == cell.value.as_slice()
+}
+
+/// The lines behind those of a table's rows, if its cells are the first of the lines.
+fn after<'a>(lines: &'a [Line], table: i64, rows: &[CellRow]) -> Option<&'a [Line]> {
+    let mut left = lines;
+    for row in rows {
+        for cell in row.cells.as_slice() {
+            match left {
+                [line, rest @ ..] if is_line(line, table, row.row.as_slice(), cell) => left = rest,
+                _ => return None,
             }
         }
     }
-    Ok(at == lines.len())
+    Some(left)
+}
+
+/// The lines behind those of this table, if its cells are the first of the lines.
+fn after_table<'a, S: Alter>(
+    store: &mut CellStore<S>,
+    table: i64,
+    lines: &'a [Line],
+) -> Result<Option<&'a [Line]>, Cause> {
+    let rows = store.table(table)?;
+    Ok(after(lines, table, rows.as_slice()))
+}
+
+/// Whether the tables 0 to 2 have these cells in this order, and no others.
+fn shows<S: Alter>(store: &mut CellStore<S>, lines: &[Line]) -> Result<bool, Cause> {
+    let mut left = lines;
+    for table in 0..3 {
+        match after_table(store, table, left)? {
+            Some(rest) => left = rest,
+            None => return Ok(false),
+        }
+    }
+    Ok(left.is_empty())
 }
 
 fn in_memory(alloc: Global) -> Result<CellStore<MemStore>, Fail> {
@@ -123,22 +147,45 @@ fn again<S: Alter + Drop>(alloc: Global, store: CellStore<S>) -> Result<CellStor
     }
 }
 
+fn apply<S: Alter>(
+    alloc: Global,
+    store: &mut CellStore<S>,
+    changed: &[Changed],
+) -> Result<(), Cause> {
+    let changes = changes_of(alloc, changed)?;
+    store.apply(changes.as_slice())
+}
+
 /// Whether the changes meet a fault of the store. Another refusal is passed on.
-fn is_refused<S: Alter>(store: &mut CellStore<S>, changes: &[CellChange]) -> Result<bool, Fail> {
-    match store.apply(changes) {
+fn is_refused<S: Alter>(
+    alloc: Global,
+    store: &mut CellStore<S>,
+    changed: &[Changed],
+) -> Result<bool, Fail> {
+    match apply(alloc, store, changed) {
         Ok(()) => Ok(false),
         Err(Cause::StoreFault) => Ok(true),
         Err(cause) => Err(Fail::from(cause)),
     }
 }
 
+/// How many cells a row has.
+fn length<S: Alter>(store: &mut CellStore<S>, table: i64, row: &[u8]) -> Result<usize, Cause> {
+    let cells = store.row(table, row)?;
+    Ok(cells.len())
+}
+
 /// The first cells are written and read back, by so many statements.
-fn see_first(rt: &impl Abort, alloc: Global, store: &mut CellStore<MemStore>) -> Result<(), Fail> {
+fn see_first<S: Alter>(
+    rt: &impl Abort,
+    alloc: Global,
+    store: &mut CellStore<S>,
+) -> Result<(), Fail> {
     assert!(rt; shows(store, &[])?);
-    store.apply(changes_of(alloc, FIRST_CHANGES)?.as_slice())?;
+    apply(alloc, store, FIRST_CHANGES)?;
     assert!(rt; shows(store, FIRST)?);
-    assert_eq!(rt; store.row(1, ONE)?.len(), 3);
-    assert_eq!(rt; store.row(1, b"\x01")?.len(), 0);
+    assert_eq!(rt; length(store, 1, ONE)?, 3);
+    assert_eq!(rt; length(store, 1, b"\x01")?, 0);
     assert_eq!(rt;
         (store.writes(), store.selects(), store.statements()),
         (6, 8, 15)
@@ -147,18 +194,22 @@ fn see_first(rt: &impl Abort, alloc: Global, store: &mut CellStore<MemStore>) ->
 }
 
 /// The second changes drop a row.
-fn see_second_cells(
+fn see_second_cells<S: Alter>(
     rt: &impl Abort,
     alloc: Global,
-    store: &mut CellStore<MemStore>,
+    store: &mut CellStore<S>,
 ) -> Result<(), Fail> {
-    store.apply(changes_of(alloc, SECOND_CHANGES)?.as_slice())?;
+    apply(alloc, store, SECOND_CHANGES)?;
     assert!(rt; shows(store, SECOND)?);
     Ok(())
 }
 
 /// No changes run no statement, and the second ones are made.
-fn see_second(rt: &impl Abort, alloc: Global, store: &mut CellStore<MemStore>) -> Result<(), Fail> {
+fn see_second<S: Alter>(
+    rt: &impl Abort,
+    alloc: Global,
+    store: &mut CellStore<S>,
+) -> Result<(), Fail> {
     store.apply(&[])?;
     assert_eq!(rt; store.statements(), 15);
     see_second_cells(rt, alloc, store)
@@ -177,9 +228,13 @@ fn cells_are_written_read_back_and_dropped(rt: HostRuntime) -> Result<(), Fail> 
 }
 
 /// Changes that name a column twice are refused and change nothing; the next ones are made.
-fn see_refused(rt: &impl Abort, alloc: Global, store: &mut CellStore<MemStore>) -> Result<(), Fail> {
-    store.apply(changes_of(alloc, FIRST_CHANGES)?.as_slice())?;
-    assert!(rt; is_refused(store, changes_of(alloc, TWICE)?.as_slice())?);
+fn see_refused<S: Alter>(
+    rt: &impl Abort,
+    alloc: Global,
+    store: &mut CellStore<S>,
+) -> Result<(), Fail> {
+    apply(alloc, store, FIRST_CHANGES)?;
+    assert!(rt; is_refused(alloc, store, TWICE)?);
     assert!(rt; shows(store, FIRST)?);
     see_second_cells(rt, alloc, store)
 }
@@ -228,21 +283,24 @@ fn is_limited<S: Alter>(store: &mut CellStore<S>, sink: &mut Kept) -> Result<boo
     }
 }
 
-/// So many rows of table 2 are taken where so many are wanted, the first one first.
-fn see_taken(
-    rt: &impl Abort,
+/// The rows of table 2 that are taken where so many are wanted.
+fn taken<S: Alter>(
     alloc: Global,
-    store: &mut CellStore<MemStore>,
+    store: &mut CellStore<S>,
     most: usize,
-    taken: usize,
-) -> Result<(), Fail> {
+) -> Result<Vec<CellRow>, Cause> {
     let mut kept = Kept {
         rows: Vec::new(alloc),
         most,
     };
     store.each(2, &mut kept)?;
-    assert_eq!(rt; kept.rows.len(), taken);
-    match kept.rows.as_slice() {
+    Ok(kept.rows)
+}
+
+/// So many rows were taken, the first one first.
+fn see_rows(rt: &impl Abort, rows: &[CellRow], count: usize) -> Result<(), Fail> {
+    assert_eq!(rt; rows.len(), count);
+    match rows {
         [first, ..] => assert_eq!(rt; first.row.as_slice(), b"\x01".as_slice()),
         [] => return Err(Fail::from("no row was handed on")),
     }
@@ -250,7 +308,11 @@ fn see_taken(
 }
 
 /// A sink that wants none refuses the first row, and is not asked where there is none.
-fn see_limited(rt: &impl Abort, alloc: Global, store: &mut CellStore<MemStore>) -> Result<(), Fail> {
+fn see_limited<S: Alter>(
+    rt: &impl Abort,
+    alloc: Global,
+    store: &mut CellStore<S>,
+) -> Result<(), Fail> {
     let mut none = Kept {
         rows: Vec::new(alloc),
         most: 0,
@@ -262,14 +324,23 @@ fn see_limited(rt: &impl Abort, alloc: Global, store: &mut CellStore<MemStore>) 
     Ok(())
 }
 
+/// So many rows are handed on as are wanted and there, and none where the sink wants none.
+fn see_taken<S: Alter>(
+    rt: &impl Abort,
+    alloc: Global,
+    store: &mut CellStore<S>,
+) -> Result<(), Fail> {
+    apply(alloc, store, SECOND_CHANGES)?;
+    see_rows(rt, taken(alloc, store, 5)?.as_slice(), 2)?;
+    see_rows(rt, taken(alloc, store, 1)?.as_slice(), 1)?;
+    see_limited(rt, alloc, store)
+}
+
 #[test]
 fn rows_are_handed_on_in_order_until_no_more_are_wanted(rt: HostRuntime) -> Result<(), Fail> {
     let alloc = rt.alloc();
     let mut store = in_memory(alloc)?;
-    store.apply(changes_of(alloc, SECOND_CHANGES)?.as_slice())?;
-    see_taken(&rt, alloc, &mut store, 5, 2)?;
-    see_taken(&rt, alloc, &mut store, 1, 1)?;
-    see_limited(&rt, alloc, &mut store)
+    see_taken(&rt, alloc, &mut store)
 }
 
 // ---- stops at a call of the disk
@@ -317,10 +388,10 @@ fn closed<D: Disk + Drop>(
 
 /// Writes the first cells and then the second, until the disk stops, and answers how many steps were acknowledged.
 fn write_steps<S: Alter>(alloc: Global, store: &mut CellStore<S>) -> Result<usize, Fail> {
-    if is_refused(store, changes_of(alloc, FIRST_CHANGES)?.as_slice())? {
+    if is_refused(alloc, store, FIRST_CHANGES)? {
         return Ok(1);
     }
-    if is_refused(store, changes_of(alloc, SECOND_CHANGES)?.as_slice())? {
+    if is_refused(alloc, store, SECOND_CHANGES)? {
         return Ok(2);
     }
     Ok(3)

@@ -5,14 +5,14 @@ ghost use Rattle.jpa_value.specs.declared.value.Value.{Value};
 ghost use Rattle.jpa_rows.specs.declared.row.Content.{Content};
 ghost use Rattle.jpa_rowspace.specs.Samples as samples;
 
-use jpa_cells::{Cell, CellChange, CellStore};
+use jpa_cells::{Cell, CellChange, CellRow, CellStore};
 use jpa_overlay::Overlay;
 use jpa_rows::{
     ColumnRule, Content, Field, Holds, Row, RowChange, RowId, RowSource, Schema, TableRule,
 };
 use jpa_rowspace::RowSpace;
 use jpa_value::{Bytes, Cause, Key, Kind, Seq, Text, TryCopy, Value, is_same_identity};
-use sqlite::{Connection, MemStore};
+use sqlite::{Alter, Connection, MemStore};
 use std::alloc::Global;
 use std::process::Abort;
 use std::test::Fail;
@@ -68,13 +68,17 @@ fn adds_seven(alloc: Global) -> Result<RowChange, Cause>
     })
 }
 
+fn in_memory(alloc: Global) -> Result<CellStore<MemStore>, Fail> {
+    match CellStore::open(alloc, Connection::open_in_memory(alloc)?) {
+        Ok(store) => Ok(store),
+        Err((cause, _)) => Err(Fail::from(cause)),
+    }
+}
+
 fn opened_by(alloc: Global, schema: Schema) -> Result<RowSpace<MemStore>, Fail>
     ensures { IfOk result (λ space. space.schema ≡ schema) }
 {
-    let store = match CellStore::open(alloc, Connection::open_in_memory(alloc)?) {
-        Ok(store) => store,
-        Err((cause, _)) => return Err(Fail::from(cause)),
-    };
+    let store = in_memory(alloc)?;
     Ok(RowSpace::new(alloc, store, schema))
 }
 
@@ -84,23 +88,28 @@ fn opened(alloc: Global) -> Result<RowSpace<MemStore>, Fail>
     opened_by(alloc, numbers(alloc)?)
 }
 
-/// Writes one cell, past the space.
-fn write_cell(
-    alloc: Global,
-    space: &mut RowSpace<MemStore>,
-    row: &[u8],
-    value: &[u8],
-) -> Result<(), Cause> {
+/// The change of a row of table 1 to one cell.
+fn change_of(alloc: Global, row: &[u8], value: &[u8]) -> Result<CellChange, Cause> {
     let mut cells = Seq::new(alloc);
     cells.push(Cell {
         column: 0,
         value: Bytes::of(Vec::from_slice(alloc, value)?),
     })?;
-    let change = CellChange {
+    Ok(CellChange {
         table: 1,
         row: Bytes::of(Vec::from_slice(alloc, row)?),
         cells,
-    };
+    })
+}
+
+/// Writes one cell, past the space.
+fn write_cell<S: Alter>(
+    alloc: Global,
+    space: &mut RowSpace<S>,
+    row: &[u8],
+    value: &[u8],
+) -> Result<(), Cause> {
+    let change = change_of(alloc, row, value)?;
     space.store.apply(&[change])
 }
 
@@ -166,7 +175,7 @@ fn id(alloc: Global, table: u64, number: i64) -> Result<RowId, Cause>
     })
 }
 
-fn commit_seven(alloc: Global, space: &mut RowSpace<MemStore>) -> Result<(), Cause>
+fn commit_seven<S: Alter>(alloc: Global, space: &mut RowSpace<S>) -> Result<(), Cause>
     requires { space.old.schema ≡ samples.numbers }
 {
     let change = adds_seven(alloc)?;
@@ -174,16 +183,16 @@ fn commit_seven(alloc: Global, space: &mut RowSpace<MemStore>) -> Result<(), Cau
 }
 
 /// The row of this number.
-fn found(alloc: Global, space: &mut RowSpace<MemStore>, number: i64) -> Result<String, Cause> {
+fn found<R: RowSource>(alloc: Global, source: &mut R, number: i64) -> Result<String, Cause> {
     let id = id(alloc, 1, number)?;
-    got(alloc, space, &id)
+    got(alloc, source, &id)
 }
 
 /// The first row is seen, and no other one.
-fn see_first_row(
+fn see_first_row<S: Alter>(
     rt: &impl Abort,
     alloc: Global,
-    space: &mut RowSpace<MemStore>,
+    space: &mut RowSpace<S>,
 ) -> Result<(), Fail> {
     assert_eq!(rt; (space.store.writes(), space.store.selects()), (2, 0));
     assert_eq!(rt; found(alloc, space, 1)?.as_str(), "1: 0=7;");
@@ -202,39 +211,90 @@ fn commits_and_reads_the_first_row(rt: HostRuntime) -> Result<(), Fail> {
     see_first_row(&rt, alloc, &mut space)
 }
 
+/// Whether there is no row under the id.
+fn is_absent<S: Alter>(space: &mut RowSpace<S>, id: RowId) -> Result<bool, Cause> {
+    let row = space.get(&id)?;
+    Ok(row.is_none())
+}
+
+/// How many rows a table has.
+fn count<S: Alter>(space: &mut RowSpace<S>, table: u64) -> Result<usize, Cause> {
+    let rows = space.scan(table)?;
+    Ok(rows.len())
+}
+
+/// No row is found in another table or under a key without parts, and none is looked for.
+fn see_absent<S: Alter>(
+    rt: &impl Abort,
+    alloc: Global,
+    space: &mut RowSpace<S>,
+) -> Result<(), Fail> {
+    assert!(rt; is_absent(space, id(alloc, 2, 1)?)?);
+    let no_parts = RowId {
+        table: 1,
+        key: Seq::new(alloc),
+    };
+    assert!(rt; is_absent(space, no_parts)?);
+    assert_eq!(rt; count(space, 2)?, 0);
+    assert_eq!(rt; space.store.selects(), 0);
+    Ok(())
+}
+
 #[test]
 fn ids_of_no_row_run_no_select(rt: HostRuntime) -> Result<(), Fail> {
     let alloc = rt.alloc();
     let mut space = opened(alloc)?;
     write_cell(alloc, &mut space, ONE, SEVEN)?;
-    let other_table = id(alloc, 2, 1)?;
-    assert!(rt; space.get(&other_table)?.is_none());
-    let no_parts = RowId {
-        table: 1,
-        key: Seq::new(alloc),
-    };
-    assert!(rt; space.get(&no_parts)?.is_none());
-    assert!(rt; space.scan(2)?.is_empty());
-    assert_eq!(rt; space.store.selects(), 0);
+    see_absent(&rt, alloc, &mut space)
+}
+
+/// The rows of table 1 before the first damaged one, and the bytes of that one.
+fn front<S: Alter>(
+    alloc: Global,
+    space: &mut RowSpace<S>,
+) -> Result<(String, Option<Bytes>), Cause> {
+    let (rows, damaged) = space.read_table(1)?;
+    Ok((lines(alloc, rows.as_slice())?, damaged))
+}
+
+/// The bytes that are told of the row of this number.
+fn told_of<S: Alter>(
+    alloc: Global,
+    space: &mut RowSpace<S>,
+    number: i64,
+) -> Result<Option<Bytes>, Cause> {
+    let id = id(alloc, 1, number)?;
+    told(space.get(&id))
+}
+
+/// Row 2 is told to be damaged, by each way of reading it, and row 1 is read.
+fn see_damaged<S: Alter>(
+    rt: &impl Abort,
+    alloc: Global,
+    space: &mut RowSpace<S>,
+) -> Result<(), Fail> {
+    let (rows, damaged) = front(alloc, space)?;
+    assert_eq!(rt; rows.as_str(), "1: 0=7;");
+    assert!(rt; is_row(&damaged, TWO));
+    assert!(rt; is_row(&told(space.scan(1))?, TWO));
+    assert!(rt; told_of(alloc, space, 1)?.is_none());
+    assert!(rt; is_row(&told_of(alloc, space, 2)?, TWO));
     Ok(())
+}
+
+/// Writes three rows, of which the second spells no row.
+fn write_damaged<S: Alter>(alloc: Global, space: &mut RowSpace<S>) -> Result<(), Cause> {
+    write_cell(alloc, space, b"\x05", SEVEN)?;
+    write_cell(alloc, space, TWO, b"\x02\xff")?;
+    write_cell(alloc, space, ONE, SEVEN)
 }
 
 #[test]
 fn the_lowest_damaged_row_is_told(rt: HostRuntime) -> Result<(), Fail> {
     let alloc = rt.alloc();
     let mut space = opened(alloc)?;
-    write_cell(alloc, &mut space, b"\x05", SEVEN)?;
-    write_cell(alloc, &mut space, TWO, b"\x02\xff")?;
-    write_cell(alloc, &mut space, ONE, SEVEN)?;
-    let (rows, damaged) = space.read_table(1)?;
-    assert_eq!(rt; lines(alloc, rows.as_slice())?.as_str(), "1: 0=7;");
-    assert!(rt; is_row(&damaged, TWO));
-    assert!(rt; is_row(&told(space.scan(1))?, TWO));
-    let first = id(alloc, 1, 1)?;
-    assert!(rt; told(space.get(&first))?.is_none());
-    let second = id(alloc, 1, 2)?;
-    assert!(rt; is_row(&told(space.get(&second))?, TWO));
-    Ok(())
+    write_damaged(alloc, &mut space)?;
+    see_damaged(&rt, alloc, &mut space)
 }
 
 // ---- example `removing-a-referenced-person`: person 1, to whom order 10 leads
@@ -340,35 +400,49 @@ fn first_rows(alloc: Global) -> Result<Vec<RowChange>, Cause>
 }
 
 #[tactic(auto, using(jpa_rowspace::proofs::Samples::are_changes))]
-fn commit_rows(space: &mut RowSpace<MemStore>, rows: &[RowChange]) -> Result<(), Cause>
+fn commit_rows<S: Alter>(space: &mut RowSpace<S>, rows: &[RowChange]) -> Result<(), Cause>
     requires schema { space.old.schema ≡ samples.shop }
     requires rows { rows.now ≡ samples.first_rows }
 {
     space.commit(rows)
 }
 
-fn commit_first(alloc: Global, space: &mut RowSpace<MemStore>) -> Result<(), Cause>
+fn commit_first<S: Alter>(alloc: Global, space: &mut RowSpace<S>) -> Result<(), Cause>
     requires { space.old.schema ≡ samples.shop }
 {
     let rows = first_rows(alloc)?;
     commit_rows(space, rows.as_slice())
 }
 
-/// Whether a table has the cells of these lines in this order, and no others.
-fn shows(space: &mut RowSpace<MemStore>, table: i64, lines: &[Line]) -> Result<bool, Cause> {
-    let mut at = 0;
-    for row in space.store.table(table)?.as_slice() {
+/// Whether the cells of these rows are the lines in this order, and no others.
+fn are_lines(rows: &[CellRow], lines: &[Line]) -> bool {
+    let mut left = lines;
+    for row in rows {
         for cell in row.cells.as_slice() {
-            match lines.get(at) {
-                Some(line)
+            match left {
+                [line, rest @ ..]
                     if line.0 == row.row.as_slice()
                         && line.1 == cell.column
-                        && line.2 == cell.value.as_slice() => at += 1,
-                _ => return Ok(false),
+                        && line.2 == cell.value.as_slice() => left = rest,
+                _ => return false,
             }
         }
     }
-    Ok(at == lines.len())
+    left.is_empty()
+}
+
+/// Whether a table has the cells of these lines in this order, and no others.
+fn shows<S: Alter>(space: &mut RowSpace<S>, table: i64, lines: &[Line]) -> Result<bool, Cause> {
+    let rows = space.store.table(table)?;
+    Ok(are_lines(rows.as_slice(), lines))
+}
+
+/// The store has the cells of the example.
+fn see_cells<S: Alter>(rt: &impl Abort, space: &mut RowSpace<S>) -> Result<(), Fail> {
+    for (table, lines) in [(0, CELLS[0]), (1, CELLS[1]), (2, CELLS[2])] {
+        assert!(rt; shows(space, table, lines)?, "table {table}");
+    }
+    Ok(())
 }
 
 /// A row as its columns, one by one.
@@ -412,23 +486,105 @@ fn led_to(alloc: Global, table: u64, row: Option<Row>) -> Result<RowId, Fail> {
     Err(Fail::from("no column leads on"))
 }
 
-/// The rows are seen without the person, which is all that is to change.
-fn see_dropped(
+/// The row's columns are these.
+fn see_row(rt: &impl Abort, alloc: Global, row: &Option<Row>, words: &str) -> Result<(), Fail> {
+    assert_eq!(rt; shown(alloc, row)?.as_str(), words);
+    Ok(())
+}
+
+fn order<S: Alter>(alloc: Global, space: &mut RowSpace<S>) -> Result<Option<Row>, Cause> {
+    let id = id(alloc, 2, 10)?;
+    space.get(&id)
+}
+
+/// The order is seen; answers the id of the person to whom it leads.
+fn see_order<S: Alter>(
     rt: &impl Abort,
     alloc: Global,
-    overlay: &Overlay,
-    space: &mut RowSpace<MemStore>,
+    space: &mut RowSpace<S>,
+) -> Result<RowId, Fail> {
+    let order = order(alloc, space)?;
+    see_row(rt, alloc, &order, "0=Order;2 to 1;")?;
+    led_to(alloc, 1, order)
+}
+
+/// The person is seen, who is the only one.
+fn see_person<S: Alter>(
+    rt: &impl Abort,
+    alloc: Global,
+    space: &mut RowSpace<S>,
+    person: &RowId,
 ) -> Result<(), Fail> {
+    let read = space.get(person)?;
+    see_row(rt, alloc, &read, "0=Person;1=0;")?;
+    assert_eq!(rt; count(space, 1)?, 1);
+    Ok(())
+}
+
+/// How many rows a table has under the changes.
+fn count_over<R: RowSource>(overlay: &Overlay, source: &mut R, table: u64) -> Result<usize, Cause> {
+    let rows = overlay.scan(source, table)?;
+    Ok(rows.len())
+}
+
+/// The person under the changes.
+fn person_over<R: RowSource>(
+    alloc: Global,
+    overlay: &Overlay,
+    source: &mut R,
+) -> Result<Option<Row>, Cause> {
     let person = id(alloc, 1, 1)?;
-    assert!(rt; overlay.get(space, &person)?.is_none());
-    assert!(rt; overlay.scan(space, 1)?.is_empty());
-    assert_eq!(rt; overlay.scan(space, 2)?.len(), 1);
-    let changes = overlay.changes(space)?;
-    match changes.as_slice() {
+    overlay.get(source, &person)
+}
+
+/// The changes are one drop of the person.
+fn see_drop(rt: &impl Abort, alloc: Global, changes: &[RowChange]) -> Result<(), Fail> {
+    let person = id(alloc, 1, 1)?;
+    match changes {
         [change] => assert!(rt; is_same_identity(&change.id, &person) && change.row.is_none()),
         _ => return Err(Fail::from("the difference is not one drop")),
     }
     Ok(())
+}
+
+/// The rows are seen without the person, which is all that is to change.
+fn see_dropped<R: RowSource>(
+    rt: &impl Abort,
+    alloc: Global,
+    overlay: &Overlay,
+    source: &mut R,
+) -> Result<(), Fail> {
+    assert!(rt; person_over(alloc, overlay, source)?.is_none());
+    assert_eq!(rt; count_over(overlay, source, 1)?, 0);
+    assert_eq!(rt; count_over(overlay, source, 2)?, 1);
+    see_drop(rt, alloc, overlay.changes(source)?.as_slice())
+}
+
+/// The person is seen again, and nothing is to change.
+fn see_discarded<R: RowSource>(
+    rt: &impl Abort,
+    alloc: Global,
+    overlay: &Overlay,
+    source: &mut R,
+) -> Result<(), Fail> {
+    let read = person_over(alloc, overlay, source)?;
+    see_row(rt, alloc, &read, "0=Person;1=0;")?;
+    assert!(rt; overlay.changes(source)?.is_empty());
+    Ok(())
+}
+
+/// The person is dropped over the rows, and the drop is discarded.
+fn see_overlay<R: RowSource>(
+    rt: &impl Abort,
+    alloc: Global,
+    source: &mut R,
+    person: RowId,
+) -> Result<(), Fail> {
+    let mut overlay = Overlay::new(alloc);
+    overlay.drop_row(person)?;
+    see_dropped(rt, alloc, &overlay, source)?;
+    overlay.discard();
+    see_discarded(rt, alloc, &overlay, source)
 }
 
 #[test]
@@ -436,21 +592,8 @@ fn a_referenced_person_is_dropped_over_the_space(rt: HostRuntime) -> Result<(), 
     let alloc = rt.alloc();
     let mut space = opened_by(alloc, shop(alloc)?)?;
     commit_first(alloc, &mut space)?;
-    for (table, lines) in [(0, CELLS[0]), (1, CELLS[1]), (2, CELLS[2])] {
-        assert!(rt; shows(&mut space, table, lines)?, "table {table}");
-    }
-    let order = space.get(&id(alloc, 2, 10)?)?;
-    assert_eq!(rt; shown(alloc, &order)?.as_str(), "0=Order;2 to 1;");
-    let person = led_to(alloc, 1, order)?;
-    let read = space.get(&person)?;
-    assert_eq!(rt; shown(alloc, &read)?.as_str(), "0=Person;1=0;");
-    assert_eq!(rt; space.scan(1)?.len(), 1);
-    let mut overlay = Overlay::new(alloc);
-    overlay.drop_row(person)?;
-    see_dropped(&rt, alloc, &overlay, &mut space)?;
-    overlay.discard();
-    let read = overlay.get(&mut space, &id(alloc, 1, 1)?)?;
-    assert_eq!(rt; shown(alloc, &read)?.as_str(), "0=Person;1=0;");
-    assert!(rt; overlay.changes(&mut space)?.is_empty());
-    Ok(())
+    see_cells(&rt, &mut space)?;
+    let person = see_order(&rt, alloc, &mut space)?;
+    see_person(&rt, alloc, &mut space, &person)?;
+    see_overlay(&rt, alloc, &mut space, person)
 }
