@@ -97,40 +97,39 @@ fn is_line(line: &Line, table: i64, row: &[u8], cell: &Cell) -> bool {
     line.0 == table && line.1 == row && line.2 == cell.column && line.3 == cell.value.as_slice()
 }
 
-/// The lines behind those of a table's rows, if its cells are the first of the lines.
-fn after<'a>(lines: &'a [Line], table: i64, rows: &[CellRow]) -> Option<&'a [Line]> {
-    let mut left = lines;
+/// The place behind the lines of a table's rows, if its cells are the lines from `at` on.
+fn after(lines: &[Line], mut at: usize, table: i64, rows: &[CellRow]) -> Option<usize> {
     for row in rows {
         for cell in row.cells.as_slice() {
-            match left {
-                [line, rest @ ..] if is_line(line, table, row.row.as_slice(), cell) => left = rest,
+            match lines.get(at) {
+                Some(line) if is_line(line, table, row.row.as_slice(), cell) => at += 1,
                 _ => return None,
             }
         }
     }
-    Some(left)
+    Some(at)
 }
 
-/// The lines behind those of this table, if its cells are the first of the lines.
-fn after_table<'a, S: Alter>(
+fn after_table<S: Alter>(
     store: &mut CellStore<S>,
     table: i64,
-    lines: &'a [Line],
-) -> Result<Option<&'a [Line]>, Cause> {
+    lines: &[Line],
+    at: usize,
+) -> Result<Option<usize>, Cause> {
     let rows = store.table(table)?;
-    Ok(after(lines, table, rows.as_slice()))
+    Ok(after(lines, at, table, rows.as_slice()))
 }
 
 /// Whether the tables 0 to 2 have these cells in this order, and no others.
 fn shows<S: Alter>(store: &mut CellStore<S>, lines: &[Line]) -> Result<bool, Cause> {
-    let mut left = lines;
+    let mut at = 0;
     for table in 0..3 {
-        match after_table(store, table, left)? {
-            Some(rest) => left = rest,
+        match after_table(store, table, lines, at)? {
+            Some(next) => at = next,
             None => return Ok(false),
         }
     }
-    Ok(left.is_empty())
+    Ok(at == lines.len())
 }
 
 fn in_memory(alloc: Global) -> Result<CellStore<MemStore>, Fail> {
@@ -175,6 +174,14 @@ fn length<S: Alter>(store: &mut CellStore<S>, table: i64, row: &[u8]) -> Result<
     Ok(cells.len())
 }
 
+/// So many writes, SELECTs and statements were run.
+fn see_counts<S: Alter>(rt: &impl Abort, store: &CellStore<S>, counts: (u64, u64, u64)) {
+    assert_eq!(rt;
+        (store.writes(), store.selects(), store.statements()),
+        counts
+    );
+}
+
 /// The first cells are written and read back, by so many statements.
 fn see_first<S: Alter>(
     rt: &impl Abort,
@@ -186,10 +193,7 @@ fn see_first<S: Alter>(
     assert!(rt; shows(store, FIRST)?);
     assert_eq!(rt; length(store, 1, ONE)?, 3);
     assert_eq!(rt; length(store, 1, b"\x01")?, 0);
-    assert_eq!(rt;
-        (store.writes(), store.selects(), store.statements()),
-        (6, 8, 15)
-    );
+    see_counts(rt, store, (6, 8, 15));
     Ok(())
 }
 
@@ -215,16 +219,25 @@ fn see_second<S: Alter>(
     see_second_cells(rt, alloc, store)
 }
 
+/// The cells stand when the store is opened again, which runs no statement.
+fn see_again<S: Alter + Drop>(
+    rt: &impl Abort,
+    alloc: Global,
+    store: CellStore<S>,
+) -> Result<(), Fail> {
+    let mut store = again(alloc, store)?;
+    assert_eq!(rt; store.statements(), 0);
+    assert!(rt; shows(&mut store, SECOND)?);
+    Ok(())
+}
+
 #[test]
 fn cells_are_written_read_back_and_dropped(rt: HostRuntime) -> Result<(), Fail> {
     let alloc = rt.alloc();
     let mut store = in_memory(alloc)?;
     see_first(&rt, alloc, &mut store)?;
     see_second(&rt, alloc, &mut store)?;
-    let mut store = again(alloc, store)?;
-    assert_eq!(rt; store.statements(), 0);
-    assert!(rt; shows(&mut store, SECOND)?);
-    Ok(())
+    see_again(&rt, alloc, store)
 }
 
 /// Changes that name a column twice are refused and change nothing; the next ones are made.

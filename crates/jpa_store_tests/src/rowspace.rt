@@ -1,8 +1,9 @@
 //! Rows over a store of cells in memory: what is read, what is damaged, and changes over it.
-ghost use Rattle.std.specs.Prelude.{◌≡◌, ◌∷◌, [], IfOk};
+ghost use Rattle.std.specs.Prelude.{◌≡◌, ◌∷◌, [], pos, IfOk};
 ghost use Rattle.jpa_value.specs.declared.value.Kind.{Kind};
 ghost use Rattle.jpa_value.specs.declared.value.Value.{Value};
 ghost use Rattle.jpa_rows.specs.declared.row.Content.{Content};
+ghost use Rattle.jpa_rows.specs.Tables as tables;
 ghost use Rattle.jpa_rowspace.specs.Samples as samples;
 
 use jpa_cells::{Cell, CellChange, CellRow, CellStore};
@@ -334,29 +335,44 @@ fn table(alloc: Global, table: u32, columns: Vec<ColumnRule>) -> Result<TableRul
     })
 }
 
-fn shop(alloc: Global) -> Result<Schema, Cause>
-    ensures { IfOk result (λ schema. schema ≡ samples.shop) }
+fn next_numbers(alloc: Global) -> Result<TableRule, Cause>
+    ensures { IfOk result (λ rule. rule ≡ tables.next_numbers) }
 {
-    let numbers = vec![in alloc; rule(0, Holds::Kind(Kind::Int))]?;
-    let persons = vec![in alloc;
+    let columns = vec![in alloc; rule(0, Holds::Kind(Kind::Int))]?;
+    table(alloc, 0, columns)
+}
+
+fn persons(alloc: Global) -> Result<TableRule, Cause>
+    ensures { IfOk result (λ rule. rule ≡ samples.persons) }
+{
+    let columns = vec![in alloc;
         rule(0, Holds::Kind(Kind::Text)),
         rule(1, Holds::Kind(Kind::Int)),
         rule(2, Holds::Kind(Kind::Text)),
     ]?;
+    table(alloc, 1, columns)
+}
+
+fn orders(alloc: Global) -> Result<TableRule, Cause>
+    ensures { IfOk result (λ rule. rule ≡ samples.orders) }
+{
     let person = Seq::of(vec![in alloc; Kind::Int]?);
-    let orders = vec![in alloc;
+    let columns = vec![in alloc;
         rule(0, Holds::Kind(Kind::Text)),
         rule(1, Holds::Kind(Kind::Int)),
         rule(2, Holds::Reference(person)),
     ]?;
-    let tables = vec![in alloc;
-        table(alloc, 0, numbers)?,
-        table(alloc, 1, persons)?,
-        table(alloc, 2, orders)?,
-    ]?;
-    Ok(Schema {
-        tables: Seq::of(tables),
-    })
+    table(alloc, 2, columns)
+}
+
+fn shop(alloc: Global) -> Result<Schema, Cause>
+    ensures { IfOk result (λ schema. schema ≡ samples.shop) }
+{
+    let mut tables = Seq::new(alloc);
+    tables.push(next_numbers(alloc)?)?;
+    tables.push(persons(alloc)?)?;
+    tables.push(orders(alloc)?)?;
+    Ok(Schema { tables })
 }
 
 fn field(column: u32, content: Content) -> Field
@@ -380,23 +396,38 @@ fn puts(alloc: Global, table: u64, number: i64, fields: Vec<Field>) -> Result<Ro
     })
 }
 
+fn number_row(alloc: Global) -> Result<RowChange, Cause>
+    ensures { IfOk result (λ change. change ≡ samples.puts 0 (pos 1) samples.number_row) }
+{
+    let fields = vec![in alloc; field(0, Content::Value(Value::Int(2)))]?;
+    puts(alloc, 0, 1, fields)
+}
+
+fn person_row(alloc: Global) -> Result<RowChange, Cause>
+    ensures { IfOk result (λ change. change ≡ samples.puts 1 (pos 1) samples.person_row) }
+{
+    let class = text(alloc, "Person")?;
+    let fields = vec![in alloc; field(0, class), field(1, Content::Value(Value::Int(0)))]?;
+    puts(alloc, 1, 1, fields)
+}
+
+fn order_row(alloc: Global) -> Result<RowChange, Cause>
+    ensures { IfOk result (λ change. change ≡ samples.puts 2 (pos 10) samples.order_row) }
+{
+    let class = text(alloc, "Order")?;
+    let person = key(alloc, 1)?;
+    let fields = vec![in alloc; field(0, class), field(2, Content::Reference(person))]?;
+    puts(alloc, 2, 10, fields)
+}
+
 fn first_rows(alloc: Global) -> Result<Vec<RowChange>, Cause>
     ensures { IfOk result (λ changes. changes.items ≡ samples.first_rows) }
 {
-    let next = vec![in alloc; field(0, Content::Value(Value::Int(2)))]?;
-    let person = vec![in alloc;
-        field(0, text(alloc, "Person")?),
-        field(1, Content::Value(Value::Int(0))),
-    ]?;
-    let order = vec![in alloc;
-        field(0, text(alloc, "Order")?),
-        field(2, Content::Reference(key(alloc, 1)?)),
-    ]?;
-    Ok(vec![in alloc;
-        puts(alloc, 0, 1, next)?,
-        puts(alloc, 1, 1, person)?,
-        puts(alloc, 2, 10, order)?,
-    ]?)
+    let mut rows = Vec::new(alloc);
+    rows.push(number_row(alloc)?)?;
+    rows.push(person_row(alloc)?)?;
+    rows.push(order_row(alloc)?)?;
+    Ok(rows)
 }
 
 #[tactic(auto, using(jpa_rowspace::proofs::Samples::are_changes))]
@@ -587,13 +618,20 @@ fn see_overlay<R: RowSource>(
     see_discarded(rt, alloc, &overlay, source)
 }
 
+/// The first rows are written and seen, and the person is dropped over them.
+fn see_shop<S: Alter>(rt: &impl Abort, alloc: Global, space: &mut RowSpace<S>) -> Result<(), Fail>
+    requires { space.old.schema ≡ samples.shop }
+{
+    commit_first(alloc, space)?;
+    see_cells(rt, space)?;
+    let person = see_order(rt, alloc, space)?;
+    see_person(rt, alloc, space, &person)?;
+    see_overlay(rt, alloc, space, person)
+}
+
 #[test]
 fn a_referenced_person_is_dropped_over_the_space(rt: HostRuntime) -> Result<(), Fail> {
     let alloc = rt.alloc();
     let mut space = opened_by(alloc, shop(alloc)?)?;
-    commit_first(alloc, &mut space)?;
-    see_cells(&rt, &mut space)?;
-    let person = see_order(&rt, alloc, &mut space)?;
-    see_person(&rt, alloc, &mut space, &person)?;
-    see_overlay(&rt, alloc, &mut space, person)
+    see_shop(&rt, alloc, &mut space)
 }
