@@ -14,7 +14,7 @@ use jpa_rows::{
 use jpa_rowspace::RowSpace;
 use jpa_value::{Bytes, Cause, Key, Kind, Seq, Text, TryCopy, Value, is_same_identity};
 use sqlite::{Alter, Connection, MemStore};
-use std::alloc::Global;
+use std::alloc::{AllocError, Global};
 use std::process::Abort;
 use std::test::Fail;
 
@@ -189,17 +189,47 @@ fn found<R: RowSource>(alloc: Global, source: &mut R, number: i64) -> Result<Str
     got(alloc, source, &id)
 }
 
+/// What is found under this number.
+fn see_found<R: RowSource>(
+    rt: &impl Abort,
+    alloc: Global,
+    source: &mut R,
+    number: i64,
+    words: &str,
+) -> Result<(), Fail> {
+    let row = found(alloc, source, number)?;
+    assert_eq!(rt; row.as_str(), words);
+    Ok(())
+}
+
+/// The rows of table 1.
+fn see_scanned<R: RowSource>(
+    rt: &impl Abort,
+    alloc: Global,
+    source: &mut R,
+    words: &str,
+) -> Result<(), Fail> {
+    let rows = scanned(alloc, source, 1)?;
+    assert_eq!(rt; rows.as_str(), words);
+    Ok(())
+}
+
+/// So many writes and SELECTs were run.
+fn see_counts<S: Alter>(rt: &impl Abort, store: &CellStore<S>, counts: (u64, u64)) {
+    assert_eq!(rt; (store.writes(), store.selects()), counts);
+}
+
 /// The first row is seen, and no other one.
 fn see_first_row<S: Alter>(
     rt: &impl Abort,
     alloc: Global,
     space: &mut RowSpace<S>,
 ) -> Result<(), Fail> {
-    assert_eq!(rt; (space.store.writes(), space.store.selects()), (2, 0));
-    assert_eq!(rt; found(alloc, space, 1)?.as_str(), "1: 0=7;");
-    assert_eq!(rt; scanned(alloc, space, 1)?.as_str(), "1: 0=7;");
-    assert_eq!(rt; found(alloc, space, 2)?.as_str(), "none");
-    assert_eq!(rt; (space.store.writes(), space.store.selects()), (2, 3));
+    see_counts(rt, &space.store, (2, 0));
+    see_found(rt, alloc, space, 1, "1: 0=7;")?;
+    see_scanned(rt, alloc, space, "1: 0=7;")?;
+    see_found(rt, alloc, space, 2, "none")?;
+    see_counts(rt, &space.store, (2, 3));
     assert_eq!(rt; space.schema().tables.len(), 1);
     Ok(())
 }
@@ -218,6 +248,14 @@ fn is_absent<S: Alter>(space: &mut RowSpace<S>, id: RowId) -> Result<bool, Cause
     Ok(row.is_none())
 }
 
+/// An id of table 1 whose key has no parts.
+fn no_parts(alloc: Global) -> RowId {
+    RowId {
+        table: 1,
+        key: Seq::new(alloc),
+    }
+}
+
 /// How many rows a table has.
 fn count<S: Alter>(space: &mut RowSpace<S>, table: u64) -> Result<usize, Cause> {
     let rows = space.scan(table)?;
@@ -231,11 +269,7 @@ fn see_absent<S: Alter>(
     space: &mut RowSpace<S>,
 ) -> Result<(), Fail> {
     assert!(rt; is_absent(space, id(alloc, 2, 1)?)?);
-    let no_parts = RowId {
-        table: 1,
-        key: Seq::new(alloc),
-    };
-    assert!(rt; is_absent(space, no_parts)?);
+    assert!(rt; is_absent(space, no_parts(alloc))?);
     assert_eq!(rt; count(space, 2)?, 0);
     assert_eq!(rt; space.store.selects(), 0);
     Ok(())
@@ -268,8 +302,14 @@ fn told_of<S: Alter>(
     told(space.get(&id))
 }
 
-/// Row 2 is told to be damaged, by each way of reading it, and row 1 is read.
-fn see_damaged<S: Alter>(
+/// Whether the scan of table 1 tells of this damaged row.
+fn scan_tells<S: Alter>(space: &mut RowSpace<S>, row: &[u8]) -> Result<bool, Cause> {
+    let found = told(space.scan(1))?;
+    Ok(is_row(&found, row))
+}
+
+/// Row 1 stands before the damaged row 2.
+fn see_front<S: Alter>(
     rt: &impl Abort,
     alloc: Global,
     space: &mut RowSpace<S>,
@@ -277,7 +317,17 @@ fn see_damaged<S: Alter>(
     let (rows, damaged) = front(alloc, space)?;
     assert_eq!(rt; rows.as_str(), "1: 0=7;");
     assert!(rt; is_row(&damaged, TWO));
-    assert!(rt; is_row(&told(space.scan(1))?, TWO));
+    Ok(())
+}
+
+/// Row 2 is told to be damaged, by each way of reading it, and row 1 is read.
+fn see_damaged<S: Alter>(
+    rt: &impl Abort,
+    alloc: Global,
+    space: &mut RowSpace<S>,
+) -> Result<(), Fail> {
+    see_front(rt, alloc, space)?;
+    assert!(rt; scan_tells(space, TWO)?);
     assert!(rt; told_of(alloc, space, 1)?.is_none());
     assert!(rt; is_row(&told_of(alloc, space, 2)?, TWO));
     Ok(())
@@ -476,26 +526,31 @@ fn see_cells<S: Alter>(rt: &impl Abort, space: &mut RowSpace<S>) -> Result<(), F
     Ok(())
 }
 
+/// A field as its column and what it holds.
+fn words_of(alloc: Global, field: &Field) -> Result<String, AllocError> {
+    let column = field.column;
+    match &field.content {
+        Content::Value(Value::Int(number)) => format!(in alloc; "{column}={number};"),
+        Content::Value(Value::Text(text)) => {
+            let text = text.as_str();
+            format!(in alloc; "{column}={text};")
+        }
+        Content::Value(_) => format!(in alloc; "{column} another value;"),
+        Content::Reference(key) => match key.as_slice() {
+            [Value::Int(number)] => format!(in alloc; "{column} to {number};"),
+            _ => format!(in alloc; "{column} to another key;"),
+        },
+    }
+}
+
 /// A row as its columns, one by one.
-fn shown(alloc: Global, row: &Option<Row>) -> Result<String, Cause> {
-    let mut out = String::new(alloc);
+fn shown(alloc: Global, row: &Option<Row>) -> Result<String, AllocError> {
     let Some(row) = row else {
-        return Ok(String::from_str(alloc, "none")?);
+        return String::from_str(alloc, "none");
     };
+    let mut out = String::new(alloc);
     for field in row.as_slice() {
-        let column = field.column;
-        let words = match &field.content {
-            Content::Value(Value::Int(number)) => format!(in alloc; "{column}={number};")?,
-            Content::Value(Value::Text(text)) => {
-                let text = text.as_str();
-                format!(in alloc; "{column}={text};")?
-            }
-            Content::Value(_) => format!(in alloc; "{column} another value;")?,
-            Content::Reference(key) => match key.as_slice() {
-                [Value::Int(number)] => format!(in alloc; "{column} to {number};")?,
-                _ => format!(in alloc; "{column} to another key;")?,
-            },
-        };
+        let words = words_of(alloc, field)?;
         out.push_str(words.as_str())?;
     }
     Ok(out)
