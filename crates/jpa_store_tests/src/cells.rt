@@ -1,5 +1,7 @@
-ghost use Rattle.std.specs.Prelude.{IsTrue, IfOk, IfErr};
+//! Cells over stores in memory and over disks that stop.
+ghost use Rattle.std.specs.Prelude.{IsTrue, IfOk};
 ghost use Rattle.sqlite_disk.specs.Memory.{memory_is_usable};
+ghost use Rattle.jpa_cells_meaning.specs.Store.{IsOrderedIfFound};
 
 use jpa_cells::{Cell, CellChange, CellRow, CellStore, RowSink};
 use jpa_value::{Bytes, Cause, Seq};
@@ -59,13 +61,17 @@ const TWICE: &[Changed] = &[(0, ONE, &[]), (2, b"\x01", &[(5, b"five"), (5, b"fi
 
 // These have no clause, so that the proof of a test does not carry the state of each call.
 
+fn cell_of(alloc: Global, column: i64, value: &[u8]) -> Result<Cell, Cause> {
+    Ok(Cell {
+        column,
+        value: Bytes::of(value.to_vec(alloc)?),
+    })
+}
+
 fn cells_of(alloc: Global, cells: &[(i64, &[u8])]) -> Result<Seq<Cell>, Cause> {
     let mut out = Seq::new(alloc);
     for (column, value) in cells {
-        out.push(Cell {
-            column: *column,
-            value: Bytes::of(value.to_vec(alloc)?),
-        })?;
+        out.push(cell_of(alloc, *column, value)?)?;
     }
     Ok(out)
 }
@@ -87,21 +93,40 @@ fn changes_of(alloc: Global, changed: &[Changed]) -> Result<Vec<CellChange>, Cau
     Ok(out)
 }
 
+fn is_line(line: &Line, table: i64, row: &[u8], cell: &Cell) -> bool {
+    line.0 == table && line.1 == row && line.2 == cell.column && line.3 == cell.value.as_slice()
+}
+
+/// The place behind the lines of a table's rows, if its cells are the lines from `at` on.
+fn after(lines: &[Line], mut at: usize, table: i64, rows: &[CellRow]) -> Option<usize> {
+    for row in rows {
+        for cell in row.cells.as_slice() {
+            match lines.get(at) {
+                Some(line) if is_line(line, table, row.row.as_slice(), cell) => at += 1,
+                _ => return None,
+            }
+        }
+    }
+    Some(at)
+}
+
+fn after_table<S: Alter>(
+    store: &mut CellStore<S>,
+    table: i64,
+    lines: &[Line],
+    at: usize,
+) -> Result<Option<usize>, Cause> {
+    let rows = store.table(table)?;
+    Ok(after(lines, at, table, rows.as_slice()))
+}
+
 /// Whether the tables 0 to 2 have these cells in this order, and no others.
 fn shows<S: Alter>(store: &mut CellStore<S>, lines: &[Line]) -> Result<bool, Cause> {
     let mut at = 0;
     for table in 0..3 {
-        for row in store.table(table)?.as_slice() {
-            for cell in row.cells.as_slice() {
-                match lines.get(at) {
-                    Some(line)
-                        if line.0 == table
-                            && line.1 == row.row.as_slice()
-                            && line.2 == cell.column
-                            && line.3 == cell.value.as_slice() => at += 1,
-                    _ => return Ok(false),
-                }
-            }
+        match after_table(store, table, lines, at)? {
+            Some(next) => at = next,
+            None => return Ok(false),
         }
     }
     Ok(at == lines.len())
@@ -121,35 +146,88 @@ fn again<S: Alter + Drop>(alloc: Global, store: CellStore<S>) -> Result<CellStor
     }
 }
 
+fn apply<S: Alter>(
+    alloc: Global,
+    store: &mut CellStore<S>,
+    changed: &[Changed],
+) -> Result<(), Cause> {
+    let changes = changes_of(alloc, changed)?;
+    store.apply(changes.as_slice())
+}
+
 /// Whether the changes meet a fault of the store. Another refusal is passed on.
-fn is_refused<S: Alter>(store: &mut CellStore<S>, changes: &[CellChange]) -> Result<bool, Fail> {
-    match store.apply(changes) {
+fn is_refused<S: Alter>(
+    alloc: Global,
+    store: &mut CellStore<S>,
+    changed: &[Changed],
+) -> Result<bool, Fail> {
+    match apply(alloc, store, changed) {
         Ok(()) => Ok(false),
         Err(Cause::StoreFault) => Ok(true),
         Err(cause) => Err(Fail::from(cause)),
     }
 }
 
-/// The first cells are written and read back, by so many statements.
-fn see_first(rt: &impl Abort, alloc: Global, store: &mut CellStore<MemStore>) -> Result<(), Fail> {
-    assert!(rt; shows(store, &[])?);
-    store.apply(changes_of(alloc, FIRST_CHANGES)?.as_slice())?;
-    assert!(rt; shows(store, FIRST)?);
-    assert_eq!(rt; store.row(1, ONE)?.len(), 3);
-    assert_eq!(rt; store.row(1, b"\x01")?.len(), 0);
+/// How many cells a row has.
+fn length<S: Alter>(store: &mut CellStore<S>, table: i64, row: &[u8]) -> Result<usize, Cause> {
+    let cells = store.row(table, row)?;
+    Ok(cells.len())
+}
+
+/// So many writes, SELECTs and statements were run.
+fn see_counts<S: Alter>(rt: &impl Abort, store: &CellStore<S>, counts: (u64, u64, u64)) {
     assert_eq!(rt;
         (store.writes(), store.selects(), store.statements()),
-        (6, 8, 15)
+        counts
     );
+}
+
+/// The first cells are written and read back, by so many statements.
+fn see_first<S: Alter>(
+    rt: &impl Abort,
+    alloc: Global,
+    store: &mut CellStore<S>,
+) -> Result<(), Fail> {
+    assert!(rt; shows(store, &[])?);
+    apply(alloc, store, FIRST_CHANGES)?;
+    assert!(rt; shows(store, FIRST)?);
+    assert_eq!(rt; length(store, 1, ONE)?, 3);
+    assert_eq!(rt; length(store, 1, b"\x01")?, 0);
+    see_counts(rt, store, (6, 8, 15));
     Ok(())
 }
 
-/// No changes run no statement, and the second ones drop a row.
-fn see_second(rt: &impl Abort, alloc: Global, store: &mut CellStore<MemStore>) -> Result<(), Fail> {
+/// The second changes drop a row.
+fn see_second_cells<S: Alter>(
+    rt: &impl Abort,
+    alloc: Global,
+    store: &mut CellStore<S>,
+) -> Result<(), Fail> {
+    apply(alloc, store, SECOND_CHANGES)?;
+    assert!(rt; shows(store, SECOND)?);
+    Ok(())
+}
+
+/// No changes run no statement, and the second ones are made.
+fn see_second<S: Alter>(
+    rt: &impl Abort,
+    alloc: Global,
+    store: &mut CellStore<S>,
+) -> Result<(), Fail> {
     store.apply(&[])?;
     assert_eq!(rt; store.statements(), 15);
-    store.apply(changes_of(alloc, SECOND_CHANGES)?.as_slice())?;
-    assert!(rt; shows(store, SECOND)?);
+    see_second_cells(rt, alloc, store)
+}
+
+/// The cells stand when the store is opened again, which runs no statement.
+fn see_again<S: Alter + Drop>(
+    rt: &impl Abort,
+    alloc: Global,
+    store: CellStore<S>,
+) -> Result<(), Fail> {
+    let mut store = again(alloc, store)?;
+    assert_eq!(rt; store.statements(), 0);
+    assert!(rt; shows(&mut store, SECOND)?);
     Ok(())
 }
 
@@ -159,23 +237,26 @@ fn cells_are_written_read_back_and_dropped(rt: HostRuntime) -> Result<(), Fail> 
     let mut store = in_memory(alloc)?;
     see_first(&rt, alloc, &mut store)?;
     see_second(&rt, alloc, &mut store)?;
-    let mut store = again(alloc, store)?;
-    assert_eq!(rt; store.statements(), 0);
-    assert!(rt; shows(&mut store, SECOND)?);
-    Ok(())
+    see_again(&rt, alloc, store)
+}
+
+/// Changes that name a column twice are refused and change nothing; the next ones are made.
+fn see_refused<S: Alter>(
+    rt: &impl Abort,
+    alloc: Global,
+    store: &mut CellStore<S>,
+) -> Result<(), Fail> {
+    apply(alloc, store, FIRST_CHANGES)?;
+    assert!(rt; is_refused(alloc, store, TWICE)?);
+    assert!(rt; shows(store, FIRST)?);
+    see_second_cells(rt, alloc, store)
 }
 
 #[test]
 fn a_column_named_twice_changes_nothing(rt: HostRuntime) -> Result<(), Fail> {
     let alloc = rt.alloc();
     let mut store = in_memory(alloc)?;
-    store.apply(changes_of(alloc, FIRST_CHANGES)?.as_slice())?;
-    let changes = changes_of(alloc, TWICE)?;
-    assert!(rt; is_refused(&mut store, changes.as_slice())?);
-    assert!(rt; shows(&mut store, FIRST)?);
-    store.apply(changes_of(alloc, SECOND_CHANGES)?.as_slice())?;
-    assert!(rt; shows(&mut store, SECOND)?);
-    Ok(())
+    see_refused(&rt, alloc, &mut store)
 }
 
 // ---- rows one at a time
@@ -215,44 +296,156 @@ fn is_limited<S: Alter>(store: &mut CellStore<S>, sink: &mut Kept) -> Result<boo
     }
 }
 
-#[test]
-fn rows_are_handed_on_in_order_until_no_more_are_wanted(rt: HostRuntime) -> Result<(), Fail> {
-    let alloc = rt.alloc();
-    let mut store = in_memory(alloc)?;
-    store.apply(changes_of(alloc, SECOND_CHANGES)?.as_slice())?;
-    for (most, taken) in [(5, 2), (1, 1)] {
-        let mut kept = Kept {
-            rows: Vec::new(alloc),
-            most,
-        };
-        store.each(2, &mut kept)?;
-        assert_eq!(rt; kept.rows.len(), taken);
-        match kept.rows.as_slice() {
-            [first, ..] => assert_eq!(rt; first.row.as_slice(), b"\x01".as_slice()),
-            [] => return Err(Fail::from("no row was handed on")),
-        }
+/// The rows of table 2 that are taken where so many are wanted.
+fn taken<S: Alter>(
+    alloc: Global,
+    store: &mut CellStore<S>,
+    most: usize,
+) -> Result<Vec<CellRow>, Cause> {
+    let mut kept = Kept {
+        rows: Vec::new(alloc),
+        most,
+    };
+    store.each(2, &mut kept)?;
+    Ok(kept.rows)
+}
+
+/// So many rows were taken, the first one first.
+fn see_rows(rt: &impl Abort, rows: &[CellRow], count: usize) -> Result<(), Fail> {
+    assert_eq!(rt; rows.len(), count);
+    match rows {
+        [first, ..] => assert!(rt; first.row.as_slice() == b"\x01".as_slice()),
+        [] => return Err(Fail::from("no row was handed on")),
     }
+    Ok(())
+}
+
+/// A sink that wants none refuses the first row, and is not asked where there is none.
+fn see_limited<S: Alter>(
+    rt: &impl Abort,
+    alloc: Global,
+    store: &mut CellStore<S>,
+) -> Result<(), Fail> {
     let mut none = Kept {
         rows: Vec::new(alloc),
         most: 0,
     };
-    assert!(rt; is_limited(&mut store, &mut none)?);
+    assert!(rt; is_limited(store, &mut none)?);
     store.each(1, &mut none)?;
     assert!(rt; none.rows.is_empty());
     assert_eq!(rt; store.selects(), 4);
     Ok(())
 }
 
+/// So many rows are handed on as are wanted and there, and none where the sink wants none.
+fn see_taken<S: Alter>(
+    rt: &impl Abort,
+    alloc: Global,
+    store: &mut CellStore<S>,
+) -> Result<(), Fail> {
+    apply(alloc, store, SECOND_CHANGES)?;
+    see_rows(rt, taken(alloc, store, 5)?.as_slice(), 2)?;
+    see_rows(rt, taken(alloc, store, 1)?.as_slice(), 1)?;
+    see_limited(rt, alloc, store)
+}
+
+#[test]
+fn rows_are_handed_on_in_order_until_no_more_are_wanted(rt: HostRuntime) -> Result<(), Fail> {
+    let alloc = rt.alloc();
+    let mut store = in_memory(alloc)?;
+    see_taken(&rt, alloc, &mut store)
+}
+
 // ---- stops at a call of the disk
 
 type Device = Fuse<Memory>;
 
-/// How many steps of a run were acknowledged, whether the disk stopped, and what it left.
+/// How many steps of a run were acknowledged, whether the disk stopped, and the files that are left.
 #[derive(Drop)]
-struct Left {
+struct Left<D: Disk> {
     acknowledged: usize,
     stopped: bool,
-    files: Files<Memory>,
+    files: Files<D>,
+}
+
+/// Passes on that memory was refused; any other error is a stop of the disk.
+fn stopped_by(error: &Error) -> Result<(), Fail> {
+    match error {
+        Error::SqliteFailure(ErrorCode::OutOfMemory) => Err(Fail::from(Cause::OutOfMemory)),
+        _ => Ok(()),
+    }
+}
+
+/// Closes the files, as far as the disk allows.
+fn closed<D: Disk + Drop>(
+    conn: Connection<FileStore<D>>,
+    acknowledged: usize,
+) -> Result<Left<D>, Fail> {
+    match conn.close_files() {
+        Ok(files) => Ok(Left {
+            acknowledged,
+            stopped: acknowledged < 3,
+            files,
+        }),
+        Err((error, store)) => {
+            let files = store.close();
+            stopped_by(&error)?;
+            Ok(Left {
+                acknowledged,
+                stopped: true,
+                files,
+            })
+        }
+    }
+}
+
+/// Writes the first cells and then the second, until the disk stops, and answers how many steps were acknowledged.
+fn write_steps<S: Alter>(alloc: Global, store: &mut CellStore<S>) -> Result<usize, Fail> {
+    if is_refused(alloc, store, FIRST_CHANGES)? {
+        return Ok(1);
+    }
+    if is_refused(alloc, store, SECOND_CHANGES)? {
+        return Ok(2);
+    }
+    Ok(3)
+}
+
+/// The steps over a connection: how many were acknowledged, of which the opening is the first.
+fn written<S: Alter + Drop>(
+    alloc: Global,
+    conn: Connection<S>,
+) -> Result<(usize, Connection<S>), Fail>
+    requires { IsOrderedIfFound S.Store conn }
+{
+    let mut store = match CellStore::open(alloc, conn) {
+        Ok(store) => store,
+        Err((Cause::StoreFault, conn)) => return Ok((0, conn)),
+        Err((cause, _)) => return Err(Fail::from(cause)),
+    };
+    let steps = write_steps(alloc, &mut store)?;
+    Ok((steps, store.into_connection()))
+}
+
+/// Opens, and writes the first cells and then the second, until the disk stops.
+fn run<D: Disk + Drop>(alloc: Global, files: Files<D>) -> Result<Left<D>, Fail>
+    requires log { IsTrue (D.Disk.is_usable files.log) }
+    requires db { IsTrue (D.Disk.is_usable files.db) }
+{
+    match Connection::open_files(alloc, files, Options::new(7)) {
+        Ok(conn) => {
+            let (steps, conn) = written(alloc, conn)?;
+            closed(conn, steps)
+        }
+        Err((error, rest)) => {
+            let files = rest.into_files();
+            stopped_by(&error)?;
+            Ok(Left {
+                acknowledged: 0,
+                stopped: true,
+                files,
+            })
+        }
+    }
 }
 
 fn copy(alloc: Global, device: &Device) -> Result<Memory, Fail>
@@ -263,90 +456,13 @@ fn copy(alloc: Global, device: &Device) -> Result<Memory, Fail>
     Ok(memory)
 }
 
-fn leave(
-    alloc: Global,
-    acknowledged: usize,
-    stopped: bool,
-    files: Files<Device>,
-) -> Result<Left, Fail>
-    ensures { IfOk result (λ left. IsTrue (memory_is_usable left.files.log) × IsTrue (memory_is_usable left.files.db)) }
+fn copies(alloc: Global, files: &Files<Device>) -> Result<Files<Memory>, Fail>
+    ensures { IfOk result (λ files. IsTrue (memory_is_usable files.log) × IsTrue (memory_is_usable files.db)) }
 {
-    Ok(Left {
-        acknowledged,
-        stopped,
-        files: Files {
-            log: copy(alloc, &files.log)?,
-            db: copy(alloc, &files.db)?,
-        },
+    Ok(Files {
+        log: copy(alloc, &files.log)?,
+        db: copy(alloc, &files.db)?,
     })
-}
-
-/// Closes the files, as far as the disk allows.
-fn close(
-    alloc: Global,
-    acknowledged: usize,
-    stopped: bool,
-    conn: Connection<FileStore<Device>>,
-) -> Result<Left, Fail>
-    ensures { IfOk result (λ left. IsTrue (memory_is_usable left.files.log) × IsTrue (memory_is_usable left.files.db)) }
-{
-    match conn.close_files() {
-        Ok(files) => leave(alloc, acknowledged, stopped, files),
-        Err((Error::SqliteFailure(ErrorCode::OutOfMemory), _)) => Err(Fail::from(
-            Cause::OutOfMemory,
-        )),
-        Err((_, store)) => leave(alloc, acknowledged, true, store.close()),
-    }
-}
-
-/// A store over disks that stop after so many calls, or what they left where they stopped before it was opened.
-fn opened(
-    alloc: Global,
-    log_calls: u64,
-    db_calls: u64,
-) -> Result<Result<CellStore<FileStore<Device>>, Left>, Fail>
-    ensures { IfOk result (λ opened. IfErr opened (λ left. IsTrue (memory_is_usable left.files.log) × IsTrue (memory_is_usable left.files.db))) }
-{
-    let files = Files {
-        log: Fuse::new(Memory::new(alloc), log_calls),
-        db: Fuse::new(Memory::new(alloc), db_calls),
-    };
-    let conn = match Connection::open_files(alloc, files, Options::new(7)) {
-        Ok(conn) => conn,
-        Err((Error::SqliteFailure(ErrorCode::OutOfMemory), _)) => return Err(Fail::from(
-            Cause::OutOfMemory,
-        )),
-        Err((_, rest)) => return Ok(Err(leave(alloc, 0, true, rest.into_files())?)),
-    };
-    match CellStore::open(alloc, conn) {
-        Ok(store) => Ok(Ok(store)),
-        Err((Cause::StoreFault, conn)) => Ok(Err(close(alloc, 0, true, conn)?)),
-        Err((cause, _)) => Err(Fail::from(cause)),
-    }
-}
-
-/// Writes the first cells and then the second, until the disk stops, and answers how many steps were acknowledged.
-fn write_steps(alloc: Global, store: &mut CellStore<FileStore<Device>>) -> Result<usize, Fail> {
-    if is_refused(store, changes_of(alloc, FIRST_CHANGES)?.as_slice())? {
-        return Ok(1);
-    }
-    if is_refused(store, changes_of(alloc, SECOND_CHANGES)?.as_slice())? {
-        return Ok(2);
-    }
-    Ok(3)
-}
-
-/// Opens, and writes the first cells and then the second, until the disk stops.
-fn run(alloc: Global, log_calls: u64, db_calls: u64) -> Result<Left, Fail>
-    ensures { IfOk result (λ left. IsTrue (memory_is_usable left.files.log) × IsTrue (memory_is_usable left.files.db)) }
-{
-    match opened(alloc, log_calls, db_calls)? {
-        Ok(mut store) => {
-            let steps = write_steps(alloc, &mut store)?;
-            close(alloc, steps, steps < 3, store.into_connection())
-        }
-        Err(left) => Ok(left),
-    }
 }
 
 /// The cells after so many steps.
@@ -358,37 +474,55 @@ fn lines(steps: usize) -> &'static [Line] {
     }
 }
 
-/// The store that files hold.
-fn reopened(alloc: Global, files: Files<Memory>) -> Result<CellStore<FileStore<Memory>>, Fail>
-    requires { IsTrue (memory_is_usable files.log) × IsTrue (memory_is_usable files.db) }
+/// Whether the cells are those after so many steps, or after the next one.
+fn stands<S: Alter>(store: &mut CellStore<S>, steps: usize) -> Result<bool, Cause> {
+    if shows(store, lines(steps))? {
+        return Ok(true);
+    }
+    shows(store, lines(steps.saturating_add(1)))
+}
+
+/// Opens the files again, and finds the cells of the last step that was acknowledged, or of the next one.
+fn is_whole<D: Disk + Drop>(
+    alloc: Global,
+    acknowledged: usize,
+    files: Files<D>,
+) -> Result<bool, Fail>
+    requires log { IsTrue (D.Disk.is_usable files.log) }
+    requires db { IsTrue (D.Disk.is_usable files.db) }
 {
     let conn = match Connection::open_files(alloc, files, Options::new(7)) {
         Ok(conn) => conn,
         Err((error, _)) => return Err(Fail::from(error)),
     };
-    match CellStore::open(alloc, conn) {
-        Ok(store) => Ok(store),
-        Err((cause, _)) => Err(Fail::from(cause)),
-    }
+    is_whole_over(alloc, acknowledged, conn)
 }
 
-/// Opens the files again, and finds the cells of the last step that was acknowledged, or of the next one.
-fn is_whole(alloc: Global, left: Left) -> Result<bool, Fail>
-    requires { IsTrue (memory_is_usable left.files.log) × IsTrue (memory_is_usable left.files.db) }
+fn is_whole_over<S: Alter + Drop>(
+    alloc: Global,
+    acknowledged: usize,
+    conn: Connection<S>,
+) -> Result<bool, Fail>
+    requires { IsOrderedIfFound S.Store conn }
 {
-    let steps = left.acknowledged.min(3);
-    let mut store = reopened(alloc, left.files)?;
-    let stands = shows(&mut store, lines(steps))? || shows(&mut store, lines(steps + 1))?;
-    Ok(stands)
+    let mut store = match CellStore::open(alloc, conn) {
+        Ok(store) => store,
+        Err((cause, _)) => return Err(Fail::from(cause)),
+    };
+    Ok(stands(&mut store, acknowledged)?)
 }
 
 fn stops_whole(alloc: Global, log_calls: u64, db_calls: u64) -> Result<bool, Fail> {
-    let left = run(alloc, log_calls, db_calls)?;
-    let stopped = left.stopped;
-    if !is_whole(alloc, left)? {
+    let files = Files {
+        log: Fuse::new(Memory::new(alloc), log_calls),
+        db: Fuse::new(Memory::new(alloc), db_calls),
+    };
+    let left = run(alloc, files)?;
+    let files = copies(alloc, &left.files)?;
+    if !is_whole(alloc, left.acknowledged, files)? {
         return Err(Fail::from("a stop left cells in between"));
     }
-    Ok(stopped)
+    Ok(left.stopped)
 }
 
 #[test]

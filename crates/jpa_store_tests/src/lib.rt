@@ -1,10 +1,6 @@
-//! Tests of the layers that stand on a store, a module for each crate, and of the program's runs over one. They stand in
-//! a crate of their own, so that they are proved over those crates and not with them once more.
+//! Tests of the store of cells. They stand in a crate of their own, so that they are proved over that store's crate and not
+//! with it once more.
 #![tactic(auto)]
 
 #[cfg(test)]
 mod cells;
-#[cfg(test)]
-mod program;
-#[cfg(test)]
-mod rowspace;
