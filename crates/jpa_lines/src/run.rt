@@ -32,9 +32,8 @@ pub enum RunFault {
     Memory,
 }
 
-/// Answers each line of the input by a reply, until the input ends. A line of any length takes at most `LINE_LIMIT` + 1
-/// bytes of memory; what is past them is skipped to its line feed. The output is flushed whenever the lines that were
-/// read are answered.
+/// Answers each line of the input by a reply, until the input ends. Of a line at most `LINE_LIMIT` + 1 bytes are kept; what
+/// is past them is skipped to its line feed. The output is flushed whenever the lines that were read are answered.
 ///
 /// Where a fault ends the run, the lines before it are answered and their replies written, but for at most the last
 /// one, whose call is done: of its reply a front is written after `Write` and nothing after `Memory`. After `Read` all
@@ -103,8 +102,28 @@ fn finish<W: Write, P: PersistenceProvider>(
     if held.is_empty() {
         Ok(())
     } else {
-        serve(alloc, held, writer, provider)
+        serve_last(alloc, held, writer, provider)
     }
+}
+
+/// Serves the line that ends the input, and flushes its reply.
+fn serve_last<W: Write, P: PersistenceProvider>(
+    alloc: Global,
+    line: &[u8],
+    writer: &mut W,
+    provider: &mut P,
+) -> Result<(), RunFault>
+    ensures ok { OnOk result (ServesLine P.steps provider.old provider.new line.now
+        (W.contents writer.old) (W.contents writer.new)) }
+    ensures err { IfErr result (λ fault. BreaksLine P.steps provider.old provider.new fault line.now
+        (W.contents writer.old) (W.contents writer.new)) }
+    ensures no_read { IfErr result IsNoRead }
+{
+    serve(alloc, line, writer, provider)?;
+    if writer.flush().is_err() {
+        return Err(RunFault::Write);
+    }
+    Ok(())
 }
 
 fn take_piece<W: Write, P: PersistenceProvider>(

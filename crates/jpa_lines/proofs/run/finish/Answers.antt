@@ -13,9 +13,9 @@ returns-then-is_empty-clause-ok g c =
 pub returns-else-is_empty-clause-ok : goal.returns-else-is_empty-clause-ok
 returns-else-is_empty-clause-ok g c =
     let some : 0 < length c.args.held.now = grind (arith, nat_tests, c.if-is_empty.ensures, c.is_empty.ensures) in
-    on_ok_weaker c.serve.result (last_served g.P.PersistenceProvider.steps c.args.provider.now c.serve.new.provider c.args.held.now _ _ some) c.serve.ensures.ok
+    on_ok_weaker c.serve_last.result (last_served g.P.PersistenceProvider.steps c.args.provider.now c.serve_last.new.provider c.args.held.now _ _ some) c.serve_last.ensures.ok
 
 pub returns-else-is_empty-clause-err : goal.returns-else-is_empty-clause-err
 returns-else-is_empty-clause-err g c =
     let some : 0 < length c.args.held.now = grind (arith, nat_tests, c.if-is_empty.ensures, c.is_empty.ensures) in
-    IfErr-weaker c.serve.result _ _ (λ fault. last_off g.P.PersistenceProvider.steps c.args.provider.now c.serve.new.provider fault c.args.held.now _ _ some) c.serve.ensures.err
+    IfErr-weaker c.serve_last.result _ _ (λ fault. last_off g.P.PersistenceProvider.steps c.args.provider.now c.serve_last.new.provider fault c.args.held.now _ _ some) c.serve_last.ensures.err
