@@ -166,11 +166,24 @@ concluded_set {world} {M} m (Refused r events) h s = marked_or_not (marks_if_cal
     marked_or_not true = marked_holds m h
     marked_or_not false = h
 
+-- the outcome of the whole call, by the object's number
+set_call_outcome : (world : World) → IsFlat world.model → (number : ℤ) (name : List ℕ) (g : Given) (w : Work) → given_representable g ≡ true →
+    HoldsAfter (λ u w'. HasSet world w w') (after (object_numbered number w) (set_call world name g))
+set_call_outcome world flat number name g w rep =
+    after_holds _ (InHeap w) (object_numbered number w) (set_call world name g) (numbered_holds number w)
+    (λ n w' e. subst (λ u. HoldsAfter (λ u' w''. HasSet world w w'') (set_call world name g n u)) (sym e.1) (set_call_holds world flat w n name g e.0 rep))
+
+numbers_after : (world : World) (w : Work) (o : Outcome (Unit {0})) → HoldsAfter (λ u w'. HasSet world w w') o → HoldsAfter (λ u w'. w'.numbers ≡ w.numbers) o
+numbers_after world w (Done u w') s = ap (λ (v : Work). v.numbers) s.4
+numbers_after world w (Refused r events) s = tt
+
+pub set_call_same : (world : World) → IsFlat world.model → (number : ℤ) (name : List ℕ) (g : Given) (w : Work) → given_representable g ≡ true →
+    HoldsAfter (λ u w'. w'.numbers ≡ w.numbers) (after (object_numbered number w) (set_call world name g))
+set_call_same world flat number name g w rep = numbers_after world w (after (object_numbered number w) (set_call world name g)) (set_call_outcome world flat number name g w rep)
+
 pub set_value_holds : {world : World} {M : Machine} → IsFlat world.model → (number : ℤ) (name : List ℕ) (g : Given) → given_representable g ≡ true → IsMachine world M →
     IsMachine world (on_object M number nothing (set_call world name g)).1
 set_value_holds {world} {M} flat number name g rep h =
     let m = holder M (place_of (length M.objects) number) in
     let w = work_of M m in
-    concluded_set m (after (object_numbered number w) (set_call world name g)) h
-    (after_holds _ (InHeap w) (object_numbered number w) (set_call world name g) (numbered_holds number w)
-    (λ n w' e. subst (λ u. HoldsAfter (λ u' w''. HasSet world w w'') (set_call world name g n u)) (sym e.1) (set_call_holds world flat w n name g e.0 rep)))
+    concluded_set m (after (object_numbered number w) (set_call world name g)) h (set_call_outcome world flat number name g w rep)

@@ -34,6 +34,7 @@ pub mod Opened
 pub mod SetCall
 pub mod Steady
 pub mod Still
+pub mod Left
 pub mod Serving
 pub mod Commits
 pub mod Active

@@ -4,6 +4,7 @@ pub mod Transactions
 pub mod Step
 pub mod Invariant
 pub mod Serving
+pub mod Left
 pub mod Faults
 pub mod Provided
 pub mod Served

@@ -1,9 +1,10 @@
 -- A provider, as its callers see it.
-use Rattle.std.specs.Prelude.{◌≡◌, ◌⊎◌, ◌+◌, ℕ, true, false, List, IsErr, OnOk}
+use Rattle.std.specs.Prelude.{◌≡◌, ◌⊎◌, ◌+◌, ℕ, nat_le, true, false, List, IsErr, OnOk}
 use Rattle.std.specs.List.{sum_by}
 use Rattle.jpa_model.specs.declared.unit.PersistenceUnit.{PersistenceUnit}
 use Rattle.jpa_behaviour.specs.Behaviour.{World}
 use Rattle.jpa_behaviour.specs.Registered.{Meaning, Registered, world_of}
+use Rattle.jpa_stored.specs.Sets.{each_fits}
 use Rattle.jpa_object_rows.specs.Sets.{rows_of}
 use Rattle.jpa_rows.specs.Rows.{Rows}
 use Rattle.jpa_rows.specs.Statements.{statements_of, up_to_greatest}
@@ -15,6 +16,7 @@ use Rattle.jpa_protocol.specs.declared.reply.Reply.{Reply}
 use Rattle.jpa_provider.specs.Machine.{Machine, IsStoredAs}
 use Rattle.jpa_provider.specs.Step.{Step, IsGivenUp, outcome}
 use Rattle.jpa_provider.specs.Serving.{is_commit}
+use Rattle.jpa_provider.specs.Left.{LivesAsBefore, HoldsSameValues, is_rollback}
 use Rattle.jpa_provider.specs.Faults.{faults_after_reply}
 
 -- the unit that it serves with what is registered, the machine, and the store of rows
@@ -46,7 +48,9 @@ abbrev pub RunsDifference : Rows → Rows → ℕ → ℕ → Type 0
 RunsDifference before afterwards old new = (changes : List RowChange) × IsDifference before afterwards changes × (new ≡ up_to_greatest (old + sum_by statements_of changes))
 
 -- from the first to the second the reply to the call is that of a step of the machine, and the store holds what is committed
--- then. Only a commit that is accepted changes what is committed. A crash leaves what it could leave before the call, or what
+-- then. Only a commit that is accepted changes what is committed. A refused call leaves all that lives as it was but for marks; a
+-- rollback, also that of a refused commit, changes the states of live objects and never their values; no next number falls, so
+-- that none is given again. A crash leaves what it could leave before the call, or what
 -- the call commits; a call reads nothing of the store, and a commit alone writes to it: where it is accepted just what changes,
 -- and where it is refused nothing, unless it gave up; a fault of the store is told where it is one more
 pub record Steps {R L C : Type 0} (meaning : Meaning L C) (store : Ghosts R) (old : Provided R L C) (call : Call) (reply : Reply) (new : Provided R L C) : Type 0 where
@@ -54,6 +58,9 @@ pub record Steps {R L C : Type 0} (meaning : Meaning L C) (store : Ghosts R) (ol
   pub registry : new.registry ≡ old.registry
   pub step : Step (world_in meaning old) old.machine call reply new.machine
   pub still : (is_commit call ≡ false) ⊎ IsErr reply.answer → IsStoredAs old.machine new.machine
+  pub left : is_commit call ≡ false → IsErr reply.answer → LivesAsBefore old.machine new.machine
+  pub undone : (is_rollback call ≡ true) ⊎ ((is_commit call ≡ true) × IsErr reply.answer) → HoldsSameValues old.machine new.machine
+  pub rising : each_fits nat_le (old.machine).numbers (new.machine).numbers ≡ true
   pub stands : Stands meaning store.clean store.holds new
   pub was_clean : store.clean new.rows → store.clean old.rows
   pub crash : store.clean new.rows → store.endures old.rows new.rows (λ left. left ≡ rows_made (world_in meaning old) old.machine call)

@@ -1,5 +1,5 @@
 //! The provider.
-ghost use Rattle.std.specs.Prelude.{◌≡◌, ◌⊎◌, ℕ, IsErr, IfOk, IfErr, OnOk, true, false};
+ghost use Rattle.std.specs.Prelude.{◌≡◌, ◌⊎◌, ℕ, nat_le, IsErr, IfOk, IfErr, OnOk, true, false};
 ghost use Rattle.jpa_value.specs.declared.refusal.Cause.{Cause};
 ghost use Rattle.jpa_behaviour.specs.Registered.{world_of};
 ghost use Rattle.jpa_model.specs.Chains.{entity_at};
@@ -10,7 +10,10 @@ ghost use Rattle.jpa_view.specs.Unambiguous.{is_class};
 ghost use Rattle.jpa_protocol.specs.declared.call.Call.{Call};
 ghost use Rattle.jpa_rows.specs.Cells.{CanBeHeld};
 ghost use Rattle.jpa_rows.specs.Tables.{schema_of};
+ghost use Rattle.jpa_stored.specs.Sets.{each_fits};
 ghost use Rattle.jpa_provider.specs.Faults.{faults_after_reply};
+ghost use Rattle.jpa_provider.specs.Invariant.{HasOneTransaction, IsMachine};
+ghost use Rattle.jpa_provider.specs.Left.{HoldsSameValues, LivesAsBefore, is_rollback};
 ghost use Rattle.jpa_provider.specs.Machine.{opened, IsStoredAs};
 ghost use Rattle.jpa_provider.specs.Step.{IsGivenUp};
 ghost use Rattle.jpa_provider.specs.Provided.{rows_kept, rows_made, world_in, RunsDifference, Stands};
@@ -121,12 +124,15 @@ impl<R: RowSource + Drop, B: Behaviour> Provider<R, B> {
 
 impl<R: RowSource, B: Behaviour> Provider<R, B> {
     /// What stands between calls, for contracts to cite; it does nothing. The store is of the unit's schema; what was
-    /// committed can be held, and if the store is clean it holds the rows of just that. A well-formed description describes the
-    /// unit.
+    /// committed can be held, and if the store is clean it holds the rows of just that. What lives is that of a machine, in which
+    /// each identity has one instance in a context and one transaction is open at a time. A well-formed description describes
+    /// the unit.
     pub fn stands(&self)
         ensures stands { Stands B.meaning R.clean R.holds self.now }
         ensures schema { R.schema self.now.rows ≡ schema_of self.now.model }
         ensures held { CanBeHeld (world_in B.meaning self.now) (self.now.machine).committed (self.now.machine).stored_numbers }
+        ensures machine { IsMachine (world_in B.meaning self.now) self.now.machine }
+        ensures one { HasOneTransaction self.now.machine }
         ensures described { IsDescribed self.now.model }
         ensures discriminators { (class : ℕ) → is_class self.now.model class ≡ true → is_discriminator (entity_at self.now.model class) ≡ true }
     {
@@ -250,6 +256,9 @@ fn serve<R: RowSource, B: Behaviour>(
     ensures unread { R.reads rows.new ≡ R.reads rows.old }
     ensures told { R.faults rows.new ≡ faults_after_reply result (R.faults rows.old) }
     ensures still { (is_commit call ≡ false) ⊎ IsErr result.answer → IsStoredAs (machine_of session.old) (machine_of session.new) }
+    ensures left { is_commit call ≡ false → IsErr result.answer → LivesAsBefore (machine_of session.old) (machine_of session.new) }
+    ensures undone { (is_rollback call ≡ true) ⊎ ((is_commit call ≡ true) × IsErr result.answer) → HoldsSameValues (machine_of session.old) (machine_of session.new) }
+    ensures rising { each_fits nat_le (machine_of session.old).numbers (machine_of session.new).numbers ≡ true }
     ensures refused { IsErr result.answer → IsGivenUp result ⊎ (rows.new ≡ rows.old) }
     ensures schema { R.schema rows.new ≡ schema_of metamodel.now }
 {

@@ -7,6 +7,7 @@ use Rattle.jpa_provider.specs.Serving.{machine_of, is_commit}
 use Rattle.jpa_provider.proofs.Crashed.{either_way}
 use Rattle.jpa_provider.proofs.Serving.{serves_all, stores_all}
 use Rattle.jpa_provider.proofs.Still.{step_still}
+use Rattle.jpa_provider.proofs.Left.{step_left, step_undone, step_rises}
 use Rattle.jpa_provider.proofs.provider.serve.Goals as goal
 
 pub returns-clause-serving : goal.returns-clause-serving
@@ -35,6 +36,18 @@ returns-clause-crash g c = λ clean.
 pub returns-clause-still : goal.returns-clause-still
 returns-clause-still g c =
     step_still (machine_of c.args.session.now) (world_of g.B.Behaviour.meaning c.args.metamodel.now c.args.registry.now) c.args.call c.served.result (machine_of c.served.new.session) c.served.ensures.step
+
+pub returns-clause-left : goal.returns-clause-left
+returns-clause-left g c =
+    step_left (machine_of c.args.session.now) (world_of g.B.Behaviour.meaning c.args.metamodel.now c.args.registry.now) c.args.call c.served.result (machine_of c.served.new.session) c.served.ensures.step
+
+pub returns-clause-undone : goal.returns-clause-undone
+returns-clause-undone g c =
+    step_undone (machine_of c.args.session.now) (world_of g.B.Behaviour.meaning c.args.metamodel.now c.args.registry.now) c.args.call c.served.result (machine_of c.served.new.session) c.served.ensures.step
+
+pub returns-clause-rising : goal.returns-clause-rising
+returns-clause-rising g c =
+    step_rises (machine_of c.args.session.now) c.args.call c.served.result (machine_of c.served.new.session) c.requires.serving.flat c.requires.serving.convertible c.hands_representable.ensures c.requires.serving.machine c.served.ensures.step
 
 pub returns-clause-refused : goal.returns-clause-refused
 returns-clause-refused g c = λ refused.
