@@ -1,5 +1,5 @@
 //! What a commit writes.
-ghost use Rattle.std.specs.Prelude.{◌≡◌, ◌⊎◌, ◌+◌, List, [], true, nat_le, sum_by, Ok, OnOk, OnErr, IfOk, IfErr};
+ghost use Rattle.std.specs.Prelude.{◌≡◌, ◌⊎◌, ◌+◌, ◌≤◌, List, [], true, nat_le, sum_by, Ok, OnOk, OnErr, IfOk, IfErr};
 ghost use Rattle.std.specs.List.{AllByRecursion};
 ghost use Rattle.jpa_value.specs.declared.refusal.Cause.{Cause};
 ghost use Rattle.jpa_value.specs.Value.{same_identity};
@@ -101,6 +101,7 @@ pub fn write<R: RowSource, B: Behaviour>(
     ensures unread { R.reads source.new ≡ R.reads source.old }
     ensures crash { R.holds source.old (rows_of (world_of B.meaning metamodel.now registry.now) view.now.since before.now) → R.endures source.old source.new (λ left. left ≡ rows_of (world_of B.meaning metamodel.now registry.now) (put_all written.now view.now.since) next.now) }
     ensures counted { OnOk result ((changes : List RowChange) × IsDifference (rows_of (world_of B.meaning metamodel.now registry.now) view.now.since before.now) (rows_of (world_of B.meaning metamodel.now registry.now) (put_all written.now view.now.since) next.now) changes × (R.writes source.new ≡ up_to_greatest (R.writes source.old + sum_by statements_of changes))) }
+    ensures bounded { OnErr result ((source.new ≡ source.old) ⊎ ((changes : List RowChange) × IsDifference (rows_of (world_of B.meaning metamodel.now registry.now) view.now.since before.now) (rows_of (world_of B.meaning metamodel.now registry.now) (put_all written.now view.now.since) next.now) changes × (R.writes source.old ≤ R.writes source.new) × (R.writes source.new ≤ up_to_greatest (R.writes source.old + sum_by statements_of changes)))) }
     ensures unchanged { rows_of (world_of B.meaning metamodel.now registry.now) view.now.since before.now ≡ rows_of (world_of B.meaning metamodel.now registry.now) (put_all written.now view.now.since) next.now → source.new ≡ source.old }
     ensures nothing { written.now ≡ [] → next.now ≡ before.now → (result ≡ Ok tt) × (source.new ≡ source.old) }
 {

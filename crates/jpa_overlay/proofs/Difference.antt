@@ -1,8 +1,8 @@
 -- The changes that leave no row as it was: they are the difference, and under them the same is seen.
 use Rattle.std.specs.Prelude.{◌≡◌, ◌≢◌, ℕ, ◌<◌, ◌+◌, Bool, true, false, not, cond, T, List, [], ◌∷◌, ◌++◌, length, map, All, Option, Some, None}
-use Rattle.std.proofs.Common.{refl, sym, ap, subst, ◌∙◌, get_or, take}
+use Rattle.std.proofs.Common.{◌≤◌, refl, sym, ap, subst, ◌∙◌, get_or, take, drop, append_assoc}
 use Rattle.std.proofs.Math.ListN.{get_or-map}
-use Rattle.std.proofs.lemmas.List.{append-nil, get_or_default, length-map, map-append, take_more}
+use Rattle.std.proofs.lemmas.List.{append-nil, drop_all, drop_more, get_or_default, length-map, map-append, take_more}
 use Rattle.std.specs.List.{filter}
 use Rattle.std.specs.FinMap.{find}
 use Rattle.std.specs.FinMap.Entries.{below_all, is_sorted}
@@ -146,3 +146,33 @@ module _ (rows : Rows) (cs : Changes) (i : ℕ) (c : RowId × Option Row) (l : i
   turned_same e g =
       ap (map entry_of) g ∙ so_far ∙ sym (append-nil (differing rows (take i cs))) ∙ ap (λ b. differing rows (take i cs) ++ cond (not b) (c ∷ []) []) (sym e ∙ test_is)
       ∙ sym (one_more rows cs i c l is)
+
+-- ---- those that are made rise, whatever the store answers: they are some of the changes, in their order
+
+below_without : (x : RowId) (before : Changes) (c : RowId × Option Row) (after : Changes) → T (below_all identity_cmp x (before ++ c ∷ after)) → T (below_all identity_cmp x (before ++ after))
+below_without x [] c after h = second_holds _ _ h
+below_without x (b ∷ before) c after h = both_hold _ _ (first_holds _ _ h) (below_without x before c after (second_holds _ _ h))
+
+rises_without : (before : Changes) (c : RowId × Option Row) (after : Changes) → T (is_sorted identity_cmp (before ++ c ∷ after)) → T (is_sorted identity_cmp (before ++ after))
+rises_without [] c after h = second_holds _ _ h
+rises_without (b ∷ before) c after h = both_hold _ _ (below_without b.0 before c after (first_holds _ _ h)) (rises_without before c after (second_holds _ _ h))
+
+module _ (cs : Changes) (i : ℕ) (c : RowId × Option Row) (l : i < length cs) (is : c ≡ get_or cs i c) (changes new : List RowChange)
+    (so_far : T (is_sorted identity_cmp (map entry_of changes ++ drop i cs))) where
+  next : T (is_sorted identity_cmp (map entry_of changes ++ c ∷ drop (i + 1) cs))
+  next = subst (λ es. T (is_sorted identity_cmp (map entry_of changes ++ es))) (drop_more cs i c l ∙ ap (λ x. x ∷ drop (i + 1) cs) (sym is)) so_far
+
+  pub rises_more : (change : RowChange) → entry_of change ≡ c → new ≡ changes ++ change ∷ [] → T (is_sorted identity_cmp (map entry_of new ++ drop (i + 1) cs))
+  rises_more change same g =
+      let placed : map entry_of new ++ drop (i + 1) cs ≡ map entry_of changes ++ c ∷ drop (i + 1) cs =
+      ap (λ es. es ++ drop (i + 1) cs) (ap (map entry_of) g ∙ map-append entry_of changes (change ∷ []))
+      ∙ append_assoc (map entry_of changes) (entry_of change ∷ []) (drop (i + 1) cs)
+      ∙ ap (λ x. map entry_of changes ++ x ∷ drop (i + 1) cs) same in
+      subst (λ es. T (is_sorted identity_cmp es)) (sym placed) next
+
+  pub rises_same : new ≡ changes → T (is_sorted identity_cmp (map entry_of new ++ drop (i + 1) cs))
+  rises_same g =
+      subst (λ made. T (is_sorted identity_cmp (map entry_of made ++ drop (i + 1) cs))) (sym g) (rises_without (map entry_of changes) c (drop (i + 1) cs) next)
+
+pub all_rise : (cs : Changes) (i : ℕ) (changes : List RowChange) → length cs ≤ i → T (is_sorted identity_cmp (map entry_of changes ++ drop i cs)) → T (is_sorted identity_cmp (map entry_of changes))
+all_rise cs i changes l h = subst (λ es. T (is_sorted identity_cmp es)) (ap (λ rest. map entry_of changes ++ rest) (drop_all i cs l) ∙ append-nil (map entry_of changes)) h

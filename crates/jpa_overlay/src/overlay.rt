@@ -107,6 +107,7 @@ impl Overlay {
     pub fn changes<R: RowSource>(&self, source: &mut R) -> Result<Seq<RowChange>, Cause>
         ensures difference { R.clean source.new → IfOk result (λ changes. (rows : Rows) → R.holds source.old rows → AreDifference identity_cmp rows (map entry_of changes)) }
         ensures seen { R.clean source.new → IfOk result (λ changes. (rows : Rows) → AreRising rows → R.holds source.old rows → rows_after changes rows ≡ rows_under self.now rows) }
+        ensures rising { IfOk result (λ changes. T (is_sorted identity_cmp (map entry_of changes))) }
         ensures among { IfOk result (λ changes. All (λ change. find identity_cmp change.id self.now ≡ Some change.row) changes) }
         ensures err { R.clean source.new → IfErr result (λ cause. (rows : Rows) → R.holds source.old rows → (cause ≡ Cause.OutOfMemory) ⊎ (cause ≡ Cause.StoreFault)) }
         ensures kept { (rows : Rows) → R.holds source.old rows → R.holds source.new rows }

@@ -11,7 +11,8 @@ use Rattle.jpa_stored.specs.Sets.{StoredSet}
 use Rattle.jpa_protocol.specs.declared.call.Call.{Call}
 use Rattle.jpa_protocol.specs.declared.reply.Answer.{Answer}
 use Rattle.jpa_provider.specs.Machine.{Machine, opened, new_manager}
-use Rattle.jpa_provider.specs.Step.{replies_of, machine_after}
+use Rattle.jpa_provider.specs.Step.{replies_of, machine_after, outcome}
+use Rattle.jpa_provider.specs.Left.{LivesAsBefore, HoldsSameValues}
 use Rattle.jpa_provider.proofs.Sample.{P1, flat, text, int, saw, ok, quiet, no}
 use Rattle.jpa_provider.proofs.FirstRun.{fresh, after_first}
 
@@ -34,6 +35,16 @@ stale : replies_of P1 (machine_after P1 (beside after_first) changed_by_two)
     (Call.SetValue (pos 1) (codes "name") (text (codes "Cy")) ∷ Call.Begin (pos 1) ∷ Call.Commit (pos 1) ∷ Call.Find (pos 1) (codes "Person") (int 1 ∷ []) ∷ []) ≡
     quiet ∷ quiet ∷ no (saw LifecycleEvent.PreUpdate 1 ∷ []) (Refusal.Rollback Cause.OptimisticLock) ∷ ok (saw LifecycleEvent.PostLoad 3 ∷ []) (Answer.Object 3) ∷ []
 stale = refl
+
+-- a rollback detaches objects with their values, and a refusal that marks the transaction changes nothing else
+abbrev in_transaction : Machine
+in_transaction = machine_after P1 after_first (Call.Begin (pos 1) ∷ [])
+
+values_stay : HoldsSameValues in_transaction (outcome P1 in_transaction (Call.Rollback (pos 1))).1
+values_stay = record { objects = refl; numbers = refl }
+
+marked_alone : LivesAsBefore in_transaction (outcome P1 in_transaction (Call.Find (pos 1) (codes "Nobody") [])).1
+marked_alone = record { objects = refl; managers = refl; numbers = refl }
 
 -- what is old but unchanged commits
 unchanged : replies_of P1 (machine_after P1 (beside after_first) changed_by_two) (Call.Begin (pos 1) ∷ Call.Commit (pos 1) ∷ Call.Find (pos 1) (codes "Person") (int 1 ∷ []) ∷ []) ≡

@@ -1,5 +1,5 @@
 -- A provider, as its callers see it.
-use Rattle.std.specs.Prelude.{◌≡◌, ◌⊎◌, ◌+◌, ℕ, nat_le, true, false, List, IsErr, OnOk}
+use Rattle.std.specs.Prelude.{◌≡◌, ◌⊎◌, ◌+◌, ◌≤◌, ℕ, nat_le, true, false, List, IsErr, OnOk}
 use Rattle.std.specs.List.{sum_by}
 use Rattle.jpa_model.specs.declared.unit.PersistenceUnit.{PersistenceUnit}
 use Rattle.jpa_behaviour.specs.Behaviour.{World}
@@ -47,12 +47,16 @@ rows_made world M call = rows_kept world (outcome world M call).1
 abbrev pub RunsDifference : Rows → Rows → ℕ → ℕ → Type 0
 RunsDifference before afterwards old new = (changes : List RowChange) × IsDifference before afterwards changes × (new ≡ up_to_greatest (old + sum_by statements_of changes))
 
+-- some of these statements were run, or all, and no others
+abbrev pub RunsAtMost : Rows → Rows → ℕ → ℕ → Type 0
+RunsAtMost before afterwards old new = (changes : List RowChange) × IsDifference before afterwards changes × (old ≤ new) × (new ≤ up_to_greatest (old + sum_by statements_of changes))
+
 -- from the first to the second the reply to the call is that of a step of the machine, and the store holds what is committed
 -- then. Only a commit that is accepted changes what is committed. A refused call leaves all that lives as it was but for marks; a
 -- rollback, also that of a refused commit, changes the states of live objects and never their values; no next number falls, so
 -- that none is given again. A crash leaves what it could leave before the call, or what
 -- the call commits; a call reads nothing of the store, and a commit alone writes to it: where it is accepted just what changes,
--- and where it is refused nothing, unless it gave up; a fault of the store is told where it is one more
+-- and where it is refused nothing, or, where it gave up, at most that; a fault of the store is told where it is one more
 pub record Steps {R L C : Type 0} (meaning : Meaning L C) (store : Ghosts R) (old : Provided R L C) (call : Call) (reply : Reply) (new : Provided R L C) : Type 0 where
   pub model : new.model ≡ old.model
   pub registry : new.registry ≡ old.registry
@@ -66,6 +70,7 @@ pub record Steps {R L C : Type 0} (meaning : Meaning L C) (store : Ghosts R) (ol
   pub crash : store.clean new.rows → store.endures old.rows new.rows (λ left. left ≡ rows_made (world_in meaning old) old.machine call)
   pub others : is_commit call ≡ false → new.rows ≡ old.rows
   pub counted : is_commit call ≡ true → OnOk reply.answer (RunsDifference (rows_kept (world_in meaning old) old.machine) (rows_made (world_in meaning old) old.machine call) (store.writes old.rows) (store.writes new.rows))
+  pub bounded : is_commit call ≡ true → IsErr reply.answer → (new.rows ≡ old.rows) ⊎ RunsAtMost (rows_kept (world_in meaning old) old.machine) (rows_made (world_in meaning old) old.machine call) (store.writes old.rows) (store.writes new.rows)
   pub refused : IsErr reply.answer → IsGivenUp reply ⊎ (new.rows ≡ old.rows)
   pub told : store.faults new.rows ≡ faults_after_reply reply (store.faults old.rows)
   pub unread : store.reads new.rows ≡ store.reads old.rows

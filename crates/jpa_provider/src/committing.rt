@@ -9,7 +9,7 @@ ghost use Rattle.jpa_protocol.specs.declared.call.Call.{Call};
 ghost use Rattle.jpa_provider.specs.Faults.{is_store_fault, tells_fault, faults_after_reply};
 ghost use Rattle.jpa_provider.specs.Machine.{Machine, committed_after, is_begun, manager_at};
 ghost use Rattle.jpa_provider.specs.Invariant.{HasOneTransaction};
-ghost use Rattle.jpa_provider.specs.Provided.{rows_kept, rows_made, RunsDifference};
+ghost use Rattle.jpa_provider.specs.Provided.{rows_kept, rows_made, RunsAtMost, RunsDifference};
 ghost use Rattle.jpa_provider.specs.Step.{IsGivenUp};
 ghost use Rattle.jpa_provider.specs.declared.session.Status.{Status};
 ghost use Rattle.jpa_provider.specs.Serving as serving;
@@ -114,6 +114,7 @@ fn store_commit<R: RowSource, B: Behaviour>(
     ensures schema { R.schema rows.new ≡ R.schema rows.old }
     ensures crash { R.holds rows.old (rows_of (world_of B.meaning metamodel.now registry.now) (since session.old.work).view session.old.stored) → R.endures rows.old rows.new (λ left. left ≡ rows_of (world_of B.meaning metamodel.now registry.now) (put_all written.now (since session.old.work).view) session.old.work.numbers.now) }
     ensures counted { OnOk result.answer (RunsDifference (rows_of (world_of B.meaning metamodel.now registry.now) (since session.old.work).view session.old.stored) (rows_of (world_of B.meaning metamodel.now registry.now) (put_all written.now (since session.old.work).view) session.old.work.numbers.now) (R.writes rows.old) (R.writes rows.new)) }
+    ensures bounded { IsErr result.answer → (rows.new ≡ rows.old) ⊎ RunsAtMost (rows_of (world_of B.meaning metamodel.now registry.now) (since session.old.work).view session.old.stored) (rows_of (world_of B.meaning metamodel.now registry.now) (put_all written.now (since session.old.work).view) session.old.work.numbers.now) (R.writes rows.old) (R.writes rows.new) }
     ensures unread { R.reads rows.new ≡ R.reads rows.old }
     ensures told { R.faults rows.new ≡ faults_after_reply result (R.faults rows.old) }
     ensures refused { IsErr result.answer → IsGivenUp result }
@@ -170,6 +171,7 @@ fn commit_active<R: RowSource, B: Behaviour>(
     ensures schema { R.schema rows.new ≡ R.schema rows.old }
     ensures crash { (em : ℤ) → place_of (length session.old.managers.items) em ≡ Some manager → R.clean rows.new → R.endures rows.old rows.new (λ left. left ≡ rows_made (world_of B.meaning metamodel.now registry.now) (machine_of session.old) (Call.Commit em)) }
     ensures counted { (em : ℤ) → place_of (length session.old.managers.items) em ≡ Some manager → OnOk result.answer (RunsDifference (rows_kept (world_of B.meaning metamodel.now registry.now) (machine_of session.old)) (rows_made (world_of B.meaning metamodel.now registry.now) (machine_of session.old) (Call.Commit em)) (R.writes rows.old) (R.writes rows.new)) }
+    ensures bounded { (em : ℤ) → place_of (length session.old.managers.items) em ≡ Some manager → IsErr result.answer → (rows.new ≡ rows.old) ⊎ RunsAtMost (rows_kept (world_of B.meaning metamodel.now registry.now) (machine_of session.old)) (rows_made (world_of B.meaning metamodel.now registry.now) (machine_of session.old) (Call.Commit em)) (R.writes rows.old) (R.writes rows.new) }
     ensures unread { R.reads rows.new ≡ R.reads rows.old }
     ensures told { R.faults rows.new ≡ faults_after_reply result (R.faults rows.old) }
     ensures refused { IsErr result.answer → IsGivenUp result ⊎ (rows.new ≡ rows.old) }
@@ -210,6 +212,7 @@ pub(crate) fn commit_call<R: RowSource, B: Behaviour>(
     ensures schema { R.schema rows.new ≡ R.schema rows.old }
     ensures crash { R.clean rows.new → R.endures rows.old rows.new (λ left. left ≡ rows_made (world_of B.meaning metamodel.now registry.now) (machine_of session.old) (Call.Commit em)) }
     ensures counted { OnOk result.answer (RunsDifference (rows_kept (world_of B.meaning metamodel.now registry.now) (machine_of session.old)) (rows_made (world_of B.meaning metamodel.now registry.now) (machine_of session.old) (Call.Commit em)) (R.writes rows.old) (R.writes rows.new)) }
+    ensures bounded { IsErr result.answer → (rows.new ≡ rows.old) ⊎ RunsAtMost (rows_kept (world_of B.meaning metamodel.now registry.now) (machine_of session.old)) (rows_made (world_of B.meaning metamodel.now registry.now) (machine_of session.old) (Call.Commit em)) (R.writes rows.old) (R.writes rows.new) }
     ensures unread { R.reads rows.new ≡ R.reads rows.old }
     ensures told { R.faults rows.new ≡ faults_after_reply result (R.faults rows.old) }
     ensures refused { IsErr result.answer → IsGivenUp result ⊎ (rows.new ≡ rows.old) }

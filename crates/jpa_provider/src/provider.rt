@@ -16,7 +16,7 @@ ghost use Rattle.jpa_provider.specs.Invariant.{HasOneTransaction, IsMachine};
 ghost use Rattle.jpa_provider.specs.Left.{HoldsSameValues, LivesAsBefore, is_rollback};
 ghost use Rattle.jpa_provider.specs.Machine.{opened, IsStoredAs};
 ghost use Rattle.jpa_provider.specs.Step.{IsGivenUp};
-ghost use Rattle.jpa_provider.specs.Provided.{rows_kept, rows_made, world_in, RunsDifference, Stands};
+ghost use Rattle.jpa_provider.specs.Provided.{rows_kept, rows_made, world_in, RunsAtMost, RunsDifference, Stands};
 ghost use Rattle.jpa_provider.specs.Served.{is_served};
 ghost use Rattle.jpa_provider.specs.Serving.{machine_of, is_commit, IsPlainMachine, IsServing, IsSettled, Serves};
 
@@ -193,6 +193,7 @@ fn served<R: RowSource, B: Behaviour>(
     ensures was_clean { R.clean rows.new → R.clean rows.old }
     ensures crash { is_commit call ≡ true → R.clean rows.new → R.endures rows.old rows.new (λ left. left ≡ rows_made (world_of B.meaning metamodel.now registry.now) (machine_of session.old) call) }
     ensures counted { is_commit call ≡ true → OnOk result.answer (RunsDifference (rows_kept (world_of B.meaning metamodel.now registry.now) (machine_of session.old)) (rows_made (world_of B.meaning metamodel.now registry.now) (machine_of session.old) call) (R.writes rows.old) (R.writes rows.new)) }
+    ensures bounded { is_commit call ≡ true → IsErr result.answer → (rows.new ≡ rows.old) ⊎ RunsAtMost (rows_kept (world_of B.meaning metamodel.now registry.now) (machine_of session.old)) (rows_made (world_of B.meaning metamodel.now registry.now) (machine_of session.old) call) (R.writes rows.old) (R.writes rows.new) }
     ensures unread { R.reads rows.new ≡ R.reads rows.old }
     ensures told { R.faults rows.new ≡ faults_after_reply result (R.faults rows.old) }
     ensures refused { is_commit call ≡ true → IsErr result.answer → IsGivenUp result ⊎ (rows.new ≡ rows.old) }
@@ -253,6 +254,7 @@ fn serve<R: RowSource, B: Behaviour>(
     ensures crash { R.clean rows.new → R.endures rows.old rows.new (λ left. left ≡ rows_made (world_of B.meaning metamodel.now registry.now) (machine_of session.old) call) }
     ensures others { is_commit call ≡ false → rows.new ≡ rows.old }
     ensures counted { is_commit call ≡ true → OnOk result.answer (RunsDifference (rows_kept (world_of B.meaning metamodel.now registry.now) (machine_of session.old)) (rows_made (world_of B.meaning metamodel.now registry.now) (machine_of session.old) call) (R.writes rows.old) (R.writes rows.new)) }
+    ensures bounded { is_commit call ≡ true → IsErr result.answer → (rows.new ≡ rows.old) ⊎ RunsAtMost (rows_kept (world_of B.meaning metamodel.now registry.now) (machine_of session.old)) (rows_made (world_of B.meaning metamodel.now registry.now) (machine_of session.old) call) (R.writes rows.old) (R.writes rows.new) }
     ensures unread { R.reads rows.new ≡ R.reads rows.old }
     ensures told { R.faults rows.new ≡ faults_after_reply result (R.faults rows.old) }
     ensures still { (is_commit call ≡ false) ⊎ IsErr result.answer → IsStoredAs (machine_of session.old) (machine_of session.new) }

@@ -1,10 +1,12 @@
-use Rattle.std.specs.Prelude.{Result, Ok, Err, OnOk}
-use Rattle.std.proofs.Common.{◌≡◌, ◌∙◌, ap, refl, sym, subst, [], length}
+use Rattle.std.specs.Prelude.{List, ◌+◌, ◌≤◌, sum_by, Result, Ok, Err, OnOk, OnErr}
+use Rattle.std.proofs.Common.{◌≡◌, ◌∙◌, ap, refl, sym, subst, inl, inr, [], length}
 use Rattle.std.proofs.lemmas.List.{nil_from_length}
 use Rattle.std.specs.Cmp.Lexicographic.{same_text}
 use Rattle.jpa_behaviour.specs.Registered.{world_of}
 use Rattle.jpa_stored.specs.Sets.{put_all}
+use Rattle.jpa_rows.specs.declared.row.RowChange.{RowChange}
 use Rattle.jpa_rows.specs.Rows.{Rows, rows_after}
+use Rattle.jpa_rows.specs.Statements.{statements_of, up_to_greatest}
 use Rattle.jpa_view.proofs.Orders.{are_same_numbers}
 use Rattle.jpa_object_rows.specs.Sets.{rows_of}
 use Rattle.jpa_object_store.specs.Written.{IsDifference}
@@ -21,6 +23,10 @@ then_so (Err e) h f = tt
 if_ok : {A E : Type 0} (r : Result A E) {P : Type 0} → P → OnOk r P
 if_ok (Ok a) p = p
 if_ok (Err e) p = tt
+
+if_err : {A E : Type 0} (r : Result A E) {P : Type 0} → P → OnErr r P
+if_err (Ok a) p = tt
+if_err (Err e) p = p
 
 -- nothing was written, so the rows are to stay
 pub returns-then-eq-clause-ok : goal.returns-then-eq-clause-ok
@@ -44,6 +50,16 @@ returns-then-eq-clause-counted g c =
     let same = same_text c.args.before.now c.args.next.now (sym c.if-eq.true ∙ c.eq.ensures) in
     let stays : base ≡ rows_of world (put_all written committed) c.args.next.now = λ i. rows_of world (put_all (none i) committed) (same i) in
     then_so c.commit.result c.commit.ensures.counted.0 (λ counted. ([], subst (λ rows. IsDifference base rows []) stays (no_difference base), counted))
+
+pub returns-then-eq-clause-bounded : goal.returns-then-eq-clause-bounded
+returns-then-eq-clause-bounded g c = if_err c.commit.result (inl ((c.commit.ensures.nothing refl).1))
+
+pub returns-clause-bounded : goal.returns-clause-bounded
+returns-clause-bounded g c =
+    let old = g.R.RowSource.writes c.args.source.now in
+    let new = g.R.RowSource.writes c.commit-2.new.self in
+    let Bounds : List RowChange → Type 0 = λ changes. new ≤ up_to_greatest (old + sum_by statements_of changes) in
+    if_err c.commit-2.result (inr (c.in_ok-changes.changes, c.in_ok-changes.ensures.ok, c.commit-2.ensures.counted.1, subst Bounds c.as_slice.ensures c.commit-2.ensures.counted.2))
 
 pub returns-clause-unchanged : goal.returns-clause-unchanged
 returns-clause-unchanged g c = λ same.

@@ -1,5 +1,5 @@
 use Rattle.std.proofs.Common.{◌≡◌, inl, inr, refl, ap, sym, subst, ◌∙◌}
-use Rattle.std.specs.Prelude.{◌==◌, true, nat_le, OnOk}
+use Rattle.std.specs.Prelude.{◌==◌, ◌⊎◌, true, nat_le, OnOk}
 use Rattle.jpa_value.specs.declared.value.Identity.{Identity}
 use Rattle.jpa_value.specs.Value.{same_identity}
 use Rattle.jpa_behaviour.specs.Registered.{world_of}
@@ -16,7 +16,7 @@ use Rattle.jpa_flush.specs.Flush.{flush}
 use Rattle.jpa_flush.specs.Writes as flushed
 use Rattle.jpa_protocol.specs.declared.call.Call.{Call}
 use Rattle.jpa_rows.specs.Rows.{Rows}
-use Rattle.jpa_provider.specs.Provided.{rows_made, RunsDifference}
+use Rattle.jpa_provider.specs.Provided.{rows_made, RunsAtMost, RunsDifference}
 use Rattle.jpa_provider.specs.Serving.{machine_of}
 use Rattle.jpa_provider.proofs.Active.{begun_active, objects_once, flushed_storable, flushed_distinct, flushed_numbers, flushed_rising, refused_steady, stored_plain}
 use Rattle.jpa_provider.proofs.Commits.{refused_step, stored_step}
@@ -174,6 +174,27 @@ returns-in-Ok-clause-counted g c = λ em named.
     ∙ sym (made_by world s em m named c.requires.within c.requires.active (now u) done c.in-Ok.ensures.plain) in
     subst (λ (p : Rows × Rows). OnOk c.store_commit.result.answer (RunsDifference p.0 p.1 (g.R.RowSource.writes c.args.rows.now) (g.R.RowSource.writes c.store_commit.new.rows)))
     (λ i. (rows_of world (seen i) (working.stored i), made i)) c.store_commit.ensures.counted
+
+pub returns-in-Err-clause-bounded : goal.returns-in-Err-clause-bounded
+returns-in-Err-clause-bounded g c = λ em named refused. inl refl
+
+pub returns-in-Ok-clause-bounded : goal.returns-in-Ok-clause-bounded
+returns-in-Ok-clause-bounded g c = λ em named refused.
+    let s = c.args.session.now in
+    let m = c.args.manager in
+    let world = world_of g.B.Behaviour.meaning c.args.metamodel.now c.args.registry.now in
+    let rows = c.args.rows.now in
+    let u = c.flush.new.work in
+    let written = c.as_slice.result.now in
+    let working = still_working c.take_work.new.session u c.take_work.ensures.working c.flush.ensures.since in
+    let done = subst (λ (v : Work). flush world v ≡ Done tt (now u)) c.take_work.ensures.work c.in-Ok.ensures.ends in
+    let seen : (since u).view ≡ s.work.view.now = ap (λ (x : Since). x.view) working.since in
+    let view = c.in-Ok.ensures.view ∙ ap (λ (changes : Changes (Identity × Stored)). put_all c.in-Ok.written changes.now) c.take_work.ensures.view ∙ ap (λ ws. put_all ws s.work.view.now) (sym c.as_slice.ensures) in
+    let made : rows_of world (put_all written (since u).view) (now u).numbers ≡ rows_made world (machine_of s) (Call.Commit em) =
+    ap (λ (set : StoredSet). rows_of world set (now u).numbers) (ap (put_all written) seen ∙ sym view)
+    ∙ sym (made_by world s em m named c.requires.within c.requires.active (now u) done c.in-Ok.ensures.plain) in
+    subst (λ (p : Rows × Rows). (c.store_commit.new.rows ≡ rows) ⊎ RunsAtMost p.0 p.1 (g.R.RowSource.writes rows) (g.R.RowSource.writes c.store_commit.new.rows))
+    (λ i. (rows_of world (seen i) (working.stored i), made i)) (c.store_commit.ensures.bounded refused)
 
 pub returns-in-Ok-clause-refused : goal.returns-in-Ok-clause-refused
 returns-in-Ok-clause-refused g c = λ refused. inl (c.store_commit.ensures.refused refused)

@@ -33,3 +33,15 @@ returns-in-Active-clause-crash g c =
     let count = length c.args.session.now.managers.items in
     let named : place_of count c.args.em ≡ Some c.in-Some.manager = ap (place_of count) (sym (to_z-of_z c.ranges.em)) ∙ sym c.in-Some.ensures.named in
     c.commit_active.ensures.crash c.args.em named
+
+pub returns-in-Active-clause-counted : goal.returns-in-Active-clause-counted
+returns-in-Active-clause-counted g c =
+    let count = length c.args.session.now.managers.items in
+    let named : place_of count c.args.em ≡ Some c.in-Some.manager = ap (place_of count) (sym (to_z-of_z c.ranges.em)) ∙ sym c.in-Some.ensures.named in
+    c.commit_active.ensures.counted c.args.em named
+
+pub returns-in-Active-clause-bounded : goal.returns-in-Active-clause-bounded
+returns-in-Active-clause-bounded g c =
+    let count = length c.args.session.now.managers.items in
+    let named : place_of count c.args.em ≡ Some c.in-Some.manager = ap (place_of count) (sym (to_z-of_z c.ranges.em)) ∙ sym c.in-Some.ensures.named in
+    c.commit_active.ensures.bounded c.args.em named

@@ -9,7 +9,7 @@ use Rattle.jpa_rows.specs.Rows.{RowId, Row, entry_of}
 use Rattle.jpa_row_laws.specs.Changes.{AreDifference}
 use Rattle.jpa_overlay.specs.Overlay.{Changes, rows_under}
 use Rattle.jpa_overlay.specs.Same.{same_row}
-use Rattle.jpa_overlay.proofs.Difference.{differing, turned_more, turned_same, stands, are_difference, same_seen}
+use Rattle.jpa_overlay.proofs.Difference.{differing, turned_more, turned_same, stands, are_difference, same_seen, rises_more, rises_same, all_rise}
 use Rattle.jpa_overlay.proofs.Statements.{one_more, within}
 use Rattle.jpa_overlay.proofs.overlay.Overlay.changes.Goals as goal
 use Rattle.jpa_overlay.proofs.overlay.Overlay.changes.Goals.{then-not-is_same+in_ok-try_copy+in_ok-copy_row+in_ok-push, else-not-is_same}
@@ -46,6 +46,14 @@ loop-entry-preserved g c =
                 w.if-not-is_same.true change change_is (w.changes-is ∙ w.in_ok-push.ensures.ok)
             | else-not-is_same w ↦ turned_same rows items i entry c.loop-entry-test.true c.entry-item.is c.loop-entry.changes _ c.is_same.result test so_far w.if-not-is_same.false w.changes-is
           ];
+      rising =
+          elim c.if-not-is_same.branch [
+            | then-not-is_same+in_ok-try_copy+in_ok-copy_row+in_ok-push w ↦
+                let change : RowChange = record { id = w.in_ok-try_copy.field-0; row = w.in_ok-copy_row.field-0 } in
+                let change_is : entry_of change ≡ entry = (λ j. (w.in_ok-try_copy.ensures.equal j, w.in_ok-copy_row.ensures.equal j)) ∙ e_is in
+                rises_more items i entry c.loop-entry-test.true c.entry-item.is c.loop-entry.changes _ c.loop-entry.invariant.rising change change_is (w.changes-is ∙ w.in_ok-push.ensures.ok)
+            | else-not-is_same w ↦ rises_same items i entry c.loop-entry-test.true c.entry-item.is c.loop-entry.changes _ c.loop-entry.invariant.rising w.changes-is
+          ];
       among =
           elim c.if-not-is_same.branch [
             | then-not-is_same+in_ok-try_copy+in_ok-copy_row+in_ok-push w ↦
@@ -71,6 +79,9 @@ returns-clause-seen g c = λ clean rows rise holds.
     let sorted = subst (λ es. T (is_sorted identity_cmp es)) (sym c.as_slice-entry-items.ensures.value) c.self.invariant in
     let all = c.loop-entry.invariant.real clean rows holds ∙ ap (differing rows) (take_all c.loop-entry.entry-index items c.loop-entry-test.false) in
     ap (λ cs. rows_under cs rows) all ∙ same_seen rows items rise sorted ∙ ap (λ cs. rows_under cs rows) (c.as_slice-entry-items.ensures.value ∙ c.self.view_is)
+
+pub returns-clause-rising : goal.returns-clause-rising
+returns-clause-rising g c = all_rise c.as_slice-entry-items.result.now c.loop-entry.entry-index c.loop-entry.changes c.loop-entry-test.false c.loop-entry.invariant.rising
 
 pub returns-in_err-there-clause-read : goal.returns-in_err-there-clause-read
 returns-in_err-there-clause-read g c =

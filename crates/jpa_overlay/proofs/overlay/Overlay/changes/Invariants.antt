@@ -1,5 +1,5 @@
-use Rattle.std.proofs.Common.{◌≡◌, map, take, Some, All}
-use Rattle.std.specs.FinMap.{find}
+use Rattle.std.proofs.Common.{◌≡◌, ◌++◌, map, take, drop, Some, All, T}
+use Rattle.std.specs.FinMap.{find, is_sorted}
 use Rattle.jpa_value.specs.Value.{identity_cmp}
 use Rattle.jpa_rows.specs.Rows.{Rows, entry_of}
 use Rattle.jpa_rows.specs.Statements.{AreAtMost}
@@ -16,5 +16,6 @@ invariant-loop-entry g l = record {
   unwritten : g.R.RowSource.writes l.source ≡ g.R.RowSource.writes l.fn.source;
   crash : g.R.RowSource.endures l.fn.source l.source (λ _. ⊥);
   real : g.R.RowSource.clean l.source → (rows : Rows) → g.R.RowSource.holds l.fn.source rows → map entry_of l.changes ≡ differing rows (take l.entry-index l.entry-items);
+  rising : T (is_sorted identity_cmp (map entry_of l.changes ++ drop l.entry-index l.entry-items));
   among : All (λ change. find identity_cmp change.id l.self ≡ Some change.row) l.changes;
 }
