@@ -3,6 +3,7 @@
 ghost use Rattle.std.specs.Prelude.{◌≡◌, ◌≢◌, ◌⊎◌, ◌+◌, ◌<◌, false, [], length, sum_by, IfOk, IfErr, OnOk, OnErr};
 ghost use Rattle.std.specs.Result.{IsOk};
 ghost use Rattle.sqlite.specs.Held.{state};
+ghost use Rattle.jpa_cells_meaning.specs.Content.{KeepsContent};
 ghost use Rattle.jpa_cells_meaning.specs.Schema.{no_schema};
 ghost use Rattle.jpa_cells_meaning.specs.Tables.{cells_at, tables_after, statements_of, AreRows, NameColumnsOnce, HandsOn, HandsSome};
 ghost use Rattle.jpa_cells_meaning.specs.Store.{up_to_greatest, Counts, Tells, TellsOf, faults_after, new_store, IsClean, IsOpen, tables_in, HoldsTable, IsOrderedIfFound, IsReady, Keeps, Becomes, Opens, Endures, Allows, HasFault};
@@ -67,8 +68,9 @@ fn refusal_of(error: Error, faults: &mut u64) -> Cause
 
 impl<S: Alter + Drop> CellStore<S> {
     /// Takes the table `cell` where it stands in the database, and makes it where the database is empty. Refused, it
-    /// hands the connection back, whose database is as it was: `StoreFault` where the database holds anything else,
-    /// where the connection is in a transaction, and where the store refuses the statement for another cause than
+    /// hands the connection back, in a transaction only where it was in one, and its database is as it was, unless a
+    /// fault shut it or the disk returned something else than was written: `StoreFault` where the database holds anything
+    /// else, where the connection is in a transaction, and where the store refuses the statement for another cause than
     /// memory; `OutOfMemory` only where it set out to make the table.
     pub fn open(
         alloc: Global,
@@ -81,6 +83,8 @@ impl<S: Alter + Drop> CellStore<S> {
         ensures takes { conn.in_transaction ≡ false → HoldsTable S.Store conn → IsOk result }
         ensures memory { IfErr result (λ e. e.0 ≡ Cause.OutOfMemory → (conn.in_transaction ≡ false) × ((state S.Store conn).now.schema ≡ no_schema)) }
         ensures kept { IfErr result (λ e. Keeps S.Store conn e.1) }
+        ensures kept_content { IfErr result (λ e. KeepsContent (state S.Store conn) (state S.Store e.1)) }
+        ensures idle { IfErr result (λ e. e.1.in_transaction ≡ conn.in_transaction) }
         ensures again { IfErr result (λ e. IsOrderedIfFound S.Store e.1) }
         ensures crash_err { IfErr result (λ e. Endures S.Store conn e.1 (λ tables. tables ≡ (λ t. []))) }
     {
@@ -143,9 +147,12 @@ impl<S: Alter> CellStore<S> {
             .saturating_add(self.creates)
     }
 
-    /// The connection, whose database is as the store left it. Takes no memory.
+    /// The connection, in no transaction, whose database is as the store left it: the table `cell` and nothing else, unless
+    /// a fault shut it or the disk returned something else than was written. Takes no memory.
     pub fn into_connection(self) -> Connection<S>
         ensures same { result ≡ self.conn }
+        ensures idle { result.in_transaction ≡ false }
+        ensures ready { IsReady S.Store result }
         ensures again { IsOrderedIfFound S.Store result }
     {
         let CellStore {
@@ -218,9 +225,10 @@ impl<S: Alter> CellStore<S> {
     }
 
     /// Makes the changes in turn, all in one transaction or none: a row's cells are replaced by one DELETE and by one
-    /// INSERT for each new cell, and without cells the row is dropped. An empty list runs no statement. A list in which
-    /// a change names a column twice is refused. Where none does, where the database takes the bytes of each cell and
-    /// where rowids are left for all of them, a `StoreFault` has a fault as its cause.
+    /// INSERT for each new cell, and without cells the row is dropped. An empty list runs no statement. Over a disk that
+    /// returns what was written, a list in which a change names a column twice is refused, and where none does, where the
+    /// database takes the bytes of each cell and where rowids are left for all of them, a `StoreFault` has a fault as its
+    /// cause.
     pub fn apply(&mut self, changes: &[CellChange]) -> Result<(), Cause>
         ensures applied { 0 < length changes.now → OnOk result (Becomes S.Store self.old.conn self.new.conn (tables_after changes.now)) }
         ensures nothing { length changes.now ≡ 0 → (result ≡ Ok tt) × (self.new ≡ self.old) }
