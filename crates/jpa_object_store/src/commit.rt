@@ -73,7 +73,8 @@ fn difference_of<B: Behaviour>(
 /// the difference of the rows: none that stands as it is to stand, so nothing where no row changes. The view says what stands, so
 /// nothing is read.
 ///
-/// It refuses with `OutOfMemory`, and with `StoreFault` as the store does. Then the store holds what it held.
+/// It refuses with `OutOfMemory`, and with `StoreFault` as the store does. Then the store holds what it held, and is as it was
+/// where no commit was tried; where one was, the statements that it ran are at most those of the difference.
 ///
 /// However it ends, a crash leaves what it could leave before, or the rows of the set and the next numbers that it writes.
 pub fn write<R: RowSource, B: Behaviour>(

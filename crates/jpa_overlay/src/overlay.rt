@@ -102,8 +102,9 @@ impl Overlay {
     }
 
     /// The difference from the store: the changes in the order of their ids, without those that leave a row as it is there.
-    /// Made in the store, they give the rows that are seen here. It reads each changed row of the store once, and refuses with
-    /// `OutOfMemory`, and as the store does.
+    /// Made in the store, they give the rows that are seen here. They are in that order, and each is a change of these, whether
+    /// or not the store is clean. It reads each changed row of the store once, and refuses with `OutOfMemory`, and as the store
+    /// does.
     pub fn changes<R: RowSource>(&self, source: &mut R) -> Result<Seq<RowChange>, Cause>
         ensures difference { R.clean source.new → IfOk result (λ changes. (rows : Rows) → R.holds source.old rows → AreDifference identity_cmp rows (map entry_of changes)) }
         ensures seen { R.clean source.new → IfOk result (λ changes. (rows : Rows) → AreRising rows → R.holds source.old rows → rows_after changes rows ≡ rows_under self.now rows) }
