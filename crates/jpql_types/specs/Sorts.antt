@@ -1,5 +1,5 @@
 -- What values are of, and which go together (chapters 4.6 to 4.8).
-use Rattle.std.specs.Prelude.{ℕ, ◌-◌, ◌==◌, nat_le, length, Bool, true, false, ◌&&◌, ◌||◌, List, [], ◌∷◌, slice_get, Option, Some, None, option_map, if◌then◌else◌}
+use Rattle.std.specs.Prelude.{ℕ, ◌-◌, ◌==◌, length, Bool, true, false, ◌&&◌, List, [], ◌∷◌, slice_get, Option, Some, None, option_map, if◌then◌else◌}
 use Rattle.std.specs.List.{list_all}
 use Rattle.jpa_value.specs.declared.value.Kind.{Kind}
 use Rattle.jpa_model.specs.Chains.{root_of, root_class, attributes_of}
@@ -8,7 +8,7 @@ use Rattle.jpa_model.specs.declared.unit.Member.{Member}
 use Rattle.jpql_tree.specs.declared.Function.{Function}
 use Rattle.jpql_tree.specs.declared.Aggregate.{Aggregate}
 use Rattle.jpql_tree.specs.declared.Comparison.{Comparison}
-use Rattle.jpql_tree.specs.Values.{◌>>=◌}
+use Rattle.jpql_tree.specs.Values.{◌>>=◌, takes}
 use Rattle.jpql_types.specs.declared.scope.Step.{Step}
 use Rattle.jpql_types.specs.declared.scope.TypedPath.{TypedPath}
 use Rattle.jpql_types.specs.declared.sort.Sort.{Sort}
@@ -55,22 +55,11 @@ joined = joined_with Sort.Null
 abbrev pub joined_basic : List Sort → Option Sort
 joined_basic all = joined all >>= λ s. when (is_basic s) s
 
--- arguments of these sorts, the last of which may be left out
+-- arguments of these sorts; how many there must be, `takes` says
 abbrev pub fit : List Sort → List Sort → Bool
 fit asked [] = true
 fit [] (s ∷ all) = false
 fit (a ∷ asked) (s ∷ all) = goes_with a s && fit asked all
-
--- how many arguments a function takes
-abbrev pub takes : Function → ℕ → Bool
-takes Function.Length count = count == 1
-takes Function.Concat count = nat_le 2 count
-takes Function.Substring count = count == 2 || count == 3
-takes Function.Locate count = count == 2 || count == 3
-takes Function.Abs count = count == 1
-takes Function.Mod count = count == 2
-takes Function.Coalesce count = nat_le 2 count
-takes Function.NullIf count = count == 2
 
 -- what a function gives of arguments of these sorts, however many
 abbrev pub given_sort : Function → List Sort → Option Sort
@@ -83,7 +72,7 @@ given_sort Function.Mod all = when (fit (integer ∷ integer ∷ []) all) intege
 given_sort Function.Coalesce all = joined_basic all
 given_sort Function.NullIf all = joined_basic all
 
--- and where it takes as many as these
+-- and where it takes as many as these, by the grammar's own table
 abbrev pub call_sort : Function → List Sort → Option Sort
 call_sort function all = if takes function (length all) then given_sort function all else None
 
