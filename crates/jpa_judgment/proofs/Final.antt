@@ -129,6 +129,10 @@ module _ {S : Type 0} (g : Ghosts S) (world : World) (mapped : IsMapped world.mo
   refuses (Err cause) (inr told) =
       inr (told.0, told.1, told.2, λ clean. damaged_at (tables_in g new.store.conn) end (read clean) told.0 told.1 (told.3 (rows_named (tables_in g new.store.conn) end (read clean))))
 
+  -- at least one table was read
+  pub both_open : IsClean g new.store.conn → IsOpen g first.store.conn × IsOpen g new.store.conn
+  both_open clean = live clean some_tables
+
   pub opens : (r : Result Committed Cause) → IsClean g new.store.conn → OnOk r (IsOpen g first.store.conn × IsOpen g new.store.conn)
-  opens (Ok c) clean = live clean some_tables
+  opens (Ok c) clean = both_open clean
   opens (Err e) clean = tt

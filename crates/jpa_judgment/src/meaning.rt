@@ -10,7 +10,7 @@ ghost use Rattle.jpa_judgment.specs.Read.{IsObjectOf, SaysIfSound};
 use crate::numbers::{is_number_row, is_pair};
 use crate::owners::is_join;
 use jpa_behaviour::{Behaviour, Registry};
-use jpa_mapper::from_rows;
+use jpa_mapper::from_rows_by_id;
 use jpa_model::Metamodel;
 use jpa_rows::{Row, RowId};
 use jpa_stored::Stored;
@@ -48,7 +48,7 @@ fn object_of<B: Behaviour>(
     ensures object { IfOk result (IsObjectOf (world_of B.meaning metamodel.now registry.now) rows.now id.now row.now) }
     ensures err { IfErr result (λ cause. cause ≡ Cause.OutOfMemory) }
 {
-    match from_rows(alloc, metamodel, registry, id, row, rows) {
+    match from_rows_by_id(alloc, metamodel, registry, id, row, rows) {
         Ok(object) => Ok(Some(object)),
         Err(Cause::OutOfMemory) => Err(Cause::OutOfMemory),
         Err(_) => Ok(None),

@@ -90,6 +90,7 @@ pub fn read_store<S: Alter, B: Behaviour>(
     ensures holds { IsClean S.Store space.new.store.conn → IfOk result (λ c. CanBeHeld (world_of B.meaning metamodel.now registry.now) c.set c.numbers × HoldsRows S.Store (schema_of metamodel.now) space.new.store.conn (rows_of (world_of B.meaning metamodel.now registry.now) c.set c.numbers)) }
     ensures stand { IsClean S.Store space.new.store.conn → IsOpen S.Store space.new.store.conn → IfOk result (λ c. StandFor (world_of B.meaning metamodel.now registry.now) (cells_in (world_of B.meaning metamodel.now registry.now) (tables_in S.Store space.new.store.conn)) c.set c.numbers) }
     ensures refused { IfErr result (λ cause. IsStoreCause cause ⊎ ((t : ℕ) × (bytes : List ℕ) × (cause ≡ Cause.Damaged t bytes) × (IsClean S.Store space.new.store.conn → AreDamagedAt (world_of B.meaning metamodel.now registry.now) (tables_in S.Store space.new.store.conn) t bytes))) }
+    ensures live { IsClean S.Store space.new.store.conn → (t : ℕ) (bytes : List ℕ) → result ≡ Err (Cause.Damaged t bytes) → IsOpen S.Store space.old.store.conn × IsOpen S.Store space.new.store.conn }
     ensures open { IsClean S.Store space.new.store.conn → OnOk result (IsOpen S.Store space.old.store.conn × IsOpen S.Store space.new.store.conn) }
     ensures kept { Keeps S.Store space.old.store.conn space.new.store.conn }
     ensures counted { OnOk result (space.new.store.table_selects ≡ up_to_greatest (space.old.store.table_selects + length (schema_of metamodel.now).tables)) }

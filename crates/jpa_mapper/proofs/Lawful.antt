@@ -38,6 +38,7 @@ use Rattle.jpa_object_rows.proofs.Over.{over_together}
 use Rattle.jpa_object_rows.proofs.Places.{one_object}
 use Rattle.jpa_object_rows.proofs.Sets.{stored_read_in, set_put_in}
 use Rattle.jpa_object_rows.proofs.Stored.{pairs_typed}
+use Rattle.jpa_mapper.proofs.OwnPairs.{own_ones}
 use Rattle.jpa_mapper.specs.Laws.{StandsWhole, ReadsWhatIsWritten, ReadsOne, StandForOne}
 
 -- ---- one object
@@ -102,7 +103,7 @@ module _ (world : World) (mapped : IsMapped world.model) (regular : IsRegular wo
   stands_whole : StandsWhole world id x (object_rows world id x)
   stands_whole =
       subst (StandsWhole world id x) same
-      (record { rows = unit.named; main = main_stands; read = record { storable = g; main = refl; pairs = pairs_stand } })
+      (record { rows = unit.named; main = main_stands; read = record { storable = g; main = refl; pairs = pairs_stand }; ones = own_ones world.model x.class own.class id alone unit.ones })
 
 pub reads_written : ReadsWhatIsWritten
 reads_written world id x described regular named g = stands_whole world (described_mapped world.model described) regular id x named g

@@ -9,5 +9,6 @@ pub mod Shaped
 pub mod Walk
 pub mod Refilled
 pub mod Owners
+pub mod OwnPairs
 pub mod Lawful
 pub mod Discriminators

@@ -17,13 +17,15 @@ use Rattle.jpa_object_rows.specs.Raw.{AreRowsOf}
 use Rattle.jpa_object_rows.specs.Objects.{main_row, is_discriminator, object_rows}
 use Rattle.jpa_object_rows.specs.Sets.{targets_in}
 use Rattle.jpa_mapper.specs.Mapped.{IsReadAs}
+use Rattle.jpa_mapper.specs.Own.{OwnAreOnes}
 
--- an object is read off these rows: they are rows of the unit, its main row stands among them, and its pairs are those that
--- it owns
+-- an object is read off these rows: they are rows of the unit, its main row stands among them, its pairs are those that it
+-- owns, and their rows are those that a pair has
 pub record StandsWhole (world : World) (id : Identity) (x : Stored) (own : Rows) : Type 0 where
   pub rows : AreRowsOf (schema_of world.model) own
   pub main : find identity_cmp id own ≡ Some (main_row world x)
   pub read : IsReadAs world id (main_row world x) (targets_in world.model own id) x
+  pub ones : OwnAreOnes world.model x.class id own
 
 -- what is written for an object is read as the object
 abbrev pub ReadsWhatIsWritten : Type 0

@@ -2,8 +2,8 @@
 //!
 //! `to_rows` makes the rows of an object: its main row, through its converters, and a row of a join table for each pair that
 //! it owns; `from_rows` reads an object off its rows. `specs/Mapped.antt` says what it is for an object to be read off rows,
-//! and `mapper_laws` that what is read off the rows of an object is that object. The crate stands on the rows of `jpa_rows`,
-//! the registry of converters, and the laws of `jpa_object_rows`.
+//! `specs/Own.antt` which rows of pairs are refused, and `mapper_laws` that what is read off the rows of an object is that
+//! object. The crate stands on the rows of `jpa_rows`, the registry of converters, and the laws of `jpa_object_rows`.
 #![tactic(auto)]
 
 mod converted;
@@ -12,6 +12,7 @@ mod laws;
 mod main_object;
 mod main_row;
 mod narrow;
+mod own_pairs;
 mod pair_rows;
 mod places;
 mod reading;
@@ -21,5 +22,5 @@ mod targets;
 mod writing;
 
 pub use laws::{discriminator_law, mapper_laws};
-pub use reading::from_rows;
+pub use reading::{from_rows, from_rows_by_id};
 pub use writing::{number_row, to_rows};

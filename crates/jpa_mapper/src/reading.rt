@@ -9,9 +9,11 @@ ghost use Rattle.jpa_rows.specs.Tables.{schema_of};
 ghost use Rattle.jpa_object_rows.specs.Raw.{AreRowsOf};
 ghost use Rattle.jpa_object_rows.specs.Sets.{targets_in};
 ghost use Rattle.jpa_mapper.specs.Mapped.{IsReadAs, IsMainRow};
+ghost use Rattle.jpa_mapper.specs.Own.{OwnAreOnes, IsRefused};
 ghost use Rattle.jpa_mapper.specs.Pairs as spec;
 
 use crate::main_object::main_object;
+use crate::own_pairs::judge_own_pairs;
 use crate::targets::targets;
 use jpa_behaviour::{Behaviour, Registry};
 use jpa_key::encode_key;
@@ -22,11 +24,37 @@ use jpa_value::{Cause, Identity, Seq};
 use std::alloc::Global;
 
 /// The object of this identity and main row, with its pairs among these rows, which are in rising order and may be those
-/// of other owners and other join tables too. With n rows each relation takes O(log n + k) comparisons for its k pairs.
+/// of other owners and other join tables too. With n rows each relation takes O(n) comparisons.
+///
+/// Where no object has that main row it is `Damaged` with the table and the bytes of the key. Else, where a row of one of the
+/// object's pairs is not the one that a pair has, it is `Damaged` with the table and the bytes of the lowest such row.
+/// `OutOfMemory` where a growth was refused.
+pub fn from_rows<B: Behaviour>(
+    alloc: Global,
+    metamodel: &Metamodel,
+    registry: &Registry<B>,
+    id: &Identity,
+    row: &Row,
+    pairs: &[(RowId, Row)],
+) -> Result<Stored, Cause>
+    requires pairs { AreRowsOf (schema_of metamodel.now) pairs.now }
+    ensures ok { IfOk result (IsReadAs (world_of B.meaning metamodel.now registry.now) id.now row.now (targets_in metamodel.now pairs.now id.now)) }
+    ensures ones { IfOk result (λ x. OwnAreOnes metamodel.now x.class id.now pairs.now) }
+    ensures err { IfErr result (IsRefused (world_of B.meaning metamodel.now registry.now) id.now row.now pairs.now) }
+{
+    let object = from_rows_by_id(alloc, metamodel, registry, id, row, pairs)?;
+    judge_own_pairs(alloc, metamodel, object.class, id, pairs)?;
+    Ok(object)
+}
+
+/// The object of this identity and main row, with the pairs that the ids of these rows say, which are in rising order and may
+/// be those of other owners and other join tables too. What a row of a join table holds is not looked at: who calls this has
+/// judged apart whether each is a pair's, as `from_rows` does. With n rows each relation takes O(log n + k) comparisons for
+/// its k pairs.
 ///
 /// Where no object has that main row it is `Damaged` with the table and the bytes of the key; `OutOfMemory` where a growth
 /// was refused.
-pub fn from_rows<B: Behaviour>(
+pub fn from_rows_by_id<B: Behaviour>(
     alloc: Global,
     metamodel: &Metamodel,
     registry: &Registry<B>,

@@ -75,7 +75,7 @@ fn pair_target(
 }
 
 /// Whether the first parts of a key are those of another one.
-fn begins_with(key: &[Value], front: &[Value]) -> bool
+pub(crate) fn begins_with(key: &[Value], front: &[Value]) -> bool
     ensures after { result ≡ is_some (key_after front.now key.now) }
     ensures long { IsTrue result → length front.now ≤ length key.now }
 {
