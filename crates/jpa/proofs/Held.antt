@@ -1,5 +1,5 @@
 -- What an opened provider says of its unit, and what is held of it after the run.
-use Rattle.std.proofs.Common.{◌≡◌, ◌∙◌, refl, sym, subst, Bool, true, false, ℕ, List, Result, Ok, Err}
+use Rattle.std.proofs.Common.{◌≡◌, ◌∙◌, refl, sym, subst, Bool, true, false, ℕ, List, Option, Result, Ok, Err, OnOk}
 use Rattle.sqlite_trees.specs.declared.store.Store.{Ghosts}
 use Rattle.sqlite.specs.Held.{Held}
 use Rattle.jpa_model.specs.declared.unit.PersistenceUnit.{PersistenceUnit}
@@ -12,7 +12,7 @@ use Rattle.jpa_functions.specs.declared.make.Converter.{Converter}
 use Rattle.jpa_provider.specs.Served.{is_served}
 use Rattle.jpa_program.specs.Opening.{HoldsCells}
 use Rattle.jpa.specs.declared.Unit.{Unit}
-use Rattle.jpa.specs.Served.{HoldsUnit, IsServable}
+use Rattle.jpa.specs.Served.{unit_from, HoldsUnit, IsServable, GivesServable}
 
 module _ {S : Type 0} (g : Ghosts S) where
   -- what holds of the provider's unit holds of the one that it was opened with
@@ -39,3 +39,8 @@ is_servable unit answer model function a is unserved unknown =
     known : (test : Bool) → (test ≡ false → Ok a ≡ Err function) → test ≡ true
     known true never = refl
     known false never = let bad = never refl in cc
+
+-- what serves the unit that bytes give ends well only where they give one that can be served
+pub gives_servable : {A E : Type 0} (mapping : Option (List ℕ)) (unit : Unit) (answer : Result A E) → Ok unit ≡ unit_from mapping → OnOk answer (IsServable unit) → OnOk answer (GivesServable mapping)
+gives_servable mapping unit (Ok a) is serves = (unit, sym is, serves)
+gives_servable mapping unit (Err e) is serves = serves

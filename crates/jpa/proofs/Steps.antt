@@ -1,5 +1,5 @@
 -- What the steps to a mapping's unit refuse.
-use Rattle.std.proofs.Common.{◌≡◌, ◌⊎◌, inl, inr, refl, sym, subst, ℕ, Bool, cond, true, false, List, Option, Some, None, Result, Ok, Err, IfErr, ok_or}
+use Rattle.std.proofs.Common.{◌≡◌, ◌⊎◌, ◌∙◌, inl, inr, refl, sym, subst, ℕ, Bool, cond, true, false, List, Option, Some, None, Result, Ok, Err, IfErr, ok_or}
 use Rattle.jpa_value.specs.declared.refusal.Cause.{Cause}
 use Rattle.jpa_value.specs.declared.refusal.MappingFault.{MappingFault}
 use Rattle.jpa_model.specs.Described.{checked, unit_of}
@@ -59,3 +59,8 @@ mapping_refused bytes cause is = as_wanted cause (mapping_of bytes) is (of_mappi
 
 pub functions_refused : (bytes : List ℕ) (cause : Cause) → (cause ≡ Cause.OutOfMemory) ⊎ (Err cause ≡ functions_in bytes) → IsMappingCause cause
 functions_refused bytes cause is = as_wanted cause (functions_in bytes) is (of_functions bytes)
+
+-- a refusal of what is defined as one tells that one, or want of memory
+pub told_as_wanted : {A : Type 0} (told cause : Cause) (wanted : Result A Cause) → (told ≡ Cause.OutOfMemory) ⊎ (Err told ≡ wanted) → wanted ≡ Err cause → (told ≡ Cause.OutOfMemory) ⊎ (told ≡ cause)
+told_as_wanted told cause wanted (inl lacks) is = inl lacks
+told_as_wanted told cause wanted (inr tells) is = inr (let same = tells ∙ is in cc)

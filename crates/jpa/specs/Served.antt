@@ -1,5 +1,5 @@
 -- Which unit the program serves, and what a store that was served holds.
-use Rattle.std.specs.Prelude.{◌≡◌, ◌⊎◌, ℕ, List, [], Result, Ok, true}
+use Rattle.std.specs.Prelude.{◌≡◌, ◌⊎◌, ℕ, List, [], Option, Some, None, Result, Ok, true}
 use Rattle.sqlite_trees.specs.declared.store.Store.{Ghosts}
 use Rattle.sqlite.specs.Held.{Held}
 use Rattle.jpa_value.specs.declared.refusal.Cause.{Cause}
@@ -24,13 +24,14 @@ unit_in bytes =
     and_then (functions_in bytes) (λ functions.
     and_then (registered functions) (λ registry. Ok (record { metamodel = metamodel; registry = registry }))))
 
--- a unit that the bytes of some mapping describe
-abbrev pub IsDescribed : Unit → Type 0
-IsDescribed unit = (bytes : List ℕ) × (unit_in bytes ≡ Ok unit)
-
 -- the unit that is served without a mapping: the program's own persons, and no function
 abbrev pub own_unit : Unit
 own_unit = record { metamodel = persons; registry = record { listeners = []; converters = [] } }
+
+-- the unit of a mapping's bytes, or the first that is wrong with them, and of no bytes the program's own
+abbrev pub unit_from : Option (List ℕ) → Result Unit Cause
+unit_from (Some bytes) = unit_in bytes
+unit_from None = Ok own_unit
 
 -- want of memory, or a fault of the mapping
 abbrev pub IsMappingCause : Cause → Type 0
@@ -40,9 +41,9 @@ IsMappingCause cause = (cause ≡ Cause.OutOfMemory) ⊎ ((fault : MappingFault)
 abbrev pub IsServable : Unit → Type 0
 IsServable unit = (is_served unit.metamodel ≡ true) × (names_are_known unit.registry unit.metamodel ≡ true)
 
--- some mapping describes a unit that can be served
-abbrev pub DescribesServable : Type 0
-DescribesServable = (unit : Unit) × IsDescribed unit × IsServable unit
+-- the unit of these bytes, or of none, can be served
+abbrev pub GivesServable : Option (List ℕ) → Type 0
+GivesServable mapping = (unit : Unit) × (unit_from mapping ≡ Ok unit) × IsServable unit
 
 module _ {S : Type 0} (g : Ghosts S) where
   -- the cells of the unit's tables are those of a set of its objects and of next numbers, and no others

@@ -2,7 +2,7 @@
 //! and writes the replies to standard output.
 #![tactic(auto)]
 
-ghost use Rattle.std.specs.Prelude.{◌≡◌, ◌⊎◌, true, false, None, Ok, IsSome, IfOk, IfErr, IsErrAnd, OnOk};
+ghost use Rattle.std.specs.Prelude.{◌≡◌, ◌⊎◌, true, false, None, Ok, Err, option_copied, IsSome, IfOk, IfErr, IsErrAnd, OnOk};
 ghost use Rattle.jpa_value.specs.declared.refusal.Cause.{Cause};
 ghost use Rattle.jpa_value.specs.declared.refusal.MappingFault.{MappingFault};
 ghost use Rattle.jpa_model.specs.Described.{IsUnlessMemory};
@@ -69,6 +69,18 @@ fn mapping_file(rt: &HostRuntime, path: &Text) -> Result<Vec<u8>, Cause>
     }
 }
 
+/// The bytes of the mapping that the settings name, and none where they name none.
+fn mapping_bytes(rt: &HostRuntime, settings: &Settings) -> Result<Option<Vec<u8>>, Cause>
+    ensures none { settings.now.mapping ≡ None → result ≡ Ok None }
+    ensures some { IsSome settings.now.mapping → IfOk result IsSome }
+    ensures refused { IfErr result (λ cause. (cause ≡ Cause.OutOfMemory) ⊎ (cause ≡ Cause.Mapping MappingFault.Json)) }
+{
+    match &settings.mapping {
+        Some(path) => Ok(Some(mapping_file(rt, path)?)),
+        None => Ok(None),
+    }
+}
+
 /// The unit that a mapping's bytes describe: its entities are read before its functions.
 fn described(alloc: Global, bytes: &[u8]) -> Result<Unit, Cause>
     ensures unit { IsUnlessMemory result (spec.unit_in bytes.now) }
@@ -83,21 +95,25 @@ fn described(alloc: Global, bytes: &[u8]) -> Result<Unit, Cause>
     })
 }
 
-/// The unit that is served: that of the mapping file, or without one the program's own persons.
-fn unit_of(rt: &HostRuntime, settings: &Settings) -> Result<Unit, Cause>
-    ensures own { settings.now.mapping ≡ None → IsUnlessMemory result (Ok spec.own_unit) }
-    ensures described { IsSome settings.now.mapping → IfOk result spec.IsDescribed }
+/// The unit that is served without a mapping: the program's own persons, and no function.
+fn own_unit(alloc: Global) -> Result<Unit, Cause>
+    ensures unit { IsUnlessMemory result (Ok spec.own_unit) }
     ensures refused { IfErr result spec.IsMappingCause }
 {
-    match &settings.mapping {
-        Some(path) => {
-            let bytes = mapping_file(rt, path)?;
-            described(rt.alloc(), bytes.as_slice())
-        }
-        None => Ok(Unit {
-            metamodel: first_unit(rt.alloc())?,
-            registry: Registry::new(rt.alloc()),
-        }),
+    Ok(Unit {
+        metamodel: first_unit(alloc)?,
+        registry: Registry::new(alloc),
+    })
+}
+
+/// The unit of a mapping's bytes: the one that they describe, and of no bytes the program's own.
+fn unit_from(alloc: Global, mapping: Option<&[u8]>) -> Result<Unit, Cause>
+    ensures unit { IsUnlessMemory result (spec.unit_from (option_copied mapping.entry)) }
+    ensures refused { IfErr result spec.IsMappingCause }
+{
+    match mapping {
+        Some(bytes) => described(alloc, bytes),
+        None => own_unit(alloc),
     }
 }
 
@@ -163,15 +179,22 @@ fn serve_file(rt: &HostRuntime, path: &Text, unit: Unit) -> Result<Stop, Cause>
     Ok(stop)
 }
 
-/// Serves what the settings say; what is refused is refused before the first line.
-fn serve_as_said(rt: &HostRuntime, settings: &Settings) -> Result<Stop, Cause>
-    ensures { IsSome settings.now.mapping → OnOk result spec.DescribesServable }
+/// Serves the unit of a mapping's bytes over the store's file that is named, or without one over a store in memory.
+fn serve_mapping(rt: &HostRuntime, mapping: Option<&[u8]>, db: Option<&Text>) -> Result<Stop, Cause>
+    ensures served { OnOk result (spec.GivesServable (option_copied mapping.entry)) }
+    ensures refused { (cause : Cause) → spec.unit_from (option_copied mapping.entry) ≡ Err cause → IsErrAnd result (λ told. (told ≡ Cause.OutOfMemory) ⊎ (told ≡ cause)) }
 {
-    let unit = unit_of(rt, settings)?;
-    match &settings.db {
+    let unit = unit_from(rt.alloc(), mapping)?;
+    match db {
         Some(path) => serve_file(rt, path, unit),
         None => serve_in_memory(rt, unit),
     }
+}
+
+/// Serves what the settings say; what is refused is refused before the first line.
+fn serve_as_said(rt: &HostRuntime, settings: &Settings) -> Result<Stop, Cause> {
+    let mapping = mapping_bytes(rt, settings)?;
+    serve_mapping(rt, mapping.as_deref(), settings.db.as_ref())
 }
 
 /// Serves, and answers why it ended.

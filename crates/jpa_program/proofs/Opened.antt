@@ -1,16 +1,17 @@
 -- One reading after an opening: what both leave of the connection.
-use Rattle.std.specs.Prelude.{◌≡◌, [], length}
+use Rattle.std.specs.Prelude.{◌≡◌, ◌+◌, ℕ, [], length}
 use Rattle.std.proofs.Common.{refl, sym, ap, subst, ◌∙◌, arith, inl, inr}
+use Rattle.std.proofs.Math.Nat.{zero-add}
 use Rattle.sqlite_trees.specs.declared.store.Store.{Ghosts}
 use Rattle.sqlite.specs.Held.{Held, state}
 use Rattle.sqlite.specs.Schema.{Schema}
 use Rattle.sqlite.proofs.StateLemmas.{survives_then}
 use Rattle.jpa_cells_meaning.specs.Content.{Leaves}
 use Rattle.jpa_cells_meaning.specs.Schema.{cell_schema}
-use Rattle.jpa_cells_meaning.specs.Store.{Stored, IsOpen, Keeps, Opens, Endures, HoldsTable, HasFault, tables_in}
+use Rattle.jpa_cells_meaning.specs.Store.{Stored, up_to_greatest, new_store, IsOpen, Keeps, Opens, Endures, HoldsTable, HasFault, tables_in}
 use Rattle.jpa_cells_meaning.specs.Tables.{Tables}
 use Rattle.jpa_rowspace.proofs.Holding.{clean_before, endures_self}
-use Rattle.jpa_program.specs.Opening.{KeepsOrMakes, EnduresMaking}
+use Rattle.jpa_program.specs.Opening.{having_read, OpensReading, KeepsOrMakes, EnduresMaking}
 
 module _ {S : Type 0} (g : Ghosts S) where
   pub keeps_self : (conn : Held S) → Keeps g conn conn
@@ -25,11 +26,26 @@ module _ {S : Type 0} (g : Ghosts S) where
   opened_keeps old store (inl h) = inl (λ clean live. (subst (IsOpen g) (ap (λ (s : Stored S). s.conn) h.0) live, ap (λ (s : Stored S). tables_in g s.conn) h.0))
   opened_keeps old store (inr h) = inr (h.1, λ clean live. (h.2 clean).2)
 
-  pub none_selected : (old : Held S) (store : Stored S) → Opens g old store → store.table_selects ≡ 0
-  none_selected old store (inl h) = ap (λ (s : Stored S). s.table_selects) h.0
-  none_selected old store (inr h) = ap (λ (s : Stored S). s.table_selects) h.0
-
   -- ---- and a reading after it left
+
+  -- what a reading leaves of a store that counts nothing yet
+  read_anew :
+      (conn : Held S) (store new : Stored S) (creates tables : ℕ) → store ≡ new_store conn creates
+      → new ≡ record store { conn = new.conn; table_selects = new.table_selects; faults = new.faults }
+      → new.table_selects ≡ up_to_greatest (store.table_selects + tables) → new.faults ≡ store.faults → new ≡ having_read new.conn creates tables
+  read_anew conn store new creates tables fresh others selects faults =
+      let selected : new.table_selects ≡ up_to_greatest tables = selects ∙ ap (λ (s : Stored S). up_to_greatest (s.table_selects + tables)) fresh ∙ ap up_to_greatest (zero-add tables) in
+      let none : new.faults ≡ 0 = faults ∙ ap (λ (s : Stored S). s.faults) fresh in
+      others ∙ ap (λ (s : Stored S). record s { conn = new.conn; table_selects = new.table_selects; faults = new.faults }) fresh
+      ∙ ap (λ n. record (new_store new.conn creates) { table_selects = n; faults = new.faults }) selected
+      ∙ ap (λ n. record (new_store new.conn creates) { table_selects = up_to_greatest tables; faults = n }) none
+
+  pub opens_reading :
+      (old : Held S) (store new : Stored S) (tables : ℕ) → Opens g old store
+      → new ≡ record store { conn = new.conn; table_selects = new.table_selects; faults = new.faults }
+      → new.table_selects ≡ up_to_greatest (store.table_selects + tables) → new.faults ≡ store.faults → OpensReading g old new tables
+  opens_reading old store new tables (inl h) others selects faults = inl (read_anew old store new 0 tables h.0 others selects faults, h.1)
+  opens_reading old store new tables (inr h) others selects faults = inr (read_anew store.conn store new 1 tables h.0 others selects faults, h.1)
 
   pub kept_then : (old mid new : Held S) → KeepsOrMakes g old mid → Keeps g mid new → Endures g mid new (λ _. ⊥) → KeepsOrMakes g old new
   kept_then old mid new (inl first) second crash =

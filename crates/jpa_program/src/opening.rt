@@ -6,12 +6,12 @@ ghost use Rattle.jpa_behaviour.specs.Registered.{world_of};
 ghost use Rattle.jpa_rows.specs.Cells.{CanBeHeld};
 ghost use Rattle.jpa_rows.specs.Tables.{schema_of};
 ghost use Rattle.jpa_object_rows.specs.Sets.{rows_of};
-ghost use Rattle.jpa_cells_meaning.specs.Store.{up_to_greatest, IsClean, IsOpen, IsOrderedIfFound, Keeps, Opens, HoldsTable, HasFault};
+ghost use Rattle.jpa_cells_meaning.specs.Store.{IsClean, IsOpen, IsOrderedIfFound, Keeps, Opens, HoldsTable, HasFault};
 ghost use Rattle.jpa_rowspace.specs.Space.{HoldsRows, IsStoreCause};
 ghost use Rattle.jpa_functions.specs.Known as known;
 ghost use Rattle.jpa_provider.specs.Machine.{opened};
 ghost use Rattle.jpa_provider.specs.Served.{is_served};
-ghost use Rattle.jpa_program.specs.Opening.{KeepsOrMakes, EnduresMaking, HoldsCells, IsOpenCause};
+ghost use Rattle.jpa_program.specs.Opening.{OpensReading, KeepsOrMakes, EnduresMaking, HoldsCells, IsOpenCause};
 ghost use Rattle.jpa_program.specs.Run.{HoldsCommitted};
 
 use jpa_behaviour::{Behaviour, Registry};
@@ -53,7 +53,8 @@ fn rows_over<S: Alter + Drop>(
 }
 
 /// The rows of a metamodel over the cells of a database, and what they stand for. A database that is empty gets the table of
-/// cells, and is held to have no object. Refused, it hands the connection back.
+/// cells, and is held to have no object. Beside that the store counts one SELECT for each table of the metamodel, and no
+/// other statement and no fault. Refused, it hands the connection back.
 ///
 /// `Mapping(function)` where the metamodel names a listener, callback or converter that the registry lacks, before the store
 /// is looked at. Then `OutOfMemory` where a growth was refused, `StoreFault` where the database holds anything else than
@@ -73,7 +74,7 @@ pub fn open_rows<S: Alter + Drop, B: Behaviour>(
     ensures live { IfOk result (λ o. IsClean S.Store o.0.store.conn → IsOpen S.Store o.0.store.conn) }
     ensures opens { IfOk result (λ o. KeepsOrMakes S.Store conn o.0.store.conn) }
     ensures crash { IfOk result (λ o. EnduresMaking S.Store conn o.0.store.conn) }
-    ensures counted { IfOk result (λ o. o.0.store.table_selects ≡ up_to_greatest (length (schema_of metamodel.now).tables)) }
+    ensures counted { IfOk result (λ o. OpensReading S.Store conn o.0.store (length (schema_of metamodel.now).tables)) }
     ensures unknown { known.names_are_known registry.now metamodel.now ≡ false → result ≡ Err (Cause.Mapping MappingFault.Function, conn) }
     ensures refused { IfErr result (λ e. known.names_are_known registry.now metamodel.now ≡ true → IsOpenCause S.Store (world_of B.meaning metamodel.now registry.now) e.1 e.0) }
     ensures cause { IfErr result (λ e. e.0 ≡ Cause.StoreFault → IsClean S.Store e.1 → conn.in_transaction ≡ false → HoldsTable S.Store conn → HasFault S.Store conn e.1) }
@@ -95,8 +96,8 @@ pub fn open_rows<S: Alter + Drop, B: Behaviour>(
 }
 
 /// A provider of a metamodel over the cells of a database, with what they stand for committed: no object lives and no manager
-/// was made. A database that is empty gets the table of cells, and is held to have no object. Refused, it hands the
-/// connection back.
+/// was made. A database that is empty gets the table of cells, and is held to have no object. Beside that the store counts
+/// one SELECT for each table of the metamodel, and no other statement and no fault. Refused, it hands the connection back.
 ///
 /// `Mapping(model)` for a unit that is not served, and then `Mapping(function)` where it names a listener, callback or
 /// converter that the registry lacks, both before the store is looked at. Then `OutOfMemory` where a growth was refused,
@@ -117,7 +118,7 @@ pub fn open<S: Alter + Drop, B: Behaviour>(
     ensures live { IfOk result (λ provider. IsClean S.Store (provider.rows).store.conn → IsOpen S.Store (provider.rows).store.conn) }
     ensures opens { IfOk result (λ provider. KeepsOrMakes S.Store conn (provider.rows).store.conn) }
     ensures crash { IfOk result (λ provider. EnduresMaking S.Store conn (provider.rows).store.conn) }
-    ensures counted { IfOk result (λ provider. (provider.rows).store.table_selects ≡ up_to_greatest (length (schema_of metamodel).tables)) }
+    ensures counted { IfOk result (λ provider. OpensReading S.Store conn (provider.rows).store (length (schema_of metamodel).tables)) }
     ensures unserved { is_served metamodel ≡ false → result ≡ Err (Cause.Mapping MappingFault.Model, conn) }
     ensures unknown { is_served metamodel ≡ true → known.names_are_known registry metamodel ≡ false → result ≡ Err (Cause.Mapping MappingFault.Function, conn) }
     ensures refused { IfErr result (λ e. is_served metamodel ≡ true → known.names_are_known registry metamodel ≡ true → IsOpenCause S.Store (world_of B.meaning metamodel registry) e.1 e.0) }

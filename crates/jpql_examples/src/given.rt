@@ -1,33 +1,45 @@
 //! What stands on given lines.
+use crate::writer::Writer;
 use examples::Stop;
 use std::alloc::Global;
 
+/// The character that two hexadecimal digits stand for.
+fn escaped(digits: &str) -> Result<char, Stop> {
+    match u8::from_str_radix(digits, 16) {
+        Ok(code) => Ok(char::from(code)),
+        Err(_) => Err(Stop::Form),
+    }
+}
+
 /// Adds the character that two hexadecimal digits stand for, and what is after them.
-fn push_escaped(text: &mut String, part: &str) -> Result<(), Stop> {
+fn add_escaped(part: &str, out: &mut Writer) -> Result<(), Stop> {
     let Some((digits, rest)) = part.split_at_checked(2) else {
         return Err(Stop::Form);
     };
-    match u8::from_str_radix(digits, 16) {
-        Ok(code) => text.push(char::from(code))?,
-        Err(_) => return Err(Stop::Form),
-    }
-    text.push_str(rest)?;
+    out.show(&escaped(digits)?);
+    out.add(rest);
     Ok(())
 }
 
-/// The text of a line, in which a backslash and two hexadecimal digits stand for the character of that number.
-pub(crate) fn text_of(alloc: Global, line: &str) -> Result<String, Stop> {
-    let mut text = String::new(alloc);
+/// Adds the text of a line, in which a backslash and two hexadecimal digits stand for the character of that number.
+pub(crate) fn add_text(line: &str, out: &mut Writer) -> Result<(), Stop> {
     let mut is_escaped = false;
     for part in line.split('\\') {
         if is_escaped {
-            push_escaped(&mut text, part)?;
+            add_escaped(part, out)?;
         } else {
-            text.push_str(part)?;
+            out.add(part);
         }
         is_escaped = true;
     }
-    Ok(text)
+    Ok(())
+}
+
+/// The text of a line.
+pub(crate) fn text_of(alloc: Global, line: &str) -> Result<String, Stop> {
+    let mut out = Writer::new(alloc);
+    add_text(line, &mut out)?;
+    Ok(out.finish()?)
 }
 
 /// The number on a line.

@@ -11,13 +11,33 @@ mod places;
 mod queries;
 mod shown;
 mod typed;
+mod writer;
 
 use examples::{Answers, Stop, Unit, tell};
 use std::alloc::Global;
 use std::process::ExitCode;
+use writer::Writer;
 
 /// What this program answers.
 struct Program;
+
+/// Adds the answer to an example of this kind.
+fn add_answer(
+    alloc: Global,
+    unit: Unit<'_>,
+    kind: &str,
+    rows: &str,
+    given: &str,
+    out: &mut Writer,
+) -> Result<(), Stop> {
+    match kind {
+        "query" => queries::query_answers(alloc, given, out),
+        "repeated" => queries::repeated_answer(alloc, rows, given, out),
+        "typed" => typed::typed_answers(alloc, unit, rows, given, out),
+        "places" => places::places_answers(alloc, unit, rows, given, out),
+        _ => parts::part_answers(alloc, kind, rows, given, out),
+    }
+}
 
 impl Answers for Program {
     fn answer(
@@ -28,13 +48,9 @@ impl Answers for Program {
         rows: &str,
         given: &str,
     ) -> Result<String, Stop> {
-        match kind {
-            "query" => queries::query_answers(alloc, given),
-            "repeated" => queries::repeated_answer(alloc, rows, given),
-            "typed" => typed::typed_answers(alloc, unit, rows, given),
-            "places" => places::places_answers(alloc, unit, rows, given),
-            _ => parts::part_answers(alloc, kind, rows, given),
-        }
+        let mut out = Writer::new(alloc);
+        add_answer(alloc, unit, kind, rows, given, &mut out)?;
+        Ok(out.finish()?)
     }
 }
 

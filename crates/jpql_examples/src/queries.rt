@@ -1,57 +1,88 @@
 //! Texts of queries, which answer their trees or why they are refused.
-use crate::given::{number, text_of};
+use crate::given::{add_text, number, text_of};
 use crate::shown::show;
+use crate::writer::Writer;
 use examples::Stop;
 use jpa_value::{Argument, Cause};
 use jpql_text::{at_most_one_tree, read_query};
+use jpql_tree::Query;
 use std::alloc::Global;
 
-/// The tree of a text, which has one at most, or the name of its refusal.
-fn query_answer(alloc: Global, text: &str) -> Result<String, Stop> {
-    at_most_one_tree();
-    let name = match read_query(alloc, text) {
-        Ok(query) => {
-            let shown = show(alloc, &query);
-            drop(query);
-            return Ok(shown?);
-        }
-        Err(Cause::IllegalArgument(Argument::Syntax)) => "syntax",
-        Err(Cause::Limit) => "limit",
-        Err(cause) => return Err(Stop::Refused(cause)),
-    };
-    Ok(String::from_str(alloc, name)?)
+/// The name of a refusal that is an answer.
+fn refusal(cause: Cause) -> Result<&'static str, Stop> {
+    match cause {
+        Cause::IllegalArgument(Argument::Syntax) => Ok("syntax\n"),
+        Cause::Limit => Ok("limit\n"),
+        cause => Err(Stop::Refused(cause)),
+    }
 }
 
-/// A line for each text.
-pub(crate) fn query_answers(alloc: Global, given: &str) -> Result<String, Stop> {
-    let mut out = String::new(alloc);
-    for line in given.lines() {
-        let text = text_of(alloc, line)?;
-        out.push_str(query_answer(alloc, text.as_str())?.as_str())?;
-        out.push('\n')?;
+/// Adds a query as a line.
+fn add_query(query: &Query, out: &mut Writer) {
+    show(out, query);
+    out.add("\n");
+}
+
+/// Adds the name of a refusal.
+fn add_refusal(cause: Cause, out: &mut Writer) -> Result<(), Stop> {
+    out.add(refusal(cause)?);
+    Ok(())
+}
+
+/// The tree of a text, which has one at most, or the name of its refusal.
+fn query_answer(alloc: Global, text: &str, out: &mut Writer) -> Result<(), Stop> {
+    at_most_one_tree();
+    match read_query(alloc, text) {
+        Ok(query) => {
+            add_query(&query, out);
+            drop(query);
+            Ok(())
+        }
+        Err(cause) => add_refusal(cause, out),
     }
-    Ok(out)
+}
+
+/// The tree of the text on a line, or the name of its refusal.
+fn line_answer(alloc: Global, line: &str, out: &mut Writer) -> Result<(), Stop> {
+    let text = text_of(alloc, line)?;
+    query_answer(alloc, text.as_str(), out)
+}
+
+/// Adds a line for each text.
+pub(crate) fn query_answers(alloc: Global, given: &str, out: &mut Writer) -> Result<(), Stop> {
+    for line in given.lines() {
+        line_answer(alloc, line, out)?;
+    }
+    Ok(())
 }
 
 /// A text in which a part stands so many times between two others.
-fn repeated(alloc: Global, lines: &[&str], count: usize) -> Result<String, Stop> {
+fn add_repeated(lines: &[&str], count: usize, out: &mut Writer) -> Result<(), Stop> {
     let [before, part, after] = lines else {
         return Err(Stop::Form);
     };
-    let part = text_of(alloc, part)?;
-    let mut text = text_of(alloc, before)?;
+    add_text(before, out)?;
     for _ in 0..count {
-        text.push_str(part.as_str())?;
+        add_text(part, out)?;
     }
-    text.push_str(text_of(alloc, after)?.as_str())?;
-    Ok(text)
+    add_text(after, out)
 }
 
-/// The tree of a text that is given by three lines and how often the middle one stands in it, or why it is refused.
-pub(crate) fn repeated_answer(alloc: Global, rows: &str, given: &str) -> Result<String, Stop> {
+/// A text that is given by three lines and how often the middle one stands in it.
+fn repeated(alloc: Global, count: usize, given: &str) -> Result<String, Stop> {
     let lines: Vec<&str> = given.lines().collect(alloc)?;
-    let text = repeated(alloc, lines.as_slice(), number(rows)?)?;
-    let mut out = query_answer(alloc, text.as_str())?;
-    out.push('\n')?;
-    Ok(out)
+    let mut out = Writer::new(alloc);
+    add_repeated(lines.as_slice(), count, &mut out)?;
+    Ok(out.finish()?)
+}
+
+/// Adds the tree of a text that is given by three lines and how often the middle one stands in it, or why it is refused.
+pub(crate) fn repeated_answer(
+    alloc: Global,
+    rows: &str,
+    given: &str,
+    out: &mut Writer,
+) -> Result<(), Stop> {
+    let text = repeated(alloc, number(rows)?, given)?;
+    query_answer(alloc, text.as_str(), out)
 }

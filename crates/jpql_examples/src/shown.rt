@@ -1,20 +1,17 @@
 //! A tree as text: parentheses stand around each node that joins others.
+use crate::writer::Writer;
 use jpa_value::{Boxed, Text};
 use jpql_tree::{
     Aggregate, Arithmetic, Assignment, Block, Comparison, Condition, Function, Item, Join, Origin,
     Path, Query, Select, Sign, SortKey, Sorted, Source, Value,
 };
-use std::alloc::{AllocError, Global};
 
-type Written = Result<(), AllocError>;
-
-fn path(out: &mut String, path: &Path) -> Written {
-    out.push_str(path.variable.as_str())?;
+fn path(out: &mut Writer, path: &Path) {
+    out.add(path.variable.as_str());
     for name in path.names.as_slice() {
-        out.push_str(".")?;
-        out.push_str(name.as_str())?;
+        out.add(".");
+        out.add(name.as_str());
     }
-    Ok(())
 }
 
 fn function(function: Function) -> &'static str {
@@ -50,290 +47,324 @@ fn comparison(comparison: Comparison) -> &'static str {
     }
 }
 
-fn quoted(out: &mut String, before: &str, text: &Text, after: &str) -> Written {
-    out.push_str(before)?;
-    out.push_str(text.as_str())?;
-    out.push_str(after)
-}
-
-#[cycle(shown_value)]
-fn values(out: &mut String, values: &[Value]) -> Written {
-    out.push_str("[")?;
-    for one in values {
-        value(out, one)?;
-        out.push_str(";")?;
+fn signed(sign: Sign) -> &'static str {
+    match sign {
+        Sign::Plus => "(+",
+        Sign::Minus => "(-",
     }
-    out.push_str("]")
+}
+
+fn arithmetic(operation: Arithmetic) -> &'static str {
+    match operation {
+        Arithmetic::Plus => " + ",
+        Arithmetic::Minus => " - ",
+        Arithmetic::Times => " * ",
+    }
+}
+
+/// A word for what stands there.
+pub(crate) fn noted(out: &mut Writer, word: &str, is_there: bool) {
+    if is_there {
+        out.add(word);
+    }
+}
+
+fn quoted(out: &mut Writer, before: &str, text: &Text, after: &str) {
+    out.add(before);
+    out.add(text.as_str());
+    out.add(after)
 }
 
 #[cycle(shown_value)]
-fn value(out: &mut String, shown: &Value) -> Written {
+fn values(out: &mut Writer, values: &[Value]) {
+    out.add("[");
+    for one in values {
+        value(out, one);
+        out.add(";");
+    }
+    out.add("]")
+}
+
+#[cycle(shown_value)]
+fn value(out: &mut Writer, shown: &Value) {
     match shown {
-        Value::Integer(number) => write!(out, "{number}"),
+        Value::Integer(number) => out.show(number),
         Value::Text(text) => quoted(out, "'", text, "'"),
         Value::Parameter(name) => quoted(out, ":", name, ""),
         Value::Path(shown) => path(out, shown),
         Value::Signed(sign, operand) => {
-            out.push_str(match sign {
-                Sign::Plus => "(+",
-                Sign::Minus => "(-",
-            })?;
-            value(out, operand.get())?;
-            out.push_str(")")
+            out.add(signed(*sign));
+            value(out, operand.get());
+            out.add(")");
         }
         Value::Arithmetic(operation, left, right) => {
-            out.push_str("(")?;
-            value(out, left.get())?;
-            out.push_str(match operation {
-                Arithmetic::Plus => " + ",
-                Arithmetic::Minus => " - ",
-                Arithmetic::Times => " * ",
-            })?;
-            value(out, right.get())?;
-            out.push_str(")")
+            out.add("(");
+            value(out, left.get());
+            out.add(arithmetic(*operation));
+            value(out, right.get());
+            out.add(")");
         }
         Value::Call(called, all) => {
-            out.push_str(function(*called))?;
-            values(out, all.as_slice())
+            out.add(function(*called));
+            values(out, all.as_slice());
         }
         Value::Size(of) => {
-            out.push_str("SIZE ")?;
-            path(out, of)
+            out.add("SIZE ");
+            path(out, of);
         }
         Value::Aggregate(called, is_distinct, of) => {
-            out.push_str(aggregate(*called))?;
-            out.push_str(if *is_distinct { "[DISTINCT " } else { "[" })?;
-            value(out, of.get())?;
-            out.push_str("]")
+            out.add(aggregate(*called));
+            out.add(if *is_distinct { "[DISTINCT " } else { "[" });
+            value(out, of.get());
+            out.add("]");
         }
     }
 }
 
-fn joined(out: &mut String, left: &Value, between: &str, right: &Value) -> Written {
-    out.push_str("(")?;
-    value(out, left)?;
-    out.push_str(between)?;
-    value(out, right)?;
-    out.push_str(")")
+fn joined(out: &mut Writer, left: &Value, between: &str, right: &Value) {
+    out.add("(");
+    value(out, left);
+    out.add(between);
+    value(out, right);
+    out.add(")")
 }
 
-fn tested(out: &mut String, first: &Value, test: &str) -> Written {
-    out.push_str("(")?;
-    value(out, first)?;
-    out.push_str(test)
+fn tested(out: &mut Writer, first: &Value, test: &str) {
+    out.add("(");
+    value(out, first);
+    out.add(test)
 }
 
 /// A test that holds no condition.
-fn test(out: &mut String, shown: &Condition) -> Written {
+fn test(out: &mut Writer, shown: &Condition) {
     match shown {
         Condition::Compare(operation, left, right) => {
-            joined(out, left, comparison(*operation), right)
+            joined(out, left, comparison(*operation), right);
         }
         Condition::Between(first, least, greatest) => {
-            tested(out, first, " BETWEEN ")?;
-            value(out, least)?;
-            out.push_str(" AND ")?;
-            value(out, greatest)?;
-            out.push_str(")")
+            tested(out, first, " BETWEEN ");
+            value(out, least);
+            out.add(" AND ");
+            value(out, greatest);
+            out.add(")");
         }
         Condition::In(first, all) => {
-            tested(out, first, " IN ")?;
-            values(out, all.as_slice())?;
-            out.push_str(")")
+            tested(out, first, " IN ");
+            values(out, all.as_slice());
+            out.add(")");
         }
         Condition::Like(first, pattern, escape) => {
-            tested(out, first, " LIKE ")?;
-            value(out, pattern)?;
+            tested(out, first, " LIKE ");
+            value(out, pattern);
             if let Some(escape) = escape {
-                quoted(out, " ESCAPE '", escape, "'")?;
+                quoted(out, " ESCAPE '", escape, "'");
             }
-            out.push_str(")")
+            out.add(")");
         }
         Condition::IsNull(first) => tested(out, first, " IS NULL)"),
         Condition::IsEmpty(of) => {
-            out.push_str("(EMPTY ")?;
-            path(out, of)?;
-            out.push_str(")")
+            out.add("(EMPTY ");
+            path(out, of);
+            out.add(")");
         }
         Condition::Member(first, of) => {
-            tested(out, first, " MEMBER ")?;
-            path(out, of)?;
-            out.push_str(")")
+            tested(out, first, " MEMBER ");
+            path(out, of);
+            out.add(")");
         }
         Condition::Type(variable, entities) => {
-            quoted(out, "TYPE[", variable, ":")?;
+            quoted(out, "TYPE[", variable, ":");
             for entity in entities.as_slice() {
-                quoted(out, " ", entity, "")?;
+                quoted(out, " ", entity, "");
             }
-            out.push_str("]")
+            out.add("]");
         }
-        _ => Ok(()),
+        _ => {},
     }
 }
 
 #[cycle(shown)]
-fn condition(out: &mut String, shown: &Condition) -> Written {
+fn condition(out: &mut Writer, shown: &Condition) {
     match shown {
         Condition::Or(left, right) => {
-            out.push_str("(")?;
-            condition(out, left.get())?;
-            out.push_str(" OR ")?;
-            condition(out, right.get())?;
-            out.push_str(")")
+            out.add("(");
+            condition(out, left.get());
+            out.add(" OR ");
+            condition(out, right.get());
+            out.add(")");
         }
         Condition::And(left, right) => {
-            out.push_str("(")?;
-            condition(out, left.get())?;
-            out.push_str(" AND ")?;
-            condition(out, right.get())?;
-            out.push_str(")")
+            out.add("(");
+            condition(out, left.get());
+            out.add(" AND ");
+            condition(out, right.get());
+            out.add(")");
         }
         Condition::Not(inner) => {
-            out.push_str("(NOT ")?;
-            condition(out, inner.get())?;
-            out.push_str(")")
+            out.add("(NOT ");
+            condition(out, inner.get());
+            out.add(")");
         }
         Condition::Exists(inner) => {
-            out.push_str("EXISTS{")?;
-            block(out, inner.get())?;
-            out.push_str("}")
+            out.add("EXISTS{");
+            block(out, inner.get());
+            out.add("}");
         }
         _ => test(out, shown),
     }
 }
 
 #[cycle(shown)]
-fn clause(out: &mut String, word: &str, shown: &Option<Boxed<Condition>>) -> Written {
+fn clause(out: &mut Writer, word: &str, shown: &Option<Boxed<Condition>>) {
     if let Some(shown) = shown {
-        out.push_str(word)?;
-        condition(out, shown.get())?;
+        out.add(word);
+        condition(out, shown.get());
     }
-    Ok(())
 }
 
 #[cycle(shown)]
-fn join(out: &mut String, shown: &Join) -> Written {
-    out.push_str(if shown.is_left { " LEFT " } else { " JOIN " })?;
-    quoted(out, "", &shown.of, ".")?;
-    quoted(out, "", &shown.relation, " ")?;
-    out.push_str(shown.variable.as_str())?;
+fn join(out: &mut Writer, shown: &Join) {
+    out.add(if shown.is_left { " LEFT " } else { " JOIN " });
+    quoted(out, "", &shown.of, ".");
+    quoted(out, "", &shown.relation, " ");
+    out.add(shown.variable.as_str());
     clause(out, " ON ", &shown.on)
 }
 
 #[cycle(shown)]
-fn source(out: &mut String, shown: &Source) -> Written {
+fn source(out: &mut Writer, shown: &Source) {
     match &shown.origin {
-        Origin::Entity(entity) => quoted(out, "", entity, " ")?,
+        Origin::Entity(entity) => quoted(out, "", entity, " "),
         Origin::Related(of, relation) => {
-            quoted(out, "", of, ".")?;
-            quoted(out, "", relation, " ")?;
+            quoted(out, "", of, ".");
+            quoted(out, "", relation, " ");
         }
     }
-    out.push_str(shown.variable.as_str())?;
+    out.add(shown.variable.as_str());
     for one in shown.joins.as_slice() {
-        join(out, one)?;
+        join(out, one);
     }
-    out.push_str(";")
+    out.add(";")
 }
 
 #[cycle(shown)]
-fn sources(out: &mut String, shown: &[Source]) -> Written {
-    out.push_str(" FROM ")?;
+fn sources(out: &mut Writer, shown: &[Source]) {
+    out.add(" FROM ");
     for one in shown {
-        source(out, one)?;
+        source(out, one);
     }
-    Ok(())
 }
 
 #[cycle(shown)]
-fn block(out: &mut String, shown: &Block) -> Written {
-    out.push_str(if shown.is_distinct { "DISTINCT " } else { "" })?;
-    item(out, &shown.item)?;
-    sources(out, shown.sources.as_slice())?;
+fn block(out: &mut Writer, shown: &Block) {
+    noted(out, "DISTINCT ", shown.is_distinct);
+    item(out, &shown.item);
+    sources(out, shown.sources.as_slice());
     clause(out, " WHERE ", &shown.filter)
 }
 
-fn item(out: &mut String, shown: &Item) -> Written {
-    value(out, &shown.value)?;
+fn item(out: &mut Writer, shown: &Item) {
+    value(out, &shown.value);
     if let Some(name) = &shown.name {
-        quoted(out, " AS ", name, "")?;
+        quoted(out, " AS ", name, "");
     }
-    out.push_str(";")
+    out.add(";")
 }
 
-fn key(out: &mut String, shown: &SortKey) -> Written {
+fn key(out: &mut Writer, shown: &SortKey) {
     match &shown.by {
-        Sorted::Name(name) => quoted(out, " NAME ", name, "")?,
+        Sorted::Name(name) => quoted(out, " NAME ", name, ""),
         Sorted::Path(by) => {
-            out.push_str(" ")?;
-            path(out, by)?;
+            out.add(" ");
+            path(out, by);
         }
     }
-    out.push_str(if shown.is_descending { " DESC;" } else { ";" })
+    out.add(if shown.is_descending { " DESC;" } else { ";" })
 }
 
-fn select(out: &mut String, shown: &Select) -> Written {
-    out.push_str(if shown.is_distinct {
-        "SELECT DISTINCT "
-    } else {
-        "SELECT "
-    })?;
-    for one in shown.items.as_slice() {
-        item(out, one)?;
+fn items(out: &mut Writer, shown: &[Item]) {
+    for one in shown {
+        item(out, one);
     }
-    sources(out, shown.sources.as_slice())?;
-    clause(out, " WHERE ", &shown.filter)?;
-    for group in shown.groups.as_slice() {
-        out.push_str(" GROUP ")?;
-        path(out, group)?;
-    }
-    clause(out, " HAVING ", &shown.having)?;
-    for one in shown.order.as_slice() {
-        out.push_str(" ORDER")?;
-        key(out, one)?;
-    }
-    Ok(())
 }
 
-fn assignment(out: &mut String, shown: &Assignment) -> Written {
-    quoted(out, " ", &shown.variable, ".")?;
-    quoted(out, "", &shown.name, " = ")?;
+fn groups(out: &mut Writer, shown: &[Path]) {
+    for group in shown {
+        out.add(" GROUP ");
+        path(out, group);
+    }
+}
+
+fn order(out: &mut Writer, shown: &[SortKey]) {
+    for one in shown {
+        out.add(" ORDER");
+        key(out, one);
+    }
+}
+
+fn select(out: &mut Writer, shown: &Select) {
+    out.add("SELECT ");
+    noted(out, "DISTINCT ", shown.is_distinct);
+    items(out, shown.items.as_slice());
+    sources(out, shown.sources.as_slice());
+    clause(out, " WHERE ", &shown.filter);
+    groups(out, shown.groups.as_slice());
+    clause(out, " HAVING ", &shown.having);
+    order(out, shown.order.as_slice());
+}
+
+fn assignment(out: &mut Writer, shown: &Assignment) {
+    quoted(out, " ", &shown.variable, ".");
+    quoted(out, "", &shown.name, " = ");
     match &shown.value {
-        None => out.push_str("NULL")?,
-        Some(new) => value(out, new)?,
+        None => out.add("NULL"),
+        Some(new) => value(out, new),
     }
-    out.push_str(";")
+    out.add(";")
 }
 
-/// The query as text.
-pub(crate) fn show(alloc: Global, query: &Query) -> Result<String, AllocError> {
-    let mut out = String::new(alloc);
+fn update(
+    out: &mut Writer,
+    entity: &Text,
+    variable: &Text,
+    assignments: &[Assignment],
+    filter: &Option<Boxed<Condition>>,
+) {
+    quoted(out, "UPDATE ", entity, " ");
+    out.add(variable.as_str());
+    for one in assignments {
+        assignment(out, one);
+    }
+    clause(out, " WHERE ", filter);
+}
+
+fn delete(
+    out: &mut Writer,
+    entity: &Text,
+    variable: &Option<Text>,
+    filter: &Option<Boxed<Condition>>,
+) {
+    quoted(out, "DELETE ", entity, "");
+    if let Some(variable) = variable {
+        quoted(out, " ", variable, "");
+    }
+    clause(out, " WHERE ", filter);
+}
+
+/// Adds the query as text.
+pub(crate) fn show(out: &mut Writer, query: &Query) {
     match query {
-        Query::Select(shown) => select(&mut out, shown)?,
+        Query::Select(shown) => select(out, shown),
         Query::Update {
             entity,
             variable,
             assignments,
             filter,
-        } => {
-            quoted(&mut out, "UPDATE ", entity, " ")?;
-            out.push_str(variable.as_str())?;
-            for one in assignments.as_slice() {
-                assignment(&mut out, one)?;
-            }
-            clause(&mut out, " WHERE ", filter)?;
-        }
+        } => update(out, entity, variable, assignments.as_slice(), filter),
         Query::Delete {
             entity,
             variable,
             filter,
-        } => {
-            quoted(&mut out, "DELETE ", entity, "")?;
-            if let Some(variable) = variable {
-                quoted(&mut out, " ", variable, "")?;
-            }
-            clause(&mut out, " WHERE ", filter)?;
-        }
+        } => delete(out, entity, variable, filter),
     }
-    Ok(out)
 }

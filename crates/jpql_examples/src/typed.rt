@@ -1,5 +1,6 @@
 //! Texts of queries, which answer whether a mapping gives them types.
 use crate::given::{number, text_of};
+use crate::writer::Writer;
 use examples::{Stop, Unit};
 use jpa_mapping::read_mapping;
 use jpa_model::Metamodel;
@@ -53,19 +54,40 @@ fn name<T: Drop>(answer: Result<T, Cause>) -> Result<&'static str, Stop> {
     }
 }
 
-/// Whether each text is typed with the parameters on the rows, or why it isn't.
+/// Whether the text on a line is typed with these parameters, or why it isn't.
+fn typed_answer(
+    alloc: Global,
+    metamodel: &Metamodel,
+    parameters: &[(Text, ParamType)],
+    line: &str,
+) -> Result<&'static str, Stop> {
+    let text = text_of(alloc, line)?;
+    name(typed(alloc, metamodel, parameters, text.as_str()))
+}
+
+/// Whether the text on each line is typed with these parameters, or why it isn't.
+fn add_answers(
+    alloc: Global,
+    metamodel: &Metamodel,
+    parameters: &[(Text, ParamType)],
+    given: &str,
+    out: &mut Writer,
+) -> Result<(), Stop> {
+    for line in given.lines() {
+        out.add(typed_answer(alloc, metamodel, parameters, line)?);
+    }
+    Ok(())
+}
+
+/// Adds whether each text is typed with the parameters on the rows, or why it isn't.
 pub(crate) fn typed_answers(
     alloc: Global,
     unit: Unit<'_>,
     rows: &str,
     given: &str,
-) -> Result<String, Stop> {
-    let metamodel = read_mapping(alloc, unit.mapping.as_bytes())?;
+    out: &mut Writer,
+) -> Result<(), Stop> {
     let parameters = parameters(alloc, rows)?;
-    let mut out = String::new(alloc);
-    for line in given.lines() {
-        let text = text_of(alloc, line)?;
-        out.push_str(name(typed(alloc, &metamodel, parameters.as_slice(), text.as_str()))?)?;
-    }
-    Ok(out)
+    let metamodel = read_mapping(alloc, unit.mapping.as_bytes())?;
+    add_answers(alloc, &metamodel, parameters.as_slice(), given, out)
 }

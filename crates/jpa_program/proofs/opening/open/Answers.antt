@@ -1,7 +1,8 @@
-use Rattle.std.proofs.Common.{◌≡◌, ◌∙◌, ap, subst, sym}
+use Rattle.std.proofs.Common.{◌≡◌, ◌∙◌, ap, subst, sym, length}
 use Rattle.sqlite.specs.Held.{Held}
+use Rattle.jpa_rows.specs.Tables.{schema_of}
 use Rattle.jpa_rowspace.specs.Space.{Space}
-use Rattle.jpa_program.specs.Opening.{KeepsOrMakes}
+use Rattle.jpa_program.specs.Opening.{OpensReading, KeepsOrMakes}
 use Rattle.jpa_program.proofs.Standing.{made_holds}
 use Rattle.jpa_program.proofs.opening.open.Goals as goal
 
@@ -13,6 +14,10 @@ returns-in-Ok-new-clause-cells g c =
 pub returns-in-Ok-new-clause-opens : goal.returns-in-Ok-new-clause-opens
 returns-in-Ok-new-clause-opens g c =
     subst (λ (space : Space g.row.S.Denot). KeepsOrMakes g.S.Store c.args.conn space.store.conn) (sym c.in-Ok-new.ensures.rows) c.in-Ok.ensures.opens
+
+pub returns-in-Ok-new-clause-counted : goal.returns-in-Ok-new-clause-counted
+returns-in-Ok-new-clause-counted g c =
+    subst (λ (space : Space g.row.S.Denot). OpensReading g.S.Store c.args.conn space.store (length (schema_of c.args.metamodel).tables)) (sym c.in-Ok-new.ensures.rows) c.in-Ok.ensures.counted
 
 pub returns-in-Err-new-clause-kept : goal.returns-in-Err-new-clause-kept
 returns-in-Err-new-clause-kept g c =

@@ -4,8 +4,13 @@ use Rattle.jpa_behaviour.specs.Registered.{world_of}
 use Rattle.jpa_rowspace.specs.Space.{Space}
 use Rattle.jpa_program.specs.Opening.{KeepsOrMakes, EnduresMaking, IsOpenCause}
 use Rattle.jpa_cells_meaning.specs.Store.{IsClean, HasFault}
-use Rattle.jpa_program.proofs.Opened.{opened_keeps, kept_then, endures_then, fault_found}
+use Rattle.jpa_program.proofs.Opened.{opens_reading, opened_keeps, kept_then, endures_then, fault_found}
 use Rattle.jpa_program.proofs.opening.open_rows.Goals as goal
+
+pub returns-in-Ok-read_store-clause-counted : goal.returns-in-Ok-read_store-clause-counted
+returns-in-Ok-read_store-clause-counted g c =
+    let read = c.in-Ok-read_store.ensures in
+    opens_reading g.S.Store c.args.conn c.in-Ok.space.store c.read_store.new.space.store _ c.in-Ok.ensures.opens (ap (λ (s : Space g.row.S.Denot). s.store) read.others) read.counted read.told
 
 pub returns-in-Ok-read_store-clause-crash : goal.returns-in-Ok-read_store-clause-crash
 returns-in-Ok-read_store-clause-crash g c =

@@ -1,0 +1,15 @@
+use Rattle.std.proofs.lemmas.Result.{err_from_is_err_and}
+use Rattle.jpa.proofs.Held.{gives_servable}
+use Rattle.jpa.proofs.Steps.{told_as_wanted}
+use Rattle.jpa.proofs.serve_mapping.Goals as goal
+
+pub returns-in_err-unit-clause-refused : goal.returns-in_err-unit-clause-refused
+returns-in_err-unit-clause-refused c cause is =
+    let p = err_from_is_err_and c.from_residual.result c.from_residual.ensures.1 in
+    rw (p.1, p.2) (told_as_wanted _ cause _ c.in_err-unit.ensures.unit is)
+
+pub returns-in-Some-clause-served : goal.returns-in-Some-clause-served
+returns-in-Some-clause-served c = gives_servable _ c.in_ok-unit.unit c.serve_file.result c.in_ok-unit.ensures.unit c.serve_file.ensures
+
+pub returns-in-None-clause-served : goal.returns-in-None-clause-served
+returns-in-None-clause-served c = gives_servable _ c.in_ok-unit.unit c.serve_in_memory.result c.in_ok-unit.ensures.unit c.serve_in_memory.ensures
