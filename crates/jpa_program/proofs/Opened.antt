@@ -1,17 +1,21 @@
 -- One reading after an opening: what both leave of the connection.
-use Rattle.std.specs.Prelude.{◌≡◌, ◌+◌, ℕ, [], length}
+use Rattle.std.specs.Prelude.{◌≡◌, ◌⊎◌, ◌+◌, ℕ, List, [], length}
 use Rattle.std.proofs.Common.{refl, sym, ap, subst, ◌∙◌, arith, inl, inr}
 use Rattle.std.proofs.Math.Nat.{zero-add}
 use Rattle.sqlite_trees.specs.declared.store.Store.{Ghosts}
+use Rattle.jpa_value.specs.declared.refusal.Cause.{Cause}
+use Rattle.jpa_behaviour.specs.Behaviour.{World}
 use Rattle.sqlite.specs.Held.{Held, state}
 use Rattle.sqlite.specs.Schema.{Schema}
 use Rattle.sqlite.proofs.StateLemmas.{survives_then}
 use Rattle.jpa_cells_meaning.specs.Content.{Leaves}
 use Rattle.jpa_cells_meaning.specs.Schema.{cell_schema}
-use Rattle.jpa_cells_meaning.specs.Store.{Stored, up_to_greatest, new_store, IsOpen, Keeps, Opens, Endures, HoldsTable, HasFault, tables_in}
+use Rattle.jpa_cells_meaning.specs.Store.{Stored, up_to_greatest, new_store, IsOpen, Keeps, Opens, Endures, IsClean, HoldsTable, HasFault, tables_in}
 use Rattle.jpa_cells_meaning.specs.Tables.{Tables}
 use Rattle.jpa_rowspace.proofs.Holding.{clean_before, endures_self}
-use Rattle.jpa_program.specs.Opening.{having_read, OpensReading, KeepsOrMakes, EnduresMaking}
+use Rattle.jpa_judgment.specs.Damage.{AreDamagedAt}
+use Rattle.jpa_rowspace.specs.Space.{IsStoreCause}
+use Rattle.jpa_program.specs.Opening.{having_read, OpensReading, KeepsOrMakes, EnduresMaking, IsOpenCause}
 
 module _ {S : Type 0} (g : Ghosts S) where
   pub keeps_self : (conn : Held S) → Keeps g conn conn
@@ -65,3 +69,13 @@ module _ {S : Type 0} (g : Ghosts S) where
   pub fault_found : (old : Held S) (store : Stored S) (new : Held S) → Opens g old store → HoldsTable g old → HasFault g store.conn new → HasFault g old new
   fault_found old store new (inl h) held fault = subst (λ (c : Held S). HasFault g c new) (ap (λ (s : Stored S). s.conn) h.0) fault
   fault_found old store new (inr h) held fault = absurd (let none : length cell_schema.tables ≡ 0 = ap (λ (s : Schema). length s.tables) (sym held ∙ h.1) in omega arith)
+
+  -- ---- what is told of damaged cells
+
+  -- the connection is open where damage is told of it
+  pub damage_open :
+      (world : World) (conn : Held S) (cause : Cause) → (IsClean g conn → (t : ℕ) (bytes : List ℕ) → cause ≡ Cause.Damaged t bytes → IsOpen g conn)
+      → IsStoreCause cause ⊎ ((t : ℕ) × (bytes : List ℕ) × (cause ≡ Cause.Damaged t bytes) × (IsClean g conn → AreDamagedAt world (tables_in g conn) t bytes))
+      → IsOpenCause g world conn cause
+  damage_open world conn cause live (inl h) = inl h
+  damage_open world conn cause live (inr h) = inr (h.0, h.1, h.2, λ clean. (live clean h.0 h.1 h.2, h.3 clean))

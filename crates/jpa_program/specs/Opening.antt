@@ -34,9 +34,9 @@ module _ {S : Type 0} (g : Ghosts S) where
   abbrev pub HoldsCells : World → Held S → StoredSet → List ℕ → Type 0
   HoldsCells world conn set numbers = IsClean g conn → IsOpen g conn → StandFor world (cells_in world (tables_in g conn)) set numbers
 
-  -- over a clean disk the cells stand for no set and next numbers, and this is the place that is told of them
+  -- over a clean disk the connection is open, its cells stand for no set and next numbers, and this is the place that is told of them
   abbrev pub IsDamage : World → Held S → Cause → Type 0
-  IsDamage world conn cause = (t : ℕ) × (bytes : List ℕ) × (cause ≡ Cause.Damaged t bytes) × (IsClean g conn → AreDamagedAt world (tables_in g conn) t bytes)
+  IsDamage world conn cause = (t : ℕ) × (bytes : List ℕ) × (cause ≡ Cause.Damaged t bytes) × (IsClean g conn → IsOpen g conn × AreDamagedAt world (tables_in g conn) t bytes)
 
   -- want of memory, a fault of the store, or damaged cells
   abbrev pub IsOpenCause : World → Held S → Cause → Type 0

@@ -4,7 +4,7 @@ use Rattle.jpa_behaviour.specs.Registered.{world_of}
 use Rattle.jpa_rowspace.specs.Space.{Space}
 use Rattle.jpa_program.specs.Opening.{KeepsOrMakes, EnduresMaking, IsOpenCause}
 use Rattle.jpa_cells_meaning.specs.Store.{IsClean, HasFault}
-use Rattle.jpa_program.proofs.Opened.{opens_reading, opened_keeps, kept_then, endures_then, fault_found}
+use Rattle.jpa_program.proofs.Opened.{opens_reading, opened_keeps, kept_then, endures_then, fault_found, damage_open}
 use Rattle.jpa_program.proofs.opening.open_rows.Goals as goal
 
 pub returns-in-Ok-read_store-clause-counted : goal.returns-in-Ok-read_store-clause-counted
@@ -19,7 +19,9 @@ returns-in-Ok-read_store-clause-crash g c =
 pub returns-in-Err-read_store-clause-refused : goal.returns-in-Err-read_store-clause-refused
 returns-in-Err-read_store-clause-refused g c known =
     let same : c.into_connection.result ≡ c.read_store.new.space.store.conn = c.into_connection.ensures.same ∙ ap (λ (s : Space g.row.S.Denot). s.store.conn) c.space.view_is in
-    subst (λ (conn : Held g.row.S.Denot). IsOpenCause g.S.Store (world_of g.B.Behaviour.meaning c.args.metamodel.now c.args.registry.now) conn c.in-Err-read_store.cause) (sym same) c.in-Err-read_store.ensures.refused
+    subst (λ (conn : Held g.row.S.Denot). IsOpenCause g.S.Store (world_of g.B.Behaviour.meaning c.args.metamodel.now c.args.registry.now) conn c.in-Err-read_store.cause) (sym same)
+    (damage_open g.S.Store (world_of g.B.Behaviour.meaning c.args.metamodel.now c.args.registry.now) c.read_store.new.space.store.conn c.in-Err-read_store.cause
+    (λ clean t bytes is. (c.in-Err-read_store.ensures.live clean t bytes (ap (λ e. Err e) is)).1) c.in-Err-read_store.ensures.refused)
 
 pub returns-in-Err-read_store-clause-cause : goal.returns-in-Err-read_store-clause-cause
 returns-in-Err-read_store-clause-cause g c fault clean idle held =
