@@ -156,52 +156,116 @@ fn relation_text(
     )
 }
 
-/// The answer to a question.
+/// What a class itself says, and then its chain.
+fn whole_class_text(
+    alloc: Global,
+    metamodel: &Metamodel,
+    class: usize,
+) -> Result<String, AllocError>
+    requires { class < length metamodel.now.entities }
+{
+    let entity = entity_text(alloc, metamodel, class)?;
+    let chain = class_text(alloc, metamodel, class)?;
+    let (entity, chain) = (entity.as_str(), chain.as_str());
+    format!(in alloc; "{entity}, {chain}")
+}
+
+/// What the class of this name says; `none` where there is no such class.
+fn class_answer(alloc: Global, metamodel: &Metamodel, name: &str) -> Result<String, AllocError> {
+    match metamodel.class_of(name) {
+        Some(class) => whole_class_text(alloc, metamodel, class),
+        None => String::from_str(alloc, "none"),
+    }
+}
+
+/// What a name means in a class.
+fn member_answer(
+    alloc: Global,
+    metamodel: &Metamodel,
+    name: &str,
+    member: &str,
+) -> Result<String, Stop> {
+    let class = class_named(metamodel, name)?;
+    Ok(member_text(alloc, metamodel.member_of(class, member))?)
+}
+
+/// What a relation of a class says.
+fn relation_answer(
+    alloc: Global,
+    metamodel: &Metamodel,
+    name: &str,
+    place: &str,
+) -> Result<String, Stop> {
+    let class = class_named(metamodel, name)?;
+    let place = place_in(metamodel, class, place)?;
+    Ok(relation_text(alloc, metamodel, class, place)?)
+}
+
+/// Whether the objects of a class are of another one.
+fn kind_answer(alloc: Global, metamodel: &Metamodel, name: &str, of: &str) -> Result<String, Stop> {
+    let class = class_named(metamodel, name)?;
+    let is_kind = metamodel.is_kind_of(class, class_named(metamodel, of)?);
+    Ok(format!(in alloc; "{is_kind}")?)
+}
+
+/// Whether a relation of a class is held by the objects of another one.
+fn held_answer(
+    alloc: Global,
+    metamodel: &Metamodel,
+    name: &str,
+    place: &str,
+    by: &str,
+) -> Result<String, Stop> {
+    let class = class_named(metamodel, name)?;
+    let place = place_in(metamodel, class, place)?;
+    let is_held = metamodel.is_held_by(class, place, class_named(metamodel, by)?);
+    Ok(format!(in alloc; "{is_held}")?)
+}
+
+/// The answer to a question of these words.
 fn answer(alloc: Global, metamodel: &Metamodel, words: &[&str]) -> Result<String, Stop> {
     match words {
         ["unit"] => Ok(unit_text(alloc, metamodel)?),
-        ["class", name] => match metamodel.class_of(name) {
-            Some(class) => {
-                let entity = entity_text(alloc, metamodel, class)?;
-                let chain = class_text(alloc, metamodel, class)?;
-                let (entity, chain) = (entity.as_str(), chain.as_str());
-                Ok(format!(in alloc; "{entity}, {chain}")?)
-            }
-            None => Ok(String::from_str(alloc, "none")?),
-        },
-        ["member", name, member] => {
-            let class = class_named(metamodel, name)?;
-            Ok(member_text(alloc, metamodel.member_of(class, member))?)
-        }
-        ["relation", name, place] => {
-            let class = class_named(metamodel, name)?;
-            let place = place_in(metamodel, class, place)?;
-            Ok(relation_text(alloc, metamodel, class, place)?)
-        }
-        ["kind", name, of] => {
-            let class = class_named(metamodel, name)?;
-            let is_kind = metamodel.is_kind_of(class, class_named(metamodel, of)?);
-            Ok(format!(in alloc; "{is_kind}")?)
-        }
-        ["held", name, place, by] => {
-            let class = class_named(metamodel, name)?;
-            let place = place_in(metamodel, class, place)?;
-            let is_held = metamodel.is_held_by(class, place, class_named(metamodel, by)?);
-            Ok(format!(in alloc; "{is_held}")?)
-        }
+        ["class", name] => Ok(class_answer(alloc, metamodel, name)?),
+        ["member", name, member] => member_answer(alloc, metamodel, name, member),
+        ["relation", name, place] => relation_answer(alloc, metamodel, name, place),
+        ["kind", name, of] => kind_answer(alloc, metamodel, name, of),
+        ["held", name, place, by] => held_answer(alloc, metamodel, name, place, by),
         _ => Err(Stop::Form),
     }
 }
 
-/// For each question that is given: its answer on a line.
-pub(crate) fn metamodel_answer(alloc: Global, rows: &str, given: &str) -> Result<String, Stop> {
-    let mapping = long_text(alloc, rows)?;
-    let metamodel = read_mapping(alloc, mapping.as_bytes())?;
+/// Adds the answer to a question, on a line.
+fn push_answer(
+    alloc: Global,
+    metamodel: &Metamodel,
+    question: &str,
+    out: &mut String,
+) -> Result<(), Stop> {
+    let words: Vec<&str> = question.split(' ').collect(alloc)?;
+    let answer = answer(alloc, metamodel, words.as_slice())?;
+    out.push_str(answer.as_str())?;
+    out.push('\n')?;
+    Ok(())
+}
+
+/// For each question: its answer on a line.
+fn answers(alloc: Global, metamodel: &Metamodel, questions: &str) -> Result<String, Stop> {
     let mut out = String::new(alloc);
-    for question in given.lines() {
-        let words: Vec<&str> = question.split(' ').collect(alloc)?;
-        out.push_str(answer(alloc, &metamodel, words.as_slice())?.as_str())?;
-        out.push('\n')?;
+    for question in questions.lines() {
+        push_answer(alloc, metamodel, question, &mut out)?;
     }
     Ok(out)
+}
+
+/// The metamodel of the mapping of a long text.
+fn long_metamodel(alloc: Global, rows: &str) -> Result<Metamodel, Stop> {
+    let mapping = long_text(alloc, rows)?;
+    Ok(read_mapping(alloc, mapping.as_bytes())?)
+}
+
+/// For each question that is given: its answer on a line.
+pub(crate) fn metamodel_answer(alloc: Global, rows: &str, given: &str) -> Result<String, Stop> {
+    let metamodel = long_metamodel(alloc, rows)?;
+    answers(alloc, &metamodel, given)
 }
