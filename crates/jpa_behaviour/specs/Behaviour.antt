@@ -3,7 +3,8 @@
 use Rattle.std.specs.Prelude.{◌≡◌, ◌↔◌, ℕ, Bool, true, not, nat_le, length, ◌&&◌, List, [], Option, Some, None}
 use Rattle.std.specs.List.{list_all}
 use Rattle.jpa_value.specs.declared.value.Value.{Value}
-use Rattle.jpa_value.specs.Value.{is_null, most_bytes, is_representable}
+use Rattle.jpa_value.specs.Limits.{most_bytes}
+use Rattle.jpa_value.specs.Value.{is_null, is_representable}
 use Rattle.jpa_model.specs.declared.unit.PersistenceUnit.{PersistenceUnit}
 use Rattle.jpa_behaviour.specs.declared.Image.{Image}
 use Rattle.jpa_behaviour.specs.declared.Named.{Named}

@@ -4,7 +4,7 @@ ghost use Rattle.jpa_value.specs.declared.value.Value.{Value};
 ghost use Rattle.jpa_behaviour.specs.Behaviour.{is_convertible};
 ghost use Rattle.jpa_behaviour.specs.Registered as spec;
 
-use jpa_value::{Cause, Persist, Value};
+use jpa_value::{Cause, MOST_BYTES, Persist, Value};
 
 // Every integer of 64 bits counts.
 fn number_counts(number: i64) -> bool
@@ -17,13 +17,13 @@ fn number_counts(number: i64) -> bool
 fn text_counts(text: &str) -> bool
     ensures { result ≡ is_convertible (Value.Text text.now) }
 {
-    text.len() <= 65_535
+    text.len() <= MOST_BYTES
 }
 
 fn bytes_count(bytes: &[u8]) -> bool
     ensures { result ≡ is_convertible (Value.Bytes bytes.now) }
 {
-    bytes.len() <= 65_535
+    bytes.len() <= MOST_BYTES
 }
 
 /// Whether a value counts as an answer: it is not null, and at most 65,535 bytes long.

@@ -1,4 +1,5 @@
 -- What a line means, case by case.
+use Rattle.jpa_value.specs.Limits.{most_line_bytes}
 use Rattle.std.proofs.Common.{◌≡◌, ◌⊎◌, inl, inr, ℕ, ◌<◌, ◌≤◌, length, List, Result, Ok, Err, IfOk, IfErr, refl, ap, ◌∙◌, arith}
 use Rattle.std.proofs.lemmas.Bool.Decides.{nat_tests}
 use Rattle.std.specs.Option.{ok_or}
@@ -7,22 +8,22 @@ use Rattle.jpa_value.specs.declared.refusal.Cause.{Cause}
 use Rattle.jpa_value.specs.declared.refusal.Cause.TheVariants.{BadLine, OutOfMemory}
 use Rattle.jpa_json.specs.Outcome.{Gives, same, or_refuse}
 use Rattle.jpa_json.specs.declared.unread.Unread.{Unread}
-use Rattle.jpa_lines.specs.CallOf.{text_call, line_limit, meaning}
+use Rattle.jpa_lines.specs.CallOf.{text_call, meaning}
 
-pub long_line : (line : List ℕ) → line_limit < length line → meaning line ≡ Err Cause.Limit
+pub long_line : (line : List ℕ) → most_line_bytes < length line → meaning line ≡ Err Cause.Limit
 unfolding meaning
 long_line line long = grind (arith, nat_tests)
 
-pub short_line : (line : List ℕ) → length line ≤ line_limit → meaning line ≡ ok_or (text_call line) BadLine
+pub short_line : (line : List ℕ) → length line ≤ most_line_bytes → meaning line ≡ ok_or (text_call line) BadLine
 unfolding meaning
 short_line line short = grind (arith, nat_tests)
 
-pub call_found : (line : List ℕ) (r : Result Call Unread) → length line ≤ line_limit → Gives same r (text_call line) → IfOk (or_refuse BadLine r) (λ call. meaning line ≡ Ok call)
+pub call_found : (line : List ℕ) (r : Result Call Unread) → length line ≤ most_line_bytes → Gives same r (text_call line) → IfOk (or_refuse BadLine r) (λ call. meaning line ≡ Ok call)
 call_found line (Ok call) short h = short_line line short ∙ ap (λ o. ok_or o BadLine) h
 call_found line (Err Unread.Form) short h = tt
 call_found line (Err Unread.OutOfMemory) short h = tt
 
-pub call_refused : (line : List ℕ) (r : Result Call Unread) → length line ≤ line_limit → Gives same r (text_call line) → IfErr (or_refuse BadLine r) (λ e. (e ≡ OutOfMemory) ⊎ (meaning line ≡ Err e))
+pub call_refused : (line : List ℕ) (r : Result Call Unread) → length line ≤ most_line_bytes → Gives same r (text_call line) → IfErr (or_refuse BadLine r) (λ e. (e ≡ OutOfMemory) ⊎ (meaning line ≡ Err e))
 call_refused line (Ok call) short h = tt
 call_refused line (Err Unread.Form) short h = inr (short_line line short ∙ ap (λ o. ok_or o BadLine) h)
 call_refused line (Err Unread.OutOfMemory) short h = inl refl

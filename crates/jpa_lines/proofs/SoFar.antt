@@ -1,4 +1,5 @@
 -- A run, byte by byte.
+use Rattle.jpa_value.specs.Limits.{most_line_bytes}
 use Rattle.std.proofs.Common.{◌≡◌, ◌==◌, inl, inr, ℕ, suc, ◌+◌, ◌<◌, ◌≤◌, Bool, false, List, [], ◌∷◌, ◌++◌, length, take, Option, Some, None, Result, Ok, Err, refl, sym, ap, ◌∙◌, subst, arith, append_assoc, append-nil, length-take, get_or, drop, IfErr}
 use Rattle.std.proofs.lemmas.Bool.Decides.{nat_tests}
 use Rattle.std.proofs.lemmas.Bool.{cases_lt}
@@ -8,7 +9,7 @@ use Rattle.std.proofs.lemmas.List.Concat.{flat_map-append}
 use Rattle.jpa_protocol.specs.declared.call.Call.{Call}
 use Rattle.jpa_protocol.specs.declared.reply.Reply.{Reply}
 use Rattle.jpa_lines.specs.declared.run.RunFault.{RunFault}
-use Rattle.jpa_lines.specs.CallOf.{meaning, line_limit}
+use Rattle.jpa_lines.specs.CallOf.{meaning}
 use Rattle.jpa_lines.specs.ReplyText.{reply_text}
 use Rattle.jpa_lines.specs.Run.{onto_first, lines_of, AnswersTo, Answers, GoesOn, BreaksOff, Finishes, FailsToFinish, Runs, texts_of, fed_text, Breaks, ServesLine, Leaves, BreaksLine, IsUnbroken, kept_len, SoFar}
 use Rattle.jpa_lines.proofs.Lines.{long_line}
@@ -33,7 +34,7 @@ unbroken_more (y ∷ line) x h e = (h.0, unbroken_more line x h.1 e)
 -- ---- what is kept of a line means the same
 
 meaning_kept : (line : List ℕ) → meaning (take kept_len line) ≡ meaning line
-meaning_kept line = elim (cases_lt line_limit (length line)) [
+meaning_kept line = elim (cases_lt most_line_bytes (length line)) [
   | inl long ↦ long_line (take kept_len line) (omega (arith, length-take kept_len line)) ∙ sym (long_line line long)
   | inr short ↦ ap meaning (take_all kept_len line (omega arith))
 ]
@@ -169,7 +170,7 @@ no_more steps old held before first taken start s none =
 pub all_served : {M : Type 0} (steps : M → Call → Reply → M → Type 0) (old : M) (held : List ℕ) (before : Option (List ℕ)) → held ≡ [] → Finishes steps old old held before before
 all_served steps old held before empty first taken start s = record {
   replies = s.replies;
-  run = rw (no_more steps old held before first taken start s (none_kept line_limit s.current (sym empty ∙ s.kept))) s.run;
+  run = rw (no_more steps old held before first taken start s (none_kept most_line_bytes s.current (sym empty ∙ s.kept))) s.run;
   written = s.written;
 }
 

@@ -1,4 +1,5 @@
 -- Which call a line means.
+use Rattle.jpa_value.specs.Limits.{most_line_bytes}
 use Rattle.std.specs.Prelude.{◌==◌, ℕ, ℤ, nat_lt, List, length, codes, if◌then◌else◌, Option, Some, None, Result, Ok, Err, bytes_eq}
 use Rattle.std.specs.Option.{ok_or}
 use Rattle.hex.specs.Hex.{decode_of}
@@ -155,9 +156,6 @@ text_call text = do
 
 -- ---- lines
 
-abbrev pub line_limit : ℕ
-line_limit = 1048576
-
 -- what a line means: a call, or the refusal that answers it
 unfoldable pub meaning : List ℕ → Result Call Cause
-meaning line = if nat_lt line_limit (length line) then Err Limit else ok_or (text_call line) BadLine
+meaning line = if nat_lt most_line_bytes (length line) then Err Limit else ok_or (text_call line) BadLine

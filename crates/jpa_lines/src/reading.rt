@@ -8,12 +8,9 @@ ghost use Rattle.jpa_lines.specs.CallOf.{integer_at, hex_of, marked_of, given_of
 
 use jpa_json::{Described, Unread, json_of, member, only, or_refuse, str_at, text_at};
 use jpa_protocol::{Call, Given};
-use jpa_value::{Bytes, Cause, Seq, Text, Value};
+use jpa_value::{Bytes, Cause, MOST_LINE_BYTES, Seq, Text, Value};
 use serde_json::Value as Json;
 use std::alloc::Global;
-
-/// How many bytes a line may have, without its line feed.
-pub const LINE_LIMIT: usize = 1_048_576;
 
 /// The language of lines: what they are read as is `Described<Calls>`.
 struct Calls;
@@ -33,13 +30,13 @@ enum Word {
     Find,
 }
 
-/// The call that a line means. A line that is longer than `LINE_LIMIT` is refused as `Limit`, whatever it says, and
+/// The call that a line means. A line that is longer than `MOST_LINE_BYTES` is refused as `Limit`, whatever it says, and
 /// another one that is no call as `BadLine`. Whether its numbers and names name anything is not asked here.
 pub fn read_call(alloc: Global, line: &[u8]) -> Result<Call, Cause>
     ensures ok { IfOk result (λ call. meaning line.now ≡ Ok call) }
     ensures err { IfErr result (λ cause. (cause ≡ OutOfMemory) ⊎ (meaning line.now ≡ Err cause)) }
 {
-    if line.len() > LINE_LIMIT {
+    if line.len() > MOST_LINE_BYTES {
         return Err(Cause::Limit);
     }
     or_refuse(call_of_text(alloc, line), Cause::BadLine)

@@ -32,7 +32,7 @@ pub enum RunFault {
     Memory,
 }
 
-/// Answers each line of the input by a reply, until the input ends. Of a line at most `LINE_LIMIT` + 1 bytes are kept; what
+/// Answers each line of the input by a reply, until the input ends. Of a line at most `MOST_LINE_BYTES` + 1 bytes are kept; what
 /// is past them is skipped to its line feed. The output is flushed whenever the lines that were read are answered.
 ///
 /// Where a fault ends the run, the lines before it are answered and their replies written, but for at most the last

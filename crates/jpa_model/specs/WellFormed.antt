@@ -2,7 +2,7 @@
 use Rattle.std.specs.Prelude.{ℕ, ◌+◌, ℤ, pos, Bool, true, false, not, ◌&&◌, ◌||◌, ◌==◌, nat_le, int_le, List, [], ◌∷◌, length, Option, Some, None, is_some, count_by, sum_by, find, IsTrue}
 use Rattle.std.specs.List.{list_all, list_any, flat_map}
 use Rattle.std.specs.Ordering.{int_eq}
-use Rattle.jpa_value.specs.Value.{most_bytes}
+use Rattle.jpa_value.specs.Limits.{most_bytes}
 use Rattle.jpa_value.specs.declared.value.Kind.{Kind}
 use Rattle.jpa_model.specs.Chains.{same_name}
 use Rattle.jpa_model.specs.Drafted.{entity_at, classes, place_of, chain, chains, first_of, hierarchy, declared_by, member_names, columns, tables, discriminator, relations_of, event_of}

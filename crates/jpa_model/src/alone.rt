@@ -13,7 +13,7 @@ use crate::names::{
     place_by_name,
 };
 use crate::unit::Part;
-use jpa_value::{Kind, Text};
+use jpa_value::{Kind, MOST_BYTES, Text};
 
 /// The place of the entity of this name.
 pub(crate) fn place_of_entity(draft: &Draft, name: &Text) -> Option<usize>
@@ -142,8 +142,8 @@ fn discriminator_is_short(entity: &DraftEntity) -> bool
     ensures { result ≡ well.is_discriminator_short entity.now }
 {
     match &entity.discriminator {
-        Some(text) => text.as_bytes().len() <= 65_535,
-        None => entity.name.as_bytes().len() <= 65_535,
+        Some(text) => text.as_bytes().len() <= MOST_BYTES,
+        None => entity.name.as_bytes().len() <= MOST_BYTES,
     }
 }
 

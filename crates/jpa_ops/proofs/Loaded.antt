@@ -1,4 +1,5 @@
 -- What loading does to a work, in units without relations and listeners.
+use Rattle.jpa_value.specs.Limits.{most_objects}
 use Rattle.std.proofs.Common.{◌≡◌, ◌<◌, ℕ, Bool, true, false, List, [], ◌∷◌, ◌++◌, length, map, refl, ap, sym, subst, ◌∙◌, arith}
 use Rattle.std.specs.Prelude.{All, nat_lt, Option, Some, None, ◌==◌, if◌then◌else◌, is_some}
 use Rattle.std.specs.List.{AllByRecursion, enumerate_from}
@@ -28,7 +29,7 @@ use Rattle.jpa_context.specs.Steps.{◌>>◌, Op, Done, after, change, give, req
 use Rattle.jpa_context.specs.Work.{Work, object, entered, with_base}
 use Rattle.jpa_lifecycle.specs.Callbacks.{callback}
 use Rattle.jpa_lifecycle.specs.Flat.{IsFlat}
-use Rattle.jpa_ops.specs.Load.{most_objects, object_loaded, base_loaded, held_loaded, made, load, known, unread}
+use Rattle.jpa_ops.specs.Load.{object_loaded, base_loaded, held_loaded, made, load, known, unread}
 
 -- ---- the class of a row
 

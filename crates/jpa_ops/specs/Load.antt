@@ -1,4 +1,5 @@
 -- Loading an object, and finding one (Jakarta Persistence 3.1, chapters 3.1.1 find and 3.5 PostLoad).
+use Rattle.jpa_value.specs.Limits.{most_objects}
 use Rattle.std.specs.Prelude.{ℕ, Bool, true, false, not, nat_lt, ◌&&◌, List, [], ◌∷◌, ◌++◌, map, length, Option, Some, None, if◌then◌else◌}
 use Rattle.std.specs.List.{enumerate_from}
 use Rattle.jpa_value.specs.declared.value.Value.{Value}
@@ -19,10 +20,6 @@ use Rattle.jpa_model.specs.Chains.{is_kind_of, relations_of, root_of, is_to_one}
 use Rattle.jpa_stored.specs.Sets.{StoredSet, members}
 use Rattle.jpa_context.specs.Work.{Work, object, state_of, is_removed, instance, row, entered, with_base}
 use Rattle.jpa_lifecycle.specs.Callbacks.{callback}
-
--- the most objects that are ever made
-abbrev pub most_objects : ℕ
-most_objects = 1000000
 
 -- a to-one relation as it is loaded: not read yet
 abbrev pub unread_link : List Identity → Link

@@ -16,11 +16,8 @@ use jpa_heap::{Life, LiveObject};
 use jpa_lifecycle::callback;
 use jpa_model::Metamodel;
 use jpa_stored::Stored;
-use jpa_value::{Cause, Identity, Key, LifecycleEvent, Seq, TryCopy};
+use jpa_value::{Cause, Identity, Key, LifecycleEvent, MOST_OBJECTS, Seq, TryCopy};
 use std::alloc::Global;
-
-/// The most objects that are ever made.
-const MOST_OBJECTS: usize = 1_000_000;
 
 /// A row of an entity without relations as an object of a manager.
 fn object_loaded(

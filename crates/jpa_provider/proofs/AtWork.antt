@@ -1,4 +1,5 @@
 -- What holds while a manager is at work, and how the machine gives the work and takes it back.
+use Rattle.jpa_value.specs.Limits.{most_managers, most_objects}
 use Rattle.std.proofs.Common.{◌≡◌, ◌≢◌, ◌<◌, ◌≤◌, ◌⊎◌, inl, inr, ℕ, Bool, true, false, List, length, refl, ap, sym, subst, ◌∙◌}
 use Rattle.std.specs.Prelude.{slice_index_or, slice_set, nat_le, Option, Some, None, ◌==◌, if◌then◌else◌}
 use Rattle.std.specs.List.{All, list_any}
@@ -14,9 +15,7 @@ use Rattle.jpa_heap.specs.Objects.{object_at}
 use Rattle.jpa_context.specs.declared.Entry.{Entry}
 use Rattle.jpa_context.specs.Work.{Work, object}
 use Rattle.jpa_context.specs.Steps.{Outcome, Done, Refused, Op, after, require}
-use Rattle.jpa_ops.specs.Load.{most_objects}
 use Rattle.jpa_provider.specs.Machine.{Machine, Manager, Transaction, manager_at, no_manager, work_of, kept, seen_in, view_in}
-use Rattle.jpa_provider.specs.Step.{most_managers}
 use Rattle.jpa_provider.specs.Invariant.{IsMachine, IsManager, IsTransaction, IsLive, IsEntry, are_one, is_idle, stands_in, context_of}
 use Rattle.jpa_provider.proofs.Facts.{held_more, numbers_same, numbers_trans}
 

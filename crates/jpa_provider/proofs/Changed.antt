@@ -1,4 +1,5 @@
 -- What is kept where one live object changes, and the outcome of set.
+use Rattle.jpa_value.specs.Limits.{most_objects}
 use Rattle.std.proofs.Common.{◌≡◌, ◌≢◌, ◌<◌, ◌≤◌, ◌⊎◌, inl, inr, ℕ, zero, suc, Bool, true, false, List, length, refl, ap, sym, subst, ◌∙◌, arith}
 use Rattle.std.specs.Prelude.{slice_set, nat_lt, Option, Some, None, if◌then◌else◌, ℤ, pos, negsuc, is_some, Result, Ok, Err}
 use Rattle.std.specs.List.{All}
@@ -25,7 +26,6 @@ use Rattle.jpa_provider.specs.Calls.{object_numbered, handed, concluded, marks_i
 use Rattle.jpa_provider.specs.Step.{set_call, on_object, holder}
 use Rattle.jpa_provider.specs.Invariant.{IsMachine, IsLive, is_held_by, stands_in, context_of, given_representable}
 use Rattle.jpa_lifecycle.specs.Flat.{IsFlat}
-use Rattle.jpa_ops.specs.Load.{most_objects}
 use Rattle.jpa_provider.proofs.Facts.{numbers_same}
 use Rattle.jpa_provider.proofs.SameManagers.{same_machine}
 use Rattle.jpa_provider.proofs.AtWork.{HoldsAfter, after_holds, require_holds}

@@ -1,4 +1,5 @@
 -- What holds of the machine is kept by a new object and by set.
+use Rattle.jpa_value.specs.Limits.{most_objects}
 use Rattle.std.proofs.Common.{◌≡◌, ◌<◌, ◌+◌, ℕ, suc, Bool, true, false, List, [], ◌∷◌, ◌++◌, length, refl, ap, sym, subst, ◌∙◌, arith}
 use Rattle.std.specs.Prelude.{slice_set, slice_get, nat_lt, Option, Some, None, if◌then◌else◌, ℤ, Result, Ok, Err, option_map, is_some}
 use Rattle.std.specs.List.{position_from}
@@ -23,7 +24,6 @@ use Rattle.jpa_heap.specs.declared.Handed.{Handed}
 use Rattle.jpa_heap.specs.declared.LiveObject.{LiveObject}
 use Rattle.jpa_heap.specs.Objects.{new_object, is_new, to_version}
 use Rattle.jpa_heap.specs.Assign.{fits_part, fits_version, fits_plain, plain, fits_link, link_to, unless_refused, set_member}
-use Rattle.jpa_ops.specs.Load.{most_objects}
 use Rattle.jpa_provider.specs.Machine.{Machine}
 use Rattle.jpa_provider.specs.Calls.{because}
 use Rattle.jpa_provider.specs.Step.{make_new, made_new}

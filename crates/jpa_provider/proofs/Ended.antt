@@ -1,4 +1,5 @@
 -- What holds of the machine is kept where a transaction ends: objects are detached, and a context keeps the others.
+use Rattle.jpa_value.specs.Limits.{most_managers, most_objects}
 use Rattle.std.proofs.Common.{◌≡◌, ◌≢◌, ◌<◌, ◌≤◌, ◌⊎◌, inl, inr, ℕ, Bool, true, false, List, [], ◌∷◌, length, map, refl, ap, sym, subst, ◌∙◌, arith}
 use Rattle.std.specs.Prelude.{slice_index_or, slice_set, not, None, ◌==◌, ◌&&◌, ◌||◌, if◌then◌else◌}
 use Rattle.std.specs.List.{All, AllByRecursion, list_any, filter}
@@ -13,10 +14,8 @@ use Rattle.jpa_heap.specs.declared.LiveObject.{LiveObject}
 use Rattle.jpa_heap.specs.Objects.{object_at, no_object, with_life}
 use Rattle.jpa_context.specs.declared.Entry.{Entry}
 use Rattle.jpa_context.specs.Work.{Work, object, state_of, is_removed}
-use Rattle.jpa_ops.specs.Load.{most_objects}
 use Rattle.jpa_ops.specs.States.{detach_each}
 use Rattle.jpa_provider.specs.Machine.{Machine, Manager, manager_at, no_manager, rolled_back, committed_after, unlocked}
-use Rattle.jpa_provider.specs.Step.{most_managers}
 use Rattle.jpa_provider.specs.Invariant.{IsMachine, IsManager, IsLive, IsEntry, is_held_by, stands_in, context_of, are_one, is_idle, base_fits, name_of}
 use Rattle.jpa_provider.proofs.Facts.{numbers_same}
 use Rattle.jpa_provider.proofs.AtWork.{IsAtWork, contexts, managers_set, stands_same, taken, contexts_set}

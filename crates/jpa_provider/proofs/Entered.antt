@@ -1,5 +1,6 @@
 -- What holds while a manager is at work is kept where an object enters its context, and by persist as a whole, in units
 -- without relations and listeners.
+use Rattle.jpa_value.specs.Limits.{most_objects}
 use Rattle.std.proofs.Common.{◌≡◌, ◌≢◌, ◌<◌, ◌≤◌, ℕ, Bool, true, false, List, [], ◌∷◌, ◌++◌, length, refl, ap, sym, subst, ◌∙◌, arith}
 use Rattle.std.specs.Prelude.{slice_set, not, Option, Some, None, ◌==◌, ◌&&◌, ◌||◌, if◌then◌else◌, ℤ, is_some}
 use Rattle.std.specs.List.{AllByRecursion, list_any, find}
@@ -27,7 +28,6 @@ use Rattle.jpa_context.specs.Steps.{each}
 use Rattle.jpa_cascade.specs.declared.Operation.{Operation}
 use Rattle.jpa_cascade.proofs.Plain.{plain_waves}
 use Rattle.jpa_lifecycle.specs.Callbacks.{callback}
-use Rattle.jpa_ops.specs.Load.{most_objects}
 use Rattle.jpa_ops.specs.States.{persist, persist_one, persist_node, become_managed, give_key, pre_persist_if, has_instance}
 use Rattle.jpa_provider.specs.Machine.{Machine}
 use Rattle.jpa_provider.specs.Calls.{object_numbered}

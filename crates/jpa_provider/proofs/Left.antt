@@ -1,4 +1,5 @@
 -- What a refused call leaves, what a rollback keeps, and that no next number falls.
+use Rattle.jpa_value.specs.Limits.{most_managers, most_objects, most_open_managers}
 use Rattle.std.proofs.Common.{◌≡◌, ◌<◌, ◌⊎◌, inl, inr, ℕ, ℤ, Bool, true, false, List, [], ◌∷◌, map, length, refl, ap, sym, subst, ◌∙◌}
 use Rattle.std.specs.Prelude.{Option, Some, None, IsErr, ◌&&◌, nat_lt, nat_le, count_by, slice_set}
 use Rattle.std.proofs.lemmas.Bool.{cond_both, false≢true}
@@ -14,7 +15,6 @@ use Rattle.jpa_context.specs.declared.Entry.{Entry}
 use Rattle.jpa_context.specs.Work.{Work}
 use Rattle.jpa_context.specs.Steps.{Outcome, Done, Refused, after}
 use Rattle.jpa_lifecycle.specs.Flat.{IsFlat}
-use Rattle.jpa_ops.specs.Load.{most_objects}
 use Rattle.jpa_ops.specs.Members.{get}
 use Rattle.jpa_ops.specs.States.{detach_each}
 use Rattle.jpa_protocol.specs.declared.call.Call.{Call}
@@ -23,7 +23,7 @@ use Rattle.jpa_protocol.specs.declared.reply.Reply.{Reply}
 use Rattle.jpa_provider.specs.Machine.{Machine, Manager, Transaction, manager_at, no_manager, is_busy, work_of, marked, marked_in, rolled_back}
 use Rattle.jpa_provider.specs.Calls.{because, concluded, marks, marks_if_callback, marked_if, nothing, object_or_null, got, object_numbered}
 use Rattle.jpa_provider.specs.Transactions.{begin, begin_in, commit, commit_in, commit_if, commit_of, commit_work, rollback, rollback_in, set_rollback_only, only_rollback_in}
-use Rattle.jpa_provider.specs.Step.{Step, most_open, most_managers, create, made_new, if_open, by_manager, holder, set_call, persist_call, find_call, outcome}
+use Rattle.jpa_provider.specs.Step.{Step, create, made_new, if_open, by_manager, holder, set_call, persist_call, find_call, outcome}
 use Rattle.jpa_provider.specs.Invariant.{IsMachine, hands_representable}
 use Rattle.jpa_provider.specs.Serving.{is_commit}
 use Rattle.jpa_provider.specs.Left.{unmarked, unmarked_in, stateless, LivesAsBefore, HoldsSameValues, is_rollback}
@@ -76,7 +76,7 @@ module _ (M : Machine) where
 
   create_left : IsLeft (create M)
   create_left =
-      cond_both (nat_lt (count_by (λ (x : Manager). x.is_open) M.managers) most_open && nat_lt (length M.managers) most_managers) _ _ (λ (o : Reply × Machine). IsErr (o.0).answer → LivesAsBefore M o.1)
+      cond_both (nat_lt (count_by (λ (x : Manager). x.is_open) M.managers) most_open_managers && nat_lt (length M.managers) most_managers) _ _ (λ (o : Reply × Machine). IsErr (o.0).answer → LivesAsBefore M o.1)
       (λ l h. absurd (false≢true h)) (λ l h. same)
 
   made_left : (world : World) (o : Option ℕ) → IsLeft (made_new world M o)
@@ -240,7 +240,7 @@ module _ (M : Machine) where
 
     outcome_rises : (call : Call) → hands_representable call ≡ true → Rises (outcome world M call).1
     outcome_rises Call.CreateEntityManager rep =
-        cond_both (nat_lt (count_by (λ (x : Manager). x.is_open) M.managers) most_open && nat_lt (length M.managers) most_managers) _ _ (λ (o : Reply × Machine). Rises o.1) (λ l. stay) (λ l. stay)
+        cond_both (nat_lt (count_by (λ (x : Manager). x.is_open) M.managers) most_open_managers && nat_lt (length M.managers) most_managers) _ _ (λ (o : Reply × Machine). Rises o.1) (λ l. stay) (λ l. stay)
     outcome_rises (Call.NewObject name) rep =
         cond_both (nat_lt (length M.objects) most_objects) (made_new world M (class_of world.model name)) (because M Cause.Limit) (λ (o : Reply × Machine). Rises o.1) (λ l. made_stays world (class_of world.model name)) (λ l. stay)
     outcome_rises (Call.SetValue object name value) rep =

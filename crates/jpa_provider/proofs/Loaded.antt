@@ -1,4 +1,5 @@
 -- What holds while a manager is at work is kept by find, in units without relations and listeners.
+use Rattle.jpa_value.specs.Limits.{most_objects}
 use Rattle.std.proofs.Common.{◌≡◌, ◌<◌, ℕ, Bool, true, false, List, [], ◌∷◌, ◌++◌, length, map, refl, ap, sym, subst, ◌∙◌, arith}
 use Rattle.std.specs.Prelude.{nat_lt, Option, Some, None, ◌==◌, ◌&&◌, if◌then◌else◌, ℤ, is_some}
 use Rattle.std.specs.List.{AllByRecursion, list_all}
@@ -33,7 +34,7 @@ use Rattle.jpa_context.specs.declared.Lock.{Lock}
 use Rattle.jpa_context.specs.declared.Entry.{Entry}
 use Rattle.jpa_context.specs.Work.{Work, identity_at, instance, row, has_identity, entered, with_base}
 use Rattle.jpa_lifecycle.specs.Callbacks.{callback}
-use Rattle.jpa_ops.specs.Load.{most_objects, object_loaded, base_loaded, held_loaded, made, load, found, found_row, find, known}
+use Rattle.jpa_ops.specs.Load.{object_loaded, base_loaded, held_loaded, made, load, found, found_row, find, known}
 use Rattle.jpa_ops.proofs.Loaded.{no_held, no_members}
 use Rattle.jpa_protocol.specs.declared.call.Given.{Given}
 use Rattle.jpa_provider.specs.Machine.{Machine}

@@ -1,4 +1,5 @@
 -- At most one manager has an open transaction: each call keeps it so, in every unit.
+use Rattle.jpa_value.specs.Limits.{most_managers, most_objects, most_open_managers}
 use Rattle.std.proofs.Common.{◌≡◌, inl, inr, ℕ, zero, suc, Bool, true, false, List, [], ◌∷◌, ◌++◌, length, refl, ap, sym, subst, ◌∙◌}
 use Rattle.std.specs.Prelude.{slice_index_or, slice_set, Option, Some, None, ◌&&◌, nat_lt, count_by}
 use Rattle.std.specs.List.{list_any}
@@ -9,7 +10,6 @@ use Rattle.jpa_behaviour.specs.Behaviour.{World}
 use Rattle.jpa_heap.specs.Objects.{place_of}
 use Rattle.jpa_stored.specs.Sets.{StoredSet}
 use Rattle.jpa_context.specs.Steps.{Outcome, Done, Refused, after}
-use Rattle.jpa_ops.specs.Load.{most_objects}
 use Rattle.jpa_ops.specs.Members.{get}
 use Rattle.jpa_protocol.specs.declared.call.Call.{Call}
 use Rattle.jpa_protocol.specs.declared.reply.Answer.{Answer}
@@ -18,7 +18,7 @@ use Rattle.jpa_provider.specs.Machine.{Machine, Manager, Transaction, manager_at
 use Rattle.jpa_provider.specs.Calls.{because, concluded, marked_if, marks, marks_if_callback, nothing, object_or_null, got, object_numbered}
 use Rattle.jpa_provider.specs.Transactions.{begin, begin_in, begun, rollback, rollback_in, set_rollback_only, only_rollback_in, commit, commit_in, commit_if, commit_of, commit_work}
 use Rattle.jpa_provider.specs.Machine.{work_of}
-use Rattle.jpa_provider.specs.Step.{Step, most_open, most_managers, create, made_new, if_open, holder, set_call, persist_call, find_call, outcome}
+use Rattle.jpa_provider.specs.Step.{Step, create, made_new, if_open, holder, set_call, persist_call, find_call, outcome}
 use Rattle.jpa_provider.specs.Invariant.{HasOneTransaction}
 
 -- no manager has a transaction that had none
@@ -113,7 +113,7 @@ module _ (M : Machine) (h : HasOneTransaction M) where
 
   create_one : HasOneTransaction (create M).1
   create_one =
-      cond_both (nat_lt (count_by (λ (x : Manager). x.is_open) M.managers) most_open && nat_lt (length M.managers) most_managers) _ _ (λ (o : Reply × Machine). HasOneTransaction o.1)
+      cond_both (nat_lt (count_by (λ (x : Manager). x.is_open) M.managers) most_open_managers && nat_lt (length M.managers) most_managers) _ _ (λ (o : Reply × Machine). HasOneTransaction o.1)
       (λ l. one_kept M (record M { managers = M.managers ++ new_manager ∷ [] }) (flag_more M.managers) h) (λ l. h)
 
   made_one : (world : World) (o : Option ℕ) → HasOneTransaction (made_new world M o).1

@@ -1,4 +1,5 @@
 -- How managers and objects are made, and transactions begin, are marked and roll back.
+use Rattle.jpa_value.specs.Limits.{most_managers, most_objects, most_open_managers}
 use Rattle.std.proofs.Common.{◌≡◌, ◌<◌, ◌≤◌, ◌+◌, inl, inr, ℕ, suc, ℤ, drop, get_or, Bool, true, false, List, [], ◌∷◌, ◌++◌, length, refl, ap, sym, ◌∙◌, arith}
 use Rattle.std.specs.Prelude.{Option, Some, None, Ok, Err, if◌then◌else◌, slice_get, slice_set, nat_lt, count_by, ◌&&◌, ◌||◌}
 use Rattle.std.specs.List.{list_any, filter}
@@ -22,7 +23,6 @@ use Rattle.jpa_heap.specs.declared.Life.{Life}
 use Rattle.jpa_heap.specs.Objects.{new_object, no_object, object_at, place_of}
 use Rattle.jpa_context.specs.declared.Entry.{Entry}
 use Rattle.jpa_context.specs.declared.work.UnitOfWork.{UnitOfWork}
-use Rattle.jpa_ops.specs.Load.{most_objects}
 use Rattle.jpa_ops.specs.States.{detach_each}
 use Rattle.jpa_provider.specs.declared.session.Status.{Status}
 use Rattle.jpa_provider.specs.declared.session.EntityManager.{EntityManager}
@@ -30,7 +30,7 @@ use Rattle.jpa_provider.specs.declared.session.Session.{Session}
 use Rattle.jpa_provider.specs.Machine.{Machine, Manager, manager_at, new_manager, is_begun, has_transaction, marked, rolled_back, with_manager}
 use Rattle.jpa_provider.specs.Calls.{because}
 use Rattle.jpa_provider.specs.Transactions.{begin, begin_in, begun, rollback, rollback_in, set_rollback_only, only_rollback_in}
-use Rattle.jpa_provider.specs.Step.{by_manager, outcome, made_new, most_open, most_managers}
+use Rattle.jpa_provider.specs.Step.{by_manager, outcome, made_new}
 use Rattle.jpa_provider.specs.Serving.{transaction_in, manager_of, managers_of, manager_in, nobody, machine_of, Serves}
 use Rattle.jpa_provider.proofs.Sessions.{manager_there, managers_changed, managers_count}
 use Rattle.jpa_provider.proofs.Worked.{of_manager, of_nobody}
@@ -51,7 +51,7 @@ all_open : (set : StoredSet) (xs : List EntityManager) → count_by (λ (x : Man
 all_open set xs = sym (length-filter (λ (x : Manager). x.is_open) (managers_of set xs)) ∙ ap length (none_closed set xs) ∙ length-map xs (manager_of set)
 
 abbrev may_open : ℕ → ℕ → Bool
-may_open opened made = nat_lt opened most_open && nat_lt made most_managers
+may_open opened made = nat_lt opened most_open_managers && nat_lt made most_managers
 
 may_create : (s : Session) → may_open (count_by (λ (x : Manager). x.is_open) (machine_of s).managers) (length (machine_of s).managers) ≡ may_open (length s.managers.items) (length s.managers.items)
 may_create s = λ i. may_open (all_open s.work.view.now s.managers.items i) (managers_count s i)

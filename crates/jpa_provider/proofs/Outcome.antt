@@ -1,4 +1,5 @@
 -- What holds of the machine between calls is kept by each call: here for units without relations and listeners.
+use Rattle.jpa_value.specs.Limits.{most_managers, most_open_managers}
 use Rattle.std.proofs.Common.{◌≡◌, ◌<◌, inl, inr, ℕ, Bool, true, false, List, [], ◌∷◌, length, refl, ap, sym, subst}
 use Rattle.std.specs.Prelude.{Option, Some, None, ◌&&◌, nat_lt, ℤ, count_by}
 use Rattle.std.specs.List.{list_all}
@@ -13,7 +14,7 @@ use Rattle.jpa_protocol.specs.declared.reply.Reply.{Reply}
 use Rattle.jpa_provider.specs.Machine.{Machine, Manager, Transaction, manager_at, is_busy, work_of}
 use Rattle.jpa_provider.specs.Calls.{because, concluded, marks, marked_if, nothing, object_or_null}
 use Rattle.jpa_provider.specs.Transactions.{begin, begin_in, rollback, rollback_in, set_rollback_only, only_rollback_in, commit, commit_in, commit_if, commit_of, commit_work}
-use Rattle.jpa_provider.specs.Step.{most_open, most_managers, create, if_open, by_manager, outcome, machine_after, persist_call, find_call, Step, Runs}
+use Rattle.jpa_provider.specs.Step.{create, if_open, by_manager, outcome, machine_after, persist_call, find_call, Step, Runs}
 use Rattle.jpa_provider.specs.Invariant.{IsMachine, hands_representable}
 use Rattle.jpa_lifecycle.specs.Flat.{IsFlat}
 use Rattle.jpa_provider.proofs.AtWork.{HoldsAfter, IsAtWork, taken, given_back}
@@ -31,8 +32,8 @@ module _ {world : World} {M : Machine} (h : IsMachine world M) where
 
   create_keeps : IsMachine world (create M).1
   create_keeps =
-      cond_both (nat_lt (count_by (λ (x : Manager). x.is_open) M.managers) most_open && nat_lt (length M.managers) most_managers) _ _ (λ (o : Reply × Machine). IsMachine world o.1)
-      (λ l. created_holds h (ltb-true (length M.managers) most_managers (and_parts (nat_lt (count_by (λ (x : Manager). x.is_open) M.managers) most_open) (nat_lt (length M.managers) most_managers) l).1))
+      cond_both (nat_lt (count_by (λ (x : Manager). x.is_open) M.managers) most_open_managers && nat_lt (length M.managers) most_managers) _ _ (λ (o : Reply × Machine). IsMachine world o.1)
+      (λ l. created_holds h (ltb-true (length M.managers) most_managers (and_parts (nat_lt (count_by (λ (x : Manager). x.is_open) M.managers) most_open_managers) (nat_lt (length M.managers) most_managers) l).1))
       (λ l. h)
 
   -- a call of an open manager

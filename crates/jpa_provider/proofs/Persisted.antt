@@ -1,4 +1,5 @@
 -- What holds while a manager is at work is kept by persist, in units without relations and listeners.
+use Rattle.jpa_value.specs.Limits.{most_objects}
 use Rattle.std.proofs.Common.{◌≡◌, ◌≢◌, ◌<◌, ◌≤◌, ℕ, zero, suc, Bool, true, false, List, [], ◌∷◌, length, refl, ap, sym, subst, arith}
 use Rattle.std.specs.Prelude.{slice_index_or, slice_set, slice_get, nat_lt, nat_le, not, Some, ◌==◌, ◌&&◌, if◌then◌else◌, pos, is_some}
 use Rattle.std.specs.List.{list_all}
@@ -24,7 +25,6 @@ use Rattle.jpa_heap.specs.Objects.{object_at, no_object, is_whole}
 use Rattle.jpa_context.specs.declared.EntityState.{EntityState}
 use Rattle.jpa_context.specs.Work.{Work, object, state_from, told}
 use Rattle.jpa_lifecycle.specs.Callbacks.{callback, hearers}
-use Rattle.jpa_ops.specs.Load.{most_objects}
 use Rattle.jpa_ops.specs.States.{give_key, with_key, with_number, number_part, last_number}
 use Rattle.jpa_protocol.specs.declared.event.Told.{Told}
 use Rattle.jpa_provider.specs.Machine.{Machine}

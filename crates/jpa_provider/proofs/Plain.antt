@@ -1,4 +1,5 @@
 -- Where no object is removed and no entry has a lock, persist, find and set leave it so, and a commit keeps all as the flush left it.
+use Rattle.jpa_value.specs.Limits.{most_objects}
 use Rattle.std.proofs.Common.{◌≡◌, ◌<◌, ℕ, zero, suc, Bool, true, false, List, [], ◌∷◌, length, map, refl, ap, sym, subst, ◌∙◌}
 use Rattle.std.specs.Prelude.{slice_get, slice_index_or, not, nat_lt, Option, Some, None, ◌==◌, ◌&&◌, ◌||◌, if◌then◌else◌, ℤ, Result, Ok, Err}
 use Rattle.std.specs.List.{AllByRecursion, list_all, filter}
@@ -32,7 +33,7 @@ use Rattle.jpa_cascade.specs.declared.Operation.{Operation}
 use Rattle.jpa_cascade.proofs.Plain.{plain_waves}
 use Rattle.jpa_lifecycle.specs.Callbacks.{callback}
 use Rattle.jpa_lifecycle.specs.Flat.{IsFlat}
-use Rattle.jpa_ops.specs.Load.{most_objects, object_loaded, base_loaded, made, load, found, found_row, find}
+use Rattle.jpa_ops.specs.Load.{object_loaded, base_loaded, made, load, found, found_row, find}
 use Rattle.jpa_ops.specs.Members.{placed, set}
 use Rattle.jpa_ops.specs.States.{persist, persist_one, persist_node, become_managed, give_key, pre_persist_if, has_instance, with_key, with_number, number_part, last_number, detach_each}
 use Rattle.jpa_flush.specs.Flush.{flush}

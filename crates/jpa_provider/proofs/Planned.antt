@@ -1,4 +1,5 @@
 -- What a flush of a unit without relations and listeners checks and plans, and what it leaves of the work.
+use Rattle.jpa_value.specs.Limits.{most_objects}
 use Rattle.std.proofs.Common.{◌≡◌, ◌<◌, ◌≤◌, ℕ, Bool, true, false, List, [], ◌∷◌, ◌++◌, length, map, refl, ap, sym, subst, ◌∙◌}
 use Rattle.std.specs.Prelude.{slice_set, nat_lt, not, Option, Some, None, ◌==◌, ◌&&◌, ◌||◌, if◌then◌else◌, ℤ, is_some}
 use Rattle.std.specs.List.{All, AllByRecursion, list_any, list_all, flat_map, zip}
@@ -25,7 +26,6 @@ use Rattle.jpa_context.specs.declared.Base.{Base}
 use Rattle.jpa_context.specs.declared.Entry.{Entry}
 use Rattle.jpa_context.specs.declared.EntityState.{EntityState}
 use Rattle.jpa_context.specs.Work.{Work, object, state_of, identity_at, row_at, with_object}
-use Rattle.jpa_ops.specs.Load.{most_objects}
 use Rattle.jpa_flush.specs.Flush.{Action, Insert, Replace, Drop, replace_if, action_in, action_of, differs, is_write, check_action, row_is_base, all_convert, can_rise, stored_of, written, planned, first_version, raised}
 use Rattle.jpa_provider.specs.Machine.{Machine}
 use Rattle.jpa_provider.specs.Invariant.{IsLive, IsEntry, are_one, name_of, stands_in, context_of, base_fits, known_fits, version_fits}

@@ -1,4 +1,5 @@
 -- What holds of the machine is kept by what begins, marks and ends transactions, and by what makes managers and objects.
+use Rattle.jpa_value.specs.Limits.{most_managers}
 use Rattle.std.proofs.Common.{◌≡◌, ◌≢◌, ◌<◌, ◌≤◌, ◌⊎◌, inl, inr, ℕ, zero, suc, Bool, true, false, List, [], ◌∷◌, ◌++◌, length, refl, ap, sym, subst, ◌∙◌, arith}
 use Rattle.std.specs.Prelude.{slice_index_or, slice_set, Option, Some, None}
 use Rattle.std.proofs.lemmas.Bool.{false≢true, cases_lt}
@@ -11,7 +12,6 @@ use Rattle.jpa_heap.specs.declared.LiveObject.{LiveObject}
 use Rattle.jpa_heap.specs.Objects.{object_at}
 use Rattle.jpa_context.specs.declared.Entry.{Entry}
 use Rattle.jpa_provider.specs.Machine.{Machine, Manager, Transaction, opened, manager_at, no_manager, new_manager, marked, marked_in}
-use Rattle.jpa_provider.specs.Step.{most_managers}
 use Rattle.jpa_provider.specs.Transactions.{begun}
 use Rattle.jpa_provider.specs.Invariant.{IsMachine, IsManager, IsTransaction, IsLive, IsEntry, is_idle, context_of}
 use Rattle.jpa_provider.proofs.Facts.{held_more, numbers_same}

@@ -1,4 +1,5 @@
 -- What each call but commit leaves: no object is removed and no entry locked, and what was committed stays.
+use Rattle.jpa_value.specs.Limits.{most_managers, most_objects, most_open_managers}
 use Rattle.std.proofs.Common.{◌≡◌, ◌<◌, inl, inr, ℕ, zero, suc, ℤ, Bool, true, false, List, [], ◌∷◌, ◌++◌, length, refl, ap, sym, subst}
 use Rattle.std.specs.Prelude.{All, Option, Some, None, slice_index_or, slice_set, ◌&&◌, nat_lt, count_by}
 use Rattle.std.proofs.lemmas.Bool.{cond_both, false≢true}
@@ -16,7 +17,6 @@ use Rattle.jpa_context.specs.Undo.{IsPlain}
 use Rattle.jpa_context.specs.Work.{Work}
 use Rattle.jpa_context.specs.Steps.{Outcome, Done, Refused, after}
 use Rattle.jpa_lifecycle.specs.Flat.{IsFlat}
-use Rattle.jpa_ops.specs.Load.{most_objects}
 use Rattle.jpa_ops.specs.declared.getting.Got.{Got}
 use Rattle.jpa_ops.specs.Members.{get, set}
 use Rattle.jpa_ops.specs.States.{detach_each}
@@ -27,7 +27,7 @@ use Rattle.jpa_protocol.specs.declared.reply.Reply.{Reply}
 use Rattle.jpa_provider.specs.Machine.{Machine, Manager, Transaction, manager_at, no_manager, new_manager, with_manager, is_busy, work_of, rolled_back, IsStoredAs}
 use Rattle.jpa_provider.specs.Calls.{because, concluded, handed, marks, marks_if_callback, marked_if, nothing, object_or_null, got, object_numbered}
 use Rattle.jpa_provider.specs.Transactions.{begin, begin_in, rollback, rollback_in, set_rollback_only, only_rollback_in}
-use Rattle.jpa_provider.specs.Step.{Step, most_open, most_managers, create, made_new, if_open, holder, set_call, persist_call, find_call, outcome}
+use Rattle.jpa_provider.specs.Step.{Step, create, made_new, if_open, holder, set_call, persist_call, find_call, outcome}
 use Rattle.jpa_provider.specs.Invariant.{context_of}
 use Rattle.jpa_provider.specs.Serving.{is_commit, IsPlainMachine}
 use Rattle.jpa_provider.proofs.AtWork.{HoldsAfter, after_holds, require_holds}
@@ -86,7 +86,7 @@ module _ {M : Machine} (h : IsPlainMachine M) where
 
   create_steady : IsSteady M (create M).1
   create_steady =
-      cond_both (nat_lt (count_by (λ (x : Manager). x.is_open) M.managers) most_open && nat_lt (length M.managers) most_managers) _ _ (λ (o : Reply × Machine). IsSteady M o.1)
+      cond_both (nat_lt (count_by (λ (x : Manager). x.is_open) M.managers) most_open_managers && nat_lt (length M.managers) most_managers) _ _ (λ (o : Reply × Machine). IsSteady M o.1)
       (λ l. (record { objects = h.objects; contexts = free_more M.managers h.contexts }, record { committed = refl; numbers = refl })) (λ l. same)
 
   begin_steady : (m : ℕ) (t : Option Transaction) → IsSteady M (begin_in M m t).1

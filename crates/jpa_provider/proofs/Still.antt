@@ -1,4 +1,5 @@
 -- Only a commit that is accepted changes what is committed.
+use Rattle.jpa_value.specs.Limits.{most_managers, most_objects, most_open_managers}
 use Rattle.std.proofs.Common.{◌≡◌, ◌⊎◌, inl, inr, ℕ, Bool, true, false, length, refl, sym, subst}
 use Rattle.std.specs.Prelude.{Option, Some, None, IsErr, ◌&&◌, nat_lt, count_by, if◌then◌else◌}
 use Rattle.std.proofs.lemmas.Bool.{cond_both, false≢true}
@@ -7,7 +8,6 @@ use Rattle.jpa_model.specs.Chains.{class_of}
 use Rattle.jpa_behaviour.specs.Behaviour.{World}
 use Rattle.jpa_heap.specs.Objects.{place_of}
 use Rattle.jpa_context.specs.Steps.{Outcome, Done, Refused, after}
-use Rattle.jpa_ops.specs.Load.{most_objects}
 use Rattle.jpa_ops.specs.Members.{get}
 use Rattle.jpa_protocol.specs.declared.call.Call.{Call}
 use Rattle.jpa_protocol.specs.declared.reply.Answer.{Answer}
@@ -15,7 +15,7 @@ use Rattle.jpa_protocol.specs.declared.reply.Reply.{Reply}
 use Rattle.jpa_provider.specs.Machine.{Machine, Manager, Transaction, manager_at, is_busy, work_of, IsStoredAs}
 use Rattle.jpa_provider.specs.Calls.{because, concluded, marks, marks_if_callback, marked_if, nothing, object_or_null, got, object_numbered}
 use Rattle.jpa_provider.specs.Transactions.{begin, begin_in, commit, commit_in, commit_if, commit_of, commit_work, rollback, rollback_in, set_rollback_only, only_rollback_in}
-use Rattle.jpa_provider.specs.Step.{Step, most_open, most_managers, create, made_new, if_open, holder, set_call, persist_call, find_call, outcome}
+use Rattle.jpa_provider.specs.Step.{Step, create, made_new, if_open, holder, set_call, persist_call, find_call, outcome}
 use Rattle.jpa_provider.specs.Serving.{is_commit}
 
 module _ (M : Machine) where
@@ -36,7 +36,7 @@ module _ (M : Machine) where
 
   create_still : IsStoredAs M (create M).1
   create_still =
-      cond_both (nat_lt (count_by (λ (x : Manager). x.is_open) M.managers) most_open && nat_lt (length M.managers) most_managers) _ _ (λ (o : Reply × Machine). IsStoredAs M o.1)
+      cond_both (nat_lt (count_by (λ (x : Manager). x.is_open) M.managers) most_open_managers && nat_lt (length M.managers) most_managers) _ _ (λ (o : Reply × Machine). IsStoredAs M o.1)
       (λ l. record { committed = refl; numbers = refl }) (λ l. still)
 
   begin_still : (m : ℕ) (t : Option Transaction) → IsStoredAs M (begin_in M m t).1

@@ -1,5 +1,6 @@
 -- What holds of the machine between calls: the objects have the shape of their classes, contexts and states of objects agree,
 -- each identity has one instance in a context, and every set of the machine is one that a store can hold.
+use Rattle.jpa_value.specs.Limits.{most_managers, most_objects}
 use Rattle.std.specs.Prelude.{◌≡◌, ◌<◌, ◌≤◌, ℕ, ℤ, Bool, true, false, not, nat_lt, nat_le, ◌&&◌, ◌==◌, List, [], ◌∷◌, length, Option, Some, None}
 use Rattle.std.specs.List.{All, list_any, list_all}
 use Rattle.jpa_value.specs.declared.value.Identity.{Identity}
@@ -19,11 +20,9 @@ use Rattle.jpa_heap.specs.declared.LiveObject.{LiveObject}
 use Rattle.jpa_heap.specs.Objects.{object_at}
 use Rattle.jpa_context.specs.declared.Base.{Base}
 use Rattle.jpa_context.specs.declared.Entry.{Entry}
-use Rattle.jpa_ops.specs.Load.{most_objects}
 use Rattle.jpa_protocol.specs.declared.call.Call.{Call}
 use Rattle.jpa_protocol.specs.declared.call.Given.{Given}
 use Rattle.jpa_provider.specs.Machine.{Machine, Manager, Transaction, manager_at, has_transaction}
-use Rattle.jpa_provider.specs.Step.{most_managers}
 
 -- ---- live objects
 

@@ -1,5 +1,6 @@
 -- The reply to a call and the machine after it, the step relation over it, and runs (Jakarta Persistence 3.1, chapter 3.1.1
 -- EntityManager, chapter 7.4 EntityManagerFactory).
+use Rattle.jpa_value.specs.Limits.{most_objects, most_open_managers, most_managers}
 use Rattle.std.specs.Prelude.{◌≡◌, ◌⊎◌, ℕ, suc, ℤ, Bool, true, false, nat_lt, ◌&&◌, List, [], ◌∷◌, ◌++◌, length, count_by, Option, Some, None, Err, if◌then◌else◌}
 use Rattle.std.specs.List.{list_all}
 use Rattle.jpa_value.specs.declared.refusal.Cause.{Cause}
@@ -10,7 +11,7 @@ use Rattle.jpa_behaviour.specs.Behaviour.{World}
 use Rattle.jpa_heap.specs.declared.Life.{Life}
 use Rattle.jpa_heap.specs.Objects.{place_of, object_at, new_object}
 use Rattle.jpa_context.specs.Steps.{◌>>=◌, ◌>>◌, Op, require}
-use Rattle.jpa_ops.specs.Load.{find, most_objects}
+use Rattle.jpa_ops.specs.Load.{find}
 use Rattle.jpa_ops.specs.Members.{get, set}
 use Rattle.jpa_ops.specs.States.{persist}
 use Rattle.jpa_protocol.specs.declared.call.Call.{Call}
@@ -23,16 +24,9 @@ use Rattle.jpa_provider.specs.Transactions.{begin, commit, rollback, set_rollbac
 
 -- ---- managers
 
--- the most that are open at a time
-abbrev pub most_open : ℕ
-most_open = 16
-
-abbrev pub most_managers : ℕ
-most_managers = 1000000
-
 abbrev pub create : Machine → Reply × Machine
 create M =
-    if nat_lt (count_by (λ x. x.is_open) M.managers) most_open && nat_lt (length M.managers) most_managers
+    if nat_lt (count_by (λ x. x.is_open) M.managers) most_open_managers && nat_lt (length M.managers) most_managers
     then accepted [] (Answer.Number (suc (length M.managers))) (record M { managers = M.managers ++ new_manager ∷ [] })
     else because M Cause.Limit
 

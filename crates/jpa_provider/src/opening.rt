@@ -16,14 +16,8 @@ use jpa_context::PersistenceContext;
 use jpa_heap::new_object;
 use jpa_model::Metamodel;
 use jpa_protocol::{Answer, Reply};
-use jpa_value::{Argument, Cause, State};
+use jpa_value::{Argument, Cause, MOST_OBJECTS, MOST_OPEN_MANAGERS, State};
 use std::alloc::Global;
-
-/// The most managers that are open.
-const MOST_MANAGERS: usize = 16;
-
-/// The most live objects.
-const MOST_OBJECTS: usize = 1_000_000;
 
 /// The call createEntityManager.
 #[tactic(auto, using(crate::proofs::Opened::not_created, crate::proofs::Opened::create_gives_up, crate::proofs::Opened::created))]
@@ -38,7 +32,7 @@ pub(crate) fn create_call<B: Behaviour>(
     ensures work { session.new.work ≡ session.old.work }
 {
     let count = session.managers.len();
-    if count >= MOST_MANAGERS {
+    if count >= MOST_OPEN_MANAGERS {
         return because(alloc, Cause::Limit);
     }
     let manager = EntityManager {

@@ -5,7 +5,8 @@ use Rattle.std.specs.List.{list_all}
 use Rattle.std.specs.Str.{is_utf8}
 use Rattle.jpa_value.specs.declared.value.Value.{Value}
 use Rattle.jpa_value.specs.declared.value.Kind.{Kind}
-use Rattle.jpa_value.specs.Value.{is_i64, most_bytes}
+use Rattle.jpa_value.specs.Limits.{most_bytes}
+use Rattle.jpa_value.specs.Value.{is_i64}
 use Rattle.jpa_key.specs.Keys.{key_bytes, is_key_of, int_bytes, Spells}
 use Rattle.jpa_key.specs.Reading.{key_at}
 use Rattle.jpa_key.proofs.Escapes.{tied_numbers}

@@ -17,10 +17,10 @@ ghost use Rattle.jpa_rows.specs.Reading as reading;
 use crate::row::{Content, Field, Row};
 use crate::schema::{ColumnRule, Holds, TableRule};
 use crate::tag::{BYTES, INT, REFERENCE, TEXT};
-use crate::values::{MOST_BYTES, is_short};
+use crate::values::is_short;
 use crate::whole::is_rising;
 use jpa_key::decode_key;
-use jpa_value::{Bytes, Cause, Key, Kind, Seq, Text, Value};
+use jpa_value::{Bytes, Cause, Key, Kind, MOST_BYTES, Seq, Text, Value};
 use std::alloc::Global;
 
 fn are_short(key: &[Value]) -> bool

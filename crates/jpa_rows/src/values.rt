@@ -5,10 +5,7 @@ ghost use Rattle.std.specs.Str.{is_utf8};
 ghost use Rattle.jpa_value.specs.Value.{is_representable};
 ghost use Rattle.jpa_behaviour.specs.Behaviour as behaviour;
 
-use jpa_value::Value;
-
-/// The most bytes of a text or byte value.
-pub(crate) const MOST_BYTES: usize = 65_535;
+use jpa_value::{MOST_BYTES, Value};
 
 /// Whether a value has at most 65,535 bytes, as null and each integer does. Takes no memory.
 pub fn is_short(value: &Value) -> bool

@@ -5,13 +5,10 @@ use Rattle.std.specs.Str.{is_utf8}
 use Rattle.std.specs.declared.cmp.Ordering.{Ordering}
 use Rattle.std.specs.Ordering.{nat_cmp, int_cmp, ordering_then, is_eq}
 use Rattle.std.specs.Cmp.Lexicographic.{slice_cmp}
+use Rattle.jpa_value.specs.Limits.{most_bytes}
 use Rattle.jpa_value.specs.declared.value.Value.{Value}
 use Rattle.jpa_value.specs.declared.value.Kind.{Kind}
 use Rattle.jpa_value.specs.declared.value.Identity.{Identity}
-
--- at most this many bytes stand in a text or a byte value
-abbrev pub most_bytes : ℕ
-most_bytes = 65535
 
 abbrev pub is_null : Value → Bool
 is_null Value.Null = true

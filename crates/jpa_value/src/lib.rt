@@ -9,6 +9,7 @@
 mod boxed;
 mod copy;
 mod event;
+mod limits;
 mod list;
 mod order;
 mod refusal;
@@ -18,6 +19,10 @@ mod value;
 pub use boxed::Boxed;
 pub use copy::TryCopy;
 pub use event::LifecycleEvent;
+pub use limits::{
+    MOST_BYTES, MOST_LINE_BYTES, MOST_OBJECTS, MOST_OPEN_MANAGERS, MOST_OPEN_PARENTHESES, MOST_QUERY_BYTES,
+    MOST_QUERY_VARIABLES,
+};
 pub use list::{Bytes, Seq, Text};
 pub use order::{
     compare, equal3, is_same_identity, order_identities, order_keys, order_laws, order_values,

@@ -2,6 +2,7 @@
 ghost use Rattle.std.specs.Prelude.{◌≡◌};
 ghost use Rattle.jpa_value.specs.Value as values;
 
+use crate::limits::MOST_BYTES;
 use crate::list::{Bytes, Seq, Text};
 
 /// What an attribute, a key part or a parameter holds (chapter 2.2, in this profile: whole numbers, texts and
@@ -46,8 +47,8 @@ pub fn fits(kind: Kind, value: &Value) -> bool
     match (kind, value) {
         (_, Value::Null) => true,
         (Kind::Int, Value::Int(_)) => true,
-        (Kind::Text, Value::Text(text)) => text.as_bytes().len() <= 65_535,
-        (Kind::Bytes, Value::Bytes(bytes)) => bytes.as_slice().len() <= 65_535,
+        (Kind::Text, Value::Text(text)) => text.as_bytes().len() <= MOST_BYTES,
+        (Kind::Bytes, Value::Bytes(bytes)) => bytes.as_slice().len() <= MOST_BYTES,
         _ => false,
     }
 }

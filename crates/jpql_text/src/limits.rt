@@ -2,8 +2,7 @@
 ghost use Rattle.std.specs.Prelude.{◌≡◌, ◌≤◌, false, IfSome};
 ghost use Rattle.jpql_tree.specs.Limits as spec;
 
-/// How many parentheses may be open at one place of a text.
-pub const MOST_OPEN: usize = 32;
+use jpa_value::MOST_OPEN_PARENTHESES;
 
 /// Whether the bytes after this one are inside quotes, and how many parentheses are open before them; none where too
 /// many are.
@@ -17,7 +16,7 @@ fn after_byte(is_quoted: bool, opened: usize, byte: u8) -> Option<(bool, usize)>
     } else if is_quoted {
         Some((is_quoted, opened))
     } else if byte == b'(' {
-        if opened < MOST_OPEN {
+        if opened < MOST_OPEN_PARENTHESES {
             Some((is_quoted, opened + 1))
         } else {
             None

@@ -8,17 +8,13 @@ ghost use Rattle.jpql_tree.specs.Queries.{IsQuery};
 ghost use Rattle.jpql_lexer.specs.Gives.{Gives};
 ghost use Rattle.jpql_text.specs.Answers.{IsRead, IsRefused};
 
-use crate::limits::{MOST_OPEN, nests_over};
+use crate::limits::nests_over;
 use crate::statements::statement;
 use crate::variables::declared;
-use jpa_value::{Argument, Cause};
+use jpa_value::{Argument, Cause, MOST_OPEN_PARENTHESES, MOST_QUERY_BYTES, MOST_QUERY_VARIABLES};
 use jpql_lexer::{ReadError, tokens};
 use jpql_tree::Query;
 use std::alloc::Global;
-
-const MOST_BYTES: usize = 16_384;
-
-const MOST_VARIABLES: usize = 8;
 
 fn whole(alloc: Global, text: &str) -> Result<Query, ReadError>
     requires { limits.nests_over 32 false 0 text.now ≡ false }
@@ -26,7 +22,7 @@ fn whole(alloc: Global, text: &str) -> Result<Query, ReadError>
     ensures only { (query : Query) → IsQuery text.now query → Gives (λ query. query) result (Some query) }
 {
     let tokens = tokens(alloc, text)?;
-    statement(alloc, MOST_OPEN + 2, tokens.as_slice())
+    statement(alloc, MOST_OPEN_PARENTHESES + 2, tokens.as_slice())
 }
 
 /// The tree of a query's text. The text is one of the grammar of Jakarta Persistence 3.1, chapter 4, in the profile of
@@ -40,14 +36,14 @@ pub fn read_query(alloc: Global, text: &str) -> Result<Query, Cause>
     ensures refused { IfErr result (IsRefused text.now) }
     ensures only { (query : Query) → IsRead text.now query → (result ≡ Ok query) ⊎ (result ≡ Err cause.OutOfMemory) }
 {
-    if text.len() > MOST_BYTES || nests_over(text.as_bytes()) {
+    if text.len() > MOST_QUERY_BYTES || nests_over(text.as_bytes()) {
         return Err(Cause::Limit);
     }
     match whole(alloc, text) {
         Err(ReadError::Memory) => Err(Cause::OutOfMemory),
         Err(ReadError::Syntax) => Err(Cause::IllegalArgument(Argument::Syntax)),
         Ok(query) => {
-            if declared(&query) > MOST_VARIABLES {
+            if declared(&query) > MOST_QUERY_VARIABLES {
                 drop(query);
                 Err(Cause::Limit)
             } else {

@@ -1,15 +1,6 @@
--- How large a text may be, how deep its parentheses may nest, and how many variables it may declare.
+-- How deep the parentheses of a text nest.
 use Rattle.std.specs.Prelude.{ℕ, zero, suc, ◌==◌, ◌+◌, ◌-◌, Bool, false, not, nat_le, ◌||◌, [], ◌∷◌, Option, Some, None, if◌then◌else◌}
 use Rattle.jpql_tree.specs.Grammar.{Text}
-
-abbrev pub most_bytes : ℕ
-most_bytes = 16384
-
-abbrev pub most_open : ℕ
-most_open = 32
-
-abbrev pub most_variables : ℕ
-most_variables = 8
 
 -- one parenthesis fewer; one that closes where none is open counts nothing
 abbrev pub one_closed : ℕ → ℕ

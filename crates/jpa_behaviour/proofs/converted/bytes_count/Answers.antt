@@ -1,6 +1,6 @@
 use Rattle.std.proofs.Common.{length}
 use Rattle.std.specs.Prelude.{nat_le}
-use Rattle.jpa_value.specs.Value.{most_bytes}
+use Rattle.jpa_value.specs.Limits.{most_bytes}
 use Rattle.jpa_behaviour.proofs.Counted.{bytes_fit}
 use Rattle.jpa_behaviour.proofs.Facts.{and_held}
 use Rattle.jpa_behaviour.proofs.converted.bytes_count.Goals as goal

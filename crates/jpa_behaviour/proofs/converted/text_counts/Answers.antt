@@ -1,7 +1,7 @@
 use Rattle.std.proofs.Common.{length}
 use Rattle.std.specs.Prelude.{nat_le}
 use Rattle.std.proofs.lemmas.Str.{is_utf8-from_IsUtf8}
-use Rattle.jpa_value.specs.Value.{most_bytes}
+use Rattle.jpa_value.specs.Limits.{most_bytes}
 use Rattle.jpa_behaviour.proofs.Facts.{and_held}
 use Rattle.jpa_behaviour.proofs.converted.text_counts.Goals as goal
 

@@ -2,8 +2,8 @@ use Rattle.std.proofs.Common.{inr, arith}
 use Rattle.jpa_lines.proofs.Lines.{long_line, call_found, call_refused}
 use Rattle.jpa_lines.proofs.reading.read_call.Goals as goal
 
-pub returns-then-line-gt-LINE_LIMIT-clause-err : goal.returns-then-line-gt-LINE_LIMIT-clause-err
-returns-then-line-gt-LINE_LIMIT-clause-err c = inr (long_line c.args.line.now (omega arith))
+pub returns-then-line-gt-MOST_LINE_BYTES-clause-err : goal.returns-then-line-gt-MOST_LINE_BYTES-clause-err
+returns-then-line-gt-MOST_LINE_BYTES-clause-err c = inr (long_line c.args.line.now (omega arith))
 
 pub returns-clause-ok : goal.returns-clause-ok
 returns-clause-ok c = rw c.or_refuse.ensures (call_found c.args.line.now c.call_of_text.result (omega arith) c.call_of_text.ensures)

@@ -3,7 +3,7 @@ use Rattle.std.proofs.Common.{refl, sym, ap, ◌∙◌, arith}
 use Rattle.std.proofs.lemmas.Bool.Decides.{nat_tests}
 use Rattle.std.specs.Str.{IsUtf8, is_utf8}
 use Rattle.std.proofs.lemmas.Str.{is_utf8-from_IsUtf8, IsUtf8-from_is_utf8}
-use Rattle.jpa_value.specs.Value.{most_bytes}
+use Rattle.jpa_value.specs.Limits.{most_bytes}
 use Rattle.jpa_value.specs.declared.value.Value.{Value}
 use Rattle.jpa_row_laws.proofs.Facts.{give_if}
 use Rattle.jpa_rows.specs.Reading.{text_of}
