@@ -1,0 +1,87 @@
+-- Functions, LIKE and aggregates evaluated.
+use Rattle.std.proofs.Common.{◌≡◌, pos, negsuc, true, false, [], ◌∷◌, Some, None, refl, codes}
+use Rattle.std.specs.Str.{chars}
+use Rattle.jpql_tree.specs.declared.Aggregate.{Aggregate}
+use Rattle.jpql_tree.specs.declared.Comparison.{Comparison}
+use Rattle.jpql_tree.specs.declared.Function.{Function}
+use Rattle.jpql_tree.specs.declared.Arithmetic.{Arithmetic}
+use Rattle.jpql_eval.specs.declared.datum.Truth.{Truth}
+use Rattle.jpql_eval.specs.Answers.{gives, overflows}
+use Rattle.jpql_eval.specs.Truths.{not3}
+use Rattle.jpql_eval.specs.Data.{null, between}
+use Rattle.jpql_eval.specs.Numbers.{number, arithmetic}
+use Rattle.jpql_eval.specs.Calls.{text, applied, like}
+use Rattle.jpql_eval.specs.Aggregates.{aggregated, counted}
+
+-- SUBSTRING('abc', 0, 2) is 'a'
+before_the_first : applied Function.Substring (text (codes "abc") ∷ number (pos 0) ∷ number (pos 2) ∷ []) ≡ gives (text (codes "a"))
+unfolding chars lib.Utf8.encode
+before_the_first = refl
+
+-- LOCATE('', 'ab', 3) is 3 and LOCATE('', 'ab', 4) is 0
+at_the_end : applied Function.Locate (text [] ∷ text (codes "ab") ∷ number (pos 3) ∷ []) ≡ gives (number (pos 3))
+unfolding chars
+at_the_end = refl
+
+behind_the_end : applied Function.Locate (text [] ∷ text (codes "ab") ∷ number (pos 4) ∷ []) ≡ gives (number (pos 0))
+unfolding chars
+behind_the_end = refl
+
+-- a character of two bytes
+two_bytes : applied Function.Length (text (195 ∷ 164 ∷ 98 ∷ []) ∷ []) ≡ gives (number (pos 2))
+unfolding chars
+two_bytes = refl
+
+-- MOD(-7, 2) is -1, by 0 it is null, and of the least integer by -1 it is 0
+remainder : applied Function.Mod (number (negsuc 6) ∷ number (pos 2) ∷ []) ≡ gives (number (negsuc 0))
+remainder = refl
+
+by_zero : applied Function.Mod (number (pos 7) ∷ number (pos 0) ∷ []) ≡ gives null
+by_zero = refl
+
+least_by : applied Function.Mod (number (negsuc 9223372036854775807) ∷ number (negsuc 0) ∷ []) ≡ gives (number (pos 0))
+least_by = refl
+
+null_if_null : applied Function.NullIf (null ∷ null ∷ []) ≡ gives null
+null_if_null = refl
+
+no_text : applied Function.Concat (text (codes "a") ∷ null ∷ []) ≡ gives null
+no_text = refl
+
+-- 'a%' LIKE 'a%' ESCAPE '%'
+escape_at_the_end : like (Some (codes "%")) (text (codes "a%")) (text (codes "a%")) ≡ Truth.Yes
+unfolding chars
+escape_at_the_end = refl
+
+escaped : like (Some (codes "!")) (text (codes "ab")) (text (codes "a!_")) ≡ Truth.No
+unfolding chars
+escaped = refl
+
+later_place : like None (text (codes "aabab")) (text (codes "%a_b")) ≡ Truth.No
+unfolding chars
+later_place = refl
+
+several : like None (text (codes "aabab")) (text (codes "%ab%b")) ≡ Truth.Yes
+unfolding chars
+several = refl
+
+not_unknown : not3 (like None null (text (codes "%"))) ≡ Truth.Unknown
+not_unknown = refl
+
+-- 5 BETWEEN NULL AND 3
+beyond_one_end : between (number (pos 5)) null (number (pos 3)) ≡ Truth.No
+beyond_one_end = refl
+
+-- the greatest integer and 1
+too_much : arithmetic Arithmetic.Plus (number (pos 9223372036854775807)) (number (pos 1)) ≡ overflows
+too_much = refl
+
+-- the total alone is judged, and with DISTINCT that of the first ones
+total_fits : aggregated Aggregate.Sum (counted false (number (pos 9223372036854775807) ∷ number (pos 1) ∷ null ∷ number (negsuc 0) ∷ [])) ≡ gives (number (pos 9223372036854775807))
+total_fits = refl
+
+once_each : aggregated Aggregate.Sum (counted true (number (pos 2) ∷ number (pos 2) ∷ number (pos 3) ∷ [])) ≡ gives (number (pos 5))
+once_each = refl
+
+of_nothing : aggregated Aggregate.Max (counted false (null ∷ [])) ≡ gives null
+of_nothing = refl

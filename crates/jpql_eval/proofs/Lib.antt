@@ -1,0 +1,7 @@
+pub mod Distinct
+pub mod Fronts
+pub mod Joined
+pub mod Orders
+pub mod Places
+pub mod Totals
+pub mod Examples

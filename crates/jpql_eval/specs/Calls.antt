@@ -1,0 +1,95 @@
+-- Functions (chapter 4.7.2 to 4.7.4): of a null argument each is null, but COALESCE and NULLIF.
+use Rattle.std.specs.Prelude.{ℤ, pos, List, [], ◌∷◌, ◌++◌, length, Option, Some, None, option_map, if◌then◌else◌, chars}
+use Rattle.jpa_value.specs.declared.value.Value.{Value}
+use Rattle.jpql_tree.specs.declared.Comparison.{Comparison}
+use Rattle.jpql_tree.specs.declared.Function.{Function}
+use Rattle.jpql_eval.specs.declared.datum.Datum.{Datum}
+use Rattle.jpql_eval.specs.Answers.{Answer, gives}
+use Rattle.jpql_eval.specs.declared.datum.Truth.{Truth}
+use Rattle.jpql_eval.specs.Truths.{truth_of, is_yes}
+use Rattle.jpql_eval.specs.Data.{null, is_nothing, compared}
+use Rattle.jpql_eval.specs.Numbers.{number, absolute, modulo}
+use Rattle.jpql_eval.specs.Texts.{Text, substring, locate, is_like}
+
+abbrev pub text_in : Datum → Option Text
+text_in (Datum.Plain (Value.Text t)) = Some t
+text_in _ = None
+
+abbrev pub integer_in : Datum → Option ℤ
+integer_in (Datum.Plain (Value.Int n)) = Some n
+integer_in _ = None
+
+-- what is made of an operand, where it is of the kind
+abbrev pub of_one : {A : Type 0} → (A → Datum) → Option A → Datum
+of_one make None = null
+of_one make (Some a) = make a
+
+abbrev pub text : Text → Datum
+text t = Datum.Plain (Value.Text t)
+
+-- the first that isn't null
+abbrev pub coalesce : List Datum → Datum
+coalesce [] = null
+coalesce (a ∷ all) = if is_nothing a then coalesce all else a
+
+-- null where both are equal, else the first
+abbrev pub null_if : Datum → Datum → Datum
+null_if a b = if is_yes (compared Comparison.Equal a b) then null else a
+
+abbrev pub put_text : Option Text → Option Text → Option Text
+put_text None more = None
+put_text (Some t) more = option_map (λ others. t ++ others) more
+
+abbrev pub joined_texts : List Datum → Option Text
+joined_texts [] = Some []
+joined_texts (a ∷ all) = put_text (text_in a) (joined_texts all)
+
+abbrev pub length_of : Datum → Datum
+length_of a = of_one (λ t. number (pos (length (chars t)))) (text_in a)
+
+abbrev pub substring_of : Datum → Datum → Datum
+substring_of a from = of_one (λ t. of_one (λ f. text (substring t f None)) (integer_in from)) (text_in a)
+
+abbrev pub substring_upto : Datum → Datum → Datum → Datum
+substring_upto a from n = of_one (λ t. of_one (λ f. of_one (λ k. text (substring t f (Some k))) (integer_in n)) (integer_in from)) (text_in a)
+
+abbrev pub locate_from : Datum → Datum → Datum → Datum
+locate_from x a from = of_one (λ s. of_one (λ t. of_one (λ f. number (pos (locate s t f))) (integer_in from)) (text_in a)) (text_in x)
+
+-- of one operand, of two, of three
+abbrev pub of_operand : Function → Datum → Answer Datum
+of_operand Function.Length a = gives (length_of a)
+of_operand Function.Abs a = absolute a
+of_operand _ a = gives null
+
+abbrev pub of_two : Function → Datum → Datum → Answer Datum
+of_two Function.Substring a from = gives (substring_of a from)
+of_two Function.Locate x a = gives (locate_from x a (number (pos 1)))
+of_two Function.Mod a b = modulo a b
+of_two Function.NullIf a b = gives (null_if a b)
+of_two _ a b = gives null
+
+abbrev pub of_three : Function → Datum → Datum → Datum → Answer Datum
+of_three Function.Substring a from n = gives (substring_upto a from n)
+of_three Function.Locate x a from = gives (locate_from x a from)
+of_three _ a b c = gives null
+
+abbrev pub of_some : Function → List Datum → Answer Datum
+of_some f [] = gives null
+of_some f (a ∷ []) = of_operand f a
+of_some f (a ∷ b ∷ []) = of_two f a b
+of_some f (a ∷ b ∷ c ∷ []) = of_three f a b c
+of_some f (a ∷ b ∷ c ∷ d ∷ all) = gives null
+
+abbrev pub applied : Function → List Datum → Answer Datum
+applied Function.Concat all = gives (of_one text (joined_texts all))
+applied Function.Coalesce all = gives (coalesce all)
+applied f all = of_some f all
+
+-- LIKE of a null operand is unknown
+abbrev pub of_texts : (Text → Text → Truth) → Option Text → Option Text → Truth
+of_texts judge (Some a) (Some b) = judge a b
+of_texts judge _ _ = Truth.Unknown
+
+abbrev pub like : Option Text → Datum → Datum → Truth
+like escape a pattern = of_texts (λ t p. truth_of (is_like t p escape)) (text_in a) (text_in pattern)

@@ -1,0 +1,11 @@
+pub mod Aggregates
+pub mod Answers
+pub mod Calls
+pub mod Data
+pub mod Finds
+pub mod Fronts
+pub mod Numbers
+pub mod Seen
+pub mod SeenOrder
+pub mod Texts
+pub mod Truths

@@ -1,0 +1,14 @@
+-- What stands for a datum.
+use Rattle.jpa_value.specs.declared.value.Value.{Value}
+use Rattle.jpql_eval.specs.declared.datum.Datum.{Datum}
+use Rattle.jpql_eval.specs.Data.{null}
+use Rattle.jpql_eval.specs.Numbers.{number}
+use Rattle.jpql_eval.specs.declared.seen.Seen.{Seen}
+
+abbrev pub seen : Seen → Datum
+seen Seen.Null = null
+seen (Seen.Int n) = number n
+seen (Seen.Text t) = Datum.Plain (Value.Text t.now)
+seen (Seen.Bytes b) = Datum.Plain (Value.Bytes b.now)
+seen (Seen.Entity id) = Datum.Entity id.now
+seen (Seen.Made t) = Datum.Plain (Value.Text t)

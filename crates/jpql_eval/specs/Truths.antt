@@ -1,0 +1,32 @@
+-- Three-valued logic (chapters 4.6.1 and 4.11).
+use Rattle.std.specs.Prelude.{Bool, true, false, List, [], ◌∷◌}
+use Rattle.jpql_eval.specs.declared.datum.Truth.{Truth}
+
+abbrev pub truth_of : Bool → Truth
+truth_of true = Truth.Yes
+truth_of false = Truth.No
+
+abbrev pub not3 : Truth → Truth
+not3 Truth.Yes = Truth.No
+not3 Truth.No = Truth.Yes
+not3 Truth.Unknown = Truth.Unknown
+
+abbrev pub and3 : Truth → Truth → Truth
+and3 Truth.No b = Truth.No
+and3 Truth.Yes b = b
+and3 Truth.Unknown Truth.No = Truth.No
+and3 Truth.Unknown _ = Truth.Unknown
+
+abbrev pub or3 : Truth → Truth → Truth
+or3 Truth.Yes b = Truth.Yes
+or3 Truth.No b = b
+or3 Truth.Unknown Truth.Yes = Truth.Yes
+or3 Truth.Unknown _ = Truth.Unknown
+
+abbrev pub is_yes : Truth → Bool
+is_yes Truth.Yes = true
+is_yes _ = false
+
+abbrev pub any3 : List Truth → Truth
+any3 [] = Truth.No
+any3 (t ∷ ts) = or3 t (any3 ts)

@@ -1,0 +1,214 @@
+//! Functions (chapters 4.7.2 to 4.7.4), and LIKE.
+ghost use Rattle.std.specs.Prelude.{◌≡◌, map, IfOk};
+ghost use Rattle.jpql_eval.specs.Answers.{gives};
+ghost use Rattle.jpql_eval.specs.Calls as calls;
+ghost use Rattle.jpql_eval.specs.Finds.{Finds, same};
+ghost use Rattle.jpql_eval.specs.Seen.{seen};
+
+use crate::compare::compared;
+use crate::datum::Truth;
+use crate::failure::Failure;
+use crate::numbers::{absolute, modulo};
+use crate::patterns::is_like;
+use crate::seen::Seen;
+use crate::texts::{length, locate, substring};
+use crate::truths::truth_of;
+use jpa_value::Text;
+use jpql_tree::{Comparison, Function};
+use std::alloc::{AllocError, Global};
+
+fn length_of<'a>(text: &Seen<'a>) -> Seen<'a>
+    ensures { seen result ≡ calls.length_of (seen text.now) }
+{
+    match text.text() {
+        None => Seen::Null,
+        Some(text) => Seen::Int(length(text.as_str())),
+    }
+}
+
+fn concat<'a>(alloc: Global, all: &[Seen<'a>]) -> Result<Seen<'a>, AllocError>
+    ensures { IfOk result (λ found. seen found ≡ calls.of_one calls.text (calls.joined_texts (map seen all.now))) }
+{
+    let mut joined = String::new(alloc);
+    for one in all {
+        match one.text() {
+            None => return Ok(Seen::Null),
+            Some(text) => joined.push_str(text.as_str())?,
+        }
+    }
+    Ok(Seen::Made(Text::from_string(joined)))
+}
+
+fn substring_of<'a>(alloc: Global, text: &Seen<'a>, from: &Seen<'a>) -> Result<Seen<'a>, AllocError>
+    ensures { IfOk result (λ found. seen found ≡ calls.substring_of (seen text.now) (seen from.now)) }
+{
+    let Some(text) = text.text() else {
+        return Ok(Seen::Null);
+    };
+    let Some(from) = from.number() else {
+        return Ok(Seen::Null);
+    };
+    Ok(Seen::Made(substring(alloc, text.as_str(), from, None)?))
+}
+
+fn substring_upto<'a>(
+    alloc: Global,
+    text: &Seen<'a>,
+    from: &Seen<'a>,
+    count: &Seen<'a>,
+) -> Result<Seen<'a>, AllocError>
+    ensures { IfOk result (λ found. seen found ≡ calls.substring_upto (seen text.now) (seen from.now) (seen count.now)) }
+{
+    let Some(text) = text.text() else {
+        return Ok(Seen::Null);
+    };
+    let Some(from) = from.number() else {
+        return Ok(Seen::Null);
+    };
+    let Some(count) = count.number() else {
+        return Ok(Seen::Null);
+    };
+    Ok(Seen::Made(substring(alloc, text.as_str(), from, Some(count))?))
+}
+
+fn locate_from<'a>(
+    alloc: Global,
+    sought: &Seen<'a>,
+    text: &Seen<'a>,
+    from: &Seen<'a>,
+) -> Result<Seen<'a>, AllocError>
+    ensures { IfOk result (λ found. seen found ≡ calls.locate_from (seen sought.now) (seen text.now) (seen from.now)) }
+{
+    let Some(sought) = sought.text() else {
+        return Ok(Seen::Null);
+    };
+    let Some(text) = text.text() else {
+        return Ok(Seen::Null);
+    };
+    let Some(from) = from.number() else {
+        return Ok(Seen::Null);
+    };
+    Ok(Seen::Int(locate(alloc, sought.as_str(), text.as_str(), from)?))
+}
+
+fn coalesce<'a>(alloc: Global, all: &[Seen<'a>]) -> Result<Seen<'a>, AllocError>
+    ensures { IfOk result (λ found. seen found ≡ calls.coalesce (map seen all.now)) }
+{
+    for one in all {
+        if !one.is_nothing() {
+            return one.again(alloc);
+        }
+    }
+    Ok(Seen::Null)
+}
+
+fn null_if<'a>(alloc: Global, left: &Seen<'a>, right: &Seen<'a>) -> Result<Seen<'a>, AllocError>
+    ensures { IfOk result (λ found. seen found ≡ calls.null_if (seen left.now) (seen right.now)) }
+{
+    match compared(Comparison::Equal, left, right) {
+        Truth::Yes => Ok(Seen::Null),
+        Truth::No | Truth::Unknown => left.again(alloc),
+    }
+}
+
+fn of_operand<'a>(function: Function, one: &Seen<'a>) -> Result<Seen<'a>, Failure>
+    ensures { Finds seen result (calls.of_operand function (seen one.now)) }
+{
+    match function {
+        Function::Length => Ok(length_of(one)),
+        Function::Abs => absolute(one),
+        Function::Concat
+        | Function::Substring
+        | Function::Locate
+        | Function::Mod
+        | Function::Coalesce
+        | Function::NullIf => Ok(Seen::Null),
+    }
+}
+
+fn of_two<'a>(
+    alloc: Global,
+    function: Function,
+    one: &Seen<'a>,
+    two: &Seen<'a>,
+) -> Result<Seen<'a>, Failure>
+    ensures { Finds seen result (calls.of_two function (seen one.now) (seen two.now)) }
+{
+    match function {
+        Function::Substring => Ok(substring_of(alloc, one, two)?),
+        Function::Locate => Ok(locate_from(alloc, one, two, &Seen::Int(1))?),
+        Function::Mod => Ok(modulo(one, two)),
+        Function::NullIf => Ok(null_if(alloc, one, two)?),
+        Function::Length | Function::Concat | Function::Abs | Function::Coalesce => Ok(Seen::Null),
+    }
+}
+
+fn of_three<'a>(
+    alloc: Global,
+    function: Function,
+    one: &Seen<'a>,
+    two: &Seen<'a>,
+    three: &Seen<'a>,
+) -> Result<Seen<'a>, Failure>
+    ensures { Finds seen result (calls.of_three function (seen one.now) (seen two.now) (seen three.now)) }
+{
+    match function {
+        Function::Substring => Ok(substring_upto(alloc, one, two, three)?),
+        Function::Locate => Ok(locate_from(alloc, one, two, three)?),
+        Function::Length
+        | Function::Concat
+        | Function::Abs
+        | Function::Mod
+        | Function::Coalesce
+        | Function::NullIf => Ok(Seen::Null),
+    }
+}
+
+fn of_some<'a>(alloc: Global, function: Function, all: &[Seen<'a>]) -> Result<Seen<'a>, Failure>
+    ensures { Finds seen result (calls.of_some function (map seen all.now)) }
+{
+    match all {
+        [] => Ok(Seen::Null),
+        [one] => of_operand(function, one),
+        [one, two] => of_two(alloc, function, one, two),
+        [one, two, three] => of_three(alloc, function, one, two, three),
+        [_, _, _, _, ..] => Ok(Seen::Null),
+    }
+}
+
+/// A function of its operands. Of a null operand it is null, but for COALESCE and NULLIF.
+///
+/// `Overflow` where ABS is outside 64 bits; `Memory` where a growth was refused.
+pub fn applied<'a>(alloc: Global, function: Function, all: &[Seen<'a>]) -> Result<Seen<'a>, Failure>
+    ensures { Finds seen result (calls.applied function (map seen all.now)) }
+{
+    match function {
+        Function::Concat => Ok(concat(alloc, all)?),
+        Function::Coalesce => Ok(coalesce(alloc, all)?),
+        Function::Length
+        | Function::Substring
+        | Function::Locate
+        | Function::Abs
+        | Function::Mod
+        | Function::NullIf => of_some(alloc, function, all),
+    }
+}
+
+/// LIKE: unknown where an operand is null. `Memory` where a growth was refused, and no other refusal.
+pub fn like<'a>(
+    alloc: Global,
+    escape: &Option<Text>,
+    text: &Seen<'a>,
+    pattern: &Seen<'a>,
+) -> Result<Truth, Failure>
+    ensures { Finds same result (gives (calls.like escape.now (seen text.now) (seen pattern.now))) }
+{
+    let Some(text) = text.text() else {
+        return Ok(Truth::Unknown);
+    };
+    let Some(pattern) = pattern.text() else {
+        return Ok(Truth::Unknown);
+    };
+    let is_like = is_like(alloc, text.as_str(), pattern.as_str(), escape)?;
+    Ok(truth_of(is_like))
+}

@@ -1,0 +1,130 @@
+//! How what expressions give is compared (chapter 4.6.7). None of these functions takes memory.
+ghost use Rattle.std.specs.Prelude.{◌≡◌, Some, refl};
+ghost use Rattle.std.specs.Cmp.{partial_equiv_from_equiv, eq_by_cmp_equiv, partial_order_from_agreeing_total};
+ghost use Rattle.jpql_eval.specs.SeenOrder.{seen_cmp, same_seen, seen_total};
+ghost use Rattle.jpql_eval.specs.Calls as calls;
+ghost use Rattle.jpql_eval.specs.Data as data_;
+ghost use Rattle.jpql_eval.specs.Seen.{seen};
+
+use crate::datum::Truth;
+use crate::seen::Seen;
+use crate::truths::{and3, truth_of};
+use jpa_value::{Text, order_identities};
+use jpql_tree::Comparison;
+use std::cmp::Ordering;
+
+/// The place of two in one total order: nulls first, then integers, texts, byte strings and entities.
+#[tactic(auto, using(crate::proofs::Orders::then_equal))]
+pub fn order<'a>(left: &Seen<'a>, right: &Seen<'a>) -> Ordering
+    ensures { result ≡ data_.datum_cmp (seen left.now) (seen right.now) }
+{
+    match (left, right) {
+        (Seen::Null, Seen::Null) => Ordering::Equal,
+        (Seen::Null, _) => Ordering::Less,
+        (Seen::Int(_), Seen::Null) => Ordering::Greater,
+        (Seen::Int(m), Seen::Int(n)) => m.cmp(n),
+        (Seen::Int(_), _) => Ordering::Less,
+        (Seen::Text(s), _) => order_text(s, right),
+        (Seen::Made(s), _) => order_text(s, right),
+        (Seen::Bytes(_), Seen::Entity(_)) => Ordering::Less,
+        (Seen::Bytes(s), Seen::Bytes(t)) => s.as_slice().cmp(t.as_slice()),
+        (Seen::Bytes(_), _) => Ordering::Greater,
+        (Seen::Entity(x), Seen::Entity(y)) => order_identities(x, y),
+        (Seen::Entity(_), _) => Ordering::Greater,
+    }
+}
+
+/// The place of a text beside another.
+#[tactic(auto, using(crate::proofs::Orders::then_equal))]
+fn order_text<'a>(text: &Text, other: &Seen<'a>) -> Ordering
+    ensures { result ≡ data_.datum_cmp (calls.text text.now) (seen other.now) }
+{
+    match other {
+        Seen::Null | Seen::Int(_) => Ordering::Greater,
+        Seen::Text(other) => text.as_bytes().cmp(other.as_bytes()),
+        Seen::Made(other) => text.as_bytes().cmp(other.as_bytes()),
+        Seen::Bytes(_) | Seen::Entity(_) => Ordering::Less,
+    }
+}
+
+/// Whether two are one: entities by their identity, and null as null, which groups and DISTINCT go by.
+#[tactic(auto, using(crate::proofs::Orders::same_by_order))]
+pub fn is_same<'a>(left: &Seen<'a>, right: &Seen<'a>) -> bool
+    ensures { result ≡ data_.same_datum (seen left.now) (seen right.now) }
+{
+    order(left, right).is_eq()
+}
+
+/// Whether a comparison holds of what is the same or not, and ordered so.
+pub(crate) fn holds(comparison: Comparison, same: bool, order: Ordering) -> bool
+    ensures { result ≡ data_.holds comparison same order }
+{
+    match comparison {
+        Comparison::Equal => same,
+        Comparison::Different => !same,
+        Comparison::Less => order.is_lt(),
+        Comparison::AtMost => order.is_le(),
+        Comparison::Greater => order.is_gt(),
+        Comparison::AtLeast => order.is_ge(),
+    }
+}
+
+/// A comparison: with null it is unknown.
+#[tactic(auto, using(crate::proofs::Orders::same_by_order))]
+pub fn compared<'a>(comparison: Comparison, left: &Seen<'a>, right: &Seen<'a>) -> Truth
+    ensures { result ≡ data_.compared comparison (seen left.now) (seen right.now) }
+{
+    if left.is_nothing() || right.is_nothing() {
+        return Truth::Unknown;
+    }
+    let order = order(left, right);
+    truth_of(holds(comparison, order.is_eq(), order))
+}
+
+/// BETWEEN: at least the one, and at most the other.
+pub fn between<'a>(middle: &Seen<'a>, low: &Seen<'a>, high: &Seen<'a>) -> Truth
+    ensures { result ≡ data_.between (seen middle.now) (seen low.now) (seen high.now) }
+{
+    and3(
+        compared(Comparison::AtLeast, middle, low),
+        compared(Comparison::AtMost, middle, high),
+    )
+}
+
+impl PartialEq for Seen<'_> {
+    ghost eq = { same_seen };
+
+    ghost laws = { partial_equiv_from_equiv (eq_by_cmp_equiv seen_total) };
+
+    fn eq(&self, other: &Self) -> bool {
+        self.cmp(other).is_eq()
+    }
+}
+
+impl Eq for Seen<'_> {
+    ghost laws = { eq_by_cmp_equiv seen_total };
+}
+
+impl PartialOrd for Seen<'_> {
+    ghost partial_cmp = { λ x y. Some (seen_cmp x y) };
+
+    ghost laws = { partial_order_from_agreeing_total seen_cmp seen_total (λ x y. refl) (λ x y. refl) };
+
+    fn partial_cmp(&self, other: &Self) -> Option<Ordering> {
+        Some(self.cmp(other))
+    }
+}
+
+impl Ord for Seen<'_> {
+    ghost cmp = { seen_cmp };
+
+    ghost total = { seen_total };
+
+    ghost matches_partial_cmp = { λ x y. refl };
+
+    ghost matches_eq = { λ x y. refl };
+
+    fn cmp(&self, other: &Self) -> Ordering {
+        order(self, other)
+    }
+}

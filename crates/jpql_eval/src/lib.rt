@@ -1,0 +1,26 @@
+//! Operators, functions, LIKE and aggregates of queries, on values (Jakarta Persistence 3.1, chapters 4.6 to 4.8).
+//!
+//! What each gives stands in `specs/`. Values are seen where they stand: in an object, in the query or among its
+//! parameters.
+#![tactic(auto)]
+
+mod aggregates;
+mod calls;
+mod compare;
+mod datum;
+mod failure;
+mod numbers;
+mod patterns;
+mod seen;
+mod texts;
+mod truths;
+
+pub use aggregates::aggregated;
+pub use calls::{applied, like};
+pub use compare::{between, compared, is_same, order};
+pub use datum::{Datum, Truth};
+pub use failure::Failure;
+pub use numbers::{absolute, arithmetic, modulo, signed};
+pub use patterns::Mark;
+pub use seen::{Seen, seen_datum, seen_value};
+pub use truths::{and3, not3, or3, truth_of};
