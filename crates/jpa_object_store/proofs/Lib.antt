@@ -6,3 +6,4 @@ pub mod Stood
 pub mod StoodObjects
 pub mod StoodNumbers
 pub mod Commits
+mod Examples

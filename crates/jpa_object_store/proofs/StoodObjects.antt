@@ -1,4 +1,5 @@
--- The rows of an object that is put in a set stand in the rows of the set where they are those of the old object, and nowhere else.
+-- The rows of what is put in a set under an identity stand in the rows of the set where they are those of the old object, and nowhere
+-- else.
 use Rattle.std.specs.Prelude.{◌≡◌, ℕ, Bool, true, false, cond, ◌||◌, List, [], ◌∷◌, Option, Some, None, T}
 use Rattle.std.proofs.Common.{refl, sym, ap, ◌∙◌}
 use Rattle.std.specs.List.{list_any}
@@ -24,14 +25,10 @@ use Rattle.jpa_object_rows.specs.Sets.{rows_of}
 use Rattle.jpa_object_rows.proofs.Exact.{rows_replaced_in, rows_dropped_in}
 use Rattle.jpa_object_rows.proofs.Over.{found_over, found_left, found_replaced}
 use Rattle.jpa_overlay.specs.Overlay.{Changes}
-use Rattle.jpa_object_store.specs.Shown.{with_puts, with_drops, without_old, with_old, Recall}
+use Rattle.jpa_object_store.specs.Shown.{with_puts, with_drops, entries_at, Recall}
+use Rattle.jpa_object_store.specs.Written.{is_storable_if_any}
 use Rattle.jpa_object_store.proofs.Replaced.{old_storable}
 use Rattle.jpa_object_store.proofs.Stood.{past_puts, past_drops, Replaces, recalled}
-
--- the rows of the object that stands under an identity, if there is one
-abbrev pub old_entries : World → Identity → Option Stored → Rows
-old_entries world id None = []
-old_entries world id (Some x) = object_entries world id x
 
 -- ---- what is found among an object's rows
 
@@ -131,18 +128,18 @@ module _ (world : World) (mapped : IsMapped world.model) (regular : IsRegular wo
         ∙ ap (λ o. or_else o others) (entries_found world id old q ∙ none)
         ∙ ap (λ b. cond b None (find identity_cmp q news)) pair
 
-    replaces : (old : Option Stored) → stored_at set id ≡ old → Replaces rows (old_entries world id old) (object_entries world id x)
-    replaces None at = record { there = λ q row e. absurd (some_none row (sym e)); new = λ q row none e. none_there at q row e }
-    replaces (Some old) at = record { there = old_there old at; new = new_there old at }
+  replaces : (new : Option Stored) → is_storable_if_any world id new ≡ true → (old : Option Stored) → stored_at set id ≡ old → Replaces rows (entries_at world id old) (entries_at world id new)
+  replaces None g None at = record { there = λ q row e. absurd (some_none row (sym e)); new = λ q row none e. absurd (some_none row (sym e)) }
+  replaces None g (Some old) at = record { there = old_there old at; new = λ q row none e. absurd (some_none row (sym e)) }
+  replaces (Some x) g None at = record { there = λ q row e. absurd (some_none row (sym e)); new = λ q row none e. none_there x g at q row e }
+  replaces (Some x) g (Some old) at = record { there = old_there old at; new = new_there x g old at }
 
-    -- an object put, with its old rows noted
-    pub object_recalled : (stood changes : Changes) → Recall (rows_of world set numbers) stood changes → (old : Option Stored) → stored_at set id ≡ old
-        → Recall (rows_of world set numbers) (with_old world id old stood) (with_puts (object_entries world id x) (without_old world id old changes))
-    unfolding rows
-    object_recalled stood changes r None at =
-        recalled (rows_of world set numbers) [] (object_entries world id x) (replaces None at) stood changes r (with_puts (object_entries world id x) changes)
-        (λ q none fresh. past_puts q (object_entries world id x) changes fresh)
-    object_recalled stood changes r (Some old) at =
-        let olds = object_entries world id old in
-        recalled (rows_of world set numbers) olds (object_entries world id x) (replaces (Some old) at) stood changes r (with_puts (object_entries world id x) (with_drops olds changes))
-        (λ q none fresh. past_puts q (object_entries world id x) (with_drops olds changes) fresh ∙ past_drops q olds changes none)
+  -- what is to stand put, with the old rows noted
+  pub object_recalled : (new : Option Stored) → is_storable_if_any world id new ≡ true → (stood changes : Changes) → Recall (rows_of world set numbers) stood changes → (old : Option Stored) → stored_at set id ≡ old
+      → Recall (rows_of world set numbers) (with_puts (entries_at world id old) stood) (with_puts (entries_at world id new) (with_drops (entries_at world id old) changes))
+  unfolding rows
+  object_recalled new g stood changes r old at =
+      let olds = entries_at world id old in
+      let news = entries_at world id new in
+      recalled (rows_of world set numbers) olds news (replaces new g old at) stood changes r (with_puts news (with_drops olds changes))
+      (λ q none fresh. past_puts q news (with_drops olds changes) fresh ∙ past_drops q olds changes none)

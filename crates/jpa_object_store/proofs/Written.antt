@@ -1,36 +1,79 @@
--- The written objects one by one: each is put where the committed set has what it had.
-use Rattle.std.specs.Prelude.{◌≡◌, ℕ, zero, suc, ◌<◌, ◌+◌, Bool, true, false, not, List, [], ◌∷◌, ◌++◌, length}
+-- What is to stand under identities, one by one: each is put, or taken out, where the committed set has what it had.
+use Rattle.std.specs.Prelude.{◌≡◌, ℕ, zero, suc, ◌<◌, ◌+◌, Bool, true, false, not, ◌&&◌, ◌||◌, List, [], ◌∷◌, ◌++◌, length, map, Option, Some, None}
 use Rattle.std.proofs.Common.{refl, sym, ap, subst, ◌∙◌, arith, get_or, take}
-use Rattle.std.proofs.lemmas.List.{take_more}
+use Rattle.std.proofs.lemmas.List.{take_more, length-map, get_or-map}
 use Rattle.std.specs.List.{list_any, AllByRecursion}
+use Rattle.std.specs.Option.{option_copied}
 use Rattle.jpa_value.specs.declared.value.Identity.{Identity}
 use Rattle.jpa_value.specs.Value.{same_identity}
+use Rattle.jpa_behaviour.specs.Behaviour.{World}
 use Rattle.jpa_stored.specs.declared.stored.Stored.{Stored}
 use Rattle.jpa_stored.specs.Sets.{StoredSet, stored_at, with_stored, put_all, all_distinct}
-use Rattle.jpa_stored.proofs.Puts.{put_last}
+use Rattle.jpa_view.specs.View.{is_storable}
 use Rattle.jpa_row_laws.proofs.Facts.{and_first, and_second, true_false}
-use Rattle.jpa_row_laws.proofs.Lists.{has_any}
-use Rattle.jpa_row_laws.proofs.Maps.{found_other, ties_back}
+use Rattle.jpa_row_laws.proofs.Elements.{Has}
+use Rattle.jpa_row_laws.proofs.Lists.{has_any, all_each}
+use Rattle.jpa_row_laws.proofs.Maps.{found_other, dropped_other, ties_back}
 use Rattle.jpa_view.proofs.Classes.{item_at}
 use Rattle.jpa_view.proofs.Orders.{identities}
+use Rattle.jpa_view.proofs.SetLaws.{is_without}
+use Rattle.jpa_object_store.specs.declared.object_change.ObjectChange.{ObjectChange}
+use Rattle.jpa_object_store.specs.Written.{entry_in, entries_in, is_storable_if_any, with_or_without, set_after}
 
-abbrev Entry : Type 0
-Entry = Identity × Stored
+abbrev pub Entry : Type 0
+Entry = Identity × Option Stored
 
--- one object more
-pub put_more : (es : List Entry) (i : ℕ) (e : Entry) (set : StoredSet) → i < length es → e ≡ get_or es i e → put_all (take (i + 1) es) set ≡ with_stored e.0 e.1 (put_all (take i es) set)
-put_more es i e set l is =
-    ap (λ ds. put_all ds set) (take_more es i e l ∙ ap (λ d. take i es ++ d ∷ []) (sym is)) ∙ put_last (take i es) e set
+after_last : (es : List Entry) (e : Entry) (set : StoredSet) → set_after (es ++ e ∷ []) set ≡ with_or_without e.0 e.1 (set_after es set)
+after_last [] e set = refl
+after_last (d ∷ es) e set = after_last es e (with_or_without d.0 d.1 set)
 
--- objects of other identities leave what stands under this one
+-- one identity more
+pub after_more : (es : List Entry) (i : ℕ) (e : Entry) (set : StoredSet) → i < length es → e ≡ get_or es i e → set_after (take (i + 1) es) set ≡ with_or_without e.0 e.1 (set_after (take i es) set)
+after_more es i e set l is =
+    ap (λ ds. set_after ds set) (take_more es i e l ∙ ap (λ d. take i es ++ d ∷ []) (sym is)) ∙ after_last (take i es) e set
+
+-- ---- objects that are put, and none that goes
+
+abbrev pub as_put : Identity × Stored → Entry
+as_put e = (e.0, Some e.1)
+
+pub puts_after : (es : List (Identity × Stored)) (set : StoredSet) → set_after (map as_put es) set ≡ put_all es set
+puts_after [] set = refl
+puts_after (e ∷ es) set = puts_after es (with_stored e.0 e.1 set)
+
+pub puts_storable : (world : World) (es : List (Identity × Stored)) → AllByRecursion (λ (e : Identity × Stored). is_storable world e.0 e.1 ≡ true) es
+    → AllByRecursion (λ (e : Entry). is_storable_if_any world e.0 e.1 ≡ true) (map as_put es)
+puts_storable world [] h = tt
+puts_storable world (e ∷ es) h = (h.0, puts_storable world es h.1)
+
+same_any : (id : Identity) (es : List (Identity × Stored)) → list_any (λ (b : Entry). same_identity id b.0) (map as_put es) ≡ list_any (λ (b : Identity × Stored). same_identity id b.0) es
+same_any id [] = refl
+same_any id (e ∷ es) = ap (λ b. same_identity id e.0 || b) (same_any id es)
+
+pub puts_distinct : (es : List (Identity × Stored)) → all_distinct (λ (a : Entry) (b : Entry). same_identity a.0 b.0) (map as_put es) ≡ all_distinct (λ (a : Identity × Stored) (b : Identity × Stored). same_identity a.0 b.0) es
+puts_distinct [] = refl
+puts_distinct (e ∷ es) = λ i. not (same_any e.0 es i) && puts_distinct es i
+
+pub none_put : (cs : List ObjectChange) (es : List (Identity × Stored)) → entries_in cs ≡ map as_put es → es ≡ [] → cs ≡ []
+none_put [] es h none = refl
+none_put (c ∷ cs) [] h none = cc
+none_put (c ∷ cs) (e ∷ es) h none = cc
+
+-- ---- one after another
+
+-- what is to stand under another identity leaves what stands under this one
+other_left : (q id : Identity) (x : Option Stored) (set : StoredSet) → same_identity q id ≡ false → stored_at (with_or_without id x set) q ≡ stored_at set q
+other_left q id None set apart = ap (λ s. stored_at s q) (sym (is_without id set)) ∙ dropped_other identities q id set apart
+other_left q id (Some x) set apart = found_other identities q id x set apart
+
 AreOthers : Identity → List Entry → Type 0
 AreOthers id = AllByRecursion (λ e. same_identity e.0 id ≡ false)
 
-untouched : (es : List Entry) (id : Identity) (set : StoredSet) → AreOthers id es → stored_at (put_all es set) id ≡ stored_at set id
+untouched : (es : List Entry) (id : Identity) (set : StoredSet) → AreOthers id es → stored_at (set_after es set) id ≡ stored_at set id
 unfolding AreOthers
 untouched [] id set h = refl
 untouched (e ∷ es) id set h =
-    untouched es id (with_stored e.0 e.1 set) h.1 ∙ found_other identities id e.0 e.1 set (sym (ties_back identities id e.0) ∙ h.0)
+    untouched es id (with_or_without e.0 e.1 set) h.1 ∙ other_left id e.0 e.1 set (sym (ties_back identities id e.0) ∙ h.0)
 
 not_any : (b : Bool) → not b ≡ true → b ≡ true → ⊥
 not_any true h e = true_false (sym h)
@@ -50,7 +93,27 @@ others (e ∷ es) (suc i) d h l =
       others es i d (and_second (not (list_any later es)) _ h) (omega arith),
     )
 
--- no identity stands twice among the objects: each is put over what the committed set has
+-- no identity comes twice: each is put over what the committed set has
 pub still_committed : (es : List Entry) (i : ℕ) (e : Entry) (set : StoredSet) → all_distinct (λ a b. same_identity a.0 b.0) es ≡ true → i < length es → e ≡ get_or es i e
-    → stored_at (put_all (take i es) set) e.0 ≡ stored_at set e.0
+    → stored_at (set_after (take i es) set) e.0 ≡ stored_at set e.0
 still_committed es i e set h l is = untouched (take i es) e.0 set (subst (λ (d : Entry). AreOthers d.0 (take i es)) (sym is) (others es i e h l))
+
+-- ---- the same of changes
+
+module _ (cs : List ObjectChange) (i : ℕ) (change : ObjectChange) (l : i < length cs) (is : change ≡ get_or cs i change) where
+  below : i < length (entries_in cs)
+  below = subst (λ n. i < n) (sym (length-map cs entry_in)) l
+
+  entry_is : entry_in change ≡ get_or (entries_in cs) i (entry_in change)
+  entry_is = ap entry_in is ∙ sym (get_or-map entry_in cs i change (entry_in change) l)
+
+  pub change_more : (set : StoredSet) → set_after (take (i + 1) (entries_in cs)) set ≡ with_or_without change.id.now (option_copied change.object) (set_after (take i (entries_in cs)) set)
+  change_more set = after_more (entries_in cs) i (entry_in change) set below entry_is
+
+  pub change_committed : (set : StoredSet) → all_distinct (λ a b. same_identity a.0 b.0) (entries_in cs) ≡ true → stored_at (set_after (take i (entries_in cs)) set) change.id.now ≡ stored_at set change.id.now
+  change_committed set distinct = still_committed (entries_in cs) i (entry_in change) set distinct below entry_is
+
+  pub change_storable : (world : World) → AllByRecursion (λ (e : Entry). is_storable_if_any world e.0 e.1 ≡ true) (entries_in cs) → is_storable_if_any world change.id.now (option_copied change.object) ≡ true
+  change_storable world all =
+      all_each (λ (e : Entry). is_storable_if_any world e.0 e.1 ≡ true) (entries_in cs) all (entry_in change)
+      (subst (λ (e : Entry). Has (entries_in cs) e) (sym entry_is) (item_at (entries_in cs) i (entry_in change) below))

@@ -28,15 +28,10 @@ abbrev pub with_drops : Rows → Changes → Changes
 with_drops [] changes = changes
 with_drops (e ∷ es) changes = with_change e.0 None (with_drops es changes)
 
--- the rows of the object that stands under an identity, dropped
-abbrev pub without_old : World → Identity → Option Stored → Changes → Changes
-without_old world id None changes = changes
-without_old world id (Some x) changes = with_drops (object_entries world id x) changes
-
--- and the same rows put, to say that they stood
-abbrev pub with_old : World → Identity → Option Stored → Changes → Changes
-with_old world id None stood = stood
-with_old world id (Some x) stood = with_puts (object_entries world id x) stood
+-- the rows of what stands under an identity: of an object, or none
+abbrev pub entries_at : World → Identity → Option Stored → Rows
+entries_at world id None = []
+entries_at world id (Some x) = object_entries world id x
 
 -- the row of a root's next number, put
 abbrev pub with_next : Origin → ℕ → Changes → Changes

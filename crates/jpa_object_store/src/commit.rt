@@ -13,9 +13,10 @@ ghost use Rattle.jpa_rows.specs.Statements.{statements_of, up_to_greatest};
 ghost use Rattle.jpa_rows.specs.Tables.{schema_of};
 ghost use Rattle.jpa_view.specs.View.{is_storable};
 ghost use Rattle.jpa_object_rows.specs.Sets.{rows_of};
-ghost use Rattle.jpa_object_store.specs.Written.{IsDifference};
+ghost use Rattle.jpa_object_store.specs.Written.{IsDifference, entries_in, is_storable_if_any, set_after};
 
 use crate::numbers::change_numbers;
+use crate::object_change::{ObjectChange, puts_of};
 use crate::objects::change_objects;
 use jpa_behaviour::{Behaviour, Registry};
 use jpa_mapper::discriminator_law;
@@ -26,23 +27,23 @@ use jpa_stored::{OpenSet, Stored};
 use jpa_value::{Cause, Identity, Seq};
 use std::alloc::Global;
 
-/// The difference of the rows of a view's committed objects and their next numbers from those with the written objects and of
-/// the new next numbers. The committed objects say what stands, so no store is read.
+/// The difference of the rows of a view's committed objects and their next numbers from those with what is to stand under some
+/// identities and of the new next numbers. The committed objects say what stands, so no store is read.
 fn difference_of<B: Behaviour>(
     alloc: Global,
     metamodel: &Metamodel,
     registry: &Registry<B>,
     view: &OpenSet,
     before: &[u64],
-    written: &[(Identity, Stored)],
+    objects: &[ObjectChange<'_>],
     next: &[u64],
 ) -> Result<Seq<RowChange>, Cause>
     requires committed { CanBeHeld (world_of B.meaning metamodel.now registry.now) view.now.since before.now }
-    requires storable { AllByRecursion (λ e. is_storable (world_of B.meaning metamodel.now registry.now) e.0 e.1 ≡ true) written.now }
-    requires distinct { all_distinct (λ a b. same_identity a.0 b.0) written.now ≡ true }
+    requires storable { AllByRecursion (λ e. is_storable_if_any (world_of B.meaning metamodel.now registry.now) e.0 e.1 ≡ true) (entries_in objects.now) }
+    requires distinct { all_distinct (λ a b. same_identity a.0 b.0) (entries_in objects.now) ≡ true }
     requires numbers { are_numbers metamodel.now next.now ≡ true }
     requires rising { each_fits nat_le before.now next.now ≡ true }
-    ensures ok { IfOk result (λ changes. IsDifference (rows_of (world_of B.meaning metamodel.now registry.now) view.now.since before.now) (rows_of (world_of B.meaning metamodel.now registry.now) (put_all written.now view.now.since) next.now) changes) }
+    ensures ok { IfOk result (λ changes. IsDifference (rows_of (world_of B.meaning metamodel.now registry.now) view.now.since before.now) (rows_of (world_of B.meaning metamodel.now registry.now) (set_after (entries_in objects.now) view.now.since) next.now) changes) }
     ensures whole { IfOk result (AreChanges (schema_of metamodel.now)) }
     ensures err { IfErr result (λ cause. cause ≡ Cause.OutOfMemory) }
 {
@@ -59,24 +60,64 @@ fn difference_of<B: Behaviour>(
         metamodel,
         registry,
         view,
-        written,
+        objects,
     )?;
     change_numbers(&mut overlay, &mut stood, alloc, metamodel, before, next)?;
     overlay.into_difference(&stood)
 }
 
-/// Writes the objects that a flush wrote, each under its identity and no identity twice, over the view's committed objects, which
-/// the store holds, and the next numbers of generated keys in the place of those before, none of which falls: all or nothing, as
-/// one transaction of the store (Jakarta Persistence 3.1, chapters 2.4, 2.10, 2.12 and 3.2.4).
+/// Writes what is to stand under some identities, none of which comes twice, over the view's committed objects, which the store
+/// holds, and the next numbers of generated keys in the place of those before, none of which falls: all or nothing, as one
+/// transaction of the store (Jakarta Persistence 3.1, chapters 2.4, 2.10, 2.12, 3.2.3 and 3.2.4).
 ///
-/// An object of an identity that is committed takes the place of the old one, whose pairs go with it. What is written is exactly
-/// the difference of the rows: none that stands as it is to stand, so nothing where no row changes. The view says what stands, so
-/// nothing is read.
+/// An object of an identity that is committed takes the place of the old one, whose pairs go with it. Where no object is to stand,
+/// the one that is committed goes, its row and its pairs. What is written is exactly the difference of the rows: none that stands
+/// as it is to stand, so nothing where no row changes. The view says what stands, so nothing is read.
 ///
 /// It refuses with `OutOfMemory`, and with `StoreFault` as the store does. Then the store holds what it held, and is as it was
 /// where no commit was tried; where one was, the statements that it ran are at most those of the difference.
 ///
 /// However it ends, a crash leaves what it could leave before, or the rows of the set and the next numbers that it writes.
+pub fn write_changes<R: RowSource, B: Behaviour>(
+    alloc: Global,
+    metamodel: &Metamodel,
+    registry: &Registry<B>,
+    source: &mut R,
+    view: &OpenSet,
+    before: &[u64],
+    objects: &[ObjectChange<'_>],
+    next: &[u64],
+) -> Result<(), Cause>
+    requires schema { R.schema source.old ≡ schema_of metamodel.now }
+    requires committed { CanBeHeld (world_of B.meaning metamodel.now registry.now) view.now.since before.now }
+    requires storable { AllByRecursion (λ e. is_storable_if_any (world_of B.meaning metamodel.now registry.now) e.0 e.1 ≡ true) (entries_in objects.now) }
+    requires distinct { all_distinct (λ a b. same_identity a.0 b.0) (entries_in objects.now) ≡ true }
+    requires numbers { are_numbers metamodel.now next.now ≡ true }
+    requires rising { each_fits nat_le before.now next.now ≡ true }
+    ensures ok { OnOk result (R.holds source.old (rows_of (world_of B.meaning metamodel.now registry.now) view.now.since before.now) → R.holds source.new (rows_of (world_of B.meaning metamodel.now registry.now) (set_after (entries_in objects.now) view.now.since) next.now)) }
+    ensures err { OnErr result ((rows : Rows) → R.holds source.old rows → R.holds source.new rows) }
+    ensures cause { IfErr result (λ cause. (cause ≡ Cause.OutOfMemory) ⊎ (cause ≡ Cause.StoreFault)) }
+    ensures told { R.faults source.new ≡ faults_after result (R.faults source.old) }
+    ensures was_clean { R.clean source.new → R.clean source.old }
+    ensures schema { R.schema source.new ≡ R.schema source.old }
+    ensures unread { R.reads source.new ≡ R.reads source.old }
+    ensures crash { R.holds source.old (rows_of (world_of B.meaning metamodel.now registry.now) view.now.since before.now) → R.endures source.old source.new (λ left. left ≡ rows_of (world_of B.meaning metamodel.now registry.now) (set_after (entries_in objects.now) view.now.since) next.now) }
+    ensures counted { OnOk result ((changes : List RowChange) × IsDifference (rows_of (world_of B.meaning metamodel.now registry.now) view.now.since before.now) (rows_of (world_of B.meaning metamodel.now registry.now) (set_after (entries_in objects.now) view.now.since) next.now) changes × (R.writes source.new ≡ up_to_greatest (R.writes source.old + sum_by statements_of changes))) }
+    ensures bounded { OnErr result ((source.new ≡ source.old) ⊎ ((changes : List RowChange) × IsDifference (rows_of (world_of B.meaning metamodel.now registry.now) view.now.since before.now) (rows_of (world_of B.meaning metamodel.now registry.now) (set_after (entries_in objects.now) view.now.since) next.now) changes × (R.writes source.old ≤ R.writes source.new) × (R.writes source.new ≤ up_to_greatest (R.writes source.old + sum_by statements_of changes)))) }
+    ensures unchanged { rows_of (world_of B.meaning metamodel.now registry.now) view.now.since before.now ≡ rows_of (world_of B.meaning metamodel.now registry.now) (set_after (entries_in objects.now) view.now.since) next.now → source.new ≡ source.old }
+    ensures nothing { objects.now ≡ [] → next.now ≡ before.now → (result ≡ Ok tt) × (source.new ≡ source.old) }
+{
+    if objects.is_empty() && before == next {
+        // takes no memory
+        return source.commit(&[]);
+    }
+    let changes = difference_of(alloc, metamodel, registry, view, before, objects, next)?;
+    source.commit(changes.as_slice())
+}
+
+/// Writes the objects that a flush wrote, each under its identity and no identity twice, over the view's committed objects, and no
+/// committed object goes: `write_changes` of these objects, with its refusals, and the same of a crash (Jakarta Persistence 3.1,
+/// chapters 2.4, 2.10, 2.12 and 3.2.4).
 pub fn write<R: RowSource, B: Behaviour>(
     alloc: Global,
     metamodel: &Metamodel,
@@ -106,10 +147,15 @@ pub fn write<R: RowSource, B: Behaviour>(
     ensures unchanged { rows_of (world_of B.meaning metamodel.now registry.now) view.now.since before.now ≡ rows_of (world_of B.meaning metamodel.now registry.now) (put_all written.now view.now.since) next.now → source.new ≡ source.old }
     ensures nothing { written.now ≡ [] → next.now ≡ before.now → (result ≡ Ok tt) × (source.new ≡ source.old) }
 {
-    if written.is_empty() && before == next {
-        // takes no memory
-        return source.commit(&[]);
-    }
-    let changes = difference_of(alloc, metamodel, registry, view, before, written, next)?;
-    source.commit(changes.as_slice())
+    let puts = puts_of(alloc, written)?;
+    write_changes(
+        alloc,
+        metamodel,
+        registry,
+        source,
+        view,
+        before,
+        puts.as_slice(),
+        next,
+    )
 }

@@ -1,6 +1,7 @@
 //! The changes of written objects.
 ghost use Rattle.std.specs.Prelude.{◌≡◌, ℕ, List, true, OnOk, IfOk, IfErr};
 ghost use Rattle.std.specs.List.{AllByRecursion};
+ghost use Rattle.std.specs.Option.{option_copied};
 ghost use Rattle.jpa_value.specs.declared.refusal.Cause.{Cause};
 ghost use Rattle.jpa_value.specs.Value.{same_identity};
 ghost use Rattle.jpa_behaviour.specs.Registered.{world_of};
@@ -10,8 +11,10 @@ ghost use Rattle.jpa_rows.specs.Rows.{Rows};
 ghost use Rattle.jpa_view.specs.View.{is_storable, AreStorable};
 ghost use Rattle.jpa_object_rows.specs.Objects.{object_entries};
 ghost use Rattle.jpa_object_rows.specs.Sets as set_rows;
-ghost use Rattle.jpa_object_store.specs.Shown.{without_old, with_old, Show, Recall};
+ghost use Rattle.jpa_object_store.specs.Shown.{with_puts, with_drops, entries_at, Show, Recall};
+ghost use Rattle.jpa_object_store.specs.Written.{entries_in, is_storable_if_any, with_or_without, set_after};
 
+use crate::object_change::ObjectChange;
 use crate::rows::{drop_rows, put_rows};
 use jpa_behaviour::{Behaviour, Registry};
 use jpa_mapper::{discriminator_law, to_rows};
@@ -48,8 +51,8 @@ fn drop_old<B: Behaviour>(
     id: &Identity,
 ) -> Result<(), Cause>
     requires { AreStorable (world_of B.meaning metamodel.now registry.now) view.now.since }
-    ensures ok { OnOk result (overlay.new ≡ without_old (world_of B.meaning metamodel.now registry.now) id.now (sets.stored_at view.now.since id.now) overlay.old) }
-    ensures noted { OnOk result (stood.new ≡ with_old (world_of B.meaning metamodel.now registry.now) id.now (sets.stored_at view.now.since id.now) stood.old) }
+    ensures ok { OnOk result (overlay.new ≡ with_drops (entries_at (world_of B.meaning metamodel.now registry.now) id.now (sets.stored_at view.now.since id.now)) overlay.old) }
+    ensures noted { OnOk result (stood.new ≡ with_puts (entries_at (world_of B.meaning metamodel.now registry.now) id.now (sets.stored_at view.now.since id.now)) stood.old) }
     ensures err { IfErr result (λ cause. cause ≡ Cause.OutOfMemory) }
 {
     match view.committed(id) {
@@ -62,7 +65,29 @@ fn drop_old<B: Behaviour>(
     }
 }
 
-/// Puts an object in the place of the view's committed one under its identity, if there is one, and notes what stood.
+/// Puts the rows of what is to stand under an identity, if anything is.
+fn put_new<B: Behaviour>(
+    overlay: &mut Overlay,
+    alloc: Global,
+    metamodel: &Metamodel,
+    registry: &Registry<B>,
+    id: &Identity,
+    object: Option<&Stored>,
+) -> Result<(), Cause>
+    requires { is_storable_if_any (world_of B.meaning metamodel.now registry.now) id.now (option_copied object) ≡ true }
+    ensures ok { OnOk result (overlay.new ≡ with_puts (entries_at (world_of B.meaning metamodel.now registry.now) id.now (option_copied object.entry)) overlay.old) }
+    ensures err { IfErr result (λ cause. cause ≡ Cause.OutOfMemory) }
+{
+    match object {
+        None => Ok(()),
+        Some(object) => {
+            let rows = rows_of(alloc, metamodel, registry, id, object)?;
+            put_rows(overlay, rows)
+        }
+    }
+}
+
+/// Puts what is to stand under an identity in the place of the view's committed object there, if there is one, and notes what stood.
 fn change_object<B: Behaviour>(
     overlay: &mut Overlay,
     stood: &mut Overlay,
@@ -71,11 +96,11 @@ fn change_object<B: Behaviour>(
     registry: &Registry<B>,
     view: &OpenSet,
     id: &Identity,
-    object: &Stored,
+    object: Option<&Stored>,
 ) -> Result<(), Cause>
     requires committed { AreStorable (world_of B.meaning metamodel.now registry.now) view.now.since }
-    requires storable { is_storable (world_of B.meaning metamodel.now registry.now) id.now object.now ≡ true }
-    ensures ok { OnOk result ((base : Rows) (set : sets.StoredSet) (numbers : List ℕ) → sets.stored_at set id.now ≡ sets.stored_at view.now.since id.now → Show (world_of B.meaning metamodel.now registry.now) base overlay.old set numbers → Show (world_of B.meaning metamodel.now registry.now) base overlay.new (sets.with_stored id.now object.now set) numbers) }
+    requires storable { is_storable_if_any (world_of B.meaning metamodel.now registry.now) id.now (option_copied object) ≡ true }
+    ensures ok { OnOk result ((base : Rows) (set : sets.StoredSet) (numbers : List ℕ) → sets.stored_at set id.now ≡ sets.stored_at view.now.since id.now → Show (world_of B.meaning metamodel.now registry.now) base overlay.old set numbers → Show (world_of B.meaning metamodel.now registry.now) base overlay.new (with_or_without id.now (option_copied object.entry) set) numbers) }
     ensures noted { OnOk result ((before : List ℕ) → CanBeHeld (world_of B.meaning metamodel.now registry.now) view.now.since before → Recall (set_rows.rows_of (world_of B.meaning metamodel.now registry.now) view.now.since before) stood.old overlay.old → Recall (set_rows.rows_of (world_of B.meaning metamodel.now registry.now) view.now.since before) stood.new overlay.new) }
     ensures err { IfErr result (λ cause. cause ≡ Cause.OutOfMemory) }
 {
@@ -84,11 +109,10 @@ fn change_object<B: Behaviour>(
     registry.laws();
     discriminator_law(metamodel);
     drop_old(overlay, stood, alloc, metamodel, registry, view, id)?;
-    let rows = rows_of(alloc, metamodel, registry, id, object)?;
-    put_rows(overlay, rows)
+    put_new(overlay, alloc, metamodel, registry, id, object)
 }
 
-/// Puts each written object in the place of the view's committed one under its identity, and notes what stood.
+/// Puts what is to stand under each identity in the place of the view's committed object there, and notes what stood.
 pub(crate) fn change_objects<B: Behaviour>(
     overlay: &mut Overlay,
     stood: &mut Overlay,
@@ -96,17 +120,26 @@ pub(crate) fn change_objects<B: Behaviour>(
     metamodel: &Metamodel,
     registry: &Registry<B>,
     view: &OpenSet,
-    written: &[(Identity, Stored)],
+    changes: &[ObjectChange<'_>],
 ) -> Result<(), Cause>
     requires committed { AreStorable (world_of B.meaning metamodel.now registry.now) view.now.since }
-    requires storable { AllByRecursion (λ e. is_storable (world_of B.meaning metamodel.now registry.now) e.0 e.1 ≡ true) written.now }
-    requires distinct { sets.all_distinct (λ a b. same_identity a.0 b.0) written.now ≡ true }
-    ensures ok { OnOk result ((base : Rows) (numbers : List ℕ) → Show (world_of B.meaning metamodel.now registry.now) base overlay.old view.now.since numbers → Show (world_of B.meaning metamodel.now registry.now) base overlay.new (sets.put_all written.now view.now.since) numbers) }
+    requires storable { AllByRecursion (λ e. is_storable_if_any (world_of B.meaning metamodel.now registry.now) e.0 e.1 ≡ true) (entries_in changes.now) }
+    requires distinct { sets.all_distinct (λ a b. same_identity a.0 b.0) (entries_in changes.now) ≡ true }
+    ensures ok { OnOk result ((base : Rows) (numbers : List ℕ) → Show (world_of B.meaning metamodel.now registry.now) base overlay.old view.now.since numbers → Show (world_of B.meaning metamodel.now registry.now) base overlay.new (set_after (entries_in changes.now) view.now.since) numbers) }
     ensures noted { OnOk result ((before : List ℕ) → CanBeHeld (world_of B.meaning metamodel.now registry.now) view.now.since before → Recall (set_rows.rows_of (world_of B.meaning metamodel.now registry.now) view.now.since before) stood.old overlay.old → Recall (set_rows.rows_of (world_of B.meaning metamodel.now registry.now) view.now.since before) stood.new overlay.new) }
     ensures err { IfErr result (λ cause. cause ≡ Cause.OutOfMemory) }
 {
-    for (id, object) in written {
-        change_object(overlay, stood, alloc, metamodel, registry, view, id, object)?;
+    for change in changes {
+        change_object(
+            overlay,
+            stood,
+            alloc,
+            metamodel,
+            registry,
+            view,
+            change.id,
+            change.object,
+        )?;
     }
     Ok(())
 }

@@ -3,7 +3,6 @@ use Rattle.std.proofs.Common.{refl, sym, subst, ◌∙◌}
 use Rattle.std.specs.FinMap.{find, is_sorted}
 use Rattle.jpa_value.specs.Value.{identity_cmp}
 use Rattle.jpa_behaviour.specs.Registered.{world_of}
-use Rattle.jpa_stored.specs.Sets.{put_all}
 use Rattle.jpa_rows.specs.declared.row.RowChange.{RowChange}
 use Rattle.jpa_rows.specs.Rows.{Rows, AreRising, AreChanges, entry_of, rows_after}
 use Rattle.jpa_rows.specs.Tables.{schema_of}
@@ -12,7 +11,7 @@ use Rattle.jpa_view.proofs.Described.{described_mapped}
 use Rattle.jpa_view.proofs.Rounds.{held_storable}
 use Rattle.jpa_object_rows.specs.Sets.{rows_of}
 use Rattle.jpa_overlay.specs.Overlay.{Changes, Recalls, rows_under}
-use Rattle.jpa_object_store.specs.Written.{IsDifference}
+use Rattle.jpa_object_store.specs.Written.{IsDifference, entries_in, set_after}
 use Rattle.jpa_object_store.specs.Shown.{Show, Recall}
 use Rattle.jpa_object_store.proofs.Commits.{begins, begins_noted, are_changes}
 use Rattle.jpa_object_store.proofs.commit.difference_of.Goals as goal
@@ -36,7 +35,7 @@ returns-clause-ok g c =
     let committed = c.args.view.now.since in
     let before = c.args.before.now in
     let base = rows_of world committed before in
-    let set = put_all c.args.written.now committed in
+    let set = set_after (entries_in c.args.objects.now) committed in
     let regular = c.laws.ensures.regular m in
     let held = c.requires.committed in
     let none = subst (λ changes. Show world base changes committed before) (sym c.new-overlay.ensures)
@@ -60,7 +59,7 @@ returns-clause-whole g c =
     let committed = c.args.view.now.since in
     let before = c.args.before.now in
     let base = rows_of world committed before in
-    let set = put_all c.args.written.now committed in
+    let set = set_after (entries_in c.args.objects.now) committed in
     let regular = c.laws.ensures.regular m in
     let mapped = described_mapped m c.unit.ensures.described in
     let named = c.discriminator_law.ensures in

@@ -1,91 +1,83 @@
-use Rattle.std.specs.Prelude.{List, ◌+◌, ◌≤◌, sum_by, Result, Ok, Err, OnOk, OnErr}
-use Rattle.std.proofs.Common.{◌≡◌, ◌∙◌, ap, refl, sym, subst, inl, inr, [], length}
-use Rattle.std.proofs.lemmas.List.{nil_from_length}
-use Rattle.std.specs.Cmp.Lexicographic.{same_text}
+use Rattle.std.specs.Prelude.{List, ◌+◌, ◌≤◌, ◌⊎◌, true, sum_by, OnOk, OnErr}
+use Rattle.std.specs.List.{AllByRecursion}
+use Rattle.std.proofs.Common.{◌≡◌, ◌∙◌, ap, sym, subst}
+use Rattle.jpa_value.specs.Value.{same_identity}
 use Rattle.jpa_behaviour.specs.Registered.{world_of}
-use Rattle.jpa_stored.specs.Sets.{put_all}
+use Rattle.jpa_stored.specs.Sets.{StoredSet, all_distinct}
 use Rattle.jpa_rows.specs.declared.row.RowChange.{RowChange}
-use Rattle.jpa_rows.specs.Rows.{Rows, rows_after}
 use Rattle.jpa_rows.specs.Statements.{statements_of, up_to_greatest}
-use Rattle.jpa_view.proofs.Orders.{are_same_numbers}
 use Rattle.jpa_object_rows.specs.Sets.{rows_of}
-use Rattle.jpa_object_store.specs.Written.{IsDifference}
-use Rattle.jpa_object_store.proofs.Commits.{no_difference, none_made}
+use Rattle.jpa_object_store.specs.Written.{IsDifference, entries_in, is_storable_if_any, set_after}
+use Rattle.jpa_object_store.proofs.Written.{Entry, puts_after, puts_storable, puts_distinct, none_put}
 use Rattle.jpa_object_store.proofs.commit.write.Goals as goal
 
-abbrev RowsOf : Type 1
-RowsOf = Rows → Type 0
+-- ---- the objects as changes
 
-then_so : {A E : Type 0} (r : Result A E) {P Q : Type 0} → OnOk r P → (P → Q) → OnOk r Q
-then_so (Ok a) h f = f h
-then_so (Err e) h f = tt
+pub write_changes-requires-clause-storable : goal.write_changes-requires-clause-storable
+write_changes-requires-clause-storable g c =
+    let world = world_of g.B.Behaviour.meaning c.args.metamodel.now c.args.registry.now in
+    let puts = ap entries_in c.as_slice.ensures.value ∙ c.in_ok-puts.ensures.ok in
+    subst (AllByRecursion (λ (e : Entry). is_storable_if_any world e.0 e.1 ≡ true)) (sym puts) (puts_storable world c.args.written.now c.requires.storable)
 
-if_ok : {A E : Type 0} (r : Result A E) {P : Type 0} → P → OnOk r P
-if_ok (Ok a) p = p
-if_ok (Err e) p = tt
+pub write_changes-requires-clause-distinct : goal.write_changes-requires-clause-distinct
+write_changes-requires-clause-distinct g c =
+    let puts = ap entries_in c.as_slice.ensures.value ∙ c.in_ok-puts.ensures.ok in
+    ap (all_distinct (λ (a : Entry) (b : Entry). same_identity a.0 b.0)) puts ∙ puts_distinct c.args.written.now ∙ c.requires.distinct
 
-if_err : {A E : Type 0} (r : Result A E) {P : Type 0} → P → OnErr r P
-if_err (Ok a) p = tt
-if_err (Err e) p = p
+-- ---- the set that comes is that with the objects
 
--- nothing was written, so the rows are to stay
-pub returns-then-eq-clause-ok : goal.returns-then-eq-clause-ok
-returns-then-eq-clause-ok g c =
+pub returns-clause-ok : goal.returns-clause-ok
+returns-clause-ok g c =
     let world = world_of g.B.Behaviour.meaning c.args.metamodel.now c.args.registry.now in
     let committed = c.args.view.now.since in
-    let written = c.args.written.now in
-    let none : [] ≡ written = sym (nil_from_length written (are_same_numbers (length written) 0 (sym c.is_empty.ensures ∙ c.if-is_empty.true))) in
-    let same = same_text c.args.before.now c.args.next.now (sym c.if-eq.true ∙ c.eq.ensures) in
-    let stays = sym ((c.commit.ensures.nothing refl).1) in
-    if_ok c.commit.result
-    (λ held. subst (λ source. g.R.RowSource.holds source (rows_of world (put_all written committed) c.args.next.now)) stays (subst (g.R.RowSource.holds c.args.source.now) (λ i. rows_of world (put_all (none i) committed) (same i)) held))
+    let same = ap (λ es. set_after es committed) (ap entries_in c.as_slice.ensures.value ∙ c.in_ok-puts.ensures.ok) ∙ puts_after c.args.written.now committed in
+    subst (λ (set : StoredSet). OnOk c.write_changes.result (g.R.RowSource.holds c.args.source.now (rows_of world committed c.args.before.now) → g.R.RowSource.holds c.write_changes.new.source (rows_of world set c.args.next.now)))
+    same c.write_changes.ensures.ok
 
-pub returns-then-eq-clause-counted : goal.returns-then-eq-clause-counted
-returns-then-eq-clause-counted g c =
+pub returns-clause-crash : goal.returns-clause-crash
+returns-clause-crash g c =
     let world = world_of g.B.Behaviour.meaning c.args.metamodel.now c.args.registry.now in
     let committed = c.args.view.now.since in
-    let written = c.args.written.now in
-    let base = rows_of world committed c.args.before.now in
-    let none : [] ≡ written = sym (nil_from_length written (are_same_numbers (length written) 0 (sym c.is_empty.ensures ∙ c.if-is_empty.true))) in
-    let same = same_text c.args.before.now c.args.next.now (sym c.if-eq.true ∙ c.eq.ensures) in
-    let stays : base ≡ rows_of world (put_all written committed) c.args.next.now = λ i. rows_of world (put_all (none i) committed) (same i) in
-    then_so c.commit.result c.commit.ensures.counted.0 (λ counted. ([], subst (λ rows. IsDifference base rows []) stays (no_difference base), counted))
+    let same = ap (λ es. set_after es committed) (ap entries_in c.as_slice.ensures.value ∙ c.in_ok-puts.ensures.ok) ∙ puts_after c.args.written.now committed in
+    subst
+    (λ (set : StoredSet). g.R.RowSource.holds c.args.source.now (rows_of world committed c.args.before.now) → g.R.RowSource.endures c.args.source.now c.write_changes.new.source (λ left. left ≡ rows_of world set c.args.next.now))
+    same c.write_changes.ensures.crash
 
-pub returns-then-eq-clause-bounded : goal.returns-then-eq-clause-bounded
-returns-then-eq-clause-bounded g c = if_err c.commit.result (inl ((c.commit.ensures.nothing refl).1))
+pub returns-clause-counted : goal.returns-clause-counted
+returns-clause-counted g c =
+    let world = world_of g.B.Behaviour.meaning c.args.metamodel.now c.args.registry.now in
+    let committed = c.args.view.now.since in
+    let same = ap (λ es. set_after es committed) (ap entries_in c.as_slice.ensures.value ∙ c.in_ok-puts.ensures.ok) ∙ puts_after c.args.written.now committed in
+    subst
+    (λ (set : StoredSet). OnOk c.write_changes.result ((changes : List RowChange) × IsDifference (rows_of world committed c.args.before.now) (rows_of world set c.args.next.now) changes
+    × (g.R.RowSource.writes c.write_changes.new.source ≡ up_to_greatest (g.R.RowSource.writes c.args.source.now + sum_by statements_of changes))))
+    same c.write_changes.ensures.counted
 
 pub returns-clause-bounded : goal.returns-clause-bounded
 returns-clause-bounded g c =
-    let old = g.R.RowSource.writes c.args.source.now in
-    let new = g.R.RowSource.writes c.commit-2.new.self in
-    let Bounds : List RowChange → Type 0 = λ changes. new ≤ up_to_greatest (old + sum_by statements_of changes) in
-    if_err c.commit-2.result (inr (c.in_ok-changes.changes, c.in_ok-changes.ensures.ok, c.commit-2.ensures.counted.1, subst Bounds c.as_slice.ensures c.commit-2.ensures.counted.2))
+    let world = world_of g.B.Behaviour.meaning c.args.metamodel.now c.args.registry.now in
+    let committed = c.args.view.now.since in
+    let same = ap (λ es. set_after es committed) (ap entries_in c.as_slice.ensures.value ∙ c.in_ok-puts.ensures.ok) ∙ puts_after c.args.written.now committed in
+    subst
+    (λ (set : StoredSet). OnErr c.write_changes.result ((c.write_changes.new.source ≡ c.args.source.now) ⊎ ((changes : List RowChange) × IsDifference (rows_of world committed c.args.before.now) (rows_of world set c.args.next.now) changes
+    × (g.R.RowSource.writes c.args.source.now ≤ g.R.RowSource.writes c.write_changes.new.source)
+    × (g.R.RowSource.writes c.write_changes.new.source ≤ up_to_greatest (g.R.RowSource.writes c.args.source.now + sum_by statements_of changes)))))
+    same c.write_changes.ensures.bounded
 
 pub returns-clause-unchanged : goal.returns-clause-unchanged
-returns-clause-unchanged g c = λ same.
+returns-clause-unchanged g c =
     let world = world_of g.B.Behaviour.meaning c.args.metamodel.now c.args.registry.now in
-    let base = rows_of world c.args.view.now.since c.args.before.now in
-    let made = c.in_ok-changes.changes in
-    (c.commit-2.ensures.nothing (c.as_slice.ensures ∙ none_made base made (subst (λ (rows : Rows). IsDifference base rows made) (sym same) c.in_ok-changes.ensures.ok))).1
+    let committed = c.args.view.now.since in
+    let same = ap (λ es. set_after es committed) (ap entries_in c.as_slice.ensures.value ∙ c.in_ok-puts.ensures.ok) ∙ puts_after c.args.written.now committed in
+    subst (λ (set : StoredSet). rows_of world committed c.args.before.now ≡ rows_of world set c.args.next.now → c.write_changes.new.source ≡ c.args.source.now) same c.write_changes.ensures.unchanged
 
--- ---- what a crash leaves
+pub returns-clause-nothing : goal.returns-clause-nothing
+returns-clause-nothing g c = λ none same.
+    c.write_changes.ensures.nothing (none_put c.as_slice.result.now c.args.written.now (ap entries_in c.as_slice.ensures.value ∙ c.in_ok-puts.ensures.ok) none) same
 
-pub returns-then-eq-clause-crash : goal.returns-then-eq-clause-crash
-returns-then-eq-clause-crash g c = λ held.
-    let world = world_of g.B.Behaviour.meaning c.args.metamodel.now c.args.registry.now in
-    let source = c.args.source.now in
-    let stands : RowsOf = λ left. left ≡ rows_of world (put_all c.args.written.now c.args.view.now.since) c.args.next.now in
-    subst (λ new. g.R.RowSource.endures source new stands) (sym ((c.commit.ensures.nothing refl).1)) (g.R.RowSource.wider source source _ _ (λ left none. absurd none) (g.met.R.RowSource.still source))
+-- ---- no memory
 
-pub returns-in_err-changes-clause-crash : goal.returns-in_err-changes-clause-crash
-returns-in_err-changes-clause-crash g c = λ held.
+pub returns-in_err-puts-clause-crash : goal.returns-in_err-puts-clause-crash
+returns-in_err-puts-clause-crash g c = λ held.
     let source = c.args.source.now in
     g.R.RowSource.wider source source _ _ (λ left none. absurd none) (g.met.R.RowSource.still source)
-
-pub returns-clause-crash : goal.returns-clause-crash
-returns-clause-crash g c = λ held.
-    let world = world_of g.B.Behaviour.meaning c.args.metamodel.now c.args.registry.now in
-    let base = rows_of world c.args.view.now.since c.args.before.now in
-    let made : rows_after c.as_slice.result.now base ≡ rows_of world (put_all c.args.written.now c.args.view.now.since) c.args.next.now =
-    ap (λ cs. rows_after cs base) c.as_slice.ensures ∙ c.in_ok-changes.ensures.ok.1 in
-    subst (λ (rows : Rows). g.R.RowSource.endures c.args.source.now c.commit-2.new.self (λ left. left ≡ rows)) made (c.commit-2.ensures.crash base held)

@@ -1,11 +1,12 @@
+use Rattle.std.specs.Option.{option_copied}
 use Rattle.std.proofs.Common.{refl, ◌∙◌, sym, subst, Result, Ok, Err, OnOk}
 use Rattle.jpa_behaviour.specs.Registered.{world_of}
-use Rattle.jpa_stored.specs.Sets.{stored_at, with_stored}
+use Rattle.jpa_stored.specs.Sets.{stored_at}
 use Rattle.jpa_view.proofs.Described.{described_mapped}
 use Rattle.jpa_view.proofs.Rounds.{held_storable}
-use Rattle.jpa_object_rows.specs.Objects.{object_entries}
 use Rattle.jpa_object_rows.specs.Sets.{rows_of}
-use Rattle.jpa_object_store.specs.Shown.{with_puts, without_old, Show, Recall}
+use Rattle.jpa_object_store.specs.Shown.{with_puts, with_drops, entries_at, Show, Recall}
+use Rattle.jpa_object_store.specs.Written.{with_or_without}
 use Rattle.jpa_object_store.proofs.Replaced.{replaced}
 use Rattle.jpa_object_store.proofs.StoodObjects.{object_recalled}
 use Rattle.jpa_object_store.proofs.objects.change_object.Goals as goal
@@ -19,10 +20,10 @@ returns-clause-ok g c =
     let m = c.args.metamodel.now in
     let world = world_of g.B.Behaviour.meaning m c.args.registry.now in
     let id = c.args.id.now in
-    let x = c.args.object.now in
-    then_so c.put_rows.result c.put_rows.ensures.ok (λ put base set numbers at s.
-    subst (λ changes. Show world base changes (with_stored id x set) numbers) (sym (put ∙ (λ i. with_puts (c.in_ok-rows.ensures.ok i) (c.in_ok-drop_old.ensures.ok i))))
-    (replaced world (described_mapped m c.unit.ensures.described) (c.laws.ensures.regular m) c.discriminator_law.ensures base c.args.overlay.now set numbers s id x c.requires.storable
+    let new = option_copied c.args.object in
+    then_so c.put_new.result c.put_new.ensures.ok (λ put base set numbers at s.
+    subst (λ changes. Show world base changes (with_or_without id new set) numbers) (sym (put ∙ (λ i. with_puts (entries_at world id new) (c.in_ok-drop_old.ensures.ok i))))
+    (replaced world (described_mapped m c.unit.ensures.described) (c.laws.ensures.regular m) c.discriminator_law.ensures base c.args.overlay.now set numbers s id new c.requires.storable
     (stored_at c.args.view.now.since id) at))
 
 pub returns-clause-noted : goal.returns-clause-noted
@@ -31,10 +32,10 @@ returns-clause-noted g c =
     let world = world_of g.B.Behaviour.meaning m c.args.registry.now in
     let committed = c.args.view.now.since in
     let id = c.args.id.now in
-    let x = c.args.object.now in
+    let new = option_copied c.args.object in
     let old = stored_at committed id in
-    then_so c.put_rows.result c.put_rows.ensures.ok (λ put before held r.
-    subst (λ changes. Recall (rows_of world committed before) c.drop_old.new.stood changes) (sym (put ∙ (λ i. with_puts (c.in_ok-rows.ensures.ok i) (c.in_ok-drop_old.ensures.ok i))))
-    (subst (λ stood. Recall (rows_of world committed before) stood (with_puts (object_entries world id x) (without_old world id old c.args.overlay.now))) (sym c.in_ok-drop_old.ensures.noted)
+    then_so c.put_new.result c.put_new.ensures.ok (λ put before held r.
+    subst (λ changes. Recall (rows_of world committed before) c.drop_old.new.stood changes) (sym (put ∙ (λ i. with_puts (entries_at world id new) (c.in_ok-drop_old.ensures.ok i))))
+    (subst (λ stood. Recall (rows_of world committed before) stood (with_puts (entries_at world id new) (with_drops (entries_at world id old) c.args.overlay.now))) (sym c.in_ok-drop_old.ensures.noted)
     (object_recalled world (described_mapped m c.unit.ensures.described) (c.laws.ensures.regular m) c.discriminator_law.ensures committed before held.rising (held_storable world committed before held) held.numbered
-    id x c.requires.storable c.args.stood.now c.args.overlay.now r old refl)))
+    id new c.requires.storable c.args.stood.now c.args.overlay.now r old refl)))

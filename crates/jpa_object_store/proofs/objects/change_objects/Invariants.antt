@@ -3,14 +3,14 @@ use Rattle.jpa_behaviour.specs.Registered.{world_of}
 use Rattle.jpa_rows.specs.Cells.{CanBeHeld}
 use Rattle.jpa_rows.specs.Rows.{Rows}
 use Rattle.jpa_object_rows.specs.Sets.{rows_of}
-use Rattle.jpa_stored.specs.Sets.{put_all}
 use Rattle.jpa_object_store.specs.Shown.{Show, Recall}
+use Rattle.jpa_object_store.specs.Written.{entries_in, set_after}
 use Rattle.jpa_object_store.proofs.objects.change_objects.Given as goal
 
-abbrev pub invariant-loop-id : goal.invariant-loop-id
-invariant-loop-id g l =
+abbrev pub invariant-loop-change : goal.invariant-loop-change
+invariant-loop-change g l =
     let world = world_of g.B.Behaviour.meaning l.metamodel l.registry in
     record {
-      shown : (base : Rows) (numbers : List ℕ) → Show world base l.fn.overlay l.view.since numbers → Show world base l.overlay (put_all (take l.id-index l.written) l.view.since) numbers;
+      shown : (base : Rows) (numbers : List ℕ) → Show world base l.fn.overlay l.view.since numbers → Show world base l.overlay (set_after (take l.change-index (entries_in l.changes)) l.view.since) numbers;
       noted : (before : List ℕ) → CanBeHeld world l.view.since before → Recall (rows_of world l.view.since before) l.fn.stood l.fn.overlay → Recall (rows_of world l.view.since before) l.stood l.overlay;
     }
