@@ -52,7 +52,7 @@ module _ (world : World) (s : Session) (m : ℕ) (l : m < length s.managers.item
   within = subst (λ n. m < n) (sym (managers_count s)) l
 
   before : IsAtWork world (machine_of s) m (work_of (machine_of s) m)
-  before = taken m within h.machine
+  before = taken m h.machine
 
   after_it : IsAtWork world (machine_of s) m w
   after_it = still_at_work w h.flat h.convertible before e

@@ -1,10 +1,11 @@
 -- What holds while a manager is at work, and how the machine gives the work and takes it back.
 use Rattle.jpa_value.specs.Limits.{most_managers, most_objects}
-use Rattle.std.proofs.Common.{◌≡◌, ◌≢◌, ◌<◌, ◌≤◌, ◌⊎◌, inl, inr, ℕ, Bool, true, false, List, length, refl, ap, sym, subst, ◌∙◌}
+use Rattle.std.proofs.Common.{◌≡◌, ◌≢◌, ◌<◌, ◌≤◌, ◌⊎◌, inl, inr, ℕ, zero, suc, Bool, true, false, List, [], ◌∷◌, length, refl, ap, sym, subst, ◌∙◌, arith}
 use Rattle.std.specs.Prelude.{slice_index_or, slice_set, nat_le, Option, Some, None, ◌==◌, if◌then◌else◌}
 use Rattle.std.specs.List.{All, list_any}
 use Rattle.std.proofs.lemmas.Bool.{false≢true, cases_eq, eqb-true, eq-eqb, ne_eqb}
-use Rattle.std.proofs.lemmas.List.{get_or-set_same, get_or-set_other, length-set}
+use Rattle.std.proofs.lemmas.List.{get_or-set_same, get_or-set_other, length-set, set_past}
+use Rattle.std.proofs.lemmas.List.Elements.{All-nil}
 use Rattle.jpa_value.specs.declared.refusal.Cause.{Cause}
 use Rattle.jpa_behaviour.specs.Behaviour.{World}
 use Rattle.jpa_stored.specs.Sets.{StoredSet, each_fits, all_distinct}
@@ -16,6 +17,7 @@ use Rattle.jpa_context.specs.declared.Entry.{Entry}
 use Rattle.jpa_context.specs.Work.{Work, object}
 use Rattle.jpa_context.specs.Steps.{Outcome, Done, Refused, Op, after, require}
 use Rattle.jpa_provider.specs.Machine.{Machine, Manager, Transaction, manager_at, no_manager, work_of, kept, seen_in, view_in}
+use Rattle.jpa_provider.specs.Routes.{holder_in}
 use Rattle.jpa_provider.specs.Invariant.{IsMachine, IsManager, IsTransaction, IsLive, IsEntry, are_one, is_idle, stands_in, context_of}
 use Rattle.jpa_provider.proofs.Facts.{held_more, numbers_same, numbers_trans}
 
@@ -78,16 +80,37 @@ either false xs ys e = refl
 contexts_same : (M : Machine) (m k : ℕ) → context_of M k ≡ contexts M m (work_of M m) k
 contexts_same M m k = either (k == m) (context_of M m) (context_of M k) (λ e. ap (context_of M) (sym (eqb-true k m e)))
 
-pub taken : {world : World} {M : Machine} (m : ℕ) → m < length M.managers → IsMachine world M → IsAtWork world M m (work_of M m)
-taken {world} {M} m l h =
+-- a number names a manager, or what stands there is no manager's
+pub nobody_at : (xs : List Manager) (m : ℕ) → (m < length xs) ⊎ (slice_index_or xs m no_manager ≡ no_manager)
+nobody_at [] m = inr refl
+nobody_at (x ∷ xs) zero = inl (omega arith)
+nobody_at (x ∷ xs) (suc m) = by_cases (nobody_at xs m)
+  where
+    by_cases : (m < length xs) ⊎ (slice_index_or xs m no_manager ≡ no_manager) → (suc m < suc (length xs)) ⊎ (slice_index_or xs m no_manager ≡ no_manager)
+    by_cases (inl l) = inl (omega (arith, l))
+    by_cases (inr e) = inr e
+
+-- what stands where a number names no manager has no context and no transaction
+pub each_manager : {world : World} {M : Machine} → IsMachine world M → (m : ℕ) → IsManager world M.objects M.numbers m (manager_at M m)
+each_manager {world} {M} h m = by_cases (nobody_at M.managers m)
+  where
+    by_cases : (m < length M.managers) ⊎ (manager_at M m ≡ no_manager) → IsManager world M.objects M.numbers m (manager_at M m)
+    by_cases (inl l) = h.managers m l
+    by_cases (inr e) =
+        subst (IsManager world M.objects M.numbers m) (sym e)
+        (record { entries = All-nil (IsEntry world.model M.objects M.numbers m); distinct = refl; transaction = tt; idle = refl })
+
+pub taken : {world : World} {M : Machine} (m : ℕ) → IsMachine world M → IsAtWork world M m (work_of M m)
+taken {world} {M} m h =
+    let own = each_manager h m in
     record {
       manager = refl;
       objects = h.objects;
-      entries = (h.managers m l).entries;
-      distinct = (h.managers m l).distinct;
+      entries = own.entries;
+      distinct = own.distinct;
       others = λ k l' apart. h.managers k l';
       placed = λ n l'. stands_same (context_of M) (contexts M m (work_of M m)) n (object_at M.objects n).life (contexts_same M m) (h.placed n l');
-      view = view_held world M.committed M.numbers M.stored_numbers (manager_at M m).transaction h.committed h.stored h.numbered (h.managers m l).transaction;
+      view = view_held world M.committed M.numbers M.stored_numbers (manager_at M m).transaction h.committed h.stored h.numbered own.transaction;
       numbered = h.numbered;
       raised = numbers_same M.numbers;
       few = h.objects_few;
@@ -156,3 +179,80 @@ given_back {world} {M} {m} {w} l is_open h at =
       objects_few = at.few;
       managers_few = subst (λ n. n ≤ most_managers) (sym (length-set M.managers m (back M m w))) h.managers_few;
     }
+
+-- ---- whoever it was
+
+-- the manager is one that is open
+pub record IsOpen (M : Machine) (m : ℕ) : Type 0 where
+  pub within : m < length M.managers
+  pub is_open : (manager_at M m).is_open ≡ true
+
+-- a manager that is open; or nobody, in whose context nothing stands
+abbrev pub MayReturn : Machine → ℕ → Work → Type 0
+MayReturn M m w = IsOpen M m ⊎ ((length M.managers ≤ m) × (w.context ≡ []))
+
+-- nobody's work changes no manager
+pub no_manager_kept : (M : Machine) (m : ℕ) (w : Work) → length M.managers ≤ m → kept M m w ≡ record M { objects = w.objects; numbers = w.numbers }
+no_manager_kept M m w l = λ i. record M { objects = w.objects; managers = set_past M.managers m (back M m w) l i; numbers = w.numbers }
+
+given_by_nobody : {world : World} {M : Machine} {m : ℕ} {w : Work} → length M.managers ≤ m → w.context ≡ [] → IsMachine world M → IsAtWork world M m w → IsMachine world (kept M m w)
+given_by_nobody {world} {M} {m} {w} l e h at =
+    subst (IsMachine world) (sym (no_manager_kept M m w l))
+    (record {
+      objects = at.objects;
+      managers = λ k l'. at.others k l' (λ q. omega (arith, q, l, l'));
+      placed = λ n l'. stands_same (contexts M m w) (context_of M) n (object w n).life (λ k. own_or_other (k == m) k refl) (at.placed n l');
+      committed = h.committed;
+      numbered = at.numbered;
+      stored = numbers_trans M.stored_numbers M.numbers w.numbers h.stored at.raised;
+      objects_few = at.few;
+      managers_few = h.managers_few;
+    })
+  where
+    none_there : (xs : List Manager) (k : ℕ) → length xs ≤ k → [] ≡ (slice_index_or xs k no_manager).context
+    none_there [] k q = refl
+    none_there (x ∷ xs) zero q = absurd (omega (arith, q))
+    none_there (x ∷ xs) (suc k) q = none_there xs k (omega (arith, q))
+
+    own_or_other : (b : Bool) (k : ℕ) → (k == m) ≡ b → (if b then w.context else context_of M k) ≡ context_of M k
+    own_or_other false k q = refl
+    own_or_other true k q = e ∙ none_there M.managers m l ∙ ap (context_of M) (sym (eqb-true k m q))
+
+pub returned : {world : World} {M : Machine} {m : ℕ} {w : Work} → MayReturn M m w → IsMachine world M → IsAtWork world M m w → IsMachine world (kept M m w)
+returned (inl o) h at = given_back o.within o.is_open h at
+returned (inr n) h at = given_by_nobody n.0 n.1 h at
+
+-- ---- who holds an object
+
+pub holding_open : (M : Machine) (k n : ℕ) → {world : World} → IsMachine world M → list_any (λ (e : Entry). e.object == n) (context_of M k) ≡ true → IsOpen M k
+holding_open M k n {world} h s = by_cases (nobody_at M.managers k)
+  where
+    by_idle : (b : Bool) (es : List Entry) (t : Option Transaction) → is_idle b es t ≡ true → list_any (λ (e : Entry). e.object == n) es ≡ true → b ≡ true
+    by_idle true es t i s = refl
+    by_idle false [] t i s = absurd (false≢true s)
+    by_idle false (e ∷ es) t i s = absurd (false≢true i)
+
+    by_cases : (k < length M.managers) ⊎ (manager_at M k ≡ no_manager) → IsOpen M k
+    by_cases (inl l) = record { within = l; is_open = by_idle (manager_at M k).is_open (context_of M k) (manager_at M k).transaction (h.managers k l).idle s }
+    by_cases (inr e) = absurd (false≢true (subst (λ (x : Manager). list_any (λ (e' : Entry). e'.object == n) x.context ≡ true) e s))
+
+-- the manager that holds an object is open; an object that nobody holds is worked on in an empty context
+pub holder_may : {world : World} {M : Machine} (n : ℕ) → n < length M.objects → IsMachine world M → let m = holder_in M (object_at M.objects n).life in MayReturn M m (work_of M m)
+holder_may {world} {M} n l h = by_life (object_at M.objects n).life (h.placed n l)
+  where
+    empty : (context_of M (length M.managers)) ≡ []
+    empty = by_cases (nobody_at M.managers (length M.managers))
+      where
+        by_cases : (length M.managers < length M.managers) ⊎ (manager_at M (length M.managers) ≡ no_manager) → context_of M (length M.managers) ≡ []
+        by_cases (inl q) = absurd (omega (arith, q))
+        by_cases (inr e) = ap (λ (x : Manager). x.context) e
+
+    by_life : (life : Life) → stands_in (context_of M) n life ≡ true → MayReturn M (holder_in M life) (work_of M (holder_in M life))
+    by_life Life.New s = inr (omega arith, empty)
+    by_life (Life.Managed k) s = inl (holding_open M k n h s)
+    by_life (Life.Removed k) s = inl (holding_open M k n h s)
+    by_life Life.Detached s = inr (omega arith, empty)
+
+pub may_still : {M : Machine} {m : ℕ} (v w : Work) → w.context ≡ v.context → MayReturn M m v → MayReturn M m w
+may_still v w e (inl o) = inl o
+may_still v w e (inr n) = inr (n.0, e ∙ n.1)

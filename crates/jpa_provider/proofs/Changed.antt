@@ -1,36 +1,29 @@
 -- What is kept where one live object changes, and the outcome of set.
 use Rattle.jpa_value.specs.Limits.{most_objects}
-use Rattle.std.proofs.Common.{◌≡◌, ◌≢◌, ◌<◌, ◌≤◌, ◌⊎◌, inl, inr, ℕ, zero, suc, Bool, true, false, List, length, refl, ap, sym, subst, ◌∙◌, arith}
-use Rattle.std.specs.Prelude.{slice_set, nat_lt, Option, Some, None, if◌then◌else◌, ℤ, pos, negsuc, is_some, Result, Ok, Err}
+use Rattle.std.proofs.Common.{◌≡◌, ◌≢◌, ◌<◌, ◌≤◌, ◌⊎◌, inl, inr, ℕ, true, false, List, length, refl, ap, sym, subst, ◌∙◌, arith}
+use Rattle.std.specs.Prelude.{slice_set, Result, Ok, Err}
 use Rattle.std.specs.List.{All}
-use Rattle.std.specs.Option.{unwrap_or}
 use Rattle.jpa_model.specs.Chains.{member_of}
-use Rattle.std.proofs.lemmas.Bool.{false≢true, true≢false, cases_eq, ltb-true}
+use Rattle.std.proofs.lemmas.Bool.{false≢true, cases_eq}
 use Rattle.std.proofs.lemmas.List.{get_or-set_same, get_or-set_other, length-set}
 use Rattle.std.proofs.lemmas.List.Elements.{All-weaker, All-set}
 use Rattle.jpa_value.specs.declared.refusal.Cause.{Cause}
 use Rattle.jpa_model.specs.declared.unit.PersistenceUnit.{PersistenceUnit}
-use Rattle.jpa_behaviour.specs.Behaviour.{World, is_short}
+use Rattle.jpa_behaviour.specs.Behaviour.{World}
 use Rattle.jpa_heap.specs.declared.Life.{Life}
 use Rattle.jpa_heap.specs.declared.Handed.{Handed}
 use Rattle.jpa_heap.specs.declared.LiveObject.{LiveObject}
-use Rattle.jpa_heap.specs.Objects.{object_at, no_object, is_new, place_of}
+use Rattle.jpa_heap.specs.Objects.{object_at, no_object, is_new}
 use Rattle.jpa_heap.specs.Assign.{set_in}
 use Rattle.jpa_context.specs.declared.Entry.{Entry}
 use Rattle.jpa_context.specs.Work.{Work, object, with_object}
-use Rattle.jpa_context.specs.Steps.{Outcome, Done, Refused, after}
 use Rattle.jpa_ops.specs.Members.{placed, set}
-use Rattle.jpa_protocol.specs.declared.call.Given.{Given}
-use Rattle.jpa_provider.specs.Machine.{Machine, work_of, kept}
-use Rattle.jpa_provider.specs.Calls.{object_numbered, handed, concluded, marks_if_callback, marked_if, nothing, give_or}
-use Rattle.jpa_provider.specs.Step.{set_call, on_object, holder}
-use Rattle.jpa_provider.specs.Invariant.{IsMachine, IsLive, is_held_by, stands_in, context_of, given_representable}
+use Rattle.jpa_provider.specs.Machine.{Machine}
+use Rattle.jpa_provider.specs.Invariant.{IsLive, IsEntry, is_held_by, stands_in}
 use Rattle.jpa_lifecycle.specs.Flat.{IsFlat}
 use Rattle.jpa_provider.proofs.Facts.{numbers_same}
-use Rattle.jpa_provider.proofs.SameManagers.{same_machine}
-use Rattle.jpa_provider.proofs.AtWork.{HoldsAfter, after_holds, require_holds}
-use Rattle.jpa_provider.proofs.Settled.{marked_holds}
-use Rattle.jpa_provider.proofs.Kept.{KeepsClasses, KeepsHeld, manager_kept, live_kept}
+use Rattle.jpa_provider.proofs.AtWork.{HoldsAfter, IsAtWork, contexts}
+use Rattle.jpa_provider.proofs.Kept.{KeepsClasses, KeepsHeld, manager_kept, live_kept, entry_kept, distinct_kept}
 use Rattle.jpa_provider.proofs.Created.{IsSet, OnObject, handed_representable, set_is, version_named}
 
 -- ---- one object replaced
@@ -90,53 +83,32 @@ held_old k (Life.Managed j) h = refl
 held_old k (Life.Removed j) h = refl
 held_old k Life.Detached h = refl
 
-pub object_set : {world : World} {M : Machine} (n : ℕ) (y : LiveObject) → n < length M.objects → IsMachine world M → IsSet world.model M.objects (object_at M.objects n) y →
-    IsMachine world (record M { objects = slice_set M.objects n y })
-object_set {world} {M} n y l h s =
+-- one object changes as set changes it
+pub changed_at_work : {world : World} {M : Machine} {m : ℕ} {w : Work} (n : ℕ) (y : LiveObject) → n < length w.objects → IsSet world.model w.objects (object w n) y → IsAtWork world M m w →
+    IsAtWork world M m (with_object n y w)
+changed_at_work {world} {M} {m} {w} n y l s h =
+    let os = w.objects in
+    let x = object w n in
+    let keeps : (k : ℕ) → KeepsHeld k os (slice_set os n y) = λ k.
+    holds_set os n y l k (λ e. (s.class, s.key (held_old k x.life e), subst (λ life. is_held_by k life ≡ true) (sym s.life) e)) in
+    let up = numbers_same w.numbers in
     record {
-      objects = live_set M.objects n y l world.model s.class h.objects (s.live (h.objects n no_object l));
-      managers = λ k l'. manager_kept
-          (holds_set M.objects n y l k (λ e. (s.class, s.key (held_old k (object_at M.objects n).life e), subst (λ life. is_held_by k life ≡ true) (sym s.life) e)))
-          (numbers_same M.numbers) h.numbered (h.managers k l');
-      placed = placed_set M.objects n y l (context_of M) h.placed (subst (λ life. stands_in (context_of M) n life ≡ true) (sym s.life) (h.placed n l));
-      committed = h.committed;
+      manager = h.manager;
+      objects = live_set os n y l world.model s.class h.objects (s.live (h.objects n no_object l));
+      entries = All-weaker (IsEntry world.model os w.numbers m) (IsEntry world.model (slice_set os n y) w.numbers m) (λ e. entry_kept (keeps m) up) w.context h.entries;
+      distinct = distinct_kept w.context (keeps m) h.entries h.distinct;
+      others = λ k l' apart. manager_kept (keeps k) up h.numbered (h.others k l' apart);
+      placed = placed_set os n y l (contexts M m w) h.placed (subst (λ life. stands_in (contexts M m w) n life ≡ true) (sym s.life) (h.placed n l));
+      view = h.view;
       numbered = h.numbered;
-      stored = h.stored;
-      objects_few = subst (λ j. j ≤ most_objects) (sym (length-set M.objects n y)) h.objects_few;
-      managers_few = h.managers_few;
+      raised = h.raised;
+      few = subst (λ j. j ≤ most_objects) (sym (length-set os n y)) h.few;
     }
-
--- ---- what is handed in
-
-abbrev pub InHeap : Work → ℕ → Work → Type 0
-InHeap w k w' = (k < length w.objects) × (w' ≡ w)
-
-place_step : (b : Bool) (n k : ℕ) → (if b then Some n else None) ≡ Some k → (b ≡ true) × (n ≡ k)
-place_step true n k e = (refl, ap (λ o. unwrap_or o n) e)
-place_step false n k e = absurd (true≢false (sym (ap is_some e)))
-
-pub place_within : (count : ℕ) (z : ℤ) (k : ℕ) → place_of count z ≡ Some k → k < count
-place_within count (pos zero) k e = absurd (true≢false (sym (ap is_some e)))
-place_within count (pos (suc n)) k e =
-    let h = place_step (nat_lt n count) n k e in
-    subst (λ j. j < count) h.1 (ltb-true n count h.0)
-place_within count (negsuc n) k e = absurd (true≢false (sym (ap is_some e)))
-
-place_given : (o : Option ℕ) (w : Work) → ((k : ℕ) → o ≡ Some k → k < length w.objects) → HoldsAfter (InHeap w) (give_or Cause.NoSuchObject o w)
-place_given None w h = tt
-place_given (Some k) w h = (h k refl, refl)
-
-pub numbered_holds : (z : ℤ) (w : Work) → HoldsAfter (InHeap w) (object_numbered z w)
-numbered_holds z w = place_given (place_of (length w.objects) z) w (place_within (length w.objects) z)
-
-handed_holds : (g : Given) (w : Work) → given_representable g ≡ true → HoldsAfter (λ v w'. (handed_representable v ≡ true) × (w' ≡ w)) (handed g w)
-handed_holds (Given.Plain v) w h = require_holds _ (is_short v) Cause.Limit w _ (λ short. (h, refl))
-handed_holds (Given.Object z) w h = after_holds _ (InHeap w) (object_numbered z w) _ (numbered_holds z w) (λ k w' e. (refl, e.1))
 
 -- ---- the outcome of set
 
 -- the work with one object replaced by what set makes of it
-abbrev HasSet : World → Work → Work → Type 0
+abbrev pub HasSet : World → Work → Work → Type 0
 HasSet world w w' = (n : ℕ) × (y : LiveObject) × (n < length w.objects) × IsSet world.model w.objects (object w n) y × (w' ≡ with_object n y w)
 
 placed_holds : (world : World) (w : Work) (n : ℕ) (r : Result LiveObject Cause) → n < length w.objects → OnObject (IsSet world.model w.objects (object w n)) r →
@@ -144,46 +116,8 @@ placed_holds : (world : World) (w : Work) (n : ℕ) (r : Result LiveObject Cause
 placed_holds world w n (Ok y) l h = (n, y, l, h, refl)
 placed_holds world w n (Err r) l h = tt
 
-set_holds : (world : World) → IsFlat world.model → (w : Work) (n : ℕ) (name : List ℕ) (v : Handed) → n < length w.objects → handed_representable v ≡ true →
+pub set_holds : (world : World) → IsFlat world.model → (w : Work) (n : ℕ) (name : List ℕ) (v : Handed) → n < length w.objects → handed_representable v ≡ true →
     HoldsAfter (λ u w'. HasSet world w w') (set world n name v w)
 set_holds world flat w n name v l rep =
     placed_holds world w n (set_in world.model w.objects n name v) l
     (set_is world.model flat w.objects (object w n) v rep (member_of world.model (object w n).class name) (version_named world.model (object w n).class name))
-
-set_call_holds : (world : World) → IsFlat world.model → (w : Work) (n : ℕ) (name : List ℕ) (g : Given) → n < length w.objects → given_representable g ≡ true →
-    HoldsAfter (λ u w'. HasSet world w w') (set_call world name g n w)
-set_call_holds world flat w n name g l rep =
-    after_holds _ (λ v w'. (handed_representable v ≡ true) × (w' ≡ w)) (handed g w) (λ v. set world n name v) (handed_holds g w rep)
-    (λ v w' h. subst (λ u. HoldsAfter (λ u' w''. HasSet world w w'') (set world n name v u)) (sym h.1) (set_holds world flat w n name v l h.0))
-
-concluded_set : {world : World} {M : Machine} (m : ℕ) (o : Outcome (Unit {0})) → IsMachine world M → HoldsAfter (λ u w'. HasSet world (work_of M m) w') o →
-    IsMachine world (concluded marks_if_callback M m nothing o).1
-concluded_set {world} {M} m (Done u w) h s =
-    subst (λ w'. IsMachine world (kept M m w')) (sym s.4) (subst (IsMachine world) (sym (same_machine M m s.0 s.1)) (object_set s.0 s.1 s.2 h s.3))
-concluded_set {world} {M} m (Refused r events) h s = marked_or_not (marks_if_callback r)
-  where
-    marked_or_not : (b : Bool) → IsMachine world (marked_if b M m)
-    marked_or_not true = marked_holds m h
-    marked_or_not false = h
-
--- the outcome of the whole call, by the object's number
-set_call_outcome : (world : World) → IsFlat world.model → (number : ℤ) (name : List ℕ) (g : Given) (w : Work) → given_representable g ≡ true →
-    HoldsAfter (λ u w'. HasSet world w w') (after (object_numbered number w) (set_call world name g))
-set_call_outcome world flat number name g w rep =
-    after_holds _ (InHeap w) (object_numbered number w) (set_call world name g) (numbered_holds number w)
-    (λ n w' e. subst (λ u. HoldsAfter (λ u' w''. HasSet world w w'') (set_call world name g n u)) (sym e.1) (set_call_holds world flat w n name g e.0 rep))
-
-numbers_after : (world : World) (w : Work) (o : Outcome (Unit {0})) → HoldsAfter (λ u w'. HasSet world w w') o → HoldsAfter (λ u w'. w'.numbers ≡ w.numbers) o
-numbers_after world w (Done u w') s = ap (λ (v : Work). v.numbers) s.4
-numbers_after world w (Refused r events) s = tt
-
-pub set_call_same : (world : World) → IsFlat world.model → (number : ℤ) (name : List ℕ) (g : Given) (w : Work) → given_representable g ≡ true →
-    HoldsAfter (λ u w'. w'.numbers ≡ w.numbers) (after (object_numbered number w) (set_call world name g))
-set_call_same world flat number name g w rep = numbers_after world w (after (object_numbered number w) (set_call world name g)) (set_call_outcome world flat number name g w rep)
-
-pub set_value_holds : {world : World} {M : Machine} → IsFlat world.model → (number : ℤ) (name : List ℕ) (g : Given) → given_representable g ≡ true → IsMachine world M →
-    IsMachine world (on_object M number nothing (set_call world name g)).1
-set_value_holds {world} {M} flat number name g rep h =
-    let m = holder M (place_of (length M.objects) number) in
-    let w = work_of M m in
-    concluded_set m (after (object_numbered number w) (set_call world name g)) h (set_call_outcome world flat number name g w rep)

@@ -25,8 +25,6 @@ use Rattle.jpa_heap.specs.declared.LiveObject.{LiveObject}
 use Rattle.jpa_heap.specs.Objects.{new_object, is_new, to_version}
 use Rattle.jpa_heap.specs.Assign.{fits_part, fits_version, fits_plain, plain, fits_link, link_to, unless_refused, set_member}
 use Rattle.jpa_provider.specs.Machine.{Machine}
-use Rattle.jpa_provider.specs.Calls.{because}
-use Rattle.jpa_provider.specs.Step.{make_new, made_new}
 use Rattle.jpa_provider.specs.Invariant.{IsMachine, IsLive, context_of, held_fits, version_fits}
 use Rattle.jpa_lifecycle.specs.Flat.{IsFlat}
 use Rattle.jpa_provider.proofs.Facts.{numbers_same, each_fits_none, each_fits_set, list_all_set}
@@ -59,17 +57,6 @@ object_made {world} {M} class within few h =
       objects_few = let n = length-append M.objects (x ∷ []) in omega (arith, n, few);
       managers_few = h.managers_few;
     }
-
-made_new_holds : {world : World} {M : Machine} (o : Option ℕ) → ((class : ℕ) → o ≡ Some class → nat_lt class (length (world.model).entities) ≡ true) → length M.objects < most_objects →
-    IsMachine world M → IsMachine world (made_new world M o).1
-made_new_holds None k few h = h
-made_new_holds (Some class) k few h = object_made class (k class refl) few h
-
-pub new_holds : {world : World} {M : Machine} (name : List ℕ) → IsMachine world M → IsMachine world (make_new world M name).1
-new_holds {world} {M} name h =
-    cond_both (nat_lt (length M.objects) most_objects) (made_new world M (class_of world.model name)) (because M Cause.Limit) (λ o. IsMachine world o.1)
-    (λ l. made_new_holds (class_of world.model name) (class_within world.model name) (ltb-true (length M.objects) most_objects l) h)
-    (λ l. h)
 
 -- ---- what set leaves as it was
 

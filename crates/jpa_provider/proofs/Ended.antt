@@ -347,7 +347,7 @@ none_stays (e ∷ es) = none_stays es
 pub rolled_back_holds : {world : World} {M : Machine} (m : ℕ) → m < length M.managers → (manager_at M m).is_open ≡ true → IsMachine world M → IsMachine world (rolled_back M m)
 rolled_back_holds {world} {M} m l is_open h =
     let p : ℕ → Bool = λ n. true in
-    let at = taken m l h in
+    let at = taken m h in
     let es = context_of M m in
     let same : record M { objects = detach_each (leaving p es) M.objects; managers = slice_set M.managers m (record (manager_at M m) { context = map unlocked (staying p es); transaction = None }) } ≡ rolled_back M m =
     λ i. record M { objects = detach_each (sym (all_leave es) i) M.objects; managers = slice_set M.managers m (record (manager_at M m) { context = sym (none_stays es) i; transaction = None }) } in

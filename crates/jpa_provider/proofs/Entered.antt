@@ -2,7 +2,7 @@
 -- without relations and listeners.
 use Rattle.jpa_value.specs.Limits.{most_objects}
 use Rattle.std.proofs.Common.{◌≡◌, ◌≢◌, ◌<◌, ◌≤◌, ℕ, Bool, true, false, List, [], ◌∷◌, ◌++◌, length, refl, ap, sym, subst, ◌∙◌, arith}
-use Rattle.std.specs.Prelude.{slice_set, not, Option, Some, None, ◌==◌, ◌&&◌, ◌||◌, if◌then◌else◌, ℤ, is_some}
+use Rattle.std.specs.Prelude.{slice_set, not, Option, Some, None, ◌==◌, ◌&&◌, ◌||◌, if◌then◌else◌, is_some}
 use Rattle.std.specs.List.{AllByRecursion, list_any, find}
 use Rattle.std.proofs.lemmas.Bool.{true≢false, eq-eqb, ne_eqb, and_parts, and_from, or_from, or_left, or_right, not-true, not_from_false}
 use Rattle.std.proofs.lemmas.List.{length-set}
@@ -30,14 +30,12 @@ use Rattle.jpa_cascade.proofs.Plain.{plain_waves}
 use Rattle.jpa_lifecycle.specs.Callbacks.{callback}
 use Rattle.jpa_ops.specs.States.{persist, persist_one, persist_node, become_managed, give_key, pre_persist_if, has_instance}
 use Rattle.jpa_provider.specs.Machine.{Machine}
-use Rattle.jpa_provider.specs.Calls.{object_numbered}
-use Rattle.jpa_provider.specs.Step.{persist_call}
 use Rattle.jpa_provider.specs.Invariant.{IsEntry, is_held_by, stands_in, context_of, are_one, name_of}
 use Rattle.jpa_lifecycle.specs.Flat.{IsFlat}
 use Rattle.jpa_provider.proofs.Facts.{numbers_same, key_is_whole}
 use Rattle.jpa_provider.proofs.AtWork.{HoldsAfter, after_holds, require_holds, IsAtWork, contexts}
 use Rattle.jpa_provider.proofs.Kept.{KeepsHeld, manager_kept, entry_kept, distinct_kept, names_kept}
-use Rattle.jpa_provider.proofs.Changed.{holds_set, holds_apart, live_set, placed_set, numbered_holds, InHeap}
+use Rattle.jpa_provider.proofs.Changed.{holds_set, holds_apart, live_set, placed_set}
 use Rattle.jpa_rows.specs.Cells.{key_given_by}
 use Rattle.jpa_provider.proofs.Persisted.{callback_holds, told_at_work, HasKey, give_key_holds, new_apart, at_place, state_code, life_new, life_removed}
 
@@ -241,9 +239,3 @@ pub persist_holds : {world : World} {M : Machine} {m : ℕ} {w : Work} → IsFla
 persist_holds {world} {M} {m} {w} flat n h l =
     subst (λ nodes. HoldsAfter (λ u w'. IsAtWork world M m w') (each (persist_node world) nodes w)) (sym (plain_waves world.model Operation.Persist w n (flat.relations (object w n).class)))
     (after_holds _ (λ u w'. IsAtWork world M m w') (persist_one world n (state_of w n) w) _ (persist_one_holds flat n (state_of w n) refl h l) (λ u v k. k))
-
-pub persist_call_holds : {world : World} {M : Machine} {m : ℕ} {w : Work} → IsFlat world.model → (number : ℤ) → IsAtWork world M m w →
-    HoldsAfter (λ u w'. IsAtWork world M m w') (persist_call world number w)
-persist_call_holds {world} {M} {m} {w} flat number h =
-    after_holds _ (InHeap w) (object_numbered number w) (persist world) (numbered_holds number w)
-    (λ n v e. subst (λ v'. HoldsAfter (λ u w'. IsAtWork world M m w') (persist world n v')) (sym e.1) (persist_holds flat n h e.0))

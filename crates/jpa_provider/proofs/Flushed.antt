@@ -29,11 +29,10 @@ use Rattle.jpa_context.specs.Steps.{Outcome, Done, Refused, Op, after, each}
 use Rattle.jpa_flush.specs.Flush.{Action, Insert, Replace, Drop, action_of, written, actions, listed, replaces_row, flushed, settled, settled_entry, settled_all, remembered, remembered_in, members_held, all_remembered, after_flush, sound_or, post, post_event, held_now, pre_update_for, pre_update_one, pre_update, check_one, check_actions, write_all, flush}
 use Rattle.jpa_flush.proofs.Flushed.{writing, updating, flat_flush}
 use Rattle.jpa_provider.specs.Machine.{Machine}
-use Rattle.jpa_provider.specs.Transactions.{commit_work, reads_hold}
 use Rattle.jpa_provider.specs.Invariant.{IsLive, IsEntry, name_of, base_fits, known_fits, version_fits, held_fits}
 use Rattle.jpa_lifecycle.specs.Flat.{IsFlat}
 use Rattle.jpa_provider.proofs.Facts.{each_fits_none, list_all_weaker}
-use Rattle.jpa_provider.proofs.AtWork.{HoldsAfter, after_holds, require_holds_last, IsAtWork}
+use Rattle.jpa_provider.proofs.AtWork.{HoldsAfter, after_holds, IsAtWork}
 use Rattle.jpa_provider.proofs.Persisted.{callback_holds, told_at_work, at_place}
 use Rattle.jpa_provider.proofs.Changed.{object_read}
 use Rattle.jpa_provider.proofs.Loaded.{version_loads}
@@ -309,11 +308,3 @@ updating_holds {world} {M} {m} {w} flat convertible h =
 pub flush_holds : {world : World} {M : Machine} {m : ℕ} {w : Work} → IsFlat world.model → AnswersConvertible world → IsAtWork world M m w →
     HoldsAfter (λ u w'. IsAtWork world M m w') (flush world w)
 flush_holds {world} {M} {m} {w} flat convertible h = subst (HoldsAfter (λ u w'. IsAtWork world M m w')) (sym (flat_flush world flat w)) (updating_holds flat convertible h)
-
--- ---- commit
-
-pub commit_work_holds : {world : World} {M : Machine} {m : ℕ} {w : Work} → IsFlat world.model → AnswersConvertible world → IsAtWork world M m w →
-    HoldsAfter (λ u w'. IsAtWork world M m w') (commit_work world w)
-commit_work_holds {world} {M} {m} {w} flat convertible h =
-    after_holds _ (λ u w'. IsAtWork world M m w') (flush world w) _ (flush_holds flat convertible h)
-    (λ u v k. require_holds_last _ (reads_hold world.model v) Cause.OptimisticLock v (λ hold. k))

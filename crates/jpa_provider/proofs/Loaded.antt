@@ -14,14 +14,13 @@ use Rattle.std.proofs.lemmas.List.Elements.{All-weaker, All-push, recursion_from
 use Rattle.jpa_value.specs.declared.value.Value.{Value}
 use Rattle.jpa_value.specs.declared.value.Identity.{Identity}
 use Rattle.jpa_value.specs.declared.refusal.Cause.{Cause}
-use Rattle.jpa_value.specs.declared.refusal.Argument.{Argument}
 use Rattle.jpa_value.specs.declared.event.LifecycleEvent.{LifecycleEvent}
 use Rattle.jpa_value.specs.Value.{identity_cmp, is_representable, same_identity, fits}
 use Rattle.jpa_value.proofs.Orders.{identity_exact}
 use Rattle.jpa_model.specs.declared.unit.PersistenceUnit.{PersistenceUnit}
 use Rattle.jpa_model.specs.declared.unit.Relation.{Relation}
 use Rattle.jpa_model.specs.declared.unit.VersionColumn.{VersionColumn}
-use Rattle.jpa_model.specs.Chains.{root_of, root_class, attributes_of, is_kind_of, class_of}
+use Rattle.jpa_model.specs.Chains.{root_of, root_class, attributes_of, is_kind_of}
 use Rattle.jpa_behaviour.specs.Behaviour.{World}
 use Rattle.jpa_stored.specs.declared.stored.Stored.{Stored}
 use Rattle.jpa_stored.specs.Sets.{StoredSet, stored_at, each_fits, is_key_of, is_identity_of, is_shaped, version_there, members}
@@ -36,10 +35,7 @@ use Rattle.jpa_context.specs.Work.{Work, identity_at, instance, row, has_identit
 use Rattle.jpa_lifecycle.specs.Callbacks.{callback}
 use Rattle.jpa_ops.specs.Load.{object_loaded, base_loaded, held_loaded, made, load, found, found_row, find, known}
 use Rattle.jpa_ops.proofs.Loaded.{no_held, no_members}
-use Rattle.jpa_protocol.specs.declared.call.Given.{Given}
 use Rattle.jpa_provider.specs.Machine.{Machine}
-use Rattle.jpa_provider.specs.Calls.{give_or, class_named, key_given, is_short_given, whole_key}
-use Rattle.jpa_provider.specs.Step.{find_call}
 use Rattle.jpa_provider.specs.Invariant.{IsLive, IsEntry, is_held_by, stands_in, are_one, name_of, version_fits, held_fits, known_fits, base_fits}
 use Rattle.jpa_lifecycle.specs.Flat.{IsFlat}
 use Rattle.jpa_provider.proofs.Facts.{numbers_same}
@@ -231,20 +227,8 @@ found_holds flat class id (Some n) s h i r = h
 found_holds {world} flat class id None (Some x) h i r = found_row_holds flat class id x (is_kind_of world.model x.class class) h r (ap is_some i)
 found_holds flat class id None None h i r = h
 
-find_holds : {world : World} {M : Machine} {m : ℕ} {w : Work} → IsFlat world.model → (class : ℕ) (key : List Value) → IsAtWork world M m w →
+pub find_holds : {world : World} {M : Machine} {m : ℕ} {w : Work} → IsFlat world.model → (class : ℕ) (key : List Value) → IsAtWork world M m w →
     HoldsAfter (λ n w'. IsAtWork world M m w') (find world class key w)
 find_holds {world} {M} {m} {w} flat class key h =
     let id : Identity = record { table = (root_of world.model class).table; key = key } in
     found_holds flat class id (instance world.model w id) (row w id) h refl refl
-
-pub given_or : {A : Type 0} (r : Cause) (o : Option A) (w : Work) → HoldsAfter (λ a w'. w' ≡ w) (give_or r o w)
-given_or r None w = tt
-given_or r (Some a) w = refl
-
-pub find_call_holds : {world : World} {M : Machine} {m : ℕ} {w : Work} → IsFlat world.model → (name : List ℕ) (key : List Given) → IsAtWork world M m w →
-    HoldsAfter (λ n w'. IsAtWork world M m w') (find_call world name key w)
-find_call_holds {world} {M} {m} {w} flat name key h =
-    require_holds _ (list_all is_short_given key) Cause.Limit w _ (λ short.
-    after_holds _ (λ class w'. w' ≡ w) (class_named world name w) _ (given_or (Cause.IllegalArgument Argument.Entity) (class_of world.model name) w) (λ class v e.
-    after_holds _ (λ vs w'. w' ≡ v) (key_given world class key v) _ (given_or (Cause.IllegalArgument Argument.Key) (whole_key (root_of world.model class).key key) v) (λ vs u e'.
-    subst (λ w'. HoldsAfter (λ n w''. IsAtWork world M m w'') (find world class vs w')) (sym (e' ∙ e)) (find_holds flat class vs h))))

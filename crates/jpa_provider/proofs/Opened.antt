@@ -30,7 +30,8 @@ use Rattle.jpa_provider.specs.declared.session.Session.{Session}
 use Rattle.jpa_provider.specs.Machine.{Machine, Manager, manager_at, new_manager, is_begun, has_transaction, marked, rolled_back, with_manager}
 use Rattle.jpa_provider.specs.Calls.{because}
 use Rattle.jpa_provider.specs.Transactions.{begin, begin_in, begun, rollback, rollback_in, set_rollback_only, only_rollback_in}
-use Rattle.jpa_provider.specs.Step.{by_manager, outcome, made_new}
+use Rattle.jpa_provider.specs.Routes.{by_manager, made_new}
+use Rattle.jpa_provider.specs.Step.{outcome}
 use Rattle.jpa_provider.specs.Serving.{transaction_in, manager_of, managers_of, manager_in, nobody, machine_of, Serves}
 use Rattle.jpa_provider.proofs.Sessions.{manager_there, managers_changed, managers_count}
 use Rattle.jpa_provider.proofs.Worked.{of_manager, of_nobody}

@@ -15,7 +15,7 @@ use Rattle.jpa_value.specs.Value.{is_null}
 use Rattle.jpa_model.specs.declared.unit.PersistenceUnit.{PersistenceUnit}
 use Rattle.jpa_model.specs.declared.unit.Member.{Member}
 use Rattle.jpa_model.specs.Chains.{root_of, root_class, is_kind_of, is_to_one, class_of, member_of, attributes_of, relation_at}
-use Rattle.jpa_behaviour.specs.Behaviour.{World}
+use Rattle.jpa_behaviour.specs.Behaviour.{World, is_short}
 use Rattle.jpa_stored.specs.declared.stored.Stored.{Stored}
 use Rattle.jpa_heap.specs.declared.Life.{Life}
 use Rattle.jpa_heap.specs.declared.Handed.{Handed}
@@ -28,7 +28,7 @@ use Rattle.jpa_context.specs.declared.EntityState.{EntityState}
 use Rattle.jpa_context.specs.declared.Lock.{Lock}
 use Rattle.jpa_context.specs.Undo.{IsPlain, is_removed_life}
 use Rattle.jpa_context.specs.Work.{Work, object, state_from, state_of, is_managed, is_removed, identity_at, instance, row, with_object, with_life_of, entered, with_base, told, base_of}
-use Rattle.jpa_context.specs.Steps.{◌>>=◌, Done, Refused, Op, after, require, read, each}
+use Rattle.jpa_context.specs.Steps.{◌>>=◌, Outcome, Done, Refused, Op, after, require, read, each}
 use Rattle.jpa_cascade.specs.declared.Operation.{Operation}
 use Rattle.jpa_cascade.proofs.Plain.{plain_waves}
 use Rattle.jpa_lifecycle.specs.Callbacks.{callback}
@@ -39,14 +39,15 @@ use Rattle.jpa_ops.specs.States.{persist, persist_one, persist_node, become_mana
 use Rattle.jpa_flush.specs.Flush.{flush}
 use Rattle.jpa_protocol.specs.declared.call.Given.{Given}
 use Rattle.jpa_protocol.specs.declared.event.Told.{Told}
+use Rattle.jpa_protocol.specs.declared.reply.Answer.{Answer}
 use Rattle.jpa_provider.specs.Machine.{Machine, manager_at, with_manager, committed_after, is_gone, unlocked}
-use Rattle.jpa_provider.specs.Calls.{class_named, key_given, is_short_given, whole_key, object_numbered}
-use Rattle.jpa_provider.specs.Step.{persist_call, find_call}
+use Rattle.jpa_provider.specs.Calls.{class_named, key_given, is_short_given, whole_key, object_numbered, handed, told_as, nothing, object_or_null}
+use Rattle.jpa_provider.specs.Routes.{get_call, set_call, persist_call, find_call}
 use Rattle.jpa_provider.specs.Transactions.{is_read_lock, base_is_row, reads_hold, commit_work}
 use Rattle.jpa_provider.proofs.AtWork.{HoldsAfter, after_holds, require_holds, require_holds_last}
 use Rattle.jpa_provider.proofs.Created.{OnObject}
-use Rattle.jpa_provider.proofs.Loaded.{given_or}
-use Rattle.jpa_provider.proofs.Changed.{InHeap, numbered_holds}
+use Rattle.jpa_provider.proofs.Handed.{InHeap, numbered_holds, told_holds, given_or}
+use Rattle.jpa_provider.proofs.Got.{get_call_same}
 use Rattle.jpa_provider.proofs.Persisted.{callback_holds}
 
 abbrev pub IsThere : LiveObject → Type 0
@@ -160,9 +161,28 @@ placed_plain : (n : ℕ) (w : Work) (r : Result LiveObject Cause) → OnObject (
 placed_plain n w (Ok y) e h = object_plain n y w (ap is_removed_life e ∙ there w h n) h
 placed_plain n w (Err r) e h = tt
 
-pub set_plain : (world : World) (n : ℕ) (name : List ℕ) (v : Handed) (w : Work) → IsPlain w → n < length w.objects → HoldsAfter (λ u w'. IsPlain w') (set world n name v w)
+set_plain : (world : World) (n : ℕ) (name : List ℕ) (v : Handed) (w : Work) → IsPlain w → n < length w.objects → HoldsAfter (λ u w'. IsPlain w') (set world n name v w)
 set_plain world n name v w h l =
     placed_plain n w (set_in world.model w.objects n name v) (set_life world.model w.objects (object w n) v (member_of world.model (object w n).class name)) h
+
+handed_same : (g : Given) (w : Work) → HoldsAfter (λ v w'. w' ≡ w) (handed g w)
+handed_same (Given.Plain v) w = require_holds (λ (v : Handed) w'. w' ≡ w) (is_short v) Cause.Limit w (λ u w'. Done (Handed.Plain v) w') (λ short. refl)
+handed_same (Given.Object z) w = after_holds (λ (v : Handed) w'. w' ≡ w) (InHeap w) (object_numbered z w) (λ k w'. Done (Handed.Object k) w') (numbered_holds z w) (λ k w' e. e.1)
+
+pub set_call_plain : (world : World) (n : ℕ) (name : List ℕ) (g : Given) (w : Work) → IsPlain w → n < length w.objects → HoldsAfter (λ a w'. IsPlain w') (set_call world name g n w)
+set_call_plain world n name g w h l =
+    after_holds _ (λ v w'. w' ≡ w) (handed g w) (λ v. told_as nothing (set world n name v)) (handed_same g w)
+    (λ v w' e. subst (λ u. HoldsAfter (λ a w''. IsPlain w'') (told_as nothing (set world n name v) u)) (sym e)
+    (told_holds IsPlain nothing (set world n name v w) (set_plain world n name v w h l)))
+
+-- ---- get
+
+pub get_call_plain : (world : World) → IsFlat world.model → (n : ℕ) (name : List ℕ) (w : Work) → IsPlain w → HoldsAfter (λ a w'. IsPlain w') (get_call world name n w)
+get_call_plain world flat n name w h = weaker (get_call world name n w) (get_call_same world flat n name w)
+  where
+    weaker : (o : Outcome Answer) → HoldsAfter (λ a w'. w' ≡ w) o → HoldsAfter (λ a w'. IsPlain w') o
+    weaker (Done a w') e = subst IsPlain (sym e) h
+    weaker (Refused r events) e = tt
 
 -- ---- persist
 
@@ -205,10 +225,10 @@ module _ (P : Work → Type 0) (told_keeps : (e : Told) (w : Work) → P w → P
       subst (λ nodes. HoldsAfter (λ u w'. P w') (each (persist_node world) nodes w)) (sym (plain_waves world.model Operation.Persist w n (flat.relations (object w n).class)))
       (after_holds _ (λ u w'. P w') (persist_one world n (state_of w n) w) _ (persist_one_keeps world flat n (state_of w n) w h) (λ u v k. k))
 
-  persist_call_keeps : (world : World) → IsFlat world.model → (number : ℤ) (w : Work) → P w → HoldsAfter (λ u w'. P w') (persist_call world number w)
+  persist_call_keeps : (world : World) → IsFlat world.model → (number : ℤ) (w : Work) → P w → HoldsAfter (λ a w'. P w') (persist_call world number w)
   persist_call_keeps world flat number w h =
-      after_holds _ (InHeap w) (object_numbered number w) (persist world) (numbered_holds number w)
-      (λ n v e. subst (λ v'. HoldsAfter (λ u w'. P w') (persist world n v')) (sym e.1) (persist_keeps world flat n w h))
+      after_holds _ (InHeap w) (object_numbered number w) (λ n. told_as nothing (persist world n)) (numbered_holds number w)
+      (λ n v e. subst (λ v'. HoldsAfter (λ a w'. P w') (told_as nothing (persist world n) v')) (sym e.1) (told_holds P nothing (persist world n w) (persist_keeps world flat n w h)))
 
 told_plain : (e : Told) (w : Work) → IsPlain w → IsPlain (told e w)
 told_plain e w h = record { objects = h.objects; context = h.context }
@@ -220,11 +240,6 @@ pub persist_plain : (world : World) → IsFlat world.model → (number : ℤ) (w
 persist_plain =
     persist_call_keeps IsPlain told_plain (λ n key w h. object_plain n (record (object w n) { key = key }) w (there w h n) h) (λ root k w h. record { objects = h.objects; context = h.context }) entered_plain
     (λ n w h. object_plain n (record (object w n) { life = Life.Managed w.manager }) w refl h)
-
--- persist writes nothing
-pub persist_view : (world : World) → IsFlat world.model → (number : ℤ) (w : Work) → HoldsAfter (λ u w'. w'.view ≡ w.view) (persist_call world number w)
-persist_view world flat number w =
-    persist_call_keeps (λ w'. w'.view ≡ w.view) (λ e v h. h) (λ n key v h. h) (λ root k v h. h) (λ n v h. h) (λ n v h. h) world flat number w refl
 
 -- ---- find
 
@@ -267,4 +282,5 @@ find_plain world flat name key w h =
     after_holds _ (λ class w'. w' ≡ w) (class_named world name w) _ (given_or (Cause.IllegalArgument Argument.Entity) (class_of world.model name) w) (λ class v e.
     after_holds _ (λ vs w'. w' ≡ v) (key_given world class key v) _ (given_or (Cause.IllegalArgument Argument.Key) (whole_key (root_of world.model class).key key) v) (λ vs u e'.
     let id : Identity = record { table = (root_of world.model class).table; key = vs } in
-    subst (λ w'. HoldsAfter (λ n w''. IsPlain w'') (find world class vs w')) (sym (e' ∙ e)) (found_plain world flat class id (instance world.model w id) (row w id) w h))))
+    subst (λ w'. HoldsAfter (λ a w''. IsPlain w'') (told_as object_or_null (find world class vs) w')) (sym (e' ∙ e))
+    (told_holds IsPlain object_or_null (find world class vs w) (found_plain world flat class id (instance world.model w id) (row w id) w h)))))

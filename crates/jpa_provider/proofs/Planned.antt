@@ -1,5 +1,4 @@
 -- What a flush of a unit without relations and listeners checks and plans, and what it leaves of the work.
-use Rattle.jpa_value.specs.Limits.{most_objects}
 use Rattle.std.proofs.Common.{◌≡◌, ◌<◌, ◌≤◌, ℕ, Bool, true, false, List, [], ◌∷◌, ◌++◌, length, map, refl, ap, sym, subst, ◌∙◌}
 use Rattle.std.specs.Prelude.{slice_set, nat_lt, not, Option, Some, None, ◌==◌, ◌&&◌, ◌||◌, if◌then◌else◌, ℤ, is_some}
 use Rattle.std.specs.List.{All, AllByRecursion, list_any, list_all, flat_map, zip}
@@ -30,10 +29,8 @@ use Rattle.jpa_flush.specs.Flush.{Action, Insert, Replace, Drop, replace_if, act
 use Rattle.jpa_provider.specs.Machine.{Machine}
 use Rattle.jpa_provider.specs.Invariant.{IsLive, IsEntry, are_one, name_of, stands_in, context_of, base_fits, known_fits, version_fits}
 use Rattle.jpa_lifecycle.specs.Flat.{IsFlat}
-use Rattle.jpa_provider.proofs.Facts.{numbers_same}
 use Rattle.jpa_provider.proofs.AtWork.{HoldsAfter, require_holds, require_holds_last, IsAtWork, contexts}
-use Rattle.jpa_provider.proofs.Kept.{KeepsHeld, manager_kept, entry_kept, distinct_kept}
-use Rattle.jpa_provider.proofs.Changed.{holds_set, live_set, placed_set}
+use Rattle.jpa_provider.proofs.Changed.{changed_at_work}
 use Rattle.jpa_provider.proofs.Written.{first_fits, raised_fits, first_representable, raised_representable, all_pass_converted, stored_shaped, stored_representable}
 
 -- ---- what the checks of an action leave known
@@ -236,16 +233,13 @@ versioned x v = record x { version = v }
 pub versioned_at_work : {world : World} {M : Machine} {m : ℕ} {w : Work} (n : ℕ) (v : Option ℤ) → n < length w.objects → version_fits (root_of world.model (object w n).class).version v ≡ true →
     version_representable v ≡ true → IsAtWork world M m w → IsAtWork world M m (with_object n (versioned (object w n) v) w)
 versioned_at_work {world} {M} {m} {w} n v l fits rep h =
-    let os = w.objects in
-    let x = object w n in
-    let y = versioned x v in
-    let live = h.objects n no_object l in
-    let keeps : (k : ℕ) → KeepsHeld k os (slice_set os n y) = λ k. holds_set os n y l k (λ e. (refl, refl, e)) in
-    let up = numbers_same w.numbers in
-    record {
-      manager = h.manager;
-      objects = live_set os n y l world.model refl h.objects
-          (record {
+    changed_at_work n (versioned (object w n) v) l
+    (record {
+      class = refl;
+      life = refl;
+      key = λ old. refl;
+      live = λ live.
+          record {
             class = live.class;
             key = live.key;
             version = fits;
@@ -254,13 +248,5 @@ versioned_at_work {world} {M} {m} {w} n v l fits rep h =
             key_representable = live.key_representable;
             version_representable = rep;
             values_representable = live.values_representable;
-          });
-      entries = All-weaker (IsEntry world.model os w.numbers m) (IsEntry world.model (slice_set os n y) w.numbers m) (λ e. entry_kept (keeps m) up) w.context h.entries;
-      distinct = distinct_kept w.context (keeps m) h.entries h.distinct;
-      others = λ k l' apart. manager_kept (keeps k) up h.numbered (h.others k l' apart);
-      placed = placed_set os n y l (contexts M m w) h.placed (h.placed n l);
-      view = h.view;
-      numbered = h.numbered;
-      raised = h.raised;
-      few = subst (λ j. j ≤ most_objects) (sym (length-set os n y)) h.few;
-    }
+          };
+    }) h

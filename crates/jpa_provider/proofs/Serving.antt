@@ -15,13 +15,15 @@ use Rattle.jpa_protocol.specs.declared.reply.Reply.{Reply}
 use Rattle.jpa_provider.specs.declared.session.Session.{Session}
 use Rattle.jpa_provider.specs.Machine.{Manager, manager_at, opened, IsStoredAs}
 use Rattle.jpa_provider.specs.Invariant.{HasOneTransaction, IsEntry, IsMachine, hands_representable}
-use Rattle.jpa_provider.specs.Serving.{machine_of, manager_in, nobody, is_commit, IsPlainMachine, IsServing, IsSettled, Serves}
+use Rattle.jpa_provider.specs.Routes.{is_commit}
+use Rattle.jpa_provider.specs.Serving.{machine_of, manager_in, nobody, IsPlainMachine, IsServing, IsSettled, Serves}
 use Rattle.jpa_provider.proofs.OneTransaction.{step_one}
 use Rattle.jpa_provider.proofs.Placed.{work_placed}
 use Rattle.jpa_provider.proofs.Sessions.{manager_there, managers_count}
 use Rattle.jpa_provider.proofs.Settled.{opened_holds}
 use Rattle.jpa_provider.proofs.Outcome.{step_keeps}
-use Rattle.jpa_provider.proofs.Steady.{step_steady}
+use Rattle.jpa_provider.proofs.Steady.{step_plain}
+use Rattle.jpa_provider.proofs.Still.{step_still}
 
 pub serves_on : (world : World) (s t : Session) (call : Call) (reply : Reply) → IsServing world s → hands_representable call ≡ true → Serves world s call reply t → IsPlainMachine (machine_of t) → IsSettled t → IsServing world t
 serves_on world s t call reply h rep step plain settled =
@@ -36,10 +38,10 @@ serves_on world s t call reply h rep step plain settled =
 
 -- after each call but commit
 pub serves_other : (world : World) (s t : Session) (call : Call) (reply : Reply) → IsServing world s → hands_representable call ≡ true → is_commit call ≡ false → Serves world s call reply t → IsSettled t → IsServing world t
-serves_other world s t call reply h rep other step settled = serves_on world s t call reply h rep step (step_steady world h.flat call other h.plain step).0 settled
+serves_other world s t call reply h rep other step settled = serves_on world s t call reply h rep step (step_plain world h.flat call other h.plain step) settled
 
 pub stored_other : (world : World) (s t : Session) (call : Call) (reply : Reply) → IsServing world s → is_commit call ≡ false → Serves world s call reply t → IsStoredAs (machine_of s) (machine_of t)
-stored_other world s t call reply h other step = (step_steady world h.flat call other h.plain step).1
+stored_other world s t call reply h other step = step_still (machine_of s) world call reply (machine_of t) step (inl other)
 
 -- whichever call it was
 pub serves_all : (world : World) (s t : Session) (call : Call) (reply : Reply) → IsServing world s → hands_representable call ≡ true → Serves world s call reply t → IsSettled t →
@@ -80,9 +82,6 @@ entries_in {world} s h k = by_place (cases_lt k (length s.managers.items))
         (All-weaker (IsEntry world.model s.work.objects.now s.work.numbers.now k) (IsWithin s) (λ e i. i.within) (manager_at (machine_of s) k).context
         (h.managers k (subst (λ n. k < n) (sym (managers_count s)) l)).entries)
     by_place (inr l) = subst (λ (x : EntityManager). All (IsWithin s) x.context.now) (sym (past s.managers.items k l)) (All-nil (IsWithin s))
-
-pub objects_shaped : {world : World} (s : Session) → IsMachine world (machine_of s) → All (HasShape world.model) s.work.objects.now
-objects_shaped {world} s h = (work_placed {M = machine_of s} 0 h).objects
 
 -- ---- as it is opened
 

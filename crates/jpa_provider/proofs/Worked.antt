@@ -11,23 +11,26 @@ use Rattle.jpa_protocol.specs.declared.reply.Reply.{Reply}
 use Rattle.jpa_heap.specs.Objects.{place_of}
 use Rattle.jpa_context.specs.declared.work.UnitOfWork.{UnitOfWork}
 use Rattle.jpa_context.specs.Work.{Work}
-use Rattle.jpa_context.specs.Steps.{Outcome, Refused, Op, IsRefusedAs}
+use Rattle.jpa_context.specs.Steps.{Outcome, Refused, IsRefusedAs, Meets}
 use Rattle.jpa_context.specs.Undo.{since}
 use Rattle.jpa_provider.specs.declared.session.Session.{Session}
-use Rattle.jpa_provider.specs.Machine.{Machine, Manager, manager_at, work_of}
-use Rattle.jpa_provider.specs.Calls.{because, concluded, marks, marked_if}
-use Rattle.jpa_provider.specs.Step.{Step, worked, by_manager, if_open, gives_up, takes_nothing, outcome}
-use Rattle.jpa_provider.specs.Serving.{machine_of, told_of, Answers, Concludes, IsWorking}
+use Rattle.jpa_provider.specs.declared.replies.Rule.{Rule}
+use Rattle.jpa_provider.specs.Machine.{Machine, Manager, manager_at}
+use Rattle.jpa_provider.specs.Calls.{because, ended, marks, marks_if_callback, marked_if}
+use Rattle.jpa_provider.specs.Routes.{by_manager, if_open, takes_nothing}
+use Rattle.jpa_provider.specs.Step.{Step, IsGivenUp, gives_up, outcome}
+use Rattle.jpa_provider.specs.Operations.{told_of, is_marked_by, Concludes, EndsSo}
+use Rattle.jpa_provider.specs.Serving.{machine_of, IsWorking}
 use Rattle.jpa_provider.proofs.Sessions.{manager_there, managers_count}
 
 -- ---- refusals
 
 -- a refusal is the definition's, or the code gave up
 abbrev pub IsEnd : {A : Type 0} → Cause → List Told → Outcome A → Type 0
-IsEnd r events o = (((r ≡ Cause.OutOfMemory) ⊎ (r ≡ Cause.StoreFault)) × (told_of r events ≡ []) × (marks r ≡ false)) ⊎ ((o ≡ Refused r events) × (told_of r events ≡ events))
+IsEnd r events o = (((r ≡ Cause.OutOfMemory) ⊎ (r ≡ Cause.StoreFault)) × (told_of r events ≡ [])) ⊎ ((o ≡ Refused r events) × (told_of r events ≡ events))
 
 pub ends : {A : Type 0} (r : Cause) (events : List Told) (o : Outcome A) → IsRefusedAs r events o → IsEnd r events o
-ends Cause.OutOfMemory events o h = inl (inl refl, refl, refl)
+ends Cause.OutOfMemory events o h = inl (inl refl, refl)
 ends Cause.StoreFault events o h = absurd h
 ends Cause.BadLine events o h = inr (h, refl)
 ends Cause.NoSuchManager events o h = inr (h, refl)
@@ -74,22 +77,29 @@ of_nobody s next em e = by_nobody (machine_of s) next em (named_in s em None e)
 pub still_working : {M : Machine} {m : ℕ} (s : Session) (u : UnitOfWork) → IsWorking M m s → since u ≡ since s.work → IsWorking M m (record s { work = u })
 still_working s u h e = record { within = h.within; since = e ∙ h.since; stored = h.stored; status = h.status; managers = h.managers; is_open = h.is_open }
 
--- ---- the step
+-- ---- the end
 
-gave : (r : Cause) (reply : Reply) → (r ≡ Cause.OutOfMemory) ⊎ (r ≡ Cause.StoreFault) → reply ≡ record { events = []; answer = Err (Refusal.Because r) } → (reply ≡ gives_up Cause.OutOfMemory) ⊎ (reply ≡ gives_up Cause.StoreFault)
+gave : (r : Cause) (reply : Reply) → (r ≡ Cause.OutOfMemory) ⊎ (r ≡ Cause.StoreFault) → reply ≡ record { events = []; answer = Err (Refusal.Because r) } → IsGivenUp reply
 gave r reply (inl x) y = inl (y ∙ ap gives_up x)
 gave r reply (inr x) y = inr (y ∙ ap gives_up x)
 
-pub worked_step : {A : Type 0} (world : World) (M N : Machine) (m : ℕ) (em : ℤ) (f : A → Answer) (op : Op A) (call : Call) (answered : Result Answer Cause) (w : Work) (reply : Reply) →
-    by_manager M em (λ k. concluded marks M k f (op (work_of M k))) ≡ concluded marks M m f (op (work_of M m)) → Answers f answered w (op (work_of M m)) → Concludes M m w answered reply N →
-    takes_nothing call ≡ false → outcome world M call ≡ worked M em f op → Step world M call reply N
-worked_step world M N m em f op call (Ok answer) w reply named a c t is =
-    let told : reply ≡ record { events = w.events; answer = Ok (f a.0) } = c.0 ∙ ap (λ x. record { events = w.events; answer = Ok x }) a.1 in
-    inl (is ∙ named ∙ ap (concluded marks M m f) a.2 ∙ (λ i. (sym told i, sym c.1 i)))
-worked_step {A} world M N m em f op call (Err r) w reply named a c t is = by_end (ends r w.events (op (work_of M m)) a)
+-- these mark no transaction
+unmarked : (rule : Rule) (r : Cause) → (r ≡ Cause.OutOfMemory) ⊎ (r ≡ Cause.StoreFault) → is_marked_by rule r ≡ false
+unmarked Rule.OfManager r (inl e) = ap marks e
+unmarked Rule.OfManager r (inr e) = ap marks e
+unmarked Rule.OfObject r (inl e) = ap marks_if_callback e
+unmarked Rule.OfObject r (inr e) = ap marks_if_callback e
+
+pub ends_so : (rule : Rule) (M N : Machine) (m : ℕ) (o : Outcome Answer) (answered : Result Answer Cause) (w : Work) (reply : Reply) → Meets answered w o → Concludes rule M m w answered reply N → EndsSo rule M m o reply N
+ends_so rule M N m o (Ok answer) w reply a c = inl (ap (ended (is_marked_by rule) M m) a ∙ (λ i. (sym c.0 i, sym c.1 i)))
+ends_so rule M N m o (Err r) w reply a c = by_end (ends r w.events o a)
   where
-    by_end : IsEnd r w.events (op (work_of M m)) → Step world M call reply N
-    by_end (inl g) = inr (t, gave r reply g.0 (c.0 ∙ ap (λ es. record { events = es; answer = Err (Refusal.Because r) }) g.1), c.1 ∙ ap (λ b. marked_if b M m) g.2)
-    by_end (inr g) =
-        let told : reply ≡ record { events = w.events; answer = Err (Refusal.Because r) } = c.0 ∙ ap (λ es. record { events = es; answer = Err (Refusal.Because r) }) g.1 in
-        inl (is ∙ named ∙ ap (concluded marks M m f) g.0 ∙ (λ i. (sym told i, sym c.1 i)))
+    by_end : IsEnd r w.events o → EndsSo rule M m o reply N
+    by_end (inl g) = inr (gave r reply g.0 (c.0 ∙ ap (λ es. record { events = es; answer = Err (Refusal.Because r) }) g.1), c.1 ∙ ap (λ b. marked_if b M m) (unmarked rule r g.0))
+    by_end (inr g) = inl (ap (ended (is_marked_by rule) M m) g.0 ∙ (λ i. (sym (c.0 ∙ ap (λ es. record { events = es; answer = Err (Refusal.Because r) }) g.1) i, sym c.1 i)))
+
+-- a call along a route that takes memory steps so
+pub ended_step : (world : World) {M N : Machine} {reply : Reply} (call : Call) (rule : Rule) (m : ℕ) (o : Outcome Answer) → takes_nothing call ≡ false → outcome world M call ≡ ended (is_marked_by rule) M m o →
+    EndsSo rule M m o reply N → Step world M call reply N
+ended_step world call rule m o takes e (inl h) = inl (e ∙ h)
+ended_step world call rule m o takes e (inr g) = inr (takes, g.0, g.1)

@@ -100,9 +100,9 @@ marked_if true M m = marked M m
 marked_if false M m = M
 
 -- done: the manager keeps what the operation made; refused: nothing stays but the mark, and the events are told
-abbrev pub concluded : {A : Type 0} → (Cause → Bool) → Machine → ℕ → (A → Answer) → Outcome A → Reply × Machine
-concluded rule M m answer (Done a w) = accepted w.events (answer a) (kept M m w)
-concluded rule M m answer (Refused r events) = refused events (Refusal.Because r) (marked_if (rule r) M m)
+abbrev pub ended : (Cause → Bool) → Machine → ℕ → Outcome Answer → Reply × Machine
+ended rule M m (Done a w) = accepted w.events a (kept M m w)
+ended rule M m (Refused r events) = refused events (Refusal.Because r) (marked_if (rule r) M m)
 
 -- ---- answers
 
@@ -121,3 +121,7 @@ got (Got.Scalar (Value.Text bytes)) = Answer.Value (Value.Text bytes)
 got (Got.Scalar (Value.Bytes bytes)) = Answer.Value (Value.Bytes bytes)
 got (Got.One n) = Answer.Object (suc n)
 got (Got.Many ns) = Answer.Objects (map suc ns)
+
+-- an operation's answer, told so
+abbrev pub told_as : {A : Type 0} → (A → Answer) → Op A → Op Answer
+told_as f op = op >>= (λ a. give (f a))

@@ -29,15 +29,3 @@ stateless x = with_life x Life.New
 pub record HoldsSameValues (M N : Machine) : Type 0 where
   pub objects : map stateless N.objects ≡ map stateless M.objects
   pub numbers : N.numbers ≡ M.numbers
-
-abbrev pub is_rollback : Call → Bool
-is_rollback (Call.Rollback em) = true
-is_rollback Call.CreateEntityManager = false
-is_rollback (Call.NewObject name) = false
-is_rollback (Call.SetValue object name value) = false
-is_rollback (Call.Get object name) = false
-is_rollback (Call.Begin em) = false
-is_rollback (Call.Persist em object) = false
-is_rollback (Call.Commit em) = false
-is_rollback (Call.SetRollbackOnly em) = false
-is_rollback (Call.Find em name key) = false

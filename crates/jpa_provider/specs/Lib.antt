@@ -1,8 +1,10 @@
 pub mod Machine
 pub mod Calls
 pub mod Transactions
+pub mod Routes
 pub mod Step
 pub mod Invariant
+pub mod Operations
 pub mod Serving
 pub mod Left
 pub mod Faults

@@ -15,8 +15,8 @@ use Rattle.jpa_protocol.specs.declared.call.Call.{Call}
 use Rattle.jpa_protocol.specs.declared.reply.Reply.{Reply}
 use Rattle.jpa_provider.specs.Machine.{Machine, IsStoredAs}
 use Rattle.jpa_provider.specs.Step.{Step, IsGivenUp, outcome}
-use Rattle.jpa_provider.specs.Serving.{is_commit}
-use Rattle.jpa_provider.specs.Left.{LivesAsBefore, HoldsSameValues, is_rollback}
+use Rattle.jpa_provider.specs.Left.{LivesAsBefore, HoldsSameValues}
+use Rattle.jpa_provider.specs.Routes.{is_commit, is_rollback}
 use Rattle.jpa_provider.specs.Faults.{faults_after_reply}
 
 -- the unit that it serves with what is registered, the machine, and the store of rows

@@ -92,29 +92,10 @@ pub record IsWorking (M : Machine) (m : ℕ) (s : Session) : Type 0 where
   pub managers : (x : EntityManager) → managers_of M.committed (slice_set s.managers.items m x) ≡ with_manager M m (manager_of M.committed x)
   pub is_open : (manager_at M m).is_open ≡ true
 
--- ---- how an operation ends
-
--- want of memory and a fault of the store are told without events
-abbrev pub told_of : Cause → List Told → List Told
-told_of Cause.OutOfMemory events = []
-told_of Cause.StoreFault events = []
-told_of r events = events
-
 abbrev pub marked_status : Status → Status
 marked_status Status.Inactive = Status.Inactive
 marked_status Status.Active = Status.RollbackOnly
 marked_status Status.RollbackOnly = Status.RollbackOnly
-
--- done: the machine keeps the work; refused: nothing stays but the mark
-abbrev pub Concludes : Machine → ℕ → Work → Result Answer Cause → Reply → Machine → Type 0
-Concludes M m w (Ok answer) reply N = (reply ≡ record { events = w.events; answer = Ok answer }) × (N ≡ kept M m w)
-Concludes M m w (Err r) reply N =
-    (reply ≡ record { events = told_of r w.events; answer = Err (Refusal.Because r) }) × (N ≡ marked_if (marks r) M m)
-
--- what code answered, and the work that it left, are the operation's outcome, its answer told by f
-abbrev pub Answers : {A : Type 0} → (A → Answer) → Result Answer Cause → Work → Outcome A → Type 0
-Answers {A} f (Ok answer) new o = (a : A) × (answer ≡ f a) × (o ≡ Done a new)
-Answers f (Err r) new o = IsRefusedAs r new.events o
 
 -- ---- rolling back
 
@@ -134,24 +115,3 @@ abbrev pub Stores : Machine → ℕ → Work → Reply → Machine → Type 0
 Stores M m w reply N =
     ((reply ≡ record { events = w.events; answer = Ok Answer.Null }) × (N ≡ committed_after M m w))
     ⊎ (((reply ≡ gives_up Cause.OutOfMemory) ⊎ (reply ≡ gives_up Cause.StoreFault)) × (N ≡ M))
-
--- ---- set
-
--- the object takes the place of what stood there, or nothing changes: for want of memory, or as the definition says
-abbrev pub SetsMember : Result LiveObject Cause → List LiveObject → ℕ → Result (Unit {0}) Cause → List LiveObject → Type 0
-SetsMember wanted old place (Ok u) new = (y : LiveObject) × (wanted ≡ Ok y) × (new ≡ slice_set old place y)
-SetsMember wanted old place (Err r) new = ((r ≡ Cause.OutOfMemory) ⊎ (wanted ≡ Err r)) × (new ≡ old)
-
--- ---- the one call that writes to the store
-
-abbrev pub is_commit : Call → Bool
-is_commit (Call.Commit em) = true
-is_commit Call.CreateEntityManager = false
-is_commit (Call.NewObject name) = false
-is_commit (Call.SetValue object name value) = false
-is_commit (Call.Get object name) = false
-is_commit (Call.Begin em) = false
-is_commit (Call.Persist em object) = false
-is_commit (Call.Rollback em) = false
-is_commit (Call.SetRollbackOnly em) = false
-is_commit (Call.Find em name key) = false

@@ -1,14 +1,16 @@
-//! A manager at work: while a call of it is served, its context stands in the session's unit of work.
+//! A manager at work: while a call of it is served, its context stands in the session's unit of
+//! work.
 ghost use Rattle.std.specs.Prelude.{◌≡◌, ◌<◌, false, length, IfErr, IfSome};
 ghost use Rattle.jpa_context.specs.Undo.{now, since, IsKept};
 ghost use Rattle.jpa_heap.specs.Objects.{place_of};
 ghost use Rattle.jpa_provider.specs.Faults.{is_store_fault, tells_fault};
 ghost use Rattle.jpa_provider.specs.Machine.{Machine, kept, marked, work_of};
+ghost use Rattle.jpa_provider.specs.Operations.{Concludes};
 ghost use Rattle.jpa_provider.specs.Serving as serving;
 ghost use Rattle.jpa_provider.specs.Serving.{machine_of, manager_in, IsSettled, IsWorking};
 
 use crate::handing::place_of;
-use crate::replies::{marks, told_of};
+use crate::replies::{Rule, is_marked_by, told_of};
 use crate::session::{Session, Status, exchange, set_status, status_of};
 use jpa_protocol::{Answer, Reply};
 use jpa_value::{Cause, Refusal, Seq};
@@ -39,7 +41,9 @@ pub(crate) fn take_work(session: &mut Session, manager: usize)
 /// The manager's context goes back to it, and what its work changed is kept. Takes no memory.
 pub(crate) fn keep_work(session: &mut Session, manager: usize)
     requires within { manager < length session.old.managers.items }
-    ensures kept { (M : Machine) → IsWorking M manager session.old → session.old.work.view.now ≡ M.committed → machine_of session.new ≡ kept M manager (now session.old.work) }
+    ensures kept { (M : Machine) → IsWorking M manager session.old
+        → session.old.work.view.now ≡ M.committed
+        → machine_of session.new ≡ kept M manager (now session.old.work) }
     ensures work { IsKept session.new.work }
     ensures events { session.new.work.events ≡ session.old.work.events }
 {
@@ -54,7 +58,8 @@ pub(crate) fn restore(alloc: Global, session: &mut Session, manager: usize)
     ensures back { (M : Machine) → IsWorking M manager session.old → machine_of session.new ≡ M }
     ensures count { length session.new.managers.items ≡ length session.old.managers.items }
     ensures objects { session.new.work.objects.now ≡ (since session.old.work).objects }
-    ensures context { (manager_in session.new.managers.items manager).context.now ≡ (since session.old.work).context }
+    ensures context { (manager_in session.new.managers.items manager).context.now ≡
+        (since session.old.work).context }
     ensures settled { IsSettled session.new }
 {
     session.work.undo(alloc);
@@ -82,15 +87,19 @@ pub(crate) fn mark(session: &mut Session, manager: usize)
     set_status(&mut session.managers, manager, status);
 }
 
-/// Ends an operation of the manager: what it changed is kept, or undone where it was refused. Takes no memory.
+/// Ends an operation of the manager: what it changed is kept, or undone where it was refused. Takes
+/// no memory.
 pub(crate) fn conclude(
     alloc: Global,
     session: &mut Session,
     manager: usize,
     answered: Result<Answer, Cause>,
+    rule: Rule,
 ) -> Reply
     requires within { manager < length session.old.managers.items }
-    ensures concludes { (M : Machine) → IsWorking M manager session.old → session.old.work.view.now ≡ M.committed → serving.Concludes M manager (now session.old.work) answered result (machine_of session.new) }
+    ensures concludes { (M : Machine) → IsWorking M manager session.old
+        → session.old.work.view.now ≡ M.committed
+        → Concludes rule M manager (now session.old.work) answered result (machine_of session.new) }
     ensures settled { IsSettled session.new }
     ensures untold { IfErr answered (λ cause. is_store_fault cause ≡ false) → tells_fault result ≡ false }
 {
@@ -105,7 +114,7 @@ pub(crate) fn conclude(
         }
         Err(cause) => {
             restore(alloc, session, manager);
-            if marks(&cause) {
+            if is_marked_by(rule, &cause) {
                 mark(session, manager);
             }
             Reply {

@@ -7,14 +7,13 @@
 mod at_work;
 mod committing;
 mod ending;
-mod getting;
 mod handing;
 mod opening;
+mod operating;
 mod provider;
 mod replies;
 mod served;
 mod session;
-mod setting;
 mod working;
 
 pub use provider::Provider;

@@ -13,21 +13,21 @@ ghost use Rattle.jpa_rows.specs.Tables.{schema_of};
 ghost use Rattle.jpa_stored.specs.Sets.{each_fits};
 ghost use Rattle.jpa_provider.specs.Faults.{faults_after_reply};
 ghost use Rattle.jpa_provider.specs.Invariant.{HasOneTransaction, IsMachine};
-ghost use Rattle.jpa_provider.specs.Left.{HoldsSameValues, LivesAsBefore, is_rollback};
+ghost use Rattle.jpa_provider.specs.Left.{HoldsSameValues, LivesAsBefore};
 ghost use Rattle.jpa_provider.specs.Machine.{opened, IsStoredAs};
 ghost use Rattle.jpa_provider.specs.Step.{IsGivenUp};
+ghost use Rattle.jpa_provider.specs.Routes.{is_commit, is_rollback};
 ghost use Rattle.jpa_provider.specs.Provided.{rows_kept, rows_made, world_in, RunsAtMost, RunsDifference, Stands};
 ghost use Rattle.jpa_provider.specs.Served.{is_served};
-ghost use Rattle.jpa_provider.specs.Serving.{machine_of, is_commit, IsPlainMachine, IsServing, IsSettled, Serves};
+ghost use Rattle.jpa_provider.specs.Serving.{machine_of, IsPlainMachine, IsServing, IsSettled, Serves};
 
 use crate::committing::commit_call;
 use crate::ending::{rollback_call, set_rollback_only_call};
-use crate::getting::get_call;
 use crate::handing::hands_representable;
 use crate::opening::{begin_call, create_call, new_call};
+use crate::operating::Operation;
 use crate::session::Session;
-use crate::setting::set_call;
-use crate::working::{find_call, persist_call};
+use crate::working::{held, worked};
 use jpa_behaviour::{Behaviour, Registry};
 use jpa_context::{PersistenceContext, UnitOfWork};
 use jpa_mapper::discriminator_law;
@@ -208,21 +208,22 @@ fn served<R: RowSource, B: Behaviour>(
             object,
             name,
             value,
-        } => set_call(
-            alloc,
-            metamodel,
-            registry,
-            session,
-            object,
-            name.as_str(),
-            value,
-        ),
+        } => {
+            let operation = Operation::Set {
+                object,
+                name,
+                value,
+            };
+            held(alloc, metamodel, registry, session, object, operation)
+        }
         Call::Get { object, name } => {
-            get_call(alloc, metamodel, registry, session, object, name.as_str())
+            let operation = Operation::Get { object, name };
+            held(alloc, metamodel, registry, session, object, operation)
         }
         Call::Begin { em } => begin_call(alloc, metamodel, registry, session, em),
         Call::Persist { em, object } => {
-            persist_call(alloc, metamodel, registry, session, em, object)
+            let operation = Operation::Persist { object };
+            worked(alloc, metamodel, registry, session, em, operation)
         }
         Call::Commit { em } => commit_call(alloc, metamodel, registry, session, rows, em),
         Call::Rollback { em } => rollback_call(alloc, metamodel, registry, session, em),
@@ -230,7 +231,8 @@ fn served<R: RowSource, B: Behaviour>(
             set_rollback_only_call(alloc, metamodel, registry, session, em)
         }
         Call::Find { em, entity, key } => {
-            find_call(alloc, metamodel, registry, session, em, &entity, &key)
+            let operation = Operation::Find { entity, key };
+            worked(alloc, metamodel, registry, session, em, operation)
         }
     }
 }

@@ -1,153 +1,170 @@
-//! Calls that work on the manager's context: persist and find (Jakarta Persistence 3.1, chapter 3.1.1).
-ghost use Rattle.std.specs.Prelude.{◌≡◌, IfErr, false, true};
-ghost use Rattle.std.specs.List.{list_all};
+//! Calls that work on a manager's context: of a manager that is named, or of whoever holds an
+//! object
+//! (Jakarta Persistence 3.1, chapters 2.2 and 3.1.1).
+ghost use Rattle.std.specs.Prelude.{◌≡◌, ◌<◌, ℕ, length, false};
+ghost use Rattle.jpa_behaviour.specs.Behaviour.{World};
 ghost use Rattle.jpa_behaviour.specs.Registered.{world_of};
-ghost use Rattle.jpa_context.specs.Undo.{now, since, IsPlaced};
-ghost use Rattle.jpa_lifecycle.specs.Flat.{IsFlat};
+ghost use Rattle.jpa_context.specs.Steps.{Op};
 ghost use Rattle.jpa_protocol.specs.declared.call.Call.{Call};
-ghost use Rattle.jpa_provider.specs.Calls as calls;
-ghost use Rattle.jpa_provider.specs.Faults.{is_store_fault, tells_fault};
-ghost use Rattle.jpa_provider.specs.Serving.{Answers, IsServing, IsSettled, Serves};
-ghost use Rattle.jpa_provider.specs.Step as step;
+ghost use Rattle.jpa_protocol.specs.declared.reply.Answer.{Answer};
+ghost use Rattle.jpa_provider.specs.Faults.{tells_fault};
+ghost use Rattle.jpa_provider.specs.Machine.{work_of};
+ghost use Rattle.jpa_provider.specs.Operations.{on_numbered, operation_of, EndsSo};
+ghost use Rattle.jpa_provider.specs.Operations as operations;
+ghost use Rattle.jpa_provider.specs.Routes.{route, OfManager, OfObject};
+ghost use Rattle.jpa_provider.specs.Serving.{machine_of, IsServing, IsSettled, Serves};
+ghost use Rattle.jpa_provider.specs.declared.replies.Rule.{Rule};
 
 use crate::at_work::{conclude, manager_named, take_work};
-use crate::handing::{are_short, place_of, whole_key};
-use crate::replies::because;
+use crate::handing::place_of;
+use crate::operating::{Operation, operate};
+use crate::replies::{Rule, because, told_of};
 use crate::session::Session;
 use jpa_behaviour::{Behaviour, Registry};
-use jpa_context::UnitOfWork;
+use jpa_context::PersistenceContext;
+use jpa_heap::Life;
 use jpa_model::Metamodel;
-use jpa_ops::{find, persist};
-use jpa_protocol::{Answer, Given, Reply};
-use jpa_value::{Argument, Cause, Seq, Text};
+use jpa_protocol::Reply;
+use jpa_value::{Cause, Refusal, Seq};
 use std::alloc::Global;
+use std::mem;
 
-/// Makes an object managed, by its number.
-#[tactic(auto, using(crate::proofs::Called::persist_named, crate::proofs::Called::persist_unnamed, crate::proofs::Told::of_operation))]
-fn persist_numbered<B: Behaviour>(
+/// The manager does an operation on its context; what it changed is kept, or undone where it was
+/// refused.
+fn at_work<B: Behaviour>(
     alloc: Global,
     metamodel: &Metamodel,
     registry: &Registry<B>,
-    work: &mut UnitOfWork,
-    object: i64,
-) -> Result<Answer, Cause>
-    requires flat { IsFlat metamodel.now }
-    requires placed { IsPlaced metamodel.now (now work.old) }
-    ensures answers { Answers calls.nothing result (now work.new) (step.persist_call (world_of B.meaning metamodel.now registry.now) object (now work.old)) }
-    ensures cause { IfErr result (λ cause. is_store_fault cause ≡ false) }
-    ensures view { work.new.view ≡ work.old.view }
-    ensures since { since work.new ≡ since work.old }
+    session: &mut Session,
+    manager: usize,
+    operation: Operation,
+    rule: Rule,
+) -> Reply
+    requires within { manager < length session.old.managers.items }
+    requires serving { IsServing (world_of B.meaning metamodel.now registry.now) session.old }
+    ensures ends { let M = machine_of session.old in
+        let world = world_of B.meaning metamodel.now registry.now in
+        let outcome = operation_of operation world (work_of M manager) in
+        EndsSo rule M manager outcome result (machine_of session.new) }
+    ensures untold { tells_fault result ≡ false }
+    ensures settled { IsSettled session.new }
 {
-    let Some(place) = place_of(work.objects.len(), object) else {
-        return Err(Cause::NoSuchObject);
-    };
-    persist(alloc, metamodel, registry, work, place)?;
-    Ok(Answer::Null)
+    take_work(session, manager);
+    let answered = operate(alloc, metamodel, registry, &mut session.work, operation);
+    conclude(alloc, session, manager, answered, rule)
 }
 
-/// Finds an object by the name of its entity and the parts of its key.
-#[tactic(auto, using(crate::proofs::Told::of_operation))]
-fn find_by_key<B: Behaviour>(
+/// Nobody's manager does an operation, on an object that no manager holds: it sees what is
+/// committed, in an empty context.
+fn unheld<B: Behaviour>(
     alloc: Global,
     metamodel: &Metamodel,
     registry: &Registry<B>,
-    work: &mut UnitOfWork,
-    entity: &str,
-    key: &[Given],
-) -> Result<Answer, Cause>
-    requires flat { IsFlat metamodel.now }
-    requires placed { IsPlaced metamodel.now (now work.old) }
-    ensures answers { Answers calls.object_or_null result (now work.new) (step.find_call (world_of B.meaning metamodel.now registry.now) entity.now key.now (now work.old)) }
-    ensures cause { IfErr result (λ cause. is_store_fault cause ≡ false) }
-    ensures view { work.new.view ≡ work.old.view }
-    ensures since { since work.new ≡ since work.old }
+    session: &mut Session,
+    operation: Operation,
+) -> Reply
+    requires serving { IsServing (world_of B.meaning metamodel.now registry.now) session.old }
+    ensures ends { let M = machine_of session.old in
+        let world = world_of B.meaning metamodel.now registry.now in
+        let nobody = length session.old.managers.items in
+        let outcome = operation_of operation world (work_of M nobody) in
+        EndsSo Rule.OfObject M nobody outcome result (machine_of session.new) }
+    ensures untold { tells_fault result ≡ false }
+    ensures settled { IsSettled session.new }
 {
-    if !are_short(key) {
-        return Err(Cause::Limit);
+    session.work.manager = session.managers.len();
+    session.work.context = PersistenceContext::new(alloc);
+    let answered = operate(alloc, metamodel, registry, &mut session.work, operation);
+    let events = mem::replace(&mut session.work.events, Seq::new(alloc));
+    match answered {
+        Ok(answer) => {
+            session.work.keep();
+            Reply {
+                events,
+                answer: Ok(answer),
+            }
+        }
+        Err(cause) => {
+            session.work.undo(alloc);
+            Reply {
+                events: told_of(alloc, &cause, events),
+                answer: Err(Refusal::Because(cause)),
+            }
+        }
     }
-    let Some(class) = metamodel.class_of(entity) else {
-        return Err(Cause::IllegalArgument(Argument::Entity));
-    };
-    let Some(values) = whole_key(alloc, metamodel.root_of(class).key.as_slice(), key)? else {
-        return Err(Cause::IllegalArgument(Argument::Key));
-    };
-    let Some(place) = find(alloc, metamodel, registry, work, class, values)? else {
-        return Ok(Answer::Null);
-    };
-    // An object's number, one more than its place, is at most the count.
-    let _count = work.objects.len();
-    Ok(Answer::Object(place as u64 + 1))
 }
 
-/// The call persist.
-#[tactic(auto, using(crate::proofs::Called::persist_alone))]
-pub(crate) fn persist_call<B: Behaviour>(
+/// The manager that holds an object in this state.
+fn manager_holding(life: Life) -> Option<usize>
+    ensures { result ≡ operations.manager_holding life }
+{
+    match life {
+        Life::Managed(manager) | Life::Removed(manager) => Some(manager),
+        Life::New | Life::Detached => None,
+    }
+}
+
+/// A call whose route is an operation of a manager.
+pub(crate) fn worked<B: Behaviour>(
     alloc: Global,
     metamodel: &Metamodel,
     registry: &Registry<B>,
     session: &mut Session,
     em: i64,
-    object: i64,
+    operation: Operation,
 ) -> Reply
     requires serving { IsServing (world_of B.meaning metamodel.now registry.now) session.old }
-    ensures step { Serves (world_of B.meaning metamodel.now registry.now) session.old (Call.Persist em object) result session.new }
+    ensures step { let world = world_of B.meaning metamodel.now registry.now in
+        (call : Call) → route call ≡ OfManager em (operation_of operation)
+        → Serves world session.old call result session.new }
     ensures untold { tells_fault result ≡ false }
     ensures settled { IsSettled session.new }
 {
     let Some(manager) = manager_named(session, em) else {
         return because(alloc, Cause::NoSuchManager);
     };
-    take_work(session, manager);
-    let answered = persist_numbered(alloc, metamodel, registry, &mut session.work, object);
-    conclude(alloc, session, manager, answered)
-}
-
-/// The call find, by slices.
-#[tactic(auto, using(crate::proofs::Called::find_alone))]
-fn find_slices<B: Behaviour>(
-    alloc: Global,
-    metamodel: &Metamodel,
-    registry: &Registry<B>,
-    session: &mut Session,
-    em: i64,
-    entity: &str,
-    key: &[Given],
-) -> Reply
-    requires serving { IsServing (world_of B.meaning metamodel.now registry.now) session.old }
-    ensures step { Serves (world_of B.meaning metamodel.now registry.now) session.old (Call.Find em entity.now key.now) result session.new }
-    ensures untold { tells_fault result ≡ false }
-    ensures settled { IsSettled session.new }
-{
-    let Some(manager) = manager_named(session, em) else {
-        return because(alloc, Cause::NoSuchManager);
-    };
-    take_work(session, manager);
-    let answered = find_by_key(alloc, metamodel, registry, &mut session.work, entity, key);
-    conclude(alloc, session, manager, answered)
-}
-
-/// The call find.
-pub(crate) fn find_call<B: Behaviour>(
-    alloc: Global,
-    metamodel: &Metamodel,
-    registry: &Registry<B>,
-    session: &mut Session,
-    em: i64,
-    entity: &Text,
-    key: &Seq<Given>,
-) -> Reply
-    requires serving { IsServing (world_of B.meaning metamodel.now registry.now) session.old }
-    ensures step { Serves (world_of B.meaning metamodel.now registry.now) session.old (Call.Find em entity.now key.now) result session.new }
-    ensures untold { tells_fault result ≡ false }
-    ensures settled { IsSettled session.new }
-{
-    find_slices(
+    at_work(
         alloc,
         metamodel,
         registry,
         session,
-        em,
-        entity.as_str(),
-        key.as_slice(),
+        manager,
+        operation,
+        Rule::OfManager,
     )
+}
+
+/// A call whose route is an operation on an object, by its number, of the manager that holds it.
+pub(crate) fn held<B: Behaviour>(
+    alloc: Global,
+    metamodel: &Metamodel,
+    registry: &Registry<B>,
+    session: &mut Session,
+    object: i64,
+    operation: Operation,
+) -> Reply
+    requires serving { IsServing (world_of B.meaning metamodel.now registry.now) session.old }
+    ensures step { let world = world_of B.meaning metamodel.now registry.now in
+        (call : Call) → (op : World → ℕ → Op Answer) → route call ≡ OfObject object op
+        → operation_of operation ≡ on_numbered object op
+        → Serves world session.old call result session.new }
+    ensures untold { tells_fault result ≡ false }
+    ensures settled { IsSettled session.new }
+{
+    let Some(place) = place_of(session.work.objects.len(), object) else {
+        return because(alloc, Cause::NoSuchObject);
+    };
+    let life = session.work.objects.as_slice()[place].life;
+    match manager_holding(life) {
+        Some(manager) => at_work(
+            alloc,
+            metamodel,
+            registry,
+            session,
+            manager,
+            operation,
+            Rule::OfObject,
+        ),
+        None => unheld(alloc, metamodel, registry, session, operation),
+    }
 }

@@ -3,7 +3,8 @@ use Rattle.jpa_behaviour.specs.Registered.{world_of}
 use Rattle.jpa_stored.specs.Sets.{StoredSet}
 use Rattle.jpa_object_rows.specs.Sets.{rows_of}
 use Rattle.jpa_provider.specs.Provided.{rows_made}
-use Rattle.jpa_provider.specs.Serving.{machine_of, is_commit}
+use Rattle.jpa_provider.specs.Routes.{is_commit}
+use Rattle.jpa_provider.specs.Serving.{machine_of}
 use Rattle.jpa_provider.proofs.Crashed.{either_way}
 use Rattle.jpa_provider.proofs.Serving.{serves_all, stores_all}
 use Rattle.jpa_provider.proofs.Still.{step_still}

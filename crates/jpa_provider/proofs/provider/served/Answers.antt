@@ -1,6 +1,10 @@
-use Rattle.std.proofs.Common.{◌≡◌, rules, w64, to_z, of_z, ap, sym, subst, ◌∙◌}
+use Rattle.std.proofs.Common.{◌≡◌, ℕ, rules, w64, to_z, of_z, refl, ap, sym, subst, ◌∙◌}
 use Rattle.std.specs.Prelude.{◌⊎◌}
+use Rattle.jpa_behaviour.specs.Behaviour.{World}
 use Rattle.jpa_behaviour.specs.Registered.{world_of}
+use Rattle.jpa_context.specs.Steps.{Op}
+use Rattle.jpa_protocol.specs.declared.reply.Answer.{Answer}
+use Rattle.jpa_provider.specs.Routes.{OfManager, OfObject, route, get_call, set_call, persist_call, find_call}
 use Rattle.jpa_protocol.specs.declared.call.Call.{Call}
 use Rattle.jpa_provider.specs.Provided.{rows_kept, rows_made, RunsAtMost}
 use Rattle.jpa_provider.specs.Serving.{machine_of}
@@ -28,3 +32,31 @@ returns-in-Commit-clause-bounded g c = λ commits refused.
     let same : to_z w64 (of_z w64 em) ≡ em = search rules in
     subst (λ (call : Call). (new ≡ rows) ⊎ RunsAtMost (rows_kept world M) (rows_made world M call) (g.R.RowSource.writes rows) (g.R.RowSource.writes new)) (ap Call.Commit same ∙ sym c.in-Commit.is)
     (c.commit_call.ensures.bounded refused)
+
+pub returns-in-SetValue-clause-step : goal.returns-in-SetValue-clause-step
+returns-in-SetValue-clause-step g c =
+    let object = c.in-SetValue.object in
+    let op : World → ℕ → Op Answer = λ world. set_call world c.in-SetValue.name c.in-SetValue.value in
+    let same : to_z w64 (of_z w64 object) ≡ object = search rules in
+    c.held.ensures.step c.args.call op (ap route c.in-SetValue.is ∙ ap (λ z. OfObject z op) (sym same)) refl
+
+pub returns-in-Get-clause-step : goal.returns-in-Get-clause-step
+returns-in-Get-clause-step g c =
+    let object = c.in-Get.object in
+    let op : World → ℕ → Op Answer = λ world. get_call world c.in-Get.name in
+    let same : to_z w64 (of_z w64 object) ≡ object = search rules in
+    c.held-in-Get.ensures.step c.args.call op (ap route c.in-Get.is ∙ ap (λ z. OfObject z op) (sym same)) refl
+
+pub returns-in-Persist-clause-step : goal.returns-in-Persist-clause-step
+returns-in-Persist-clause-step g c =
+    let em = c.in-Persist.em in
+    let object = c.in-Persist.object in
+    let same : to_z w64 (of_z w64 em) ≡ em = search rules in
+    let named : to_z w64 (of_z w64 object) ≡ object = search rules in
+    c.worked.ensures.step c.args.call (ap route c.in-Persist.is ∙ (λ i. OfManager (sym same i) (λ world. persist_call world (sym named i))))
+
+pub returns-in-Find-clause-step : goal.returns-in-Find-clause-step
+returns-in-Find-clause-step g c =
+    let em = c.in-Find.em in
+    let same : to_z w64 (of_z w64 em) ≡ em = search rules in
+    c.worked-in-Find.ensures.step c.args.call (ap route c.in-Find.is ∙ ap (λ z. OfManager z (λ world. find_call world c.in-Find.entity c.in-Find.key)) (sym same))

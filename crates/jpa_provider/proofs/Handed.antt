@@ -1,0 +1,99 @@
+-- What the operations of calls keep, with what the calls hand in: from the laws of the operations on a work.
+use Rattle.std.proofs.Common.{◌≡◌, ◌<◌, ℕ, zero, suc, true, false, List, length, refl, ap, sym, subst, ◌∙◌}
+use Rattle.std.specs.Prelude.{nat_lt, Bool, Option, Some, None, if◌then◌else◌, ℤ, pos, negsuc, is_some}
+use Rattle.std.specs.List.{list_all}
+use Rattle.std.specs.Option.{unwrap_or}
+use Rattle.std.proofs.lemmas.Bool.{true≢false, ltb-true}
+use Rattle.jpa_value.specs.declared.refusal.Argument.{Argument}
+use Rattle.jpa_value.specs.declared.refusal.Cause.{Cause}
+use Rattle.jpa_model.specs.Chains.{root_of, class_of}
+use Rattle.jpa_behaviour.specs.Behaviour.{World, AnswersConvertible, is_short}
+use Rattle.jpa_protocol.specs.declared.call.Given.{Given}
+use Rattle.jpa_protocol.specs.declared.reply.Answer.{Answer}
+use Rattle.jpa_heap.specs.declared.Handed.{Handed}
+use Rattle.jpa_heap.specs.Objects.{place_of}
+use Rattle.jpa_context.specs.Work.{Work}
+use Rattle.jpa_context.specs.Steps.{Outcome, Done, Refused, after, give}
+use Rattle.jpa_lifecycle.specs.Flat.{IsFlat}
+use Rattle.jpa_ops.specs.Load.{find}
+use Rattle.jpa_ops.specs.Members.{set}
+use Rattle.jpa_ops.specs.States.{persist}
+use Rattle.jpa_flush.specs.Flush.{flush}
+use Rattle.jpa_provider.specs.Machine.{Machine}
+use Rattle.jpa_provider.specs.Calls.{object_numbered, handed, nothing, object_or_null, told_as, give_or, class_named, key_given, is_short_given, whole_key}
+use Rattle.jpa_provider.specs.Transactions.{commit_work, reads_hold}
+use Rattle.jpa_provider.specs.Routes.{set_call, persist_call, find_call}
+use Rattle.jpa_provider.specs.Invariant.{given_representable}
+use Rattle.jpa_provider.proofs.AtWork.{HoldsAfter, after_holds, require_holds, require_holds_last, IsAtWork}
+use Rattle.jpa_provider.proofs.Created.{handed_representable}
+use Rattle.jpa_provider.proofs.Changed.{HasSet, set_holds}
+use Rattle.jpa_provider.proofs.Entered.{persist_holds}
+use Rattle.jpa_provider.proofs.Loaded.{find_holds}
+use Rattle.jpa_provider.proofs.Flushed.{flush_holds}
+
+-- ---- what is handed in
+
+abbrev pub InHeap : Work → ℕ → Work → Type 0
+InHeap w k w' = (k < length w.objects) × (w' ≡ w)
+
+place_step : (b : Bool) (n k : ℕ) → (if b then Some n else None) ≡ Some k → (b ≡ true) × (n ≡ k)
+place_step true n k e = (refl, ap (λ o. unwrap_or o n) e)
+place_step false n k e = absurd (true≢false (sym (ap is_some e)))
+
+pub place_within : (count : ℕ) (z : ℤ) (k : ℕ) → place_of count z ≡ Some k → k < count
+place_within count (pos zero) k e = absurd (true≢false (sym (ap is_some e)))
+place_within count (pos (suc n)) k e =
+    let h = place_step (nat_lt n count) n k e in
+    subst (λ j. j < count) h.1 (ltb-true n count h.0)
+place_within count (negsuc n) k e = absurd (true≢false (sym (ap is_some e)))
+
+place_given : (o : Option ℕ) (w : Work) → ((k : ℕ) → o ≡ Some k → k < length w.objects) → HoldsAfter (InHeap w) (give_or Cause.NoSuchObject o w)
+place_given None w h = tt
+place_given (Some k) w h = (h k refl, refl)
+
+pub numbered_holds : (z : ℤ) (w : Work) → HoldsAfter (InHeap w) (object_numbered z w)
+numbered_holds z w = place_given (place_of (length w.objects) z) w (place_within (length w.objects) z)
+
+handed_holds : (g : Given) (w : Work) → given_representable g ≡ true → HoldsAfter (λ v w'. (handed_representable v ≡ true) × (w' ≡ w)) (handed g w)
+handed_holds (Given.Plain v) w h = require_holds _ (is_short v) Cause.Limit w _ (λ short. (h, refl))
+handed_holds (Given.Object z) w h = after_holds _ (InHeap w) (object_numbered z w) _ (numbered_holds z w) (λ k w' e. (refl, e.1))
+
+-- ---- the operations of calls
+
+-- the answer of an operation, told so
+pub told_holds : {A : Type 0} (K : Work → Type 0) (f : A → Answer) (o : Outcome A) → HoldsAfter (λ a w. K w) o → HoldsAfter (λ a w. K w) (after o (λ a. give (f a)))
+told_holds K f (Done a w) k = k
+told_holds K f (Refused r events) k = tt
+
+pub set_call_holds : (world : World) → IsFlat world.model → (w : Work) (n : ℕ) (name : List ℕ) (g : Given) → n < length w.objects → given_representable g ≡ true →
+    HoldsAfter (λ a w'. HasSet world w w') (set_call world name g n w)
+set_call_holds world flat w n name g l rep =
+    after_holds _ (λ v w'. (handed_representable v ≡ true) × (w' ≡ w)) (handed g w) (λ v. told_as nothing (set world n name v)) (handed_holds g w rep)
+    (λ v w' h. subst (λ u. HoldsAfter (λ a w''. HasSet world w w'') (told_as nothing (set world n name v) u)) (sym h.1)
+    (told_holds (HasSet world w) nothing (set world n name v w) (set_holds world flat w n name v l h.0)))
+
+pub persist_call_holds : {world : World} {M : Machine} {m : ℕ} {w : Work} → IsFlat world.model → (number : ℤ) → IsAtWork world M m w →
+    HoldsAfter (λ a w'. IsAtWork world M m w') (persist_call world number w)
+persist_call_holds {world} {M} {m} {w} flat number h =
+    after_holds _ (InHeap w) (object_numbered number w) (λ n. told_as nothing (persist world n)) (numbered_holds number w)
+    (λ n v e. subst (λ v'. HoldsAfter (λ a w'. IsAtWork world M m w') (told_as nothing (persist world n) v')) (sym e.1)
+    (told_holds (IsAtWork world M m) nothing (persist world n w) (persist_holds flat n h e.0)))
+
+pub given_or : {A : Type 0} (r : Cause) (o : Option A) (w : Work) → HoldsAfter (λ a w'. w' ≡ w) (give_or r o w)
+given_or r None w = tt
+given_or r (Some a) w = refl
+
+pub find_call_holds : {world : World} {M : Machine} {m : ℕ} {w : Work} → IsFlat world.model → (name : List ℕ) (key : List Given) → IsAtWork world M m w →
+    HoldsAfter (λ n w'. IsAtWork world M m w') (find_call world name key w)
+find_call_holds {world} {M} {m} {w} flat name key h =
+    require_holds _ (list_all is_short_given key) Cause.Limit w _ (λ short.
+    after_holds _ (λ class w'. w' ≡ w) (class_named world name w) _ (given_or (Cause.IllegalArgument Argument.Entity) (class_of world.model name) w) (λ class v e.
+    after_holds _ (λ vs w'. w' ≡ v) (key_given world class key v) _ (given_or (Cause.IllegalArgument Argument.Key) (whole_key (root_of world.model class).key key) v) (λ vs u e'.
+    subst (λ w'. HoldsAfter (λ a w''. IsAtWork world M m w'') (told_as object_or_null (find world class vs) w')) (sym (e' ∙ e))
+    (told_holds (IsAtWork world M m) object_or_null (find world class vs w) (find_holds flat class vs h)))))
+
+pub commit_work_holds : {world : World} {M : Machine} {m : ℕ} {w : Work} → IsFlat world.model → AnswersConvertible world → IsAtWork world M m w →
+    HoldsAfter (λ u w'. IsAtWork world M m w') (commit_work world w)
+commit_work_holds {world} {M} {m} {w} flat convertible h =
+    after_holds _ (λ u w'. IsAtWork world M m w') (flush world w) _ (flush_holds flat convertible h)
+    (λ u v k. require_holds_last _ (reads_hold world.model v) Cause.OptimisticLock v (λ hold. k))

@@ -1,0 +1,93 @@
+-- How calls step whose route is an operation: of a manager that is named, or of whoever holds an object.
+use Rattle.std.proofs.Common.{◌≡◌, ◌<◌, inl, ℕ, ℤ, Bool, true, false, List, length, refl, ap, sym, subst, ◌∙◌}
+use Rattle.std.specs.Prelude.{Option, Some, None, is_some}
+use Rattle.std.specs.Option.{unwrap_or}
+use Rattle.std.proofs.lemmas.Bool.{false≢true, true≢false}
+use Rattle.jpa_value.specs.declared.refusal.Cause.{Cause}
+use Rattle.jpa_behaviour.specs.Behaviour.{World}
+use Rattle.jpa_heap.specs.declared.Life.{Life}
+use Rattle.jpa_heap.specs.Objects.{place_of, object_at}
+use Rattle.jpa_context.specs.Steps.{Op, after}
+use Rattle.jpa_protocol.specs.declared.call.Call.{Call}
+use Rattle.jpa_protocol.specs.declared.reply.Answer.{Answer}
+use Rattle.jpa_protocol.specs.declared.reply.Reply.{Reply}
+use Rattle.jpa_provider.specs.declared.operating.Operation.{Operation}
+use Rattle.jpa_provider.specs.declared.replies.Rule.{Rule}
+use Rattle.jpa_provider.specs.declared.session.Session.{Session}
+use Rattle.jpa_provider.specs.Machine.{Machine, work_of}
+use Rattle.jpa_provider.specs.Calls.{ended, marks, marks_if_callback, give_or}
+use Rattle.jpa_provider.specs.Routes.{Route, OfManager, OfObject, by_route, holder, holder_in, is_free, route}
+use Rattle.jpa_provider.specs.Operations.{on_numbered, operation_of, manager_holding, EndsSo}
+use Rattle.jpa_provider.specs.Invariant.{IsMachine, stands_in, context_of}
+use Rattle.jpa_provider.specs.Serving.{machine_of, Serves}
+use Rattle.jpa_provider.proofs.AtWork.{IsOpen, holding_open}
+use Rattle.jpa_provider.proofs.Opened.{refusal}
+use Rattle.jpa_provider.proofs.Worked.{of_manager, of_nobody, ended_step}
+use Rattle.jpa_provider.proofs.Sessions.{managers_count}
+
+-- ---- of a manager that is named
+
+module _ (world : World) (s : Session) (em : ℤ) (op : World → Op Answer) (call : Call) (e : route call ≡ OfManager em op) where
+  pub worked_alone : place_of (length s.managers.items) em ≡ None → Serves world s call (refusal Cause.NoSuchManager) s
+  worked_alone place =
+      let M = machine_of s in
+      inl (ap (by_route world M) e ∙ of_nobody s (λ m. ended marks M m (op world (work_of M m))) em place)
+
+  pub worked_so : (t : Session) (m : ℕ) (reply : Reply) → place_of (length s.managers.items) em ≡ Some m → m < length s.managers.items →
+      EndsSo Rule.OfManager (machine_of s) m (op world (work_of (machine_of s) m)) reply (machine_of t) → Serves world s call reply t
+  worked_so t m reply place l h =
+      let M = machine_of s in
+      ended_step world call Rule.OfManager m (op world (work_of M m)) (ap is_free e) (ap (by_route world M) e ∙ of_manager s (λ k. ended marks M k (op world (work_of M k))) em m place l) h
+
+-- ---- of whoever holds an object
+
+abbrev by_place : World → Machine → ℤ → (World → ℕ → Op Answer) → Option ℕ → Reply × Machine
+by_place world M number op o = ended marks_if_callback M (holder M o) (on_numbered number op world (work_of M (holder M o)))
+
+abbrev by_given : World → Machine → (World → ℕ → Op Answer) → Option ℕ → Reply × Machine
+by_given world M op o = ended marks_if_callback M (holder M o) (after (give_or Cause.NoSuchObject o (work_of M (holder M o))) (op world))
+
+module _ (world : World) (s : Session) (number : ℤ) (op : World → ℕ → Op Answer) (call : Call) (e : route call ≡ OfObject number op) where
+  pub held_alone : place_of (length s.work.objects.now) number ≡ None → Serves world s call (refusal Cause.NoSuchObject) s
+  held_alone place = let M = machine_of s in inl (ap (by_route world M) e ∙ ap (by_given world M op) place)
+
+  pub held_so : (operation : Operation) → operation_of operation ≡ on_numbered number op → (t : Session) (n m : ℕ) (reply : Reply) → place_of (length s.work.objects.now) number ≡ Some n →
+      holder_in (machine_of s) (object_at s.work.objects.now n).life ≡ m →
+      EndsSo Rule.OfObject (machine_of s) m (operation_of operation world (work_of (machine_of s) m)) reply (machine_of t) → Serves world s call reply t
+  held_so operation same t n m reply place holds h =
+      let M = machine_of s in
+      ended_step world call Rule.OfObject m (operation_of operation world (work_of M m)) (ap is_free e)
+      (ap (by_route world M) e ∙ ap (by_place world M number op) place
+      ∙ ap (λ k. ended marks_if_callback M k (on_numbered number op world (work_of M k))) holds
+      ∙ ap (λ (f : World → Op Answer). ended marks_if_callback M m (f world (work_of M m))) (sym same)) h
+
+-- ---- who holds it
+
+some_same : (a b : ℕ) → Some a ≡ Some b → a ≡ b
+some_same a b e = ap (λ o. unwrap_or o a) e
+
+pub holds : (M : Machine) (life : Life) (m : ℕ) → manager_holding life ≡ Some m → holder_in M life ≡ m
+holds M Life.New m e = absurd (false≢true (ap is_some e))
+holds M (Life.Managed k) m e = some_same k m e
+holds M (Life.Removed k) m e = some_same k m e
+holds M Life.Detached m e = absurd (false≢true (ap is_some e))
+
+pub holds_not : (M : Machine) (life : Life) → manager_holding life ≡ None → holder_in M life ≡ length M.managers
+holds_not M Life.New e = refl
+holds_not M (Life.Managed k) e = absurd (true≢false (ap is_some e))
+holds_not M (Life.Removed k) e = absurd (true≢false (ap is_some e))
+holds_not M Life.Detached e = refl
+
+holding_life : {world : World} (M : Machine) (n : ℕ) (life : Life) → IsMachine world M → stands_in (context_of M) n life ≡ true → is_some (manager_holding life) ≡ true → IsOpen M (holder_in M life)
+holding_life M n Life.New h stands some = absurd (false≢true some)
+holding_life M n (Life.Managed k) h stands some = holding_open M k n h stands
+holding_life M n (Life.Removed k) h stands some = holding_open M k n h stands
+holding_life M n Life.Detached h stands some = absurd (false≢true some)
+
+-- the manager that holds an object is one that was made
+pub holder_within : {world : World} (s : Session) (n m : ℕ) → IsMachine world (machine_of s) → n < length s.work.objects.now → manager_holding (object_at s.work.objects.now n).life ≡ Some m → m < length s.managers.items
+holder_within {world} s n m h l e =
+    let M = machine_of s in
+    let life = (object_at s.work.objects.now n).life in
+    let o = holding_life M n life h (h.placed n l) (ap is_some e) in
+    subst (λ k. m < k) (managers_count s) (subst (λ k. k < length M.managers) (holds M life m e) o.within)

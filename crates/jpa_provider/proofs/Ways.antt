@@ -1,0 +1,145 @@
+-- The ways in which calls end: what holds in each of them holds of every call, by cases on its route.
+use Rattle.std.proofs.Common.{◌≡◌, ◌<◌, inl, inr, ℕ, ℤ, Bool, true, false, List, [], ◌∷◌, ◌++◌, length, refl, sym, subst}
+use Rattle.std.specs.Prelude.{Option, Some, None, ◌&&◌, suc, nat_lt, count_by}
+use Rattle.std.proofs.lemmas.Bool.{and_parts, ltb-true, cond_both}
+use Rattle.jpa_value.specs.Limits.{most_managers, most_objects, most_open_managers}
+use Rattle.jpa_value.specs.declared.refusal.Argument.{Argument}
+use Rattle.jpa_value.specs.declared.refusal.Cause.{Cause}
+use Rattle.jpa_value.specs.declared.refusal.Refusal.{Refusal}
+use Rattle.jpa_value.specs.declared.refusal.State.{State}
+use Rattle.jpa_model.specs.Chains.{class_of}
+use Rattle.jpa_behaviour.specs.Behaviour.{World}
+use Rattle.jpa_heap.specs.Objects.{place_of, object_at, new_object}
+use Rattle.jpa_context.specs.Work.{Work}
+use Rattle.jpa_context.specs.Steps.{Outcome, Done, Refused, after}
+use Rattle.jpa_protocol.specs.declared.call.Call.{Call}
+use Rattle.jpa_protocol.specs.declared.event.Told.{Told}
+use Rattle.jpa_protocol.specs.declared.reply.Answer.{Answer}
+use Rattle.jpa_protocol.specs.declared.reply.Reply.{Reply}
+use Rattle.jpa_provider.specs.Machine.{Machine, Manager, Transaction, manager_at, new_manager, is_busy, work_of, kept, marked, rolled_back, committed_after}
+use Rattle.jpa_provider.specs.Calls.{accepted, refused, because, ended, marks, marks_if_callback, marked_if, give_or}
+use Rattle.jpa_provider.specs.Transactions.{begin, begin_in, begun, commit, commit_in, commit_if, commit_of, commit_work, rollback, rollback_in, set_rollback_only, only_rollback_in}
+use Rattle.jpa_provider.specs.Routes.{Route, OfManager, OfObject, ToCreate, ToMake, ToBegin, ToCommit, ToRollBack, ToMark, by_route, if_open, by_manager, made_new, holder, holder_in, commits, rolls_back, route}
+use Rattle.jpa_provider.specs.Step.{Step, outcome}
+use Rattle.jpa_provider.proofs.AtWork.{HoldsAfter, IsOpen}
+use Rattle.jpa_provider.proofs.Created.{class_within}
+use Rattle.jpa_provider.proofs.Handed.{place_within}
+
+-- no commit and no rollback
+pub record IsOther (r : Route) : Type 0 where
+  pub no_commit : commits r ≡ false
+  pub no_rollback : rolls_back r ≡ false
+
+-- P holds of the reply and the machine after it in each way to end; K is known of the work of an operation that is done
+pub record Ways (world : World) (M : Machine) (r : Route) (P : Reply × Machine → Type 0) (K : ℕ → Work → Type 0) : Type 0 where
+  pub same : (cause : Cause) → P (because M cause)
+  pub creates : IsOther r → length M.managers < most_managers → P (accepted [] (Answer.Number (suc (length M.managers))) (record M { managers = M.managers ++ new_manager ∷ [] }))
+  pub makes : IsOther r → (class : ℕ) → nat_lt class (length (world.model).entities) ≡ true → length M.objects < most_objects →
+      P (accepted [] (Answer.Object (suc (length M.objects))) (record M { objects = M.objects ++ new_object world.model class ∷ [] }))
+  pub keeps : IsOther r → (m : ℕ) (w : Work) (a : Answer) → K m w → P (accepted w.events a (kept M m w))
+  pub refuses : IsOther r → (m : ℕ) (events : List Told) (cause : Cause) (b : Bool) → P (refused events (Refusal.Because cause) (marked_if b M m))
+  pub begins : IsOther r → (m : ℕ) → IsOpen M m → is_busy M ≡ false → P (accepted [] Answer.Null (begun M m))
+  pub marking : IsOther r → (m : ℕ) → P (accepted [] Answer.Null (marked M m))
+  pub rolls : commits r ≡ false → (m : ℕ) → IsOpen M m → P (accepted [] Answer.Null (rolled_back M m))
+  pub stores : commits r ≡ true → rolls_back r ≡ false → (m : ℕ) (w : Work) → IsOpen M m → K m w → P (accepted w.events Answer.Null (committed_after M m w))
+  pub undoes : commits r ≡ true → rolls_back r ≡ false → (m : ℕ) (events : List Told) (why : Refusal) → IsOpen M m → P (refused events why (rolled_back M m))
+
+-- what the operation of a route leaves where it is done
+abbrev pub Does : World → Machine → (ℕ → Work → Type 0) → Route → Type 0
+Does world M K (OfManager em op) = (m : ℕ) → IsOpen M m → HoldsAfter (λ a w. K m w) (op world (work_of M m))
+Does world M K (OfObject number op) = (n : ℕ) → n < length M.objects → let m = holder_in M (object_at M.objects n).life in HoldsAfter (λ a w. K m w) (op world n (work_of M m))
+Does world M K (ToCommit em) = (m : ℕ) → IsOpen M m → HoldsAfter (λ u w. K m w) (commit_work world (work_of M m))
+Does world M K ToCreate = Unit {0}
+Does world M K (ToMake name) = Unit {0}
+Does world M K (ToBegin em) = Unit {0}
+Does world M K (ToRollBack em) = Unit {0}
+Does world M K (ToMark em) = Unit {0}
+
+-- nothing need be known
+pub holds_anyway : {A : Type 0} (o : Outcome A) → HoldsAfter (λ a w. Unit {0}) o
+holds_anyway (Done a w) = tt
+holds_anyway (Refused r events) = tt
+
+pub does_something : (world : World) (M : Machine) (r : Route) → Does world M (λ m w. Unit {0}) r
+does_something world M (OfManager em op) = λ m o. holds_anyway (op world (work_of M m))
+does_something world M (OfObject number op) = λ n l. holds_anyway (op world n (work_of M (holder_in M (object_at M.objects n).life)))
+does_something world M (ToCommit em) = λ m o. holds_anyway (commit_work world (work_of M m))
+does_something world M ToCreate = tt
+does_something world M (ToMake name) = tt
+does_something world M (ToBegin em) = tt
+does_something world M (ToRollBack em) = tt
+does_something world M (ToMark em) = tt
+
+module _ {world : World} {M : Machine} {r : Route} {P : Reply × Machine → Type 0} {K : ℕ → Work → Type 0} (h : Ways world M r P K) where
+  ends : IsOther r → (rule : Cause → Bool) (m : ℕ) (o : Outcome Answer) → HoldsAfter (λ a w. K m w) o → P (ended rule M m o)
+  ends other rule m (Done a w) k = h.keeps other m w a k
+  ends other rule m (Refused cause events) k = h.refuses other m events cause (rule cause)
+
+  by_open : (next : ℕ → Reply × Machine) → ((m : ℕ) → IsOpen M m → P (next m)) → (o : Option ℕ) → ((m : ℕ) → o ≡ Some m → m < length M.managers) → P (if_open M o next)
+  by_open next f None l = h.same Cause.NoSuchManager
+  by_open next f (Some m) l =
+      cond_both (manager_at M m).is_open (next m) (because M Cause.NoSuchManager) P (λ is_open. f m (record { within = l m refl; is_open = is_open })) (λ shut. h.same Cause.NoSuchManager)
+
+  by_name : (next : ℕ → Reply × Machine) → ((m : ℕ) → IsOpen M m → P (next m)) → (em : ℤ) → P (by_manager M em next)
+  by_name next f em = by_open next f (place_of (length M.managers) em) (place_within (length M.managers) em)
+
+  by_object : IsOther r → (op : World → ℕ → Work → Outcome Answer) → ((n : ℕ) → n < length M.objects → let m = holder_in M (object_at M.objects n).life in HoldsAfter (λ a w. K m w) (op world n (work_of M m))) →
+      (o : Option ℕ) → ((n : ℕ) → o ≡ Some n → n < length M.objects) →
+      P (ended marks_if_callback M (holder M o) (after (give_or Cause.NoSuchObject o (work_of M (holder M o))) (op world)))
+  by_object other op k None l = h.refuses other (length M.managers) [] Cause.NoSuchObject false
+  by_object other op k (Some n) l = let m = holder_in M (object_at M.objects n).life in ends other marks_if_callback m (op world n (work_of M m)) (k n (l n refl))
+
+  by_class : IsOther r → length M.objects < most_objects → (o : Option ℕ) → ((class : ℕ) → o ≡ Some class → nat_lt class (length (world.model).entities) ≡ true) → P (made_new world M o)
+  by_class other few None k = h.same (Cause.IllegalArgument Argument.Entity)
+  by_class other few (Some class) k = h.makes other class (k class refl) few
+
+  by_begin : IsOther r → (m : ℕ) → IsOpen M m → (t : Option Transaction) → P (begin_in M m t)
+  by_begin other m o (Some t) = h.same (Cause.IllegalState State.Active)
+  by_begin other m o None = cond_both (is_busy M) (because M Cause.Busy) (accepted [] Answer.Null (begun M m)) P (λ busy. h.same Cause.Busy) (λ free. h.begins other m o free)
+
+  by_rollback : commits r ≡ false → (m : ℕ) → IsOpen M m → (t : Option Transaction) → P (rollback_in M m t)
+  by_rollback apart m o None = h.same (Cause.IllegalState State.Inactive)
+  by_rollback apart m o (Some t) = h.rolls apart m o
+
+  by_mark : IsOther r → (m : ℕ) (t : Option Transaction) → P (only_rollback_in M m t)
+  by_mark other m None = h.same (Cause.IllegalState State.Inactive)
+  by_mark other m (Some t) = h.marking other m
+
+  by_flush : commits r ≡ true → rolls_back r ≡ false → (m : ℕ) → IsOpen M m → (o : Outcome (Unit {0})) → HoldsAfter (λ u w. K m w) o → P (commit_of M m o)
+  by_flush writes apart m o (Done u w) k = h.stores writes apart m w o k
+  by_flush writes apart m o (Refused cause events) k = h.undoes writes apart m events (Refusal.Rollback cause) o
+
+  by_commit : commits r ≡ true → rolls_back r ≡ false → (m : ℕ) → IsOpen M m → HoldsAfter (λ u w. K m w) (commit_work world (work_of M m)) → (t : Option Transaction) → P (commit_in world M m t)
+  by_commit writes apart m o k None = h.same (Cause.IllegalState State.Inactive)
+  by_commit writes apart m o k (Some t) = by_mark_of t.is_marked
+    where
+      by_mark_of : (b : Bool) → P (commit_if world M m b)
+      by_mark_of true = h.undoes writes apart m [] Refusal.RollbackMarked o
+      by_mark_of false = by_flush writes apart m o (commit_work world (work_of M m)) k
+
+-- whichever route it is
+pub on_route : {world : World} {M : Machine} {P : Reply × Machine → Type 0} {K : ℕ → Work → Type 0} (r : Route) → Ways world M r P K → Does world M K r → P (by_route world M r)
+on_route {world} {M} (OfManager em op) h k =
+    by_name h (λ m. ended marks M m (op world (work_of M m))) (λ m o. ends h (record { no_commit = refl; no_rollback = refl }) marks m (op world (work_of M m)) (k m o)) em
+on_route {world} {M} (OfObject number op) h k =
+    by_object h (record { no_commit = refl; no_rollback = refl }) op k (place_of (length M.objects) number) (place_within (length M.objects) number)
+on_route {world} {M} {P} ToCreate h k =
+    cond_both (nat_lt (count_by (λ (x : Manager). x.is_open) M.managers) most_open_managers && nat_lt (length M.managers) most_managers) _ (because M Cause.Limit) P
+    (λ l. h.creates (record { no_commit = refl; no_rollback = refl })
+    (ltb-true (length M.managers) most_managers (and_parts (nat_lt (count_by (λ (x : Manager). x.is_open) M.managers) most_open_managers) (nat_lt (length M.managers) most_managers) l).1))
+    (λ l. h.same Cause.Limit)
+on_route {world} {M} {P} (ToMake name) h k =
+    cond_both (nat_lt (length M.objects) most_objects) (made_new world M (class_of world.model name)) (because M Cause.Limit) P
+    (λ l. by_class h (record { no_commit = refl; no_rollback = refl }) (ltb-true (length M.objects) most_objects l) (class_of world.model name) (class_within world.model name))
+    (λ l. h.same Cause.Limit)
+on_route {world} {M} (ToBegin em) h k = by_name h (begin M) (λ m o. by_begin h (record { no_commit = refl; no_rollback = refl }) m o (manager_at M m).transaction) em
+on_route {world} {M} (ToCommit em) h k = by_name h (commit world M) (λ m o. by_commit h refl refl m o (k m o) (manager_at M m).transaction) em
+on_route {world} {M} (ToRollBack em) h k = by_name h (rollback M) (λ m o. by_rollback h refl m o (manager_at M m).transaction) em
+on_route {world} {M} (ToMark em) h k = by_name h (set_rollback_only M) (λ m o. by_mark h (record { no_commit = refl; no_rollback = refl }) m (manager_at M m).transaction) em
+
+-- ---- of a step
+
+-- what holds of the outcome, and where nothing was done, holds of each step
+pub on_step : (world : World) {M N : Machine} (call : Call) {reply : Reply} (P : Reply × Machine → Type 0) → P (outcome world M call) → P (reply, M) → Step world M call reply N → P (reply, N)
+on_step world call P done gave (inl e) = subst P e done
+on_step world call {reply = reply} P done gave (inr g) = subst (λ (N : Machine). P (reply, N)) (sym g.2) gave

@@ -1,0 +1,37 @@
+use Rattle.std.proofs.Common.{◌≡◌, ◌⊎◌, List, length, ap, sym, subst, ◌∙◌, rules}
+use Rattle.std.specs.Prelude.{Some, Err}
+use Rattle.std.proofs.Math.Facts.{to_z-of_z}
+use Rattle.jpa_value.specs.declared.refusal.Cause.{Cause}
+use Rattle.jpa_behaviour.specs.Registered.{world_of}
+use Rattle.jpa_heap.specs.declared.LiveObject.{LiveObject}
+use Rattle.jpa_heap.specs.Assign.{set_in}
+use Rattle.jpa_heap.specs.Objects.{place_of}
+use Rattle.jpa_heap.specs.Shape.{IsInHeap}
+use Rattle.jpa_context.specs.Steps.{IsRefusedAs}
+use Rattle.jpa_context.specs.Undo.{now}
+use Rattle.jpa_provider.specs.Operations.{on_numbered}
+use Rattle.jpa_provider.specs.Routes.{set_call}
+use Rattle.jpa_provider.proofs.Called.{set_refused, set_assigned}
+use Rattle.jpa_provider.proofs.operating.set_numbered.Goals as goal
+
+pub assign-requires-clause-handed : goal.assign-requires-clause-handed
+assign-requires-clause-handed g c =
+    subst (λ (os : List LiveObject). IsInHeap os c.in_ok-handed.handed) (sym c.as_slice.ensures) (c.in_ok-handed.ensures.within (now c.args.work.now) (sym c.len-count.ensures))
+
+pub returns-in_err-changed-clause-meets : goal.returns-in_err-changed-clause-meets
+returns-in_err-changed-clause-meets g c =
+    let model = c.args.metamodel.now in
+    let world = world_of g.B.Behaviour.meaning model c.args._registry.now in
+    let w = now c.args.work.now in
+    let os = w.objects in
+    let n = c.in-Some.place in
+    let name = c.args.name.now in
+    let h = c.in_ok-handed.handed in
+    let r = c.in_err-changed.field-0.0 in
+    let place : place_of (length os) c.args.object ≡ Some n =
+    ap (λ k. place_of k c.args.object) (sym c.len-count.ensures) ∙ ap (place_of c.len-count.result) (sym (to_z-of_z c.ranges.object)) ∙ sym c.in-Some.ensures.place in
+    let why : (r ≡ Cause.OutOfMemory) ⊎ (Err r ≡ set_in model os n name h) = subst (λ (ys : List LiveObject). (r ≡ Cause.OutOfMemory) ⊎ (Err r ≡ set_in model ys n name h)) c.as_slice.ensures c.in_err-changed.ensures in
+    let refused : IsRefusedAs r w.events (on_numbered c.args.object (λ world. set_call world name c.args.value) world w) =
+    set_refused model os n name h r w.events (on_numbered c.args.object (λ world. set_call world name c.args.value) world w) why
+    (set_assigned world c.args.object name c.args.value w n h (Err r) place (c.in_ok-handed.ensures.meets w (sym c.len-count.ensures))) in
+    search (rules, refused)

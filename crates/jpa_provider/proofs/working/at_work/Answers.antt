@@ -1,0 +1,37 @@
+use Rattle.std.proofs.Common.{ap, sym, subst, ◌∙◌}
+use Rattle.jpa_value.specs.declared.value.Identity.{Identity}
+use Rattle.jpa_undo.specs.Undo.{Changes}
+use Rattle.jpa_stored.specs.declared.stored.Stored.{Stored}
+use Rattle.jpa_behaviour.specs.Registered.{world_of}
+use Rattle.jpa_context.specs.Work.{Work}
+use Rattle.jpa_context.specs.Steps.{Meets}
+use Rattle.jpa_context.specs.Undo.{now, IsPlaced}
+use Rattle.jpa_provider.specs.Machine.{work_of}
+use Rattle.jpa_provider.specs.Operations.{operation_of}
+use Rattle.jpa_provider.specs.Serving.{machine_of}
+use Rattle.jpa_provider.proofs.Placed.{work_placed}
+use Rattle.jpa_provider.proofs.Told.{no_fault}
+use Rattle.jpa_provider.proofs.Worked.{still_working, ends_so}
+use Rattle.jpa_provider.proofs.working.at_work.Goals as goal
+
+pub operate-answered-requires-clause-placed : goal.operate-answered-requires-clause-placed
+operate-answered-requires-clause-placed g c =
+    subst (IsPlaced c.args.metamodel.now) (sym c.take_work.ensures.work) (work_placed c.args.manager (c.requires.serving).machine)
+
+pub returns-clause-ends : goal.returns-clause-ends
+returns-clause-ends g c =
+    let M = machine_of c.args.session.now in
+    let m = c.args.manager in
+    let world = world_of g.B.Behaviour.meaning c.args.metamodel.now c.args.registry.now in
+    let op = operation_of c.args.operation world in
+    let done = c.operate-answered in
+    let working = still_working c.take_work.new.session done.new.work c.take_work.ensures.working done.ensures.since in
+    let met = subst (λ (w : Work). Meets done.result (now done.new.work) (op w)) c.take_work.ensures.work done.ensures.meets in
+    ends_so c.args.rule M (machine_of c.conclude.new.session) m (op (work_of M m)) done.result (now done.new.work) c.conclude.result met
+    (c.conclude.ensures.concludes M working (ap (λ (v : Changes (Identity × Stored)). v.now) (done.ensures.view ∙ c.take_work.ensures.view)))
+
+pub returns-clause-untold : goal.returns-clause-untold
+returns-clause-untold g c =
+    let world = world_of g.B.Behaviour.meaning c.args.metamodel.now c.args.registry.now in
+    let done = c.operate-answered in
+    c.conclude.ensures.untold (no_fault done.result (now done.new.work) (operation_of c.args.operation world (now c.take_work.new.session.work)) done.ensures.meets)

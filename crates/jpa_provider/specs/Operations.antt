@@ -1,0 +1,63 @@
+-- What is done with a unit of work, as operations of the definition, and how it ends.
+use Rattle.std.specs.Prelude.{◌≡◌, ◌⊎◌, ℕ, ℤ, Bool, List, [], Option, Some, None, Result, Ok, Err}
+use Rattle.jpa_value.specs.declared.refusal.Cause.{Cause}
+use Rattle.jpa_value.specs.declared.refusal.Refusal.{Refusal}
+use Rattle.jpa_behaviour.specs.Behaviour.{World}
+use Rattle.jpa_protocol.specs.declared.event.Told.{Told}
+use Rattle.jpa_protocol.specs.declared.reply.Answer.{Answer}
+use Rattle.jpa_protocol.specs.declared.reply.Reply.{Reply}
+use Rattle.jpa_heap.specs.declared.Life.{Life}
+use Rattle.jpa_context.specs.Work.{Work}
+use Rattle.jpa_context.specs.Steps.{◌>>=◌, Outcome, Op}
+use Rattle.jpa_provider.specs.declared.operating.Operation.{Operation}
+use Rattle.jpa_provider.specs.declared.replies.Rule.{Rule}
+use Rattle.jpa_provider.specs.Machine.{Machine, kept}
+use Rattle.jpa_provider.specs.Calls.{ended, marks, marks_if_callback, marked_if, object_numbered}
+use Rattle.jpa_provider.specs.Routes.{get_call, set_call, persist_call, find_call}
+use Rattle.jpa_provider.specs.Step.{IsGivenUp}
+
+-- an operation on an object by its number
+abbrev pub on_numbered : ℤ → (World → ℕ → Op Answer) → World → Op Answer
+on_numbered number op world = object_numbered number >>= op world
+
+abbrev pub get_numbered : ℤ → List ℕ → World → Op Answer
+get_numbered number name = on_numbered number (λ world. get_call world name)
+
+abbrev pub operation_of : Operation → World → Op Answer
+operation_of (Operation.Get object name) = get_numbered object name
+operation_of (Operation.Set object name value) = on_numbered object (λ world. set_call world name value)
+operation_of (Operation.Persist object) = λ world. persist_call world object
+operation_of (Operation.Find entity key) = λ world. find_call world entity key
+
+-- ---- which refusals mark the transaction
+
+abbrev pub is_marked_by : Rule → Cause → Bool
+is_marked_by Rule.OfManager = marks
+is_marked_by Rule.OfObject = marks_if_callback
+
+-- ---- how an operation ends
+
+-- want of memory and a fault of the store are told without events
+abbrev pub told_of : Cause → List Told → List Told
+told_of Cause.OutOfMemory events = []
+told_of Cause.StoreFault events = []
+told_of r events = events
+
+-- done: the machine keeps the work; refused: nothing stays but the mark
+abbrev pub Concludes : Rule → Machine → ℕ → Work → Result Answer Cause → Reply → Machine → Type 0
+Concludes rule M m w (Ok answer) reply N = (reply ≡ record { events = w.events; answer = Ok answer }) × (N ≡ kept M m w)
+Concludes rule M m w (Err r) reply N =
+    (reply ≡ record { events = told_of r w.events; answer = Err (Refusal.Because r) })
+    × (N ≡ marked_if (is_marked_by rule r) M m)
+
+-- the reply and the machine afterwards are those of an operation's end, or the operation gave up
+abbrev pub EndsSo : Rule → Machine → ℕ → Outcome Answer → Reply → Machine → Type 0
+EndsSo rule M m o reply N = (ended (is_marked_by rule) M m o ≡ (reply, N)) ⊎ (IsGivenUp reply × (N ≡ M))
+
+-- ---- who holds an object
+
+abbrev pub manager_holding : Life → Option ℕ
+manager_holding Life.New = None
+manager_holding (Life.Managed m) = Some m
+manager_holding (Life.Removed m) = Some m
+manager_holding Life.Detached = None

@@ -1,0 +1,161 @@
+-- The route of each call, and what is served along it (Jakarta Persistence 3.1, chapter 3.1.1 EntityManager, chapter 7.4
+-- EntityManagerFactory).
+use Rattle.jpa_value.specs.Limits.{most_objects, most_open_managers, most_managers}
+use Rattle.std.specs.Prelude.{ℕ, suc, ℤ, Bool, true, false, nat_lt, ◌&&◌, List, [], ◌∷◌, ◌++◌, length, count_by, Option, Some, None, if◌then◌else◌}
+use Rattle.std.specs.List.{list_all}
+use Rattle.jpa_value.specs.declared.refusal.Cause.{Cause}
+use Rattle.jpa_value.specs.declared.refusal.Argument.{Argument}
+use Rattle.jpa_model.specs.Chains.{class_of}
+use Rattle.jpa_behaviour.specs.Behaviour.{World}
+use Rattle.jpa_heap.specs.declared.Life.{Life}
+use Rattle.jpa_heap.specs.Objects.{place_of, object_at, new_object}
+use Rattle.jpa_context.specs.Steps.{◌>>=◌, ◌>>◌, Op, require}
+use Rattle.jpa_ops.specs.Load.{find}
+use Rattle.jpa_ops.specs.Members.{get, set}
+use Rattle.jpa_ops.specs.States.{persist}
+use Rattle.jpa_protocol.specs.declared.call.Call.{Call}
+use Rattle.jpa_protocol.specs.declared.call.Given.{Given}
+use Rattle.jpa_protocol.specs.declared.reply.Answer.{Answer}
+use Rattle.jpa_protocol.specs.declared.reply.Reply.{Reply}
+use Rattle.jpa_provider.specs.Machine.{Machine, new_manager, manager_at, work_of}
+use Rattle.jpa_provider.specs.Calls.{accepted, because, marks, marks_if_callback, ended, told_as, nothing, object_or_null, got, object_numbered, handed, is_short_given, class_named, key_given}
+use Rattle.jpa_provider.specs.Transactions.{begin, commit, rollback, set_rollback_only}
+
+-- ---- managers
+
+abbrev pub create : Machine → Reply × Machine
+create M =
+    if nat_lt (count_by (λ x. x.is_open) M.managers) most_open_managers && nat_lt (length M.managers) most_managers
+    then accepted [] (Answer.Number (suc (length M.managers))) (record M { managers = M.managers ++ new_manager ∷ [] })
+    else because M Cause.Limit
+
+-- a manager by its number, if it is open
+abbrev pub if_open : Machine → Option ℕ → (ℕ → Reply × Machine) → Reply × Machine
+if_open M None next = because M Cause.NoSuchManager
+if_open M (Some m) next = if (manager_at M m).is_open then next m else because M Cause.NoSuchManager
+
+abbrev pub by_manager : Machine → ℤ → (ℕ → Reply × Machine) → Reply × Machine
+by_manager M em next = if_open M (place_of (length M.managers) em) next
+
+-- ---- objects, without a manager of the call
+
+abbrev pub made_new : World → Machine → Option ℕ → Reply × Machine
+made_new world M None = because M (Cause.IllegalArgument Argument.Entity)
+made_new world M (Some class) = accepted [] (Answer.Object (suc (length M.objects))) (record M { objects = M.objects ++ new_object world.model class ∷ [] })
+
+abbrev pub make_new : World → Machine → List ℕ → Reply × Machine
+make_new world M name = if nat_lt (length M.objects) most_objects then made_new world M (class_of world.model name) else because M Cause.Limit
+
+-- the manager that holds the object; where none does, a number that is no manager's
+abbrev pub holder_in : Machine → Life → ℕ
+holder_in M Life.New = length M.managers
+holder_in M (Life.Managed m) = m
+holder_in M (Life.Removed m) = m
+holder_in M Life.Detached = length M.managers
+
+abbrev pub holder : Machine → Option ℕ → ℕ
+holder M None = length M.managers
+holder M (Some n) = holder_in M (object_at M.objects n).life
+
+-- ---- operations
+
+abbrev pub get_call : World → List ℕ → ℕ → Op Answer
+get_call world name n = told_as got (get world n name)
+
+abbrev pub set_call : World → List ℕ → Given → ℕ → Op Answer
+set_call world name value n = do
+  v ← handed value
+  told_as nothing (set world n name v)
+
+abbrev pub persist_call : World → ℤ → Op Answer
+persist_call world number = do
+  n ← object_numbered number
+  told_as nothing (persist world n)
+
+abbrev pub find_call : World → List ℕ → List Given → Op Answer
+find_call world name key = do
+  require (list_all is_short_given key) Cause.Limit
+  class ← class_named world name
+  values ← key_given world class key
+  told_as object_or_null (find world class values)
+
+-- ---- routes
+
+-- how a call is served: an operation of a manager, an operation on an object of whoever holds it, or one of those that are none
+pub data Route : Type 0 where
+  OfManager : ℤ → (World → Op Answer) → Route
+  OfObject : ℤ → (World → ℕ → Op Answer) → Route
+  ToCreate : Route
+  ToMake : List ℕ → Route
+  ToBegin : ℤ → Route
+  ToCommit : ℤ → Route
+  ToRollBack : ℤ → Route
+  ToMark : ℤ → Route
+
+abbrev pub by_route : World → Machine → Route → Reply × Machine
+by_route world M (OfManager em op) = by_manager M em (λ m. ended marks M m (op world (work_of M m)))
+by_route world M (OfObject number op) =
+    let m = holder M (place_of (length M.objects) number) in
+    ended marks_if_callback M m ((object_numbered number >>= op world) (work_of M m))
+by_route world M ToCreate = create M
+by_route world M (ToMake name) = make_new world M name
+by_route world M (ToBegin em) = by_manager M em (begin M)
+by_route world M (ToCommit em) = by_manager M em (commit world M)
+by_route world M (ToRollBack em) = by_manager M em (rollback M)
+by_route world M (ToMark em) = by_manager M em (set_rollback_only M)
+
+-- the route of a call
+abbrev pub route : Call → Route
+route Call.CreateEntityManager = ToCreate
+route (Call.NewObject name) = ToMake name
+route (Call.Get object name) = OfObject object (λ world. get_call world name)
+route (Call.SetValue object name value) = OfObject object (λ world. set_call world name value)
+route (Call.Begin em) = ToBegin em
+route (Call.Persist em object) = OfManager em (λ world. persist_call world object)
+route (Call.Commit em) = ToCommit em
+route (Call.Rollback em) = ToRollBack em
+route (Call.SetRollbackOnly em) = ToMark em
+route (Call.Find em name key) = OfManager em (λ world. find_call world name key)
+
+-- ---- what is told of a call by its route
+
+-- the one that writes to the store
+abbrev pub commits : Route → Bool
+commits (ToCommit em) = true
+commits (OfManager em op) = false
+commits (OfObject number op) = false
+commits ToCreate = false
+commits (ToMake name) = false
+commits (ToBegin em) = false
+commits (ToRollBack em) = false
+commits (ToMark em) = false
+
+abbrev pub rolls_back : Route → Bool
+rolls_back (ToRollBack em) = true
+rolls_back (OfManager em op) = false
+rolls_back (OfObject number op) = false
+rolls_back ToCreate = false
+rolls_back (ToMake name) = false
+rolls_back (ToBegin em) = false
+rolls_back (ToCommit em) = false
+rolls_back (ToMark em) = false
+
+-- those that take no memory and read no store
+abbrev pub is_free : Route → Bool
+is_free (ToBegin em) = true
+is_free (ToRollBack em) = true
+is_free (ToMark em) = true
+is_free (OfManager em op) = false
+is_free (OfObject number op) = false
+is_free ToCreate = false
+is_free (ToMake name) = false
+is_free (ToCommit em) = false
+
+abbrev pub is_commit : Call → Bool
+is_commit call = commits (route call)
+
+abbrev pub is_rollback : Call → Bool
+is_rollback call = rolls_back (route call)
+
+abbrev pub takes_nothing : Call → Bool
+takes_nothing call = is_free (route call)

@@ -1,0 +1,237 @@
+//! Operations on a unit of work, with what their calls hand in (Jakarta Persistence 3.1, chapters
+//! 2.2 and 3.1.1).
+ghost use Rattle.std.specs.Prelude.{◌≡◌, All};
+ghost use Rattle.jpa_behaviour.specs.Registered.{world_of};
+ghost use Rattle.jpa_context.specs.Steps.{Meets};
+ghost use Rattle.jpa_context.specs.Undo.{now, since, IsPlaced};
+ghost use Rattle.jpa_heap.specs.Shape.{HasShape};
+ghost use Rattle.jpa_lifecycle.specs.Flat.{IsFlat};
+ghost use Rattle.jpa_ops.specs.Members.{IsScalar};
+ghost use Rattle.jpa_ops.specs.declared.getting.Got.{Got};
+ghost use Rattle.jpa_provider.specs.Calls as calls;
+ghost use Rattle.jpa_provider.specs.Operations as operations;
+ghost use Rattle.jpa_provider.specs.declared.operating.Operation.{Operation};
+
+use crate::handing::{are_short, handed, place_of, whole_key};
+use jpa_behaviour::{Behaviour, Registry};
+use jpa_context::UnitOfWork;
+use jpa_heap::assign;
+use jpa_model::Metamodel;
+use jpa_ops::{Got, find, get, persist};
+use jpa_protocol::{Answer, Given};
+use jpa_value::{Argument, Cause, Seq, Text, Value};
+use std::alloc::Global;
+
+/// An operation of a manager, or on an object of whoever holds it, with what its call hands in.
+#[derive(Drop)]
+pub enum Operation {
+    /// What a member of an object, by its name, holds (chapter 2.2).
+    Get {
+        object: i64,
+        name: Text,
+    },
+    /// A member of an object, by its name, takes a value (chapter 3.2).
+    Set {
+        object: i64,
+        name: Text,
+        value: Given,
+    },
+    /// Makes an object managed (chapter 3.2.2).
+    Persist {
+        object: i64,
+    },
+    /// Finds an object by its entity and the parts of its key (chapter 3.1.1).
+    Find {
+        entity: Text,
+        key: Seq<Given>,
+    },
+}
+
+/// A value as it is answered.
+fn value_answered(value: Value) -> Answer
+    ensures { result ≡ calls.got (Got.Scalar value) }
+{
+    match value {
+        Value::Null => Answer::Null,
+        Value::Int(number) => Answer::Value(Value::Int(number)),
+        Value::Text(text) => Answer::Value(Value::Text(text)),
+        Value::Bytes(bytes) => Answer::Value(Value::Bytes(bytes)),
+    }
+}
+
+/// What an object holds in a member that is no relation, as it is answered.
+fn answered(got: Got) -> Answer
+    requires { IsScalar got }
+    ensures { result ≡ calls.got got }
+{
+    match got {
+        Got::Scalar(value) => value_answered(value),
+        Got::One(_) | Got::Many(_) => Answer::Null,
+    }
+}
+
+/// What a member of an object, by its number, holds.
+fn get_numbered<B: Behaviour>(
+    metamodel: &Metamodel,
+    registry: &Registry<B>,
+    work: &UnitOfWork,
+    object: i64,
+    name: &str,
+) -> Result<Answer, Cause>
+    requires flat { IsFlat metamodel.now }
+    requires shaped { All (HasShape metamodel.now) work.now.objects.now }
+    ensures meets { let world = world_of B.meaning metamodel.now registry.now in
+        Meets result (now work.now) (operations.operation_of
+        (Operation.Get object name.now) world (now work.now)) }
+{
+    let Some(place) = place_of(work.objects.len(), object) else {
+        return Err(Cause::NoSuchObject);
+    };
+    let got = get(metamodel, registry, work, place, name)?;
+    Ok(answered(got))
+}
+
+/// A member of an object, by its number, takes what is handed in.
+fn set_numbered<B: Behaviour>(
+    metamodel: &Metamodel,
+    _registry: &Registry<B>,
+    work: &mut UnitOfWork,
+    object: i64,
+    name: &str,
+    value: Given,
+) -> Result<Answer, Cause>
+    requires shaped { All (HasShape metamodel.now) work.old.objects.now }
+    ensures meets { let world = world_of B.meaning metamodel.now _registry.now in
+        let operation = Operation.Set object name.now value in
+        Meets result (now work.new) (operations.operation_of operation world (now work.old)) }
+    ensures view { work.new.view ≡ work.old.view }
+    ensures since { since work.new ≡ since work.old }
+{
+    let count = work.objects.len();
+    let Some(place) = place_of(count, object) else {
+        return Err(Cause::NoSuchObject);
+    };
+    let handed = handed(count, value)?;
+    let changed = assign(metamodel, work.objects.as_slice(), place, name, handed)?;
+    work.objects.set(place, changed)?;
+    Ok(Answer::Null)
+}
+
+/// Makes an object managed, by its number.
+fn persist_numbered<B: Behaviour>(
+    alloc: Global,
+    metamodel: &Metamodel,
+    registry: &Registry<B>,
+    work: &mut UnitOfWork,
+    object: i64,
+) -> Result<Answer, Cause>
+    requires flat { IsFlat metamodel.now }
+    requires placed { IsPlaced metamodel.now (now work.old) }
+    ensures meets { let world = world_of B.meaning metamodel.now registry.now in
+        Meets result (now work.new) (operations.operation_of (Operation.Persist object) world
+        (now work.old)) }
+    ensures view { work.new.view ≡ work.old.view }
+    ensures since { since work.new ≡ since work.old }
+{
+    let Some(place) = place_of(work.objects.len(), object) else {
+        return Err(Cause::NoSuchObject);
+    };
+    persist(alloc, metamodel, registry, work, place)?;
+    Ok(Answer::Null)
+}
+
+/// Finds an object by the name of its entity and the parts of its key, by slices.
+fn find_slices<B: Behaviour>(
+    alloc: Global,
+    metamodel: &Metamodel,
+    registry: &Registry<B>,
+    work: &mut UnitOfWork,
+    entity: &str,
+    key: &[Given],
+) -> Result<Answer, Cause>
+    requires flat { IsFlat metamodel.now }
+    requires placed { IsPlaced metamodel.now (now work.old) }
+    ensures meets { let world = world_of B.meaning metamodel.now registry.now in
+        let operation = Operation.Find entity.now key.now in
+        Meets result (now work.new) (operations.operation_of operation world (now work.old)) }
+    ensures view { work.new.view ≡ work.old.view }
+    ensures since { since work.new ≡ since work.old }
+{
+    if !are_short(key) {
+        return Err(Cause::Limit);
+    }
+    let Some(class) = metamodel.class_of(entity) else {
+        return Err(Cause::IllegalArgument(Argument::Entity));
+    };
+    let Some(values) = whole_key(alloc, metamodel.root_of(class).key.as_slice(), key)? else {
+        return Err(Cause::IllegalArgument(Argument::Key));
+    };
+    let Some(place) = find(alloc, metamodel, registry, work, class, values)? else {
+        return Ok(Answer::Null);
+    };
+    // An object's number, one more than its place, is at most the count.
+    let _count = work.objects.len();
+    Ok(Answer::Object(place as u64 + 1))
+}
+
+/// Finds an object by the name of its entity and the parts of its key.
+fn find_by_key<B: Behaviour>(
+    alloc: Global,
+    metamodel: &Metamodel,
+    registry: &Registry<B>,
+    work: &mut UnitOfWork,
+    entity: &Text,
+    key: &Seq<Given>,
+) -> Result<Answer, Cause>
+    requires flat { IsFlat metamodel.now }
+    requires placed { IsPlaced metamodel.now (now work.old) }
+    ensures meets { let world = world_of B.meaning metamodel.now registry.now in
+        let operation = Operation.Find entity.now key.now in
+        Meets result (now work.new) (operations.operation_of operation world (now work.old)) }
+    ensures view { work.new.view ≡ work.old.view }
+    ensures since { since work.new ≡ since work.old }
+{
+    find_slices(
+        alloc,
+        metamodel,
+        registry,
+        work,
+        entity.as_str(),
+        key.as_slice(),
+    )
+}
+
+/// Does an operation on the unit of work. Refused as the operation is; what a refused one changed
+/// is undone by
+/// `UnitOfWork::undo`.
+pub(crate) fn operate<B: Behaviour>(
+    alloc: Global,
+    metamodel: &Metamodel,
+    registry: &Registry<B>,
+    work: &mut UnitOfWork,
+    operation: Operation,
+) -> Result<Answer, Cause>
+    requires flat { IsFlat metamodel.now }
+    requires placed { IsPlaced metamodel.now (now work.old) }
+    ensures meets { let world = world_of B.meaning metamodel.now registry.now in
+        Meets result (now work.new) (operations.operation_of operation world (now work.old)) }
+    ensures view { work.new.view ≡ work.old.view }
+    ensures since { since work.new ≡ since work.old }
+{
+    match operation {
+        Operation::Get { object, name } => {
+            get_numbered(metamodel, registry, work, object, name.as_str())
+        }
+        Operation::Set {
+            object,
+            name,
+            value,
+        } => set_numbered(metamodel, registry, work, object, name.as_str(), value),
+        Operation::Persist { object } => {
+            persist_numbered(alloc, metamodel, registry, work, object)
+        }
+        Operation::Find { entity, key } => {
+            find_by_key(alloc, metamodel, registry, work, &entity, &key)
+        }
+    }
+}
