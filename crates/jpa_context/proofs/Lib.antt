@@ -1,2 +1,5 @@
 pub mod Found
 mod Placed
+mod First
+mod Staying
+mod Examples

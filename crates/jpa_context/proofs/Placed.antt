@@ -1,6 +1,7 @@
 -- What stands under a fingerprint hangs on what stays of the entries alone.
-use Rattle.std.proofs.Common.{◌≡◌, ◌∙◌, refl, sym, ap, ℕ, zero, suc, List, [], ◌∷◌, cond, true, false, map, length, take, get_or, set, ◌≤◌, length-take, arith}
-use Rattle.std.proofs.lemmas.List.{length-map}
+use Rattle.std.proofs.Common.{◌≡◌, ◌∙◌, refl, sym, ap, ℕ, zero, suc, ◌-◌, List, [], ◌∷◌, ◌++◌, cond, Bool, true, false, map, length, take, get_or, set, ◌≤◌, length-take, length-append, arith}
+use Rattle.std.proofs.Math.Seq.{take-append_seam}
+use Rattle.std.proofs.lemmas.List.{length-map, map-append, take-append-le}
 use Rattle.std.specs.Prelude.{filter, ◌==◌, Result, Ok, Err, OnOk, OnErr}
 use Rattle.jpa_value.specs.declared.value.Value.{Value}
 use Rattle.jpa_context.specs.declared.Entry.{Entry}
@@ -48,3 +49,38 @@ pub kept_within : (kept : ℕ) (es since : List Entry) → kept ≡ length since
 kept_within kept es since h front =
     let l : length (take kept (map placed es)) ≡ length since = ap length front ∙ length-map since placed in
     omega (arith, h, l, length-take kept (map placed es), length-map es placed)
+
+-- ---- an entry more
+
+pub more_places : (print : ℕ) (es : List Entry) (e : Entry) → places_with print (es ++ e ∷ []) ≡ cond (fingerprint e.key == print) (places_with print es ++ e.object ∷ []) (places_with print es)
+more_places print [] e =
+    elim (fingerprint e.key == print) as (λ b. map (λ (x : Entry). x.object) (cond b (e ∷ []) []) ≡ cond b (e.object ∷ []) []) [
+      | true ↦ refl
+      | false ↦ refl
+    ]
+more_places print (d ∷ es) e =
+    elim (fingerprint d.key == print) as (λ b. map (λ (x : Entry). x.object) (cond b (d ∷ filter (λ (x : Entry). fingerprint x.key == print) (es ++ e ∷ [])) (filter (λ (x : Entry). fingerprint x.key == print) (es ++ e ∷ [])))
+    ≡ cond (fingerprint e.key == print) (map (λ (x : Entry). x.object) (cond b (d ∷ filter (λ (x : Entry). fingerprint x.key == print) es) (filter (λ (x : Entry). fingerprint x.key == print) es)) ++ e.object ∷ [])
+    (map (λ (x : Entry). x.object) (cond b (d ∷ filter (λ (x : Entry). fingerprint x.key == print) es) (filter (λ (x : Entry). fingerprint x.key == print) es)))) [
+      | true ↦ ap (λ ns. d.object ∷ ns) (more_places print es e) ∙ under_cons (fingerprint e.key == print) d.object (places_with print es ++ e.object ∷ []) (places_with print es)
+      | false ↦ more_places print es e
+    ]
+  where
+    under_cons : (b : Bool) (n : ℕ) (xs ys : List ℕ) → n ∷ cond b xs ys ≡ cond b (n ∷ xs) (n ∷ ys)
+    under_cons true n xs ys = refl
+    under_cons false n xs ys = refl
+
+-- and without it again
+pub dropped_again : (b : Bool) (before more after : List ℕ) (n : ℕ) → more ≡ cond b (before ++ n ∷ []) before → after ≡ cond b (take (length more - 1) more) more → after ≡ before
+dropped_again true before more after n e f =
+    f ∙ ap (λ ns. take (length ns - 1) ns) e ∙ ap (λ k. take k (before ++ n ∷ [])) (one_less before n) ∙ take-append_seam before (n ∷ [])
+  where
+    one_less : (xs : List ℕ) (n : ℕ) → length (xs ++ n ∷ []) - 1 ≡ length xs
+    one_less xs n = omega (arith, length-append xs (n ∷ []))
+dropped_again false before more after n e f = f ∙ e
+
+-- the kept ones are still the first
+pub more_kept : (kept : ℕ) (es since : List Entry) (e : Entry) → kept ≡ length since → take kept (map placed es) ≡ map placed since → take kept (map placed (es ++ e ∷ [])) ≡ map placed since
+more_kept kept es since e h front =
+    let within : kept ≤ length (map placed es) = omega (arith, kept_within kept es since h front, length-map es placed) in
+    ap (take kept) (map-append placed es (e ∷ [])) ∙ take-append-le kept (map placed es) (map placed (e ∷ [])) within ∙ front

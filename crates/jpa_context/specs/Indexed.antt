@@ -1,12 +1,15 @@
--- An index of places by fingerprints, and what ties it to the entries of a context.
-use Rattle.std.specs.Prelude.{◌≡◌, ℕ, ◌-◌, List, [], ◌∷◌, ◌++◌, length, take, map, filter, ◌==◌, nat_eq, Option, Some, None, if◌then◌else◌}
+-- An index of places by fingerprints, one of entries by their objects, and what ties both to the entries of a context.
+use Rattle.std.specs.Prelude.{◌≡◌, ℕ, ◌-◌, ◌&&◌, ◌==◌, Bool, false, List, [], ◌∷◌, ◌++◌, length, take, map, filter, nat_eq, Option, Some, None, is_some, if◌then◌else◌}
 use Rattle.std.specs.Global.{Vec}
 use Rattle.std.specs.HashMap.{get}
 use Rattle.jpa_value.specs.declared.value.Value.{Value}
+use Rattle.std.specs.Option.{option_or}
 use Rattle.jpa_undo.specs.Undo.{Changes}
 use Rattle.jpa_context.specs.declared.Entry.{Entry}
 use Rattle.jpa_context.specs.declared.index.PlaceIndex.{PlaceIndex}
+use Rattle.jpa_context.specs.declared.object_places.ObjectPlaces.{ObjectPlaces}
 use Rattle.jpa_context.specs.Near.{fingerprint}
+use Rattle.jpa_context.specs.Places.{entry_place}
 
 abbrev pub places_in : Option (Vec ℕ) → List ℕ
 places_in None = []
@@ -26,6 +29,41 @@ DropsLast print old new = (other : ℕ) → under new other ≡ (if print == oth
 abbrev pub IsSame : PlaceIndex → PlaceIndex → Type 0
 IsSame old new = (other : ℕ) → under new other ≡ under old other
 
+-- ---- places of entries by their objects
+
+abbrev pub place_in : ObjectPlaces → ℕ → Option ℕ
+place_in at' n = get nat_eq at'.places n
+
+abbrev pub has_place : ObjectPlaces → ℕ → Bool
+has_place at' n = is_some (place_in at' n)
+
+abbrev pub is_place : ℕ → Option ℕ → Bool
+is_place place None = false
+is_place place (Some own) = own == place
+
+-- an object gets a place where it has none, and loses the place that it has; another place in its place; or none
+abbrev pub Notes : ℕ → ℕ → ObjectPlaces → ObjectPlaces → Type 0
+Notes object place old new = (n : ℕ) → place_in new n ≡ option_or (place_in old n) (if object == n then Some place else None)
+
+abbrev pub DropsPlace : ℕ → ℕ → ObjectPlaces → ObjectPlaces → Type 0
+DropsPlace object place old new = (n : ℕ) → place_in new n ≡ (if object == n && is_place place (place_in old n) then None else place_in old n)
+
+abbrev pub Moves : ℕ → ℕ → ObjectPlaces → ObjectPlaces → Type 0
+Moves object place old new = (n : ℕ) → place_in new n ≡ (if object == n && has_place old n then Some place else place_in old n)
+
+abbrev pub Forgets : ℕ → ObjectPlaces → ObjectPlaces → Type 0
+Forgets object old new = (n : ℕ) → place_in new n ≡ (if object == n then None else place_in old n)
+
+-- each object has the place of its first entry, and no other object has one
+abbrev pub IsAt : List Entry → ObjectPlaces → Type 0
+IsAt es at' = (n : ℕ) → place_in at' n ≡ entry_place n es
+
+-- ---- places by fingerprints
+
+-- without the places of the objects that have no entry any more
+abbrev pub KeepsPlaced : ℕ → ObjectPlaces → PlaceIndex → PlaceIndex → Type 0
+KeepsPlaced print at' old new = (other : ℕ) → under new other ≡ (if print == other then filter (has_place at') (under old other) else under old other)
+
 -- the objects of the entries whose keys have a fingerprint
 abbrev pub places_with : ℕ → List Entry → List ℕ
 places_with print es = map (λ e. e.object) (filter (λ e. fingerprint e.key == print) es)
@@ -38,9 +76,10 @@ IsOf es index = (print : ℕ) → under index print ≡ places_with print es
 abbrev pub placed : Entry → ℕ × List Value
 placed e = (e.object, e.key)
 
--- what stands under each fingerprint is what entered under it; and the entries to which undoing leads back are the first
--- ones, but for their locks and bases
-pub record IsIndexed (list : Changes Entry) (kept : ℕ) (index : PlaceIndex) : Type 0 where
+-- what stands under each fingerprint is what entered under it, each object has the place of its first entry; and the entries to
+-- which undoing leads back are the first ones, but for their locks and bases
+pub record IsIndexed (list : Changes Entry) (kept : ℕ) (index : PlaceIndex) (at' : ObjectPlaces) : Type 0 where
   pub under_each : IsOf list.now index
+  pub at_each : IsAt list.now at'
   pub kept_length : kept ≡ length list.since
   pub kept_front : take kept (map placed list.now) ≡ map placed list.since

@@ -1,7 +1,28 @@
--- What stays of an entry while it stands in a context: its object, and the key under which it entered.
-use Rattle.std.specs.Prelude.{◌≡◌, ℕ, List, slice_index_or}
+-- What stays of an entry while it stands in a context: its object, and the key under which it entered; where an object's entry
+-- stands, and which entries stay where objects leave (Jakarta Persistence 3.1, chapters 3.2.7 and 3.2.8).
+use Rattle.std.specs.Prelude.{◌≡◌, ℕ, not, ◌==◌, List, filter, Option, Some, None, slice_get, slice_index_or}
+use Rattle.std.specs.List.{list_any, position_from}
+use Rattle.jpa_heap.specs.declared.LiveObject.{LiveObject}
+use Rattle.jpa_heap.specs.Objects.{object_at}
 use Rattle.jpa_context.specs.declared.Entry.{Entry}
+use Rattle.jpa_context.specs.Work.{state_from, is_removed}
 
 -- an entry that may take the place of what stands at a place: of the same object, under the same key
 abbrev pub StaysAt : List Entry → ℕ → Entry → Type 0
 StaysAt es at' entry = (old : Entry) × (old ≡ slice_index_or es at' old) × (old.object ≡ entry.object) × (old.key ≡ entry.key)
+
+-- the place of an object's first entry, counted from 0
+abbrev pub entry_place : ℕ → List Entry → Option ℕ
+entry_place n es = position_from (λ e. e.object == n) 0 es
+
+abbrev pub entry_at : List Entry → Option ℕ → Option Entry
+entry_at es None = None
+entry_at es (Some k) = slice_get es k
+
+-- the entries of other objects than these
+abbrev pub without_objects : List ℕ → List Entry → List Entry
+without_objects objects es = filter (λ e. not (list_any (λ n. n == e.object) objects)) es
+
+-- without those of the objects that are removed for this manager
+abbrev pub without_removed : List LiveObject → ℕ → List Entry → List Entry
+without_removed objects manager es = filter (λ e. not (is_removed (state_from manager (object_at objects e.object).life))) es

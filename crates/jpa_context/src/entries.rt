@@ -1,18 +1,22 @@
-//! The entries of a persistence context, found by key.
+//! The entries of a persistence context, found by key and by object.
 ghost use Rattle.std.specs.Prelude.{◌≡◌, ◌<◌, ◌≤◌, [], ◌∷◌, ◌++◌, length, take, slice_set, OnOk, OnErr};
 ghost use Rattle.jpa_context.specs.Indexed as indexed;
 ghost use Rattle.jpa_context.specs.Near.{places_near};
-ghost use Rattle.jpa_context.specs.Places.{StaysAt};
+ghost use Rattle.jpa_context.specs.Places.{StaysAt, entry_place, without_objects, without_removed};
 
 use crate::Entry;
 use crate::fingerprint::fingerprint;
 use crate::index::PlaceIndex;
+use crate::leaving::{drop_unplaced, forget_objects, forget_removed};
+use crate::object_places::ObjectPlaces;
+use jpa_heap::LiveObject;
 use jpa_undo::UndoList;
 use jpa_value::Value;
 use std::alloc::{AllocError, Global};
 use std::marker::Model;
 
-/// The entries of a context in the order in which they entered, with an index by key. Changes can be undone.
+/// The entries of a context in the order in which they entered, with an index by key and one by object. Changes can be undone;
+/// entries that leave, leave for good.
 ///
 /// Contracts see it as they see an `UndoList`: `now`, the entries, and `since`, what undoing gives.
 #[derive(Drop)]
@@ -22,6 +26,8 @@ pub struct PersistenceContext {
     kept: usize,
     // The places of the objects of `list`, each under the fingerprint of its entry's key.
     index: PlaceIndex,
+    // The place of the first entry of each object of `list`.
+    at: ObjectPlaces,
 }
 
 impl Model for PersistenceContext {
@@ -34,17 +40,21 @@ impl Model for PersistenceContext {
 
     ghost view = { λ c. c.list };
 
-    ghost invariant = { λ c. IsIndexed c.list c.kept c.index };
+    ghost invariant = { λ c. IsIndexed c.list c.kept c.index c.at };
 }
 
-/// Takes the entries behind the first `kept` out of an index. Takes no memory, and time for these alone.
-fn forget(index: &mut PlaceIndex, entries: &[Entry], kept: usize)
+/// Takes the entries behind the first `kept` out of the indexes. Takes no memory, and time for these alone.
+fn forget(index: &mut PlaceIndex, at: &mut ObjectPlaces, entries: &[Entry], kept: usize)
     requires within { kept ≤ length entries.now }
     requires all { indexed.IsOf entries.now index.old }
-    ensures { indexed.IsOf (take kept entries.now) index.new }
+    requires placed { indexed.IsAt entries.now at.old }
+    ensures all { indexed.IsOf (take kept entries.now) index.new }
+    ensures placed { indexed.IsAt (take kept entries.now) at.new }
 {
     for i in (kept..entries.len()).rev() {
-        index.drop_last(fingerprint(entries[i].key.as_slice()));
+        let entry = &entries[i];
+        index.drop_last(fingerprint(entry.key.as_slice()));
+        at.drop_place(entry.object, i);
     }
 }
 
@@ -58,6 +68,7 @@ impl PersistenceContext {
             list: UndoList::new(alloc),
             kept: 0,
             index: PlaceIndex::new(alloc),
+            at: ObjectPlaces::new(alloc),
         }
     }
 
@@ -83,6 +94,13 @@ impl PersistenceContext {
         self.index.under(fingerprint(key))
     }
 
+    /// The place of an object's entry, counted from 0: of the first, where it has several. Takes no memory, and looks at no entry.
+    pub fn place_of(&self, object: usize) -> Option<usize>
+        ensures { result ≡ entry_place object self.now.now }
+    {
+        self.at.get(object)
+    }
+
     /// One more entry, at the end. For want of memory nothing changes.
     pub fn push(&mut self, entry: Entry) -> Result<(), AllocError>
         ensures pushed { OnOk result (self.new.now ≡ self.old.now ++ entry ∷ []) }
@@ -90,9 +108,16 @@ impl PersistenceContext {
         ensures since { self.new.since ≡ self.old.since }
     {
         let print = fingerprint(entry.key.as_slice());
-        self.index.add(print, entry.object)?;
+        let object = entry.object;
+        let place = self.list.len();
+        self.index.add(print, object)?;
+        if let Err(refused) = self.at.note(object, place) {
+            self.index.drop_last(print);
+            return Err(refused);
+        }
         if let Err(refused) = self.list.push(entry) {
             self.index.drop_last(print);
+            self.at.drop_place(object, place);
             return Err(refused);
         }
         Ok(())
@@ -123,7 +148,36 @@ impl PersistenceContext {
         ensures now { self.new.now ≡ self.old.since }
         ensures since { self.new.since ≡ self.old.since }
     {
-        forget(&mut self.index, self.list.as_slice(), self.kept);
+        let entries = self.list.as_slice();
+        forget(&mut self.index, &mut self.at, entries, self.kept);
         self.list.undo();
+    }
+
+    /// The entries of these objects leave for good: neither that nor a change before it can be undone. The others stand in their
+    /// order. Takes no memory, and time for each entry.
+    pub fn leave(&mut self, objects: &[usize])
+        ensures now { self.new.now ≡ without_objects objects.now self.old.now }
+        ensures since { self.new.since ≡ self.new.now }
+    {
+        forget_objects(&mut self.at, objects);
+        self.kept = drop_unplaced(&mut self.list, &mut self.index, &mut self.at);
+    }
+
+    /// The entries of the objects that are removed for a manager leave for good, as at the end of a commit: neither that nor a change
+    /// before it can be undone. The others stand in their order. Takes no memory, and time for each entry.
+    pub fn leave_removed(&mut self, objects: &[LiveObject], manager: usize)
+        ensures now { self.new.now ≡ without_removed objects.now manager self.old.now }
+        ensures since { self.new.since ≡ self.new.now }
+    {
+        forget_removed(&mut self.at, self.list.as_slice(), objects, manager);
+        self.kept = drop_unplaced(&mut self.list, &mut self.index, &mut self.at);
+    }
+
+    /// All entries leave for good. Takes no memory.
+    pub fn clear(&mut self, alloc: Global)
+        ensures now { self.new.now ≡ [] }
+        ensures since { self.new.since ≡ [] }
+    {
+        *self = PersistenceContext::new(alloc);
     }
 }

@@ -1,7 +1,8 @@
 //! Places under fingerprints.
-ghost use Rattle.std.specs.Prelude.{◌≡◌, ℕ, [], OnOk, OnErr};
+ghost use Rattle.std.specs.Prelude.{◌≡◌, ℕ, [], filter, OnOk, OnErr};
 ghost use Rattle.jpa_context.specs.Indexed as indexed;
 
+use crate::object_places::ObjectPlaces;
 use std::alloc::{AllocError, Global};
 use std::collections::HashMap;
 
@@ -10,6 +11,13 @@ use std::collections::HashMap;
 pub struct PlaceIndex {
     places: HashMap<u64, Vec<usize>>,
     alloc: Global,
+}
+
+/// Takes the objects that have no place out of a list.
+fn retain_placed(objects: &mut Vec<usize>, at: &ObjectPlaces)
+    ensures { objects.new.items ≡ filter (indexed.has_place at.now) objects.old.items }
+{
+    objects.retain(|object| at.has(*object));
 }
 
 impl PlaceIndex {
@@ -55,6 +63,18 @@ impl PlaceIndex {
         if let Some(places) = self.places.get_mut(&print) {
             places.pop();
             // Else the fingerprints of what was undone would stay for ever.
+            if places.is_empty() {
+                self.places.remove(&print);
+            }
+        }
+    }
+
+    /// Without the objects under a fingerprint that have no place any more. Takes no memory.
+    pub fn keep_placed(&mut self, print: u64, at: &ObjectPlaces)
+        ensures { indexed.KeepsPlaced print at.now self.old self.new }
+    {
+        if let Some(places) = self.places.get_mut(&print) {
+            retain_placed(places, at);
             if places.is_empty() {
                 self.places.remove(&print);
             }

@@ -1,10 +1,11 @@
 //! Laws of the definitions, for contracts and proofs to cite.
-ghost use Rattle.std.specs.Prelude.{◌≡◌, ◌<◌, ℕ, Bool, List, All, find};
+ghost use Rattle.std.specs.Prelude.{◌≡◌, ◌<◌, ◌==◌, ℕ, Bool, not, List, [], ◌∷◌, All, filter, find};
 ghost use Rattle.jpa_model.specs.declared.unit.PersistenceUnit.{PersistenceUnit};
 ghost use Rattle.jpa_value.specs.declared.value.Identity.{Identity};
 ghost use Rattle.jpa_value.specs.declared.value.Value.{Value};
 ghost use Rattle.jpa_context.specs.declared.Entry.{Entry};
 ghost use Rattle.jpa_context.specs.Near.{AreUnder, places_near};
+ghost use Rattle.jpa_context.specs.Places.{entry_at, entry_place, without_objects};
 ghost use Rattle.jpa_context.specs.Undo.{IsKeyed};
 ghost use Rattle.jpa_context.specs.Work as works;
 
@@ -14,4 +15,12 @@ pub fn near_laws()
     ensures within { (n : ℕ) (key : List Value) (es : List Entry) → All (λ e. e.object < n) es → All (λ k. k < n) (places_near key es) }
     ensures found { (p : ℕ → Bool) (key : List Value) (es : List Entry) → AreUnder key p es → find p (places_near key es) ≡ works.object_in (find (λ e. p e.object) es) }
     ensures instance { (m : PersistenceUnit) (w : works.Work) (id : Identity) → All (IsKeyed w.objects) w.context → find (λ n. works.has_identity (works.identity_at m w n) id) (places_near id.key w.context) ≡ works.instance m w id }
+{}
+
+/// The laws of `PersistenceContext::place_of` and `leave`; it does nothing. The entry of an object is the one at its place, and
+/// objects leave together as they leave one after another.
+pub fn place_laws()
+    ensures entry { (w : works.Work) (n : ℕ) → works.entry_of w n ≡ entry_at w.context (entry_place n w.context) }
+    ensures one { (n : ℕ) (es : List Entry) → without_objects (n ∷ []) es ≡ filter (λ e. not (e.object == n)) es }
+    ensures more { (n : ℕ) (ns : List ℕ) (es : List Entry) → without_objects (n ∷ ns) es ≡ without_objects ns (without_objects (n ∷ []) es) }
 {}

@@ -9,12 +9,14 @@ mod entries;
 mod fingerprint;
 mod index;
 mod laws;
+mod leaving;
+mod object_places;
 mod work;
 
 pub use entries::PersistenceContext;
 use jpa_stored::Stored;
 use jpa_value::{Identity, Key, Seq};
-pub use laws::near_laws;
+pub use laws::{near_laws, place_laws};
 pub use work::UnitOfWork;
 
 /// The optimistic lock of an entry (Jakarta Persistence 3.1, chapter 3.4).

@@ -1,5 +1,7 @@
 //! The list.
 ghost use Rattle.std.specs.Prelude.{◌≡◌, ◌<◌, ◌≤◌, [], ◌∷◌, ◌++◌, length, slice_get, slice_set, OnOk, OnErr};
+ghost use Rattle.std.specs.Fn.{CalledAt};
+ghost use Rattle.std.specs.List.Retain.{IsFiltered};
 
 use std::alloc::{AllocError, Global};
 use std::marker::Model;
@@ -89,6 +91,18 @@ impl<T: Drop> UndoList<T> {
         let old = mem::replace(&mut self.items[at], item);
         self.keep();
         old
+    }
+
+    /// Without the items at which a test answers false; the others stand in their order. For good: neither that nor a change before
+    /// it can be undone. Takes no memory.
+    pub fn retain<F: FnMut(&T) -> bool>(&mut self, keep: F)
+        requires { F.IsAlwaysCallable keep }
+        ensures now { IsFiltered (CalledAt F.FnMut) keep self.old.now self.new.now }
+        ensures since { self.new.since ≡ self.new.now }
+    {
+        self.kept = 0;
+        self.items.retain(keep);
+        self.keep()
     }
 
     /// Keeps the changes: from now on they are what undoing leads back to. Takes no memory.

@@ -3,6 +3,7 @@ use Rattle.jpa_undo.specs.Undo.{Changes}
 use Rattle.jpa_context.specs.declared.Entry.{Entry}
 use Rattle.jpa_context.specs.Indexed.{placed}
 use Rattle.jpa_context.specs.Places.{StaysAt}
+use Rattle.jpa_context.proofs.First.{same_first}
 use Rattle.jpa_context.proofs.Placed.{same_places, set_stays}
 use Rattle.jpa_context.proofs.entries.PersistenceContext.set.Goals as goal
 
@@ -14,6 +15,7 @@ invariant_of-self c =
     let stay : map placed c.set.new.self.now ≡ map placed before.now = set_stays c.set.result before.now c.set.new.self.now c.args.at c.args.entry c.set.ensures.changed c.set.ensures.refused same in
     record {
       under_each = λ print. c.self.invariant.under_each print ∙ same_places print before.now c.set.new.self.now (sym stay);
+      at_each = λ n. c.self.invariant.at_each n ∙ same_first n 0 before.now c.set.new.self.now (sym stay);
       kept_length = c.self.invariant.kept_length ∙ ap length (sym c.set.ensures.since);
       kept_front = ap (take c.self.inside.kept) stay ∙ c.self.invariant.kept_front ∙ ap (map placed) (sym c.set.ensures.since);
     }

@@ -1,0 +1,104 @@
+//! How entries leave a context for good, without memory: the objects that leave lose their places first, then the entries without a
+//! place go, and the others get new places.
+ghost use Rattle.std.specs.Prelude.{◌≡◌, ◌⊎◌, ◌&&◌, ◌==◌, ℕ, None, filter, length, if◌then◌else◌};
+ghost use Rattle.std.specs.List.{list_any};
+ghost use Rattle.std.specs.Option.{option_or};
+ghost use Rattle.jpa_heap.specs.Objects.{object_at};
+ghost use Rattle.jpa_context.specs.Indexed as indexed;
+ghost use Rattle.jpa_context.specs.Places.{entry_place};
+ghost use Rattle.jpa_context.specs.Work.{state_from, is_removed};
+
+use crate::Entry;
+use crate::fingerprint::fingerprint;
+use crate::index::PlaceIndex;
+use crate::object_places::ObjectPlaces;
+use jpa_heap::{Life, LiveObject};
+use jpa_undo::UndoList;
+
+/// Takes the places of some objects.
+pub(crate) fn forget_objects(at: &mut ObjectPlaces, objects: &[usize])
+    ensures { (n : ℕ) → indexed.place_in at.new n ≡ (if list_any (λ m. m == n) objects.now then None else indexed.place_in at.old n) }
+{
+    for object in objects {
+        at.forget(*object);
+    }
+}
+
+/// Whether an object is removed for a manager.
+fn is_gone(objects: &[LiveObject], object: usize, manager: usize) -> bool
+    ensures { result ≡ is_removed (state_from manager (object_at objects.now object).life) }
+{
+    match objects.get(object) {
+        Some(live) => match live.life {
+            Life::Removed(holder) => holder == manager,
+            _ => false,
+        },
+        None => false,
+    }
+}
+
+/// Takes the places of the entries' objects that are removed for a manager.
+pub(crate) fn forget_removed(
+    at: &mut ObjectPlaces,
+    entries: &[Entry],
+    objects: &[LiveObject],
+    manager: usize,
+)
+    ensures { (n : ℕ) → indexed.place_in at.new n ≡ (if list_any (λ e. is_removed (state_from manager (object_at objects.now e.object).life) && (e.object == n)) entries.now then None else indexed.place_in at.old n) }
+{
+    for entry in entries {
+        if is_gone(objects, entry.object, manager) {
+            at.forget(entry.object);
+        }
+    }
+}
+
+/// Takes the objects without a place out of an index of entries.
+fn thin(index: &mut PlaceIndex, entries: &[Entry], at: &ObjectPlaces)
+    requires { indexed.IsOf entries.now index.old }
+    ensures { indexed.IsOf (filter (λ e. indexed.has_place at.now e.object) entries.now) index.new }
+{
+    for entry in entries {
+        if !at.has(entry.object) {
+            index.keep_placed(fingerprint(entry.key.as_slice()), at);
+        }
+    }
+}
+
+/// Gives each object that has a place the place of its first entry among these, if it has one there.
+fn renumber(at: &mut ObjectPlaces, entries: &[Entry])
+    ensures { (n : ℕ) → indexed.place_in at.new n ≡ (if indexed.has_place at.old n then option_or (entry_place n entries.now) (indexed.place_in at.old n) else None) }
+{
+    for i in (0..entries.len()).rev() {
+        at.move_to(entries[i].object, i);
+    }
+}
+
+/// Takes the entries whose objects have no place out of a list, for good.
+fn retain_placed(list: &mut UndoList<Entry>, at: &ObjectPlaces)
+    ensures now { list.new.now ≡ filter (λ e. indexed.has_place at.now e.object) list.old.now }
+    ensures since { list.new.since ≡ list.new.now }
+{
+    list.retain(|entry| at.has(entry.object));
+}
+
+/// Takes the entries whose objects have no place out of a list and an index of them, for good, and gives the others' objects their
+/// new places. Answers how many there are then.
+pub(crate) fn drop_unplaced(
+    list: &mut UndoList<Entry>,
+    index: &mut PlaceIndex,
+    at: &mut ObjectPlaces,
+) -> usize
+    requires all { indexed.IsOf list.old.now index.old }
+    requires placed { (n : ℕ) → (indexed.place_in at.old n ≡ None) ⊎ (indexed.place_in at.old n ≡ entry_place n list.old.now) }
+    ensures now { list.new.now ≡ filter (λ e. indexed.has_place at.old e.object) list.old.now }
+    ensures since { list.new.since ≡ list.new.now }
+    ensures all { indexed.IsOf list.new.now index.new }
+    ensures placed { indexed.IsAt list.new.now at.new }
+    ensures len { result ≡ length list.new.now }
+{
+    thin(index, list.as_slice(), at);
+    retain_placed(list, at);
+    renumber(at, list.as_slice());
+    list.len()
+}
