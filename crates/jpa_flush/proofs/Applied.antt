@@ -2,16 +2,18 @@
 use Rattle.std.proofs.Common.{◌≡◌, ◌∙◌, ◌<◌, List, [], ◌∷◌, length, refl, ap, sym, subst, arith, get_or, false}
 use Rattle.std.specs.Prelude.{All, Some}
 use Rattle.std.proofs.lemmas.Bool.{cond_both}
-use Rattle.std.proofs.lemmas.List.Elements.{All-map}
+use Rattle.std.proofs.lemmas.List.{length-set}
+use Rattle.std.proofs.lemmas.List.Elements.{All-head, All-map, All-set, All-tail}
 use Rattle.jpa_model.specs.declared.unit.PersistenceUnit.{PersistenceUnit}
 use Rattle.jpa_model.specs.declared.unit.Relation.{Relation}
 use Rattle.jpa_stored.specs.Sets.{StoredSet}
 use Rattle.jpa_heap.specs.declared.LiveObject.{LiveObject}
+use Rattle.jpa_heap.specs.Objects.{no_object}
 use Rattle.jpa_heap.specs.Shape.{HasShape}
 use Rattle.jpa_context.specs.declared.Entry.{Entry}
 use Rattle.jpa_context.specs.declared.Lock.{Lock}
 use Rattle.jpa_context.specs.Undo.{IsPlain, is_removed_life}
-use Rattle.jpa_context.specs.Work.{Work, state_of, is_managed}
+use Rattle.jpa_context.specs.Work.{Work, object, state_of, is_managed}
 use Rattle.jpa_lifecycle.specs.Flat.{IsFlat}
 use Rattle.jpa_flush.specs.declared.planning.Planned.{Planned}
 use Rattle.jpa_flush.specs.Flush.{settled, lowered, members_held, remembered_in, remembered, all_remembered}
@@ -33,6 +35,18 @@ bare_after m flat plan w h =
   where
     bare : (x : LiveObject) → HasShape m x → x.relations ≡ []
     bare x k = none_of x.relations (k.relations ∙ ap (λ (rs : List Relation). length rs) (flat.relations x.class))
+
+-- the objects of a plan have other versions
+pub shaped_after : (m : PersistenceUnit) (plan : List Planned) (w : Work) → All (λ p. p.object < length w.objects) plan → All (HasShape m) w.objects → All (HasShape m) (settled_by plan w).objects
+shaped_after m [] w within h = h
+shaped_after m (p ∷ ps) w within h =
+    let n = p.object in
+    let y = record (object w n) { version = (p.stored).version } in
+    let own = h n no_object (All-head (λ (q : Planned). q.object < length w.objects) p ps within) in
+    let others = All-tail (λ (q : Planned). q.object < length w.objects) p ps within in
+    shaped_after m ps (settled n (Some p.stored) w)
+    (subst (λ k. All (λ (q : Planned). q.object < k) ps) (sym (length-set w.objects n y)) others)
+    (All-set (HasShape m) w.objects n y (record { class = own.class; key = own.key; values = own.values; relations = own.relations }) h)
 
 pub plain_after : (m : PersistenceUnit) (plan : List Planned) (w : Work) → IsPlain w → IsPlain (all_remembered m (settled_by plan w))
 plain_after m plan w h =

@@ -30,11 +30,12 @@ use Rattle.jpa_lifecycle.specs.Flat.{IsFlat}
 use Rattle.jpa_ops.specs.States.{persist}
 use Rattle.jpa_flush.specs.declared.planning.Planned.{Planned}
 use Rattle.jpa_flush.specs.Flush.{Action, Insert, Replace, Drop, persist_targets, persist_behind, persist_from, orphans_of, orphans_along, remove_orphan, remove_orphans_of, remove_orphans, links_along, links_stored, check_links, pre_update, check_actions, first_version, raised, stored_of, written, actions, listed, replaces_row, joined, joined_all, flushed, sound_or, settled, settled_all, all_remembered, after_flush, post, write_all, flush}
-use Rattle.jpa_flush.specs.Writes.{paired, writes}
+use Rattle.jpa_flush.specs.Writes.{paired, writes, AreWritesOf}
 use Rattle.jpa_flush.specs.Plan.{plan_of, writes_of, settled_by, told_by, applied}
 use Rattle.jpa_flush.proofs.Plain.{IsPlainEntry, IsKept, drops, item, items, plan_is, all_kept, plain_entries, plain_stored_of}
 use Rattle.jpa_flush.proofs.Joined.{is_written, AreWritten, put_over}
-use Rattle.jpa_flush.proofs.Rounds.{refused_after, told_plain}
+use Rattle.jpa_flush.proofs.Rounds.{refused_after}
+use Rattle.jpa_flush.proofs.Updated.{by_updates, updated_plain, updated_within}
 
 -- ---- nothing along relations
 
@@ -254,12 +255,20 @@ refused_by_fault world w r (Some fault) e (inr h) =
     let same : Cause.Persistence fault ≡ r = cc in
     subst (λ c. IsRefusedAs c w.events (outcome world w)) same (at_fault world w fault (sym e))
 
--- a flush whose work changed in its events alone
-pub ready : (world : World) → IsFlat world.model → (w0 w : Work) → IsPlain w0 → All (λ e. e.object < length w0.objects) w0.context → w ≡ record w0 { events = w.events } → T (is_sorted identity_cmp w.view) →
+-- a flush after PreUpdate
+pub ready : (world : World) → IsFlat world.model → (w0 w : Work) → IsPlain w0 → All (λ e. e.object < length w0.objects) w0.context → T (is_sorted identity_cmp w.view) →
     pre_update world w0 ≡ Done tt w → check_actions world w ≡ Done tt w → flush world w0 ≡ outcome world w
-ready world flat w0 w plain within same rising updated passed =
-    checked world flat w0 w (told_plain w0 w same plain) (subst (λ (v : Work). All (λ e. e.object < length v.objects) v.context) (sym same) within) rising updated passed
+ready world flat w0 w plain within rising updated passed =
+    let h = by_updates world w0 w updated in
+    checked world flat w0 w (updated_plain w0 w h plain) (updated_within w0 w h within) rising updated passed
 
-pub same_writes : (m : PersistenceUnit) → IsFlat m → (w0 w : Work) → IsPlain w0 → All (λ e. e.object < length w0.objects) w0.context → w ≡ record w0 { events = w.events } → writes_of (plan_of m w) ≡ writes m w0
-same_writes m flat w0 w plain within same =
-    sym (writes_is m flat w (plain_entries w (told_plain w0 w same plain) (subst (λ (v : Work). All (λ e. e.object < length v.objects) v.context) (sym same) within))) ∙ ap (writes m) same
+-- what it writes
+pub are_writes : (world : World) → IsFlat world.model → (w0 w : Work) → IsPlain w0 → All (λ e. e.object < length w0.objects) w0.context → pre_update world w0 ≡ Done tt w →
+    AreWritesOf world w0 (writes_of (plan_of world.model w))
+are_writes world flat w0 w plain within updated =
+    let h = by_updates world w0 w updated in
+    record {
+      after = w;
+      updated = updated;
+      written = sym (writes_is world.model flat w (plain_entries w (updated_plain w0 w h plain) (updated_within w0 w h within)));
+    }

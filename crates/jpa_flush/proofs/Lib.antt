@@ -8,4 +8,5 @@ pub mod Plain
 pub mod Remembered
 pub mod Rounds
 pub mod Settled
+pub mod Updated
 pub mod Values

@@ -20,6 +20,7 @@ use Rattle.jpa_flush.specs.declared.planning.Planned.{Planned}
 use Rattle.jpa_flush.specs.Flush.{pre_update_one, check_one, check_actions}
 use Rattle.jpa_flush.specs.Plan.{step_of, update, check, insertion, replacement, planned, planned_of}
 use Rattle.jpa_flush.proofs.Plain.{IsPlainEntry, plain_check, plain_update}
+use Rattle.jpa_flush.proofs.Updated.{IsUpdated, updated_plain}
 
 pub refused_after : {A B : Type 0} (r : Cause) (events : List Told) (o : Outcome A) (f : A → Op B) → IsRefusedAs r events o → IsRefusedAs r events (after o f)
 refused_after Cause.OutOfMemory events o f h = tt
@@ -79,23 +80,20 @@ within_round m w e plan plan' o l before this next =
     subst (λ (ps : List Planned). All (λ p. p.object < length w.objects) ps) (sym (next ∙ ap (λ x. plan ++ option_to_list x) this))
     (All-append (λ (p : Planned). p.object < length w.objects) plan (option_to_list (planned m w e.object (step_of w e))) before (step_within m w e.object (length w.objects) (step_of w e) l))
 
--- ---- PreUpdate, which changes events alone
+-- ---- PreUpdate
 
-pub told_plain : (w0 w : Work) → w ≡ record w0 { events = w.events } → IsPlain w0 → IsPlain w
-told_plain w0 w same h = subst IsPlain (sym same) (record { objects = h.objects; context = h.context })
-
-pub update_done : (world : World) → IsFlat world.model → (w0 w w' : Work) (i : ℕ) (e : Entry) → IsPlain w0 → w ≡ record w0 { events = w.events } → i < length w.context → e ≡ get_or w.context i e →
+pub update_done : (world : World) → IsFlat world.model → (w0 w w' : Work) (i : ℕ) (e : Entry) → IsPlain w0 → IsUpdated w0 w → i < length w.context → e ≡ get_or w.context i e →
     e.object < length w.objects → update world e.object (step_of w e) w ≡ Done tt w' →
     each (pre_update_one world) (drop (i + 1) w0.context) w' ≡ each (pre_update_one world) (drop i w0.context) w
 update_done world flat w0 w w' i e plain same l read within done =
-    ap (λ (v : Work). each (pre_update_one world) (drop (i + 1) v.context) w') (sym same)
-    ∙ next_done (pre_update_one world) w.context i e w w' l read (plain_update world flat w e (plain_at w i e (told_plain w0 w same plain) l read within) ∙ done)
-    ∙ ap (λ (v : Work). each (pre_update_one world) (drop i v.context) w) same
+    ap (λ (es : List Entry). each (pre_update_one world) (drop (i + 1) es) w') (sym same.context)
+    ∙ next_done (pre_update_one world) w.context i e w w' l read (plain_update world flat w e (plain_at w i e (updated_plain w0 w same plain) l read within) ∙ done)
+    ∙ ap (λ (es : List Entry). each (pre_update_one world) (drop i es) w) same.context
 
-pub update_refused : (world : World) → IsFlat world.model → (w0 w : Work) (i : ℕ) (e : Entry) (r : Cause) (events : List Told) (o : Outcome (Unit {0})) → IsPlain w0 → w ≡ record w0 { events = w.events } →
+pub update_refused : (world : World) → IsFlat world.model → (w0 w : Work) (i : ℕ) (e : Entry) (r : Cause) (events : List Told) (o : Outcome (Unit {0})) → IsPlain w0 → IsUpdated w0 w →
     i < length w.context → e ≡ get_or w.context i e → e.object < length w.objects → each (pre_update_one world) (drop i w0.context) w ≡ o →
     IsRefusedAs r events (update world e.object (step_of w e) w) → IsRefusedAs r events o
 update_refused world flat w0 w i e r events o plain same l read within rest h =
-    subst (IsRefusedAs r events) (ap (λ (v : Work). each (pre_update_one world) (drop i v.context) w) same ∙ rest)
+    subst (IsRefusedAs r events) (ap (λ (es : List Entry). each (pre_update_one world) (drop i es) w) same.context ∙ rest)
     (next_refused (pre_update_one world) w.context i e w r events l read
-    (subst (IsRefusedAs r events) (sym (plain_update world flat w e (plain_at w i e (told_plain w0 w same plain) l read within))) h))
+    (subst (IsRefusedAs r events) (sym (plain_update world flat w e (plain_at w i e (updated_plain w0 w same plain) l read within))) h))

@@ -1,4 +1,4 @@
--- The flush of a unit without relations and listeners, with no object removed and no entry locked: what it does with each
+-- The flush of a unit without relations, with no object removed and no entry locked: what it does with each
 -- entry of the context, and what it writes.
 use Rattle.std.specs.Prelude.{ℕ, ℤ, Bool, true, false, not, ◌&&◌, is_some, List, [], ◌∷◌, Option, Some, None}
 use Rattle.std.specs.List.{flat_map, zip}

@@ -7,7 +7,7 @@ ghost use Rattle.jpa_lifecycle.specs.Flat.{IsFlat};
 ghost use Rattle.jpa_flush.specs.Flush as flushes;
 ghost use Rattle.jpa_flush.specs.Order.{is_in_order};
 ghost use Rattle.jpa_flush.specs.Plan as plans;
-ghost use Rattle.jpa_flush.specs.Writes.{writes};
+ghost use Rattle.jpa_flush.specs.Writes.{AreWritesOf};
 ghost use Rattle.jpa_heap.specs.Shape.{HasShape};
 ghost use Rattle.jpa_stored.specs.Sets.{IsSound, all_distinct, put_all};
 
@@ -49,14 +49,15 @@ fn apply<B: Behaviour>(
     Ok(())
 }
 
-/// Writes what the objects of a manager's context differ in from the set that it sees, in a unit without relations and
-/// listeners, with no object removed and no entry locked (Jakarta Persistence 3.1, chapters 3.2.4 and 3.4). Answers the
-/// objects that were written, under their identities, in the order of the context; the work sees them then.
+/// Writes what the objects of a manager's context differ in from the set that it sees, in a unit without relations, with no object
+/// removed and no entry locked (Jakarta Persistence 3.1, chapters 3.2.4, 3.4 and 3.5). Answers the objects that were written, as
+/// they are after PreUpdate, under their identities, in the order of the context; the work sees them then.
 ///
 /// `EntityExists` where an object that is new to the set has the identity of one in it; `OptimisticLock` where the set
 /// has not the version that an object was loaded with; `Persistence(version)` where a version can't rise;
 /// `Persistence(converter)` where a converter throws; `Persistence(null)` where a value is not there that its class
-/// requires; `OutOfMemory` where a growth was refused. What a refused call changed is undone by `UnitOfWork::undo`.
+/// requires; `Listener` with its text where a listener or callback throws, and `Persistence(callback)` where one assigns what is not
+/// allowed; `OutOfMemory` where a growth was refused. What a refused call changed is undone by `UnitOfWork::undo`.
 ///
 /// It looks at each entry of the context once, and of the set at what it writes alone.
 pub fn flush<B: Behaviour>(
@@ -71,7 +72,7 @@ pub fn flush<B: Behaviour>(
     requires sound { IsSound metamodel.now (since work.old).view }
     requires distinct { all_distinct (λ a b. a.object == b.object) work.old.context.now ≡ true }
     ensures ends { Ends result (now work.new) (flushes.flush (world_of B.meaning metamodel.now registry.now) (now work.old)) }
-    ensures written { IfOk result (λ objects. objects ≡ writes metamodel.now (now work.old)) }
+    ensures written { IfOk result (AreWritesOf (world_of B.meaning metamodel.now registry.now) (now work.old)) }
     ensures view { IfOk result (λ objects. work.new.view.now ≡ put_all objects work.old.view.now) }
     ensures plain { OnOk result (IsPlain (now work.new)) }
     ensures since { since work.new ≡ since work.old }

@@ -3,6 +3,8 @@ ghost use Rattle.std.specs.Prelude.{◌≡◌, ◌<◌, All, length};
 ghost use Rattle.jpa_behaviour.specs.Registered.{world_of};
 ghost use Rattle.jpa_context.specs.Steps.{Meets};
 ghost use Rattle.jpa_context.specs.Undo.{now, since, IsPlaced, IsPlain};
+ghost use Rattle.jpa_context.specs.Work as works;
+ghost use Rattle.jpa_heap.specs.Shape.{HasShape};
 ghost use Rattle.jpa_lifecycle.specs.Flat.{IsFlat};
 ghost use Rattle.jpa_flush.specs.Flush as flushes;
 ghost use Rattle.jpa_flush.specs.Plan as plans;
@@ -25,10 +27,9 @@ fn tell_update<B: Behaviour>(
     object: usize,
     step: Step,
 ) -> Result<(), Cause>
-    requires flat { IsFlat metamodel.now }
     requires object { object < length work.old.objects.now }
+    requires shape { HasShape metamodel.now (works.object (now work.old) object) }
     ensures meets { Meets result (now work.new) (plans.update (world_of B.meaning metamodel.now registry.now) object step (now work.old)) }
-    ensures events { now work.new ≡ record (now work.old) { events = (now work.new).events } }
     ensures since { since work.new ≡ since work.old }
 {
     match step {
@@ -40,7 +41,8 @@ fn tell_update<B: Behaviour>(
     }
 }
 
-/// PreUpdate for each object that replaces its row (chapter 3.5.2).
+/// PreUpdate happens to each object that replaces its row (chapter 3.5.2); what it assigns is what the flush finds then. Refused as the
+/// first listener or callback that refuses.
 pub fn tell_updates<B: Behaviour>(
     alloc: Global,
     metamodel: &Metamodel,
@@ -51,7 +53,6 @@ pub fn tell_updates<B: Behaviour>(
     requires placed { IsPlaced metamodel.now (now work.old) }
     requires plain { IsPlain (now work.old) }
     ensures meets { Meets result (now work.new) (flushes.pre_update (world_of B.meaning metamodel.now registry.now) (now work.old)) }
-    ensures events { now work.new ≡ record (now work.old) { events = (now work.new).events } }
     ensures since { since work.new ≡ since work.old }
 {
     for i in 0..work.context.len() {
@@ -63,7 +64,8 @@ pub fn tell_updates<B: Behaviour>(
     Ok(())
 }
 
-/// The event of each object that was written, in the order of the plan.
+/// The event of each object that was written happens, in the order of the plan. Refused as the first listener or callback that
+/// refuses.
 pub fn tell_written<B: Behaviour>(
     alloc: Global,
     metamodel: &Metamodel,
@@ -71,10 +73,9 @@ pub fn tell_written<B: Behaviour>(
     work: &mut UnitOfWork,
     plan: &[Planned],
 ) -> Result<(), Cause>
-    requires flat { IsFlat metamodel.now }
+    requires shaped { All (HasShape metamodel.now) work.old.objects.now }
     requires objects { All (λ p. p.object < length work.old.objects.now) plan.now }
     ensures meets { Meets result (now work.new) (plans.told_by (world_of B.meaning metamodel.now registry.now) plan.now (now work.old)) }
-    ensures events { now work.new ≡ record (now work.old) { events = (now work.new).events } }
     ensures since { since work.new ≡ since work.old }
 {
     for planned in plan {

@@ -1,1 +1,5 @@
+pub mod Keeps
+pub mod Names
 pub mod Quiet
+pub mod Seen
+pub mod Turns

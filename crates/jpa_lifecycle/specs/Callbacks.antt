@@ -20,6 +20,7 @@ use Rattle.jpa_heap.specs.declared.LiveObject.{LiveObject}
 use Rattle.jpa_heap.specs.Objects.{version_value, with_value}
 use Rattle.jpa_heap.specs.Assign.{fits_attribute}
 use Rattle.jpa_context.specs.Work.{Work, object, with_object, told}
+use Rattle.jpa_lifecycle.specs.declared.firing.Fired.{Fired}
 use Rattle.jpa_context.specs.Steps.{Outcome, Done, Refused, Op}
 
 -- ---- who hears
@@ -39,16 +40,27 @@ abbrev pub heard_from : List ℕ → PersistenceUnit → List ℕ → List ℕ
 heard_from kept m [] = kept
 heard_from kept m (c ∷ cs) = if (entity_at m c).exclude_super then heard_from (c ∷ []) m cs else heard_from (kept ++ c ∷ []) m cs
 
+-- none where a class of the chain leaves them out
+abbrev pub default_listeners : PersistenceUnit → List ℕ → List Listener
+default_listeners m classes = if list_any (λ c. (entity_at m c).exclude_default) classes then [] else m.listeners
+
 -- default listeners, listeners of the chain, callbacks of the chain
 abbrev pub hearers : PersistenceUnit → ℕ → List Listener
 hearers m class =
-    (if list_any (λ c. (entity_at m c).exclude_default) (chain m class) then [] else m.listeners)
+    default_listeners m (chain m class)
     ++ flat_map (λ c. (entity_at m c).listeners) (heard_from [] m (chain m class))
     ++ flat_map (λ c. (entity_at m c).callbacks) (chain m class)
 
+abbrev pub hears : LifecycleEvent → Listener → Bool
+hears event l = list_any (same_event event) l.events
+
+-- the names of those among these that hear the event
+abbrev pub hearing : LifecycleEvent → List Listener → List (List ℕ)
+hearing event ls = map (λ l. l.name) (filter (hears event) ls)
+
 -- the names of those that hear the event, in the order in which they run
 abbrev pub order : PersistenceUnit → ℕ → LifecycleEvent → List (List ℕ)
-order m class event = map (λ l. l.name) (filter (λ l. list_any (same_event event) l.events) (hearers m class))
+order m class event = hearing event (hearers m class)
 
 -- ---- what a listener sees
 
@@ -92,14 +104,15 @@ assigned m (a ∷ as') x =
 
 -- ---- firing
 
--- the names that ran, the object then, and the refusal of the last, if it refused
-pub record Fired : Type 0 where
-  pub names : List (List ℕ)
-  pub object : LiveObject
-  pub refusal : Option Cause
-
 abbrev pub after_name : List ℕ → Fired → Fired
 after_name name f = record f { names = name ∷ f.names }
+
+-- why a listener or callback refuses: it threw, or assigned what is not allowed
+abbrev pub IsCallbackRefusal : Option Cause → Type 0
+IsCallbackRefusal None = Unit {0}
+IsCallbackRefusal (Some (Cause.Listener text)) = Unit {0}
+IsCallbackRefusal (Some (Cause.Persistence Persist.Callback)) = Unit {0}
+IsCallbackRefusal (Some r) = ⊥
 
 -- after a listener's assignments: the next ones see the object as it is then
 abbrev pub after_assignments : (LiveObject → Fired) → List ℕ → LiveObject → Option LiveObject → Fired
@@ -109,6 +122,11 @@ after_assignments next name x (Some y) = after_name name (next y)
 abbrev pub after_answer : (LiveObject → Fired) → PersistenceUnit → List ℕ → LiveObject → Heard → Fired
 after_answer next m name x (Heard.Assign list) = after_assignments next name x (assigned m list x)
 after_answer next m name x (Heard.Throw text) = record { names = name ∷ []; object = x; refusal = Some (Cause.Listener text) }
+
+-- after a listener: the object then, and why it refused, if it did
+abbrev pub after_turn : (LiveObject → Fired) → List ℕ → LiveObject → Option Cause → Fired
+after_turn next name y None = after_name name (next y)
+after_turn next name y (Some r) = record { names = name ∷ []; object = y; refusal = Some r }
 
 -- one after another; nothing runs after a refusal
 abbrev pub fired_by : World → LifecycleEvent → List (List ℕ) → LiveObject → Fired

@@ -1,42 +1,95 @@
 //! Events that are told.
-ghost use Rattle.std.specs.Prelude.{◌≡◌, ◌<◌, length};
+ghost use Rattle.std.specs.Prelude.{◌≡◌, ◌<◌, suc, [], length, IfErr, OnOk};
 ghost use Rattle.jpa_behaviour.specs.Registered.{world_of};
 ghost use Rattle.jpa_context.specs.Steps.{Meets};
 ghost use Rattle.jpa_context.specs.Undo.{now, since};
+ghost use Rattle.jpa_context.specs.Work as works;
+ghost use Rattle.jpa_heap.specs.Shape.{HasShape};
 ghost use Rattle.jpa_lifecycle.specs.Callbacks as callbacks;
-ghost use Rattle.jpa_lifecycle.specs.Flat.{IsFlat};
+ghost use Rattle.jpa_value.specs.declared.refusal.Cause.{Cause};
 
+use crate::firing::{Fired, fire};
+use crate::hearing::order;
 use jpa_behaviour::{Behaviour, Registry};
 use jpa_context::UnitOfWork;
 use jpa_model::Metamodel;
 use jpa_protocol::Told;
-use jpa_value::{Cause, LifecycleEvent, Seq};
+use jpa_value::{Cause, LifecycleEvent, Seq, Text, TryCopy};
 use std::alloc::Global;
 
-/// The event happens to an object of a unit without relations and listeners: it is told, and nobody hears it, so that
-/// the registry is not asked (Jakarta Persistence 3.1, chapter 3.5.2). Fails for want of memory alone, with
-/// `OutOfMemory`.
-#[tactic(auto, using(crate::proofs::Quiet::quiet))]
-pub fn callback<B: Behaviour>(
-    alloc: Global,
-    _metamodel: &Metamodel,
-    _registry: &Registry<B>,
+/// An event is told of an object, with the names that ran.
+fn tell(
     work: &mut UnitOfWork,
     event: LifecycleEvent,
     object: usize,
+    ran: Seq<Text>,
 ) -> Result<(), Cause>
-    requires flat { IsFlat _metamodel.now }
-    requires object { object < length work.old.objects.now }
-    ensures meets { Meets result (now work.new) (callbacks.callback (world_of B.meaning _metamodel.now _registry.now) event object (now work.old)) }
-    ensures events { now work.new ≡ record (now work.old) { events = (now work.new).events } }
+    requires { object < length work.old.objects.now }
+    ensures told { OnOk result (now work.new ≡ works.told (record { event = event; object = suc object; ran = ran }) (now work.old)) }
+    ensures same { now work.new ≡ record (now work.old) { events = (now work.new).events } }
     ensures since { since work.new ≡ since work.old }
+    ensures err { IfErr result (λ cause. cause ≡ Cause.OutOfMemory) }
 {
     // An object's number, one more than its place, is at most the count.
     let _count = work.objects.len();
     work.events.push(Told {
         event,
         object: object as u64 + 1,
-        ran: Seq::new(alloc),
+        ran,
     })?;
     Ok(())
+}
+
+/// What became of an object stands in its place, and the event is told; refused as the last that ran refused.
+fn conclude(
+    work: &mut UnitOfWork,
+    event: LifecycleEvent,
+    object: usize,
+    fired: Fired,
+) -> Result<(), Cause>
+    requires object { object < length work.old.objects.now }
+    requires refusal { callbacks.IsCallbackRefusal fired.refusal }
+    ensures meets { Meets result (now work.new) (callbacks.ended fired.refusal (callbacks.told_fired event object fired (now work.old))) }
+    ensures since { since work.new ≡ since work.old }
+{
+    let Fired {
+        names,
+        object: live,
+        refusal,
+    } = fired;
+    work.objects.set(object, live)?;
+    tell(work, event, object, names)?;
+    match refusal {
+        None => Ok(()),
+        Some(cause) => Err(cause),
+    }
+}
+
+/// The event happens to an object: the listeners and callbacks that hear it run in their order, on the object as it is by then, and it
+/// is told, whether or not one runs (Jakarta Persistence 3.1, chapters 3.5.2 to 3.5.6). Where nobody hears, nothing is copied.
+///
+/// `Listener` with its text where one throws, `Persistence(callback)` where one assigns what is not allowed: the event is told then
+/// too. `OutOfMemory` where a growth was refused. What a refused call changed is undone by `UnitOfWork::undo`.
+pub fn callback<B: Behaviour>(
+    alloc: Global,
+    metamodel: &Metamodel,
+    registry: &Registry<B>,
+    work: &mut UnitOfWork,
+    event: LifecycleEvent,
+    object: usize,
+) -> Result<(), Cause>
+    requires object { object < length work.old.objects.now }
+    requires shape { HasShape metamodel.now (works.object (now work.old) object) }
+    ensures meets { Meets result (now work.new) (callbacks.callback (world_of B.meaning metamodel.now registry.now) event object (now work.old)) }
+    ensures events { callbacks.hearers metamodel.now (works.object (now work.old) object).class ≡ [] → now work.new ≡ record (now work.old) { events = (now work.new).events } }
+    ensures since { since work.new ≡ since work.old }
+{
+    let live = &work.objects.as_slice()[object];
+    let names = order(alloc, metamodel, live.class, event)?;
+    if names.is_empty() {
+        return tell(work, event, object, names);
+    }
+    let live = live.try_copy()?;
+    let fired = fire(alloc, metamodel, registry, event, names, live)?;
+    conclude(work, event, object, fired)
 }

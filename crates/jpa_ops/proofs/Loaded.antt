@@ -1,10 +1,12 @@
--- What loading does to a work, in units without relations and listeners.
+-- What loading does to a work, in units without relations.
 use Rattle.jpa_value.specs.Limits.{most_objects}
 use Rattle.std.proofs.Common.{◌≡◌, ◌<◌, ℕ, Bool, true, false, List, [], ◌∷◌, ◌++◌, length, map, refl, ap, sym, subst, ◌∙◌, arith}
 use Rattle.std.specs.Prelude.{All, nat_lt, Option, Some, None, ◌==◌, if◌then◌else◌, is_some}
 use Rattle.std.specs.List.{AllByRecursion, enumerate_from}
 use Rattle.std.specs.Option.{unwrap_or}
 use Rattle.std.specs.Ordering.{is_eq}
+use Rattle.std.specs.declared.cmp.Ordering.{Ordering}
+use Rattle.std.specs.declared.cmp.Ordering.TheVariants.{Less, Equal, Greater}
 use Rattle.std.specs.FinMap.Entries.{find as entry_found}
 use Rattle.std.proofs.lemmas.List.{get_or_push}
 use Rattle.std.proofs.lemmas.List.Elements.{recursion_from_All}
@@ -12,16 +14,18 @@ use Rattle.std.proofs.lemmas.Bool.{true≢false, ltb-true, lt-ltb, eq-eqb, ne_eq
 use Rattle.jpa_value.specs.declared.value.Identity.{Identity}
 use Rattle.jpa_value.specs.declared.refusal.Cause.{Cause}
 use Rattle.jpa_value.specs.declared.event.LifecycleEvent.{LifecycleEvent}
-use Rattle.jpa_value.specs.Value.{identity_cmp}
+use Rattle.jpa_value.specs.Value.{identity_cmp, fits}
+use Rattle.jpa_value.proofs.Orders.{identity_exact}
 use Rattle.jpa_model.specs.declared.unit.PersistenceUnit.{PersistenceUnit}
 use Rattle.jpa_model.specs.declared.unit.Relation.{Relation}
-use Rattle.jpa_model.specs.Chains.{relations_of, is_to_one}
+use Rattle.jpa_model.specs.Chains.{attributes_of, relations_of, root_of, is_to_one}
 use Rattle.jpa_behaviour.specs.Behaviour.{World}
 use Rattle.jpa_stored.specs.declared.stored.Stored.{Stored}
-use Rattle.jpa_stored.specs.Sets.{StoredSet, stored_at, all_shaped, members}
+use Rattle.jpa_stored.specs.Sets.{StoredSet, stored_at, all_shaped, is_shaped, is_identity_of, is_key_of, version_there, each_fits, members}
 use Rattle.jpa_heap.specs.declared.Life.{Life}
 use Rattle.jpa_heap.specs.declared.LiveObject.{LiveObject}
-use Rattle.jpa_heap.specs.Objects.{no_object}
+use Rattle.jpa_heap.specs.Objects.{no_object, object_at}
+use Rattle.jpa_heap.specs.Shape.{HasShape}
 use Rattle.jpa_context.specs.declared.Base.{Base}
 use Rattle.jpa_context.specs.declared.Lock.{Lock}
 use Rattle.jpa_context.specs.declared.Entry.{Entry}
@@ -29,25 +33,32 @@ use Rattle.jpa_context.specs.Steps.{◌>>◌, Op, Done, after, change, give, req
 use Rattle.jpa_context.specs.Work.{Work, object, entered, with_base}
 use Rattle.jpa_lifecycle.specs.Callbacks.{callback}
 use Rattle.jpa_lifecycle.specs.Flat.{IsFlat}
+use Rattle.jpa_ops.proofs.Fitting.{each_fits_length}
 use Rattle.jpa_ops.specs.Load.{object_loaded, base_loaded, held_loaded, made, load, known, unread}
 
--- ---- the class of a row
+-- ---- a row of a shaped set
 
-stored_class : (k : ℕ) (id : Identity) (x : Stored) (e : Identity × Stored) (o : Option Stored) (b : Bool) → (o ≡ Some x → nat_lt x.class k ≡ true) → nat_lt (e.1).class k ≡ true →
-    (if b then Some e.1 else o) ≡ Some x → nat_lt x.class k ≡ true
-stored_class k id x e o true t h g = subst (λ (y : Stored). nat_lt y.class k ≡ true) (ap (λ o'. unwrap_or o' x) g) h
-stored_class k id x e o false t h g = t g
+equal : (o : Ordering) → is_eq o ≡ true → o ≡ Equal
+equal Less e = absurd (true≢false (sym e))
+equal Equal e = refl
+equal Greater e = absurd (true≢false (sym e))
 
-class_by : (m : PersistenceUnit) (s : StoredSet) (id : Identity) (x : Stored) → all_shaped m s ≡ true → stored_at s id ≡ Some x → nat_lt x.class (length m.entities) ≡ true
-class_by m [] id x h e = absurd (true≢false (sym (ap is_some e)))
-class_by m (y ∷ ys) id x h e =
-    let a = and_parts _ (all_shaped m ys) h in
-    stored_class (length m.entities) id x y (entry_found identity_cmp id ys) (is_eq (identity_cmp id y.0)) (class_by m ys id x a.1)
-    (and_parts (nat_lt (y.1).class (length m.entities)) _ a.0).0 e
+found_shaped : (m : PersistenceUnit) (id : Identity) (x : Stored) (e : Identity × Stored) (o : Option Stored) (b : Bool) → is_eq (identity_cmp id e.0) ≡ b → (o ≡ Some x → is_shaped m id x ≡ true) →
+    is_shaped m e.0 e.1 ≡ true → (if b then Some e.1 else o) ≡ Some x → is_shaped m id x ≡ true
+found_shaped m id x e o true t k h g =
+    let same : id ≡ e.0 = identity_exact id e.0 (equal (identity_cmp id e.0) t) in
+    subst (λ i. is_shaped m i x ≡ true) (sym same) (subst (λ y. is_shaped m e.0 y ≡ true) (ap (λ o'. unwrap_or o' x) g) h)
+found_shaped m id x e o false t k h g = k g
+
+row_shaped : (m : PersistenceUnit) (s : StoredSet) (id : Identity) (x : Stored) → all_shaped m s ≡ true → stored_at s id ≡ Some x → is_shaped m id x ≡ true
+row_shaped m [] id x h e = absurd (true≢false (sym (ap is_some e)))
+row_shaped m (y ∷ ys) id x h e =
+    let a = and_parts (is_shaped m y.0 y.1) (all_shaped m ys) h in
+    found_shaped m id x y (entry_found identity_cmp id ys) (is_eq (identity_cmp id y.0)) refl (row_shaped m ys id x a.1) a.0 e
 
 -- a row of a shaped set is of a class of the unit
 pub row_class : (m : PersistenceUnit) (s : StoredSet) (id : Identity) (x : Stored) → all_shaped m s ≡ true → stored_at s id ≡ Some x → x.class < length m.entities
-row_class m s id x h e = ltb-true x.class (length m.entities) (class_by m s id x h e)
+row_class m s id x h e = ltb-true x.class (length m.entities) (and_parts (nat_lt x.class (length m.entities)) _ (row_shaped m s id x h e)).0
 
 -- ---- an object with its base enters
 
@@ -84,6 +95,27 @@ no_members m s id x e = ap (λ (rs : List Relation). map (λ (p : ℕ × Relatio
 -- a row as an object of the manager
 abbrev pub object_of_row : ℕ → Identity → Stored → LiveObject
 object_of_row manager id x = record { class = x.class; key = id.key; version = x.version; values = x.values; relations = []; life = Life.Managed manager }
+
+-- it has the shape of its class
+pub row_shape : (m : PersistenceUnit) (s : StoredSet) (manager : ℕ) (id : Identity) (x : Stored) → IsFlat m → all_shaped m s ≡ true → stored_at s id ≡ Some x → HasShape m (object_of_row manager id x)
+row_shape m s manager id x flat h e =
+    let a = and_parts (nat_lt x.class (length m.entities)) _ (row_shaped m s id x h e) in
+    let b = and_parts (is_identity_of (root_of m x.class) id) _ a.1 in
+    let c = and_parts (id.table == (root_of m x.class).table) (is_key_of (root_of m x.class) id.key) b.0 in
+    let d = and_parts (version_there (root_of m x.class).version x.version) _ b.1 in
+    let f = and_parts (each_fits (λ at v. fits at.kind v) (attributes_of m x.class) x.values) _ d.1 in
+    record {
+      class = ltb-true x.class (length m.entities) a.0;
+      key = sym (each_fits_length _ (root_of m x.class).key id.key c.1);
+      values = sym (each_fits_length _ (attributes_of m x.class) x.values f.0);
+      relations = sym (ap length (flat.relations x.class));
+    }
+
+-- so has what stands last then
+pub loaded_shape : (m : PersistenceUnit) (s : StoredSet) (manager : ℕ) (id : Identity) (x : Stored) (os objects : List LiveObject) (n : ℕ) → IsFlat m → all_shaped m s ≡ true → stored_at s id ≡ Some x →
+    n ≡ length os → objects ≡ os ++ object_of_row manager id x ∷ [] → HasShape m (object_at objects n)
+loaded_shape m s manager id x os objects n flat h e place pushed =
+    subst (HasShape m) (sym (ap (λ (ys : List LiveObject). object_at ys n) pushed ∙ get_or_push os (object_of_row manager id x) no_object n (sym place))) (row_shape m s manager id x flat h e)
 
 abbrev with_row : Identity → Stored → Work → Work
 with_row id x w =

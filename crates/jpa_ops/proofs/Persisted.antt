@@ -1,8 +1,8 @@
--- What persist does to a work, in units without relations and listeners.
-use Rattle.std.proofs.Common.{◌≡◌, ◌≢◌, ◌<◌, ◌⊎◌, inl, inr, ℕ, suc, Bool, true, List, [], ◌∷◌, length, refl, ap, sym, subst, ◌∙◌, arith}
+-- What persist does to a work, in units without relations.
+use Rattle.std.proofs.Common.{◌≡◌, ◌≢◌, ◌<◌, ◌⊎◌, inl, inr, ℕ, true, List, [], ◌∷◌, length, refl, ap, sym, subst, ◌∙◌, arith}
 use Rattle.std.specs.Prelude.{All, not, slice_set}
 use Rattle.std.specs.List.{list_all}
-use Rattle.std.proofs.lemmas.Bool.{false≢true, true≢false, and_parts, cases_eq}
+use Rattle.std.proofs.lemmas.Bool.{true≢false, and_parts, cases_eq}
 use Rattle.std.proofs.lemmas.List.{length-set, get_or-set_other}
 use Rattle.std.proofs.lemmas.List.Elements.{All-get_or, All-set, All-weaker}
 use Rattle.jpa_value.specs.declared.value.Value.{Value}
@@ -10,7 +10,6 @@ use Rattle.jpa_value.specs.Value.{is_null}
 use Rattle.jpa_model.specs.declared.unit.PersistenceUnit.{PersistenceUnit}
 use Rattle.jpa_model.specs.Chains.{root_of}
 use Rattle.jpa_behaviour.specs.Behaviour.{World}
-use Rattle.jpa_stored.specs.Sets.{each_fits}
 use Rattle.jpa_heap.specs.declared.LiveObject.{LiveObject}
 use Rattle.jpa_heap.specs.Objects.{no_object, object_at, is_whole}
 use Rattle.jpa_heap.specs.Shape.{HasShape}
@@ -23,15 +22,10 @@ use Rattle.jpa_cascade.specs.declared.Node.{Node}
 use Rattle.jpa_cascade.specs.declared.Operation.{Operation}
 use Rattle.jpa_cascade.proofs.Plain.{plain_waves}
 use Rattle.jpa_lifecycle.specs.Flat.{IsFlat}
+use Rattle.jpa_ops.proofs.Fitting.{each_fits_length}
 use Rattle.jpa_ops.specs.States.{number_part, persist, persist_node, persist_one}
 
 -- ---- a work whose object took a number as its key
-
-each_fits_length : {A B : Type 0} (f : A → B → Bool) (xs : List A) (ys : List B) → each_fits f xs ys ≡ true → length xs ≡ length ys
-each_fits_length f [] [] h = refl
-each_fits_length f [] (y ∷ ys) h = absurd (false≢true h)
-each_fits_length f (x ∷ xs) [] h = absurd (false≢true h)
-each_fits_length f (x ∷ xs) (y ∷ ys) h = ap suc (each_fits_length f xs ys (and_parts (f x y) (each_fits f xs ys) h).1)
 
 -- a generated key has one part
 numbered_shape : (m : PersistenceUnit) (x : LiveObject) (k : ℕ) → IsFlat m → (root_of m x.class).generated ≡ true → HasShape m x → HasShape m (record x { key = number_part k })

@@ -1,5 +1,5 @@
 //! Finding an object.
-ghost use Rattle.std.specs.Prelude.{◌≡◌, ◌<◌, [], length, IfOk, IfErr, IfSome, None};
+ghost use Rattle.std.specs.Prelude.{◌≡◌, ◌<◌, [], length, IfOk, IfErr, IfSome, Some, None};
 ghost use Rattle.jpa_value.specs.declared.refusal.Cause.{Cause};
 ghost use Rattle.jpa_behaviour.specs.Registered.{world_of};
 ghost use Rattle.jpa_heap.specs.declared.Life.{Life};
@@ -39,8 +39,8 @@ fn object_loaded(
     })
 }
 
-/// A row becomes an object of the context, and PostLoad is told (chapter 3.5.2); its place. `Limit` where there are
-/// 1,000,000 live objects already, and `OutOfMemory`.
+/// A row becomes an object of the context, and PostLoad happens to it (chapter 3.5.2); its place. `Limit` where there are
+/// 1,000,000 live objects already, what a listener or callback refuses, and `OutOfMemory`.
 fn load<B: Behaviour>(
     alloc: Global,
     metamodel: &Metamodel,
@@ -51,6 +51,7 @@ fn load<B: Behaviour>(
 ) -> Result<usize, Cause>
     requires flat { IsFlat metamodel.now }
     requires placed { IsPlaced metamodel.now (now work.old) }
+    requires row { works.row (now work.old) id ≡ Some row }
     ensures meets { Meets result (now work.new) (load.load (world_of B.meaning metamodel.now registry.now) id row (now work.old)) }
     ensures within { IfOk result (λ n. n < length (now work.new).objects) }
     ensures view { work.new.view ≡ work.old.view }
@@ -133,12 +134,13 @@ fn found_row<B: Behaviour>(
     Ok(Some(load(alloc, metamodel, registry, work, id, row)?))
 }
 
-/// The place of the object under a key of an entity, in a unit without relations and listeners: the persistence
+/// The place of the object under a key of an entity, in a unit without relations: the persistence
 /// context's instance, else the stored object, loaded into the context; none for a removed one, for one of another
 /// class, and where nothing stands under the key (Jakarta Persistence 3.1, chapters 3.1.1 and 3.5.2).
 ///
-/// `Limit` where there are 1,000,000 live objects already; `OutOfMemory` where a growth was refused. What a refused call
-/// changed is undone by `UnitOfWork::undo`.
+/// PostLoad happens to an object that is loaded: `Listener` with its text where a listener or callback throws then, and
+/// `Persistence(callback)` where one assigns what is not allowed. `Limit` where there are 1,000,000 live objects already;
+/// `OutOfMemory` where a growth was refused. What a refused call changed is undone by `UnitOfWork::undo`.
 pub fn find<B: Behaviour>(
     alloc: Global,
     metamodel: &Metamodel,

@@ -1,11 +1,12 @@
 //! Making an object managed.
-ghost use Rattle.std.specs.Prelude.{◌≡◌, ◌<◌, length, true, IfOk, IfErr};
+ghost use Rattle.std.specs.Prelude.{◌≡◌, ◌<◌, length, true, IfOk, IfErr, OnOk};
 ghost use Rattle.std.specs.List.{list_all};
 ghost use Rattle.jpa_value.specs.Value.{is_null};
 ghost use Rattle.jpa_value.specs.declared.refusal.Cause.{Cause};
 ghost use Rattle.jpa_model.specs.Chains.{root_of};
 ghost use Rattle.jpa_behaviour.specs.Behaviour.{World};
 ghost use Rattle.jpa_behaviour.specs.Registered.{world_of};
+ghost use Rattle.jpa_heap.specs.Shape.{HasShape};
 ghost use Rattle.jpa_heap.specs.declared.Life.{Life};
 ghost use Rattle.jpa_context.specs.Steps.{Meets, Done};
 ghost use Rattle.jpa_context.specs.Undo.{now, since, IsPlaced};
@@ -137,6 +138,7 @@ fn become_managed(
     requires placed { IsPlaced metamodel.now (now work.old) }
     requires object { object < length work.old.objects.now }
     ensures meets { (world : World) → Meets result (now work.new) (states.become_managed (record world { model = metamodel.now }) object (now work.old)) }
+    ensures shape { OnOk result (HasShape metamodel.now (works.object (now work.new) object)) }
     ensures count { length work.new.objects.now ≡ length work.old.objects.now }
     ensures view { work.new.view ≡ work.old.view }
     ensures since { since work.new ≡ since work.old }
@@ -156,7 +158,7 @@ fn become_managed(
     Ok(())
 }
 
-/// A new object becomes managed, and PrePersist is told (chapter 3.5.2). Refused as `persist` is.
+/// A new object becomes managed, and PrePersist happens to it (chapter 3.5.2). Refused as `persist` is.
 fn persist_new<B: Behaviour>(
     alloc: Global,
     metamodel: &Metamodel,
@@ -182,8 +184,8 @@ fn persist_new<B: Behaviour>(
     )
 }
 
-/// A removed object is managed again, and PrePersist is told unless it is stored. Fails for want of memory alone, with
-/// `OutOfMemory`.
+/// A removed object is managed again, and PrePersist happens to it unless it is stored. Refused as a listener or
+/// callback refuses, and with `OutOfMemory`.
 fn persist_removed<B: Behaviour>(
     alloc: Global,
     metamodel: &Metamodel,
@@ -192,6 +194,7 @@ fn persist_removed<B: Behaviour>(
     object: usize,
 ) -> Result<(), Cause>
     requires flat { IsFlat metamodel.now }
+    requires placed { IsPlaced metamodel.now (now work.old) }
     requires object { object < length work.old.objects.now }
     ensures meets { Meets result (now work.new) (states.persist_one (world_of B.meaning metamodel.now registry.now) object EntityState.Removed (now work.old)) }
     ensures view { work.new.view ≡ work.old.view }
@@ -211,12 +214,13 @@ fn persist_removed<B: Behaviour>(
     )
 }
 
-/// Makes an object of a unit without relations and listeners managed: a new one enters the persistence context, with the
+/// Makes an object of a unit without relations managed: a new one enters the persistence context, with the
 /// next number as its key where keys are generated; a removed one is managed again; a managed one stays as it is
-/// (Jakarta Persistence 3.1, chapters 3.2.2 and 2.4). PrePersist is told of an object that was not stored yet.
+/// (Jakarta Persistence 3.1, chapters 3.2.2 and 2.4). PrePersist happens to an object that was not stored yet.
 ///
 /// `EntityExists` for a detached object, and where the context has another of the identity; `Persistence(key)` where a
-/// part of an assigned key is null, or a generated key is not; `Persistence(generator)` where no number is left;
+/// part of an assigned key is null, or a generated key is not; `Persistence(generator)` where no number is left; `Listener`
+/// with its text where a listener or callback throws, and `Persistence(callback)` where one assigns what is not allowed;
 /// `OutOfMemory` where a growth was refused. What a refused call changed is undone by `UnitOfWork::undo`.
 pub fn persist<B: Behaviour>(
     alloc: Global,

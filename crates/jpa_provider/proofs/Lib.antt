@@ -3,6 +3,7 @@ pub mod FirstRun
 pub mod Managers
 pub mod Functions
 pub mod Facts
+mod QuietWrites
 pub mod AtWork
 pub mod Settled
 pub mod Kept

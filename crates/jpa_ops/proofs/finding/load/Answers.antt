@@ -6,8 +6,15 @@ use Rattle.jpa_behaviour.specs.Registered.{world_of}
 use Rattle.jpa_heap.specs.declared.LiveObject.{LiveObject}
 use Rattle.jpa_context.specs.declared.Lock.{Lock}
 use Rattle.jpa_context.specs.Undo.{now}
-use Rattle.jpa_ops.proofs.Loaded.{loaded}
+use Rattle.jpa_ops.proofs.Loaded.{loaded, loaded_shape}
 use Rattle.jpa_ops.proofs.finding.load.Goals as goal
+
+-- the object that stands last is a row of a shaped set
+pub callback-requires-clause-shape : goal.callback-requires-clause-shape
+callback-requires-clause-shape g c =
+    let w = now c.args.work.now in
+    loaded_shape c.args.metamodel.now w.view w.manager c.args.id c.args.row w.objects c.push.new.self.now c.len-place.result c.requires.flat c.requires.placed.view c.requires.row c.len-place.ensures
+    (c.in_ok-push.ensures.pushed ∙ ap (λ (x : LiveObject). w.objects ++ x ∷ []) c.in_ok-object.ensures.ok)
 
 -- an object and its entry stand last, and PostLoad is told
 pub returns-clause-meets : goal.returns-clause-meets

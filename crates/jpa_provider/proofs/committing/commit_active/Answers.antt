@@ -18,6 +18,7 @@ use Rattle.jpa_protocol.specs.declared.call.Call.{Call}
 use Rattle.jpa_rows.specs.Rows.{Rows}
 use Rattle.jpa_provider.specs.Provided.{rows_made, RunsAtMost, RunsDifference}
 use Rattle.jpa_provider.specs.Serving.{machine_of}
+use Rattle.jpa_provider.proofs.QuietWrites.{quiet_writes}
 use Rattle.jpa_provider.proofs.Active.{begun_active, objects_once, flushed_storable, flushed_distinct, flushed_numbers, flushed_rising, refused_steady, stored_plain}
 use Rattle.jpa_provider.proofs.Commits.{refused_step, stored_step}
 use Rattle.jpa_provider.proofs.Crashed.{made_by, not_accepted}
@@ -45,7 +46,7 @@ store_commit-requires-clause-storable g c =
     let world = world_of g.B.Behaviour.meaning model c.args.registry.now in
     let w : Work = now c.flush.new.work in
     let done = subst (λ (v : Work). flush world v ≡ Done tt w) c.take_work.ensures.work c.in-Ok.ensures.ends in
-    subst (AreStorable world) (sym (c.as_slice.ensures ∙ c.in-Ok.ensures.written ∙ ap (flushed.writes model) c.take_work.ensures.work)) (flushed_storable world s m c.requires.within c.requires.serving w done)
+    subst (AreStorable world) (sym (c.as_slice.ensures ∙ quiet_writes c.requires.serving.flat c.in-Ok.ensures.written ∙ ap (flushed.writes model) c.take_work.ensures.work)) (flushed_storable world s m c.requires.within c.requires.serving w done)
 
 pub store_commit-requires-clause-distinct : goal.store_commit-requires-clause-distinct
 store_commit-requires-clause-distinct g c =
@@ -55,7 +56,7 @@ store_commit-requires-clause-distinct g c =
     let world = world_of g.B.Behaviour.meaning model c.args.registry.now in
     let w : Work = now c.flush.new.work in
     let done = subst (λ (v : Work). flush world v ≡ Done tt w) c.take_work.ensures.work c.in-Ok.ensures.ends in
-    subst (λ ws. all_distinct (λ (a b : Identity × Stored). same_identity a.0 b.0) ws ≡ true) (sym (c.as_slice.ensures ∙ c.in-Ok.ensures.written ∙ ap (flushed.writes model) c.take_work.ensures.work))
+    subst (λ ws. all_distinct (λ (a b : Identity × Stored). same_identity a.0 b.0) ws ≡ true) (sym (c.as_slice.ensures ∙ quiet_writes c.requires.serving.flat c.in-Ok.ensures.written ∙ ap (flushed.writes model) c.take_work.ensures.work))
     (flushed_distinct world s m c.requires.within c.requires.serving w done)
 
 pub store_commit-requires-clause-numbers : goal.store_commit-requires-clause-numbers

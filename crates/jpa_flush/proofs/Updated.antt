@@ -1,0 +1,153 @@
+-- What events leave of a work: objects have other values at most, and nothing else is other but what was told.
+use Rattle.std.proofs.Common.{◌≡◌, ◌∙◌, ◌≢◌, ◌⊎◌, ℕ, ◌<◌, ◌≤◌, List, [], ◌∷◌, length, get_or, refl, ap, sym, subst, inl, inr, arith}
+use Rattle.std.specs.Prelude.{All, slice_set, Option, Some, None}
+use Rattle.std.proofs.lemmas.Bool.{cases_eq, cases_lt}
+use Rattle.std.proofs.lemmas.List.{length-set, get_or-set_same, get_or-set_other, get_or_default, set_past}
+use Rattle.jpa_value.specs.declared.event.LifecycleEvent.{LifecycleEvent}
+use Rattle.jpa_model.specs.declared.unit.PersistenceUnit.{PersistenceUnit}
+use Rattle.jpa_behaviour.specs.Behaviour.{World}
+use Rattle.jpa_stored.specs.Sets.{all_shaped}
+use Rattle.jpa_heap.specs.declared.LiveObject.{LiveObject}
+use Rattle.jpa_heap.specs.Objects.{no_object, object_at}
+use Rattle.jpa_heap.specs.Shape.{HasShape}
+use Rattle.jpa_context.specs.declared.Lock.{Lock}
+use Rattle.jpa_context.specs.declared.Entry.{Entry}
+use Rattle.jpa_context.specs.Steps.{Outcome, Done, Refused, Op, done, after, each}
+use Rattle.jpa_context.specs.Undo.{IsKeyed, IsPlaced, IsPlain, is_removed_life}
+use Rattle.jpa_context.specs.Work.{Work, object}
+use Rattle.jpa_lifecycle.specs.Callbacks.{callback}
+use Rattle.jpa_lifecycle.proofs.Keeps.{IsRevalued, revalued_none, revalued_twice, revalued_shape, HasHappened, happened}
+use Rattle.jpa_flush.specs.declared.steps.Step.{Step}
+use Rattle.jpa_flush.specs.declared.planning.Planned.{Planned}
+use Rattle.jpa_flush.specs.Flush.{Action, Insert, Replace, Drop, action_of, pre_update_for, pre_update_one, pre_update}
+use Rattle.jpa_flush.specs.Plan.{update, tell, told_by}
+
+pub record IsUpdated (w v : Work) : Type 0 where
+  pub manager : v.manager ≡ w.manager
+  pub context : v.context ≡ w.context
+  pub numbers : v.numbers ≡ w.numbers
+  pub view : v.view ≡ w.view
+  pub count : length v.objects ≡ length w.objects
+  pub objects : (n : ℕ) → IsRevalued (object w n) (object v n)
+
+pub updated_none : (w : Work) → IsUpdated w w
+updated_none w = record { manager = refl; context = refl; numbers = refl; view = refl; count = refl; objects = λ n. revalued_none (object w n) }
+
+pub updated_twice : (u w v : Work) → IsUpdated u w → IsUpdated w v → IsUpdated u v
+updated_twice u w v h g =
+    record {
+      manager = g.manager ∙ h.manager;
+      context = g.context ∙ h.context;
+      numbers = g.numbers ∙ h.numbers;
+      view = g.view ∙ h.view;
+      count = g.count ∙ h.count;
+      objects = λ n. revalued_twice (object u n) (object w n) (object v n) (h.objects n) (g.objects n);
+    }
+
+-- ---- one event
+
+set_revalued : (xs : List LiveObject) (n k : ℕ) (y : LiveObject) → IsRevalued (object_at xs n) y → IsRevalued (object_at xs k) (object_at (slice_set xs n y) k)
+set_revalued xs n k y h = by (cases_eq k n) (cases_lt n (length xs))
+  where
+    by : (k ≡ n) ⊎ (k ≢ n) → (n < length xs) ⊎ (length xs ≤ n) → IsRevalued (object_at xs k) (object_at (slice_set xs n y) k)
+    by (inr other) l = subst (IsRevalued (object_at xs k)) (sym (get_or-set_other xs n k y no_object other)) (revalued_none (object_at xs k))
+    by (inl same) (inl l) =
+        subst (λ i. IsRevalued (object_at xs i) (object_at (slice_set xs n y) i)) (sym same)
+        (subst (IsRevalued (object_at xs n)) (sym (get_or-set_same xs n y no_object l)) h)
+    by (inl same) (inr past) =
+        subst (λ (os : List LiveObject). IsRevalued (object_at xs k) (object_at os k)) (sym (set_past xs n y past)) (revalued_none (object_at xs k))
+
+by_event : (n : ℕ) (w v : Work) → HasHappened n w v → IsUpdated w v
+by_event n w v h =
+    record {
+      manager = ap (λ (u : Work). u.manager) h.same;
+      context = ap (λ (u : Work). u.context) h.same;
+      numbers = ap (λ (u : Work). u.numbers) h.same;
+      view = ap (λ (u : Work). u.view) h.same;
+      count = ap (λ (u : Work). length u.objects) h.same ∙ length-set w.objects n h.object;
+      objects = λ k. subst (λ (u : Work). IsRevalued (object w k) (object u k)) (sym h.same) (set_revalued w.objects n k h.object h.revalued);
+    }
+
+pub by_callback : (world : World) (event : LifecycleEvent) (n : ℕ) (w v : Work) → callback world event n w ≡ Done tt v → IsUpdated w v
+by_callback world event n w v e = by_event n w v (happened world event n w v e)
+
+-- ---- events one after another, each of which relates what it is given and what it leaves
+
+module _ (R : Work → Work → Type 0) (none : (w : Work) → R w w) (twice : (u w v : Work) → R u w → R w v → R u v) (world : World)
+    (happens : (event : LifecycleEvent) (n : ℕ) (w v : Work) → callback world event n w ≡ Done tt v → R w v) where
+  related_none : (w v : Work) → done w ≡ Done tt v → R w v
+  related_none w v e = let same : w ≡ v = cc in subst (R w) same (none w)
+
+  related_first : (o : Outcome (Unit {0})) (next : Op (Unit {0})) (w v : Work) → ((u : Work) → o ≡ Done tt u → R w u) → ((u : Work) → next u ≡ Done tt v → R u v) → after o (λ _. next) ≡ Done tt v → R w v
+  related_first (Done a u) next w v h g e = twice w u v (h u refl) (g u e)
+  related_first (Refused r es) next w v h g e = absurd cc
+
+  related_each : {X : Type 0} (f : X → Op (Unit {0})) → ((x : X) (w v : Work) → f x w ≡ Done tt v → R w v) → (xs : List X) (w v : Work) → each f xs w ≡ Done tt v → R w v
+  related_each f h [] w v e = related_none w v e
+  related_each f h (x ∷ xs) w v e = related_first (f x w) (each f xs) w v (λ u k. h x w u k) (λ u k. related_each f h xs u v k) e
+
+  related_update : (e : Entry) (a : Option Action) (w v : Work) → pre_update_for world e a w ≡ Done tt v → R w v
+  related_update e (Some (Replace b)) w v k = happens LifecycleEvent.PreUpdate e.object w v k
+  related_update e (Some Insert) w v k = related_none w v k
+  related_update e (Some (Drop b)) w v k = related_none w v k
+  related_update e None w v k = related_none w v k
+
+  -- PreUpdate
+  pub related_updates : (w v : Work) → pre_update world w ≡ Done tt v → R w v
+  related_updates w v e = related_each (pre_update_one world) (λ x u t k. related_update x (action_of world.model u x) u t k) w.context w v e
+
+  -- the Post events
+  pub related_told : (plan : List Planned) (w v : Work) → told_by world plan w ≡ Done tt v → R w v
+  related_told plan w v e = related_each (tell world) (λ p u t k. happens p.event p.object u t k) plan w v e
+
+  -- one step of the flush
+  pub related_step : (n : ℕ) (s : Step) (w v : Work) → update world n s w ≡ Done tt v → R w v
+  related_step n Step.Keep w v e = related_none w v e
+  related_step n Step.Insert w v e = related_none w v e
+  related_step n (Step.Replace version) w v e = happens LifecycleEvent.PreUpdate n w v e
+
+pub by_updates : (world : World) (w v : Work) → pre_update world w ≡ Done tt v → IsUpdated w v
+by_updates world w v e = related_updates IsUpdated updated_none updated_twice world (by_callback world) w v e
+
+pub by_told : (world : World) (plan : List Planned) (w v : Work) → told_by world plan w ≡ Done tt v → IsUpdated w v
+by_told world plan w v e = related_told IsUpdated updated_none updated_twice world (by_callback world) plan w v e
+
+pub by_step : (world : World) (n : ℕ) (s : Step) (w v : Work) → update world n s w ≡ Done tt v → IsUpdated w v
+by_step world n s w v e = related_step IsUpdated updated_none updated_twice world (by_callback world) n s w v e
+
+-- ---- what stays
+
+updated_keyed : (w v : Work) → IsUpdated w v → (e : Entry) → IsKeyed w.objects e → IsKeyed v.objects e
+updated_keyed w v h e k = record { same = ap (λ (x : LiveObject). x.key) (h.objects e.object).same ∙ k.same; whole = k.whole }
+
+-- the object at a place, at whatever default
+object_is : (xs : List LiveObject) (n : ℕ) (d : LiveObject) → n < length xs → get_or xs n d ≡ object_at xs n
+object_is xs n d l = get_or_default xs n d no_object l
+
+pub updated_shapes : (m : PersistenceUnit) (w v : Work) → IsUpdated w v → All (HasShape m) w.objects → All (HasShape m) v.objects
+updated_shapes m w v h shapes = λ n d l.
+    let k : n < length w.objects = omega (arith, l, h.count) in
+    subst (HasShape m) (sym (object_is v.objects n d l)) (revalued_shape m (object w n) (object v n) (h.objects n) (shapes n no_object k))
+
+pub updated_within : (w v : Work) → IsUpdated w v → All (λ e. e.object < length w.objects) w.context → All (λ e. e.object < length v.objects) v.context
+updated_within w v h entries =
+    subst (λ n. All (λ (e : Entry). e.object < n) v.context) (sym h.count) (subst (λ (es : List Entry). All (λ e. e.object < length w.objects) es) (sym h.context) entries)
+
+pub updated_places : (m : PersistenceUnit) (w v : Work) → IsUpdated w v → IsPlaced m w → IsPlaced m v
+updated_places m w v h p =
+    record {
+      objects = updated_shapes m w v h p.objects;
+      entries = updated_within w v h p.entries;
+      keyed = subst (All (IsKeyed v.objects)) (sym h.context) (λ i d l. updated_keyed w v h (get_or w.context i d) (p.keyed i d l));
+      numbers = ap (λ (ns : List ℕ). length ns) h.numbers ∙ p.numbers;
+      view = ap (λ s. all_shaped m s) h.view ∙ p.view;
+    }
+
+pub updated_plain : (w v : Work) → IsUpdated w v → IsPlain w → IsPlain v
+updated_plain w v h p =
+    record {
+      objects = λ n d l.
+          let k : n < length w.objects = omega (arith, l, h.count) in
+          ap (λ (x : LiveObject). is_removed_life x.life) (object_is v.objects n d l ∙ (h.objects n).same) ∙ p.objects n no_object k;
+      context = subst (All (λ (e : Entry). e.lock ≡ Lock.Unlocked)) (sym h.context) p.context;
+    }

@@ -1,0 +1,19 @@
+use Rattle.std.proofs.Common.{◌∙◌}
+use Rattle.jpa_behaviour.specs.Registered.{world_of}
+use Rattle.jpa_context.specs.Undo.{now}
+use Rattle.jpa_flush.specs.Plan.{tell}
+use Rattle.jpa_flush.proofs.Rounds.{next_done}
+use Rattle.jpa_flush.proofs.Updated.{by_callback, updated_twice}
+use Rattle.jpa_flush.proofs.telling.tell_written.Goals as goal
+
+pub loop-planned-preserved : goal.loop-planned-preserved
+loop-planned-preserved g c =
+    let world = world_of g.B.Behaviour.meaning c.args.metamodel.now c.args.registry.now in
+    let w = now c.loop-planned.work in
+    let w' = now c.callback.new.work in
+    let p = c.planned-item.result in
+    record {
+      rest = next_done (tell world) c.args.plan.now c.loop-planned.planned-index p w w' c.loop-planned-test.true c.planned-item.is c.in_ok-callback.ensures.meets ∙ c.loop-planned.invariant.rest;
+      same = updated_twice (now c.args.work.now) w w' c.loop-planned.invariant.same (by_callback world p.event p.object w w' c.in_ok-callback.ensures.meets);
+      since = c.callback.ensures.since ∙ c.loop-planned.invariant.since;
+    }
