@@ -1,0 +1,5 @@
+pub mod Parts
+pub mod Orders
+pub mod Blocks
+pub mod Stable
+pub mod Ordered

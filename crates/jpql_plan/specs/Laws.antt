@@ -1,0 +1,73 @@
+-- Laws of what queries mean, in a reader's words.
+use Rattle.std.specs.Prelude.{◌≡◌, ℕ, Bool, true, false, not, ◌||◌, List, [], ◌∷◌, ◌++◌, map, Option, Some, None, if◌then◌else◌}
+use Rattle.std.specs.List.{filter}
+use Rattle.std.specs.List.Sorted.{IsSortedBy, IsStableBy}
+use Rattle.jpa_model.specs.declared.unit.PersistenceUnit.{PersistenceUnit}
+use Rattle.jpa_stored.specs.Sets.{StoredSet}
+use Rattle.jpql_types.specs.declared.scope.Step.{Step}
+use Rattle.jpql_types.specs.declared.typed.TypedCondition.{TypedCondition}
+use Rattle.jpql_types.specs.declared.typed.TypedOrigin.{TypedOrigin}
+use Rattle.jpql_types.specs.declared.typed.TypedSource.{TypedSource, roll-TypedSource}
+use Rattle.jpql_types.specs.declared.typed.TypedJoin.{TypedJoin, roll-TypedJoin}
+use Rattle.jpql_types.specs.declared.typed.TypedBlock.{TypedBlock, roll-TypedBlock}
+use Rattle.jpql_types.specs.declared.typed.TypedKey.{TypedKey}
+use Rattle.jpql_types.specs.declared.typed.TypedValue.{TypedValue}
+use Rattle.jpql_eval.specs.declared.datum.Datum.{Datum}
+use Rattle.jpql_eval.specs.declared.datum.Truth.{Truth}
+use Rattle.jpql_eval.specs.Answers.{Answer, gives, ◌>>=◌, each}
+use Rattle.jpql_eval.specs.Truths.{is_yes}
+use Rattle.jpql_plan.specs.Paths.{Entry, Tuple, object_at, with_object, objects, related_objects}
+use Rattle.jpql_plan.specs.Meaning.{alone, is_any, in_turn, kept, tuples_where, value, value_drops, condition, truth, source, join, exists}
+use Rattle.jpql_plan.specs.Selection.{Row, precedes, in_order}
+
+-- the objects of a class, without joins
+abbrev pub range_of : ℕ → TypedSource
+range_of class = roll-TypedSource (record { origin = TypedOrigin.Entity class; joins = [] })
+
+abbrev pub join_along : Bool → ℕ → Step → Option TypedCondition → TypedJoin
+join_along is_left of step on = roll-TypedJoin (record { is_left = is_left; of = of; step = step; on = on })
+
+abbrev pub block_of : TypedValue → List TypedSource → TypedCondition → TypedBlock
+block_of item sources filtered = roll-TypedBlock (record { item = item; sources = sources; filter = Some filtered })
+
+-- the tuples with each object that a step from a variable leads to
+abbrev pub joined_with : PersistenceUnit → StoredSet → ℕ → Step → Tuple → List Tuple
+joined_with m s of step t = map (λ (e : Entry). with_object t (Some e)) (related_objects m s (object_at t of) step)
+
+-- FROM and EXISTS (chapters 4.4 and 4.6.16), over a set, with parameters.
+pub record FromLaws (m : PersistenceUnit) (s : StoredSet) (ps : List Datum) : Type 0 where
+  -- a range is the objects of its class and those below it, in rising order
+  pub range : (class : ℕ) (t : Tuple) → source m s ps (range_of class) t ≡ gives (map (λ (e : Entry). with_object t (Some e)) (objects m s class))
+  -- an inner join is a filter of the related objects, and without ON all of them
+  pub inner : (of : ℕ) (step : Step) (on : TypedCondition) (t : Tuple)
+      → join m s ps (join_along false of step (Some on)) t ≡ kept (λ e. truth m s ps on (alone e)) (joined_with m s of step t)
+  pub inner_of_all : (of : ℕ) (step : Step) (t : Tuple) → join m s ps (join_along false of step None) t ≡ gives (joined_with m s of step t)
+  -- LEFT JOIN loses no tuple, and where no object is joined gives one with null
+  pub left_keeps : (of : ℕ) (step : Step) (on : TypedCondition) (t : Tuple) (found : List Tuple)
+      → join m s ps (join_along true of step (Some on)) t ≡ gives found → is_any found ≡ true
+  pub left_null : (of : ℕ) (step : Step) (on : TypedCondition) (t : Tuple)
+      → join m s ps (join_along false of step (Some on)) t ≡ gives []
+      → join m s ps (join_along true of step (Some on)) t ≡ gives (with_object t None ∷ [])
+  -- elements go on with each tuple of those before, and may be parted anywhere
+  pub parted : (all more : List TypedSource) (t : Tuple)
+      → in_turn (map (source m s ps) (all ++ more)) t
+      ≡ (in_turn (map (source m s ps) all) t >>= each (in_turn (map (source m s ps) more)))
+  -- EXISTS is whether the nested block has a tuple, where its item never overflows
+  pub exists_any : (item : TypedValue) (sources : List TypedSource) (filtered : TypedCondition) (t : Tuple) (left : List Tuple) (gives_item : Tuple → Datum)
+      → tuples_where (map (source m s ps) sources) (λ e. value_drops m s ps item e || (condition m s ps filtered).drops e) (Some (condition m s ps filtered)) t ≡ gives left
+      → ((e : Tuple) → value m s ps item (alone e) ≡ gives (gives_item e))
+      → exists m s ps (block_of item sources filtered) t ≡ gives (is_any left)
+
+-- WHERE, ON and HAVING (chapters 4.5, 4.4.5 and 4.8): what is true is kept.
+pub record WhereLaws (test : Tuple → Answer Truth) (drops : Tuple → Bool) (ts : List Tuple) : Type 0 where
+  -- where nothing overflows, it is the filter of what is true
+  pub filtered : (holds : Tuple → Truth) → ((t : Tuple) → test t ≡ gives (holds t)) → kept test ts ≡ gives (filter (λ t. is_yes (holds t)) ts)
+  -- tuples may be tested one by one
+  pub one_by_one : kept test (filter (λ t. not (drops t)) ts) ≡ each (λ t. if drops t then gives [] else kept test (t ∷ [])) ts
+
+-- ORDER BY (chapter 4.9): the stable sort by the keys.
+pub record OrderLaws (keys : List TypedKey) (rows : List Row) : Type 0 where
+  pub sorted : IsSortedBy (precedes keys) (in_order keys rows)
+  pub stable : IsStableBy (precedes keys) rows (in_order keys rows)
+  -- and there is no other
+  pub one : (others : List Row) → IsSortedBy (precedes keys) others → IsStableBy (precedes keys) rows others → others ≡ in_order keys rows

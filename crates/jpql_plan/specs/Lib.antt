@@ -1,0 +1,5 @@
+pub mod Bulk
+pub mod Laws
+pub mod Meaning
+pub mod Paths
+pub mod Selection

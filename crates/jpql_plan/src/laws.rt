@@ -1,0 +1,29 @@
+//! Laws of the definitions, for contracts to cite.
+ghost use Rattle.std.specs.Prelude.{Bool, List};
+ghost use Rattle.jpa_model.specs.declared.unit.PersistenceUnit.{PersistenceUnit};
+ghost use Rattle.jpa_stored.specs.Sets.{StoredSet};
+ghost use Rattle.jpql_types.specs.declared.typed.TypedKey.{TypedKey};
+ghost use Rattle.jpql_eval.specs.declared.datum.Datum.{Datum};
+ghost use Rattle.jpql_eval.specs.declared.datum.Truth.{Truth};
+ghost use Rattle.jpql_eval.specs.Answers.{Answer};
+ghost use Rattle.jpql_plan.specs.Paths.{Tuple};
+ghost use Rattle.jpql_plan.specs.Selection.{Row};
+ghost use Rattle.jpql_plan.specs.Laws.{FromLaws, WhereLaws, OrderLaws};
+
+/// The laws of FROM and EXISTS (chapters 4.4 and 4.6.16); it does nothing. A range is the objects of its class in rising
+/// order, an inner join a filter of related objects; a LEFT JOIN loses no tuple; elements of FROM may be parted anywhere;
+/// EXISTS is whether the nested block has a tuple.
+pub fn from_laws()
+    ensures { (m : PersistenceUnit) (s : StoredSet) (ps : List Datum) → FromLaws m s ps }
+{}
+
+/// The laws of WHERE (chapter 4.5); it does nothing. Where nothing overflows, WHERE is the filter of what is true, and tuples
+/// may be tested one by one.
+pub fn where_laws()
+    ensures { (test : Tuple → Answer Truth) (drops : Tuple → Bool) (ts : List Tuple) → WhereLaws test drops ts }
+{}
+
+/// The laws of ORDER BY (chapter 4.9); it does nothing. It is the one stable sort by the keys.
+pub fn order_laws()
+    ensures { (keys : List TypedKey) (rows : List Row) → OrderLaws keys rows }
+{}
