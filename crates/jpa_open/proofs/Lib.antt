@@ -1,0 +1,6 @@
+pub mod Found
+pub mod Gathered
+pub mod Held
+pub mod Indexed
+pub mod Layers
+pub mod Subclasses

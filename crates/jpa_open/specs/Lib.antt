@@ -1,0 +1,4 @@
+pub mod Layers
+pub mod Opened
+pub mod Prints
+pub mod References

@@ -1,0 +1,39 @@
+-- A set under two layers of changes: what a transaction wrote before a call, and what is written in it.
+use Rattle.std.specs.Prelude.{Bool, true, List, map, if◌then◌else◌}
+use Rattle.jpa_value.specs.declared.value.Identity.{Identity}
+use Rattle.jpa_stored.specs.declared.stored.Stored.{Stored}
+use Rattle.jpa_stored.specs.Sets.{StoredSet}
+use Rattle.jpa_open.specs.Layers.{Layer}
+
+-- what is committed, what the transaction kept over it, and what it sees; whether this is shown to the manager at work
+pub record Opened : Type 0 where
+  pub committed : StoredSet
+  pub kept : StoredSet
+  pub seen : StoredSet
+  pub is_shown : Bool
+
+-- the set that the manager at work sees
+abbrev pub now : Opened → StoredSet
+now v = if v.is_shown then v.seen else v.committed
+
+-- and the one to which undoing leads it back
+abbrev pub since : Opened → StoredSet
+since v = if v.is_shown then v.kept else v.committed
+
+abbrev pub unwritten : StoredSet → Opened
+unwritten s = record { committed = s; kept = s; seen = s; is_shown = true }
+
+abbrev pub with_seen : StoredSet → Opened → Opened
+with_seen s v = record v { seen = s }
+
+abbrev pub with_kept : StoredSet → Opened → Opened
+with_kept s v = record v { kept = s }
+
+abbrev pub with_committed : StoredSet → Opened → Opened
+with_committed s v = record v { committed = s }
+
+abbrev pub with_shown : Bool → Opened → Opened
+with_shown b v = record v { is_shown = b }
+
+abbrev pub layer : List (Identity × Stored) → List (Identity × Unit {0}) → Layer
+layer puts drops = record { puts = puts; drops = map (λ (e : Identity × Unit {0}). e.0) drops }
