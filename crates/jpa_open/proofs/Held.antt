@@ -1,22 +1,24 @@
 -- References to all that is owned stay enough through each change of a set.
-use Rattle.std.specs.Prelude.{◌≡◌, ◌==◌, ◌+◌, ℕ, Bool, true, false, cond, if◌then◌else◌, T, List, [], Option, Some, None, unwrap_or}
+use Rattle.std.specs.Prelude.{◌≡◌, ◌==◌, ◌&&◌, ◌||◌, ◌+◌, ℕ, suc, Bool, true, false, cond, if◌then◌else◌, slice_index_or, T, List, [], ◌∷◌, Option, Some, None, unwrap_or}
 use Rattle.std.proofs.Common.{refl, sym, ap, subst, ◌∙◌}
 use Rattle.std.specs.declared.cmp.Ordering.{Ordering}
 use Rattle.std.specs.declared.cmp.Ordering.TheVariants.{Less, Equal, Greater}
 use Rattle.std.specs.Ordering.{is_eq, eq_by_cmp}
 use Rattle.std.specs.FinMap.Entries.{is_sorted, find-put}
 use Rattle.jpa_value.specs.declared.value.Identity.{Identity}
-use Rattle.jpa_value.specs.Value.{identity_cmp}
+use Rattle.jpa_value.specs.Value.{identity_cmp, same_identity}
+use Rattle.std.specs.List.{list_any}
 use Rattle.jpa_value.proofs.Orders.{identity_total, identity_exact}
 use Rattle.jpa_stored.specs.declared.stored.Stored.{Stored}
 use Rattle.jpa_stored.specs.Sets.{StoredSet, stored_at, with_stored, without}
 use Rattle.jpa_stored.proofs.Puts as puts
 use Rattle.jpa_open.specs.declared.reference.Reference.{Reference}
 use Rattle.jpa_open.specs.Layers.{Layer, over}
+use Rattle.jpa_open.specs.Leads.{owns_anywhere}
 use Rattle.jpa_open.specs.Opened.{layer}
 use Rattle.jpa_open.specs.Prints.{print_of, holder_of}
 use Rattle.jpa_open.specs.References.{HaveAll, HaveAllOf, KeepsAll, IsIn, first_under, test_at, owns, owns_as_class}
-use Rattle.jpa_open.proofs.Indexed.{between, has_owner, in_holders}
+use Rattle.jpa_open.proofs.Indexed.{between, has_owner, in_holders, in_prints}
 use Rattle.std.proofs.lemmas.Bool.{and_parts, false≢true, eqb-true}
 use Rattle.jpa_open.proofs.Layers.{dropped, kept_if, found_over, found_without, over_rises}
 
@@ -74,6 +76,22 @@ class_owner_known s refs class place id q p h e f have t = in_holders p h q refs
         subst (λ (r : Reference). IsIn refs r)
         (λ i. record { print = sym e i; holder = (ap (λ c. holder_of c place) same ∙ sym f) i; owner = q })
         (have q x found place id parts.1)
+
+at_some_place : (id : Identity) (lists : List (List Identity)) → list_any (list_any (same_identity id)) lists ≡ true → (p : ℕ) × (list_any (same_identity id) (slice_index_or lists p []) ≡ true)
+at_some_place id [] e = absurd (false≢true e)
+at_some_place id (ids ∷ lists) e = by_first (list_any (same_identity id) ids) refl (at_some_place id lists) e
+  where
+    by_first : (b : Bool) → list_any (same_identity id) ids ≡ b → (list_any (list_any (same_identity id)) lists ≡ true → (p : ℕ) × (list_any (same_identity id) (slice_index_or lists p []) ≡ true)) →
+        (b || list_any (list_any (same_identity id)) lists) ≡ true → (p : ℕ) × (list_any (same_identity id) (slice_index_or (ids ∷ lists) p []) ≡ true)
+    by_first true h rest e = (0, h)
+    by_first false h rest e = let r = rest e in (suc r.0, r.1)
+
+-- who owns an identity at any place is known under its fingerprint
+pub anywhere_known : (s : StoredSet) (refs : List Reference) (id : Identity) (p : ℕ) → p ≡ print_of id → HaveAll s refs → (q : Identity) (x : Stored) → stored_at s q ≡ Some x → owns_anywhere id (q, x) ≡ true →
+    has_owner (between (first_under p 0) (first_under (p + 1) 0) refs) q ≡ true
+anywhere_known s refs id p e have q x found o =
+    let at = at_some_place id x.owned o in
+    in_prints p (holder_of x.class at.0) q refs (subst (λ (r : Reference). IsIn refs r) (λ i. record { print = sym e i; holder = holder_of x.class at.0; owner = q }) (have q x found at.0 id at.1))
 
 pub have_layers : (refs : List Reference) (fresh : List (Identity × Stored)) (gone : List (Identity × Unit {0})) (written : List (Identity × Stored)) (dropped : List (Identity × Unit {0})) (committed : StoredSet) →
     T (is_sorted identity_cmp fresh) → T (is_sorted identity_cmp written) → HaveAll fresh refs → HaveAll written refs → HaveAll committed refs →

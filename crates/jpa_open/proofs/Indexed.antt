@@ -223,7 +223,7 @@ module _ (P : Identity × Stored → Bool) where
     abbrev pub passes : Identity → Bool
     passes q = test_at P q (stored_at s q)
 
-    one_passes : (q : Identity) (o : Option Stored) → stored_at s q ≡ o → test_at P q o ≡ true → list_any P s ≡ true
+    pub one_passes : (q : Identity) (o : Option Stored) → stored_at s q ≡ o → test_at P q o ≡ true → list_any P s ≡ true
     one_passes q None e p = absurd (false≢true p)
     one_passes q (Some x) e p = any_found s q x e p
 
@@ -248,6 +248,22 @@ module _ (P : Identity × Stored → Bool) where
     any_by_index run complete =
         same_bool (list_any (λ (r : Reference). passes r.owner) run) (list_any P s) (any_passes run)
         (λ e. let r = found_any s rising e in owner_passes r.0 (ap (test_at P r.0) r.2 ∙ r.3) run (complete r.0 r.1 r.2 r.3))
+
+    -- none passes of those that were yielded, which are all between the bounds
+    pub none_by_index : (run : List Reference) (rs : List (Bor Reference)) → map (λ (r : Bor Reference). r.now) rs ≡ run → list_any (λ (r : Bor Reference). passes (r.now).owner) rs ≡ false →
+        ((q : Identity) (x : Stored) → stored_at s q ≡ Some x → P (q, x) ≡ true → has_owner run q ≡ true) → false ≡ list_any P s
+    none_by_index run rs e none complete =
+        sym none ∙ any_mapped (λ (r : Reference). passes r.owner) rs ∙ ap (list_any (λ (r : Reference). passes r.owner)) e ∙ any_by_index run complete
+
+pub none_more : (t : Identity → Bool) (rs : List (Bor Reference)) (r : Bor Reference) → list_any (λ (x : Bor Reference). t (x.now).owner) rs ≡ false → t (r.now).owner ≡ false → list_any (λ (x : Bor Reference). t (x.now).owner) (rs ++ r ∷ []) ≡ false
+none_more t rs r none fails = list_any-append (λ (x : Bor Reference). t (x.now).owner) rs (r ∷ []) ∙ (λ i. none i || (fails i || false))
+
+pub none_left : {X : Type 0} (xs ys zs : List X) → xs ++ ys ≡ zs → ys ≡ [] → xs ≡ zs
+none_left xs ys zs h e = sym (append_nil xs) ∙ ap (λ t. xs ++ t) (sym e) ∙ h
+  where
+    append_nil : {X : Type 0} (xs : List X) → xs ++ [] ≡ xs
+    append_nil [] = refl
+    append_nil (x ∷ xs) = ap (λ t. x ∷ t) (append_nil xs)
 
 -- what is found stands at a place
 pub stands_at : (s : StoredSet) (owner : Identity) (x : Stored) → stored_at s owner ≡ Some x → (k : ℕ) × (k < length s) × (get_or s k (owner, x) ≡ (owner, x))

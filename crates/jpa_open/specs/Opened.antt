@@ -1,8 +1,10 @@
 -- A set under two layers of changes: what a transaction wrote before a call, and what is written in it.
-use Rattle.std.specs.Prelude.{Bool, true, List, map, if◌then◌else◌}
+use Rattle.std.specs.Prelude.{◌≡◌, Bool, true, false, List, map, if◌then◌else◌}
+use Rattle.std.specs.List.{list_any}
 use Rattle.jpa_value.specs.declared.value.Identity.{Identity}
+use Rattle.jpa_value.specs.Value.{same_identity}
 use Rattle.jpa_stored.specs.declared.stored.Stored.{Stored}
-use Rattle.jpa_stored.specs.Sets.{StoredSet}
+use Rattle.jpa_stored.specs.Sets.{StoredSet, stored_at}
 use Rattle.jpa_open.specs.Layers.{Layer}
 
 -- what is committed, what the transaction kept over it, and what it sees; whether this is shown to the manager at work
@@ -37,3 +39,7 @@ with_shown b v = record v { is_shown = b }
 
 abbrev pub layer : List (Identity × Stored) → List (Identity × Unit {0}) → Layer
 layer puts drops = record { puts = puts; drops = map (λ (e : Identity × Unit {0}). e.0) drops }
+
+-- what any other identity has in the set seen it has in the committed one
+abbrev pub AreAllChanged : Opened → List Identity → Type 0
+AreAllChanged v ids = (q : Identity) → list_any (same_identity q) ids ≡ false → stored_at v.seen q ≡ stored_at v.committed q

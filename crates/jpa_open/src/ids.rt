@@ -5,8 +5,10 @@ ghost use Rattle.jpa_value.specs.declared.refusal.Cause.{Cause};
 ghost use Rattle.jpa_value.specs.declared.value.Identity.{Identity};
 ghost use Rattle.jpa_value.specs.Value.{identity_cmp, same_identity};
 ghost use Rattle.jpa_stored.specs.Places.{IsAt, IsGap};
+ghost use Rattle.jpa_stored.specs.Sets as sets;
 
-use jpa_value::{Cause, Identity, Seq, TryCopy, order_identities};
+use jpa_stored::Stored;
+use jpa_value::{Boxed, Cause, Identity, Seq, TryCopy, order_identities};
 use std::alloc::Global;
 use std::cmp::Ordering;
 
@@ -85,6 +87,35 @@ pub(crate) fn note_each(ids: &mut Vec<(Identity, ())>, more: Vec<(Identity, ())>
     for (id, _) in more {
         note(ids, id);
     }
+}
+
+/// More identities among those in rising order. Fails for want of memory alone.
+pub(crate) fn insert_each(ids: &mut Vec<(Identity, ())>, more: &[(Identity, ())]) -> Result<(), Cause>
+    requires { T (is_sorted identity_cmp ids.old.items) }
+    ensures ok { OnOk result ((q : Identity) → is_some (find identity_cmp q ids.new.items) ≡ (is_some (find identity_cmp q more.now) || is_some (find identity_cmp q ids.old.items))) }
+    ensures rising { OnOk result (T (is_sorted identity_cmp ids.new.items)) }
+    ensures err { IfErr result (λ cause. cause ≡ Cause.OutOfMemory) }
+{
+    for entry in more {
+        insert(ids, &entry.0)?;
+    }
+    Ok(())
+}
+
+/// The identities of entries among those in rising order. Fails for want of memory alone.
+pub(crate) fn insert_keys(
+    ids: &mut Vec<(Identity, ())>,
+    entries: &[Boxed<(Identity, Stored)>],
+) -> Result<(), Cause>
+    requires { T (is_sorted identity_cmp ids.old.items) }
+    ensures ok { OnOk result ((q : Identity) → is_some (find identity_cmp q ids.new.items) ≡ (is_some (sets.stored_at entries.now q) || is_some (find identity_cmp q ids.old.items))) }
+    ensures rising { OnOk result (T (is_sorted identity_cmp ids.new.items)) }
+    ensures err { IfErr result (λ cause. cause ≡ Cause.OutOfMemory) }
+{
+    for entry in entries {
+        insert(ids, &entry.get().0)?;
+    }
+    Ok(())
 }
 
 /// These identities.

@@ -10,7 +10,7 @@ ghost use Rattle.jpa_stored.specs.Sets as sets;
 ghost use Rattle.jpa_open.specs.Opened as opened;
 
 use crate::entries::{find, merge_into, put_entry, take_entry};
-use crate::ids::{insert, knows, listed, note_each};
+use crate::ids::{insert, insert_each, insert_keys, knows, listed, note_each};
 use crate::index::{add_references, index_of};
 use crate::reference::Reference;
 use jpa_stored::Stored;
@@ -21,6 +21,7 @@ use std::marker::Model;
 use std::mem;
 
 mod leading;
+mod leads;
 
 /// The stored objects that a transaction sees (chapter 3.2.4): the committed ones, and over them two layers: what the
 /// transaction wrote before the call at hand, and what is written in it. A layer is objects put over identities taken out.
@@ -233,6 +234,22 @@ impl OpenSet {
         let fresh = mem::replace(&mut self.fresh, Vec::new(alloc));
         merge_into(&mut self.committed, fresh, self.gone.as_slice());
         self.gone.clear();
+    }
+
+    /// The identities of what the transaction wrote, each once, in rising order: what any other identity has in `seen` it
+    /// has in `committed`. `OutOfMemory` is the only refusal.
+    pub fn changed(&self) -> Result<Seq<Identity>, Cause>
+        ensures rising { IfOk result (λ ids. sets.is_rising ids ≡ true) }
+        ensures others { IfOk result (opened.AreAllChanged self.now) }
+        ensures refused { IfErr result (λ cause. cause ≡ Cause.OutOfMemory) }
+    {
+        let alloc = *self.committed.allocator();
+        let mut ids = Vec::new(alloc);
+        insert_keys(&mut ids, self.written.as_slice())?;
+        insert_each(&mut ids, self.dropped.as_slice())?;
+        insert_keys(&mut ids, self.fresh.as_slice())?;
+        insert_each(&mut ids, self.gone.as_slice())?;
+        listed(alloc, ids)
     }
 
     /// Shows the layers to the manager at work, or hides them from it. Takes no memory.

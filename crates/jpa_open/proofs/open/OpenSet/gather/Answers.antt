@@ -10,7 +10,7 @@ use Rattle.jpa_open.specs.declared.reference.Reference.{Reference}
 use Rattle.jpa_open.specs.Opened.{Opened, now}
 use Rattle.jpa_open.specs.References.{HaveAll, reference_cmp, first_under, owns_as_class, test_at}
 use Rattle.jpa_open.proofs.Gathered.{has}
-use Rattle.jpa_open.proofs.Indexed.{holders_forward, moved, one_yielded, all_yielded, between}
+use Rattle.jpa_open.proofs.Indexed.{holders_forward, moved, one_yielded, all_yielded, between, none_left}
 use Rattle.jpa_open.proofs.Held.{have_shown, class_owner_known}
 use Rattle.jpa_open.proofs.open.OpenSet.gather.Goals as goal
 
@@ -37,13 +37,6 @@ loop-reference-preserved c =
       led = λ q. c.loop-reference.invariant.led q
           ∙ sym (one_yielded t c.loop-reference.yielded c.in-Some.reference (has c.args.ids.now.items q) q false (sym c.has_owner_at.ensures ∙ c.if-has_owner_at.false));
     }
-
-none_left : {X : Type 0} (xs ys zs : List X) → xs ++ ys ≡ zs → ys ≡ [] → xs ≡ zs
-none_left xs ys zs h e = sym (append_nil xs) ∙ ap (λ t. xs ++ t) (sym e) ∙ h
-  where
-    append_nil : {X : Type 0} (xs : List X) → xs ++ [] ≡ xs
-    append_nil [] = refl
-    append_nil (x ∷ xs) = ap (λ t. x ∷ t) (append_nil xs)
 
 pub returns-clause-ok : goal.returns-clause-ok
 returns-clause-ok c q =
