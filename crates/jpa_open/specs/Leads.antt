@@ -40,7 +40,7 @@ has_rival m s claim but = list_any (λ e. not (same_identity e.0 but) && list_an
 -- the one-to-one relation of a column
 abbrev pub is_column : ℕ → Option ℕ → Bool
 is_column column None = false
-is_column column (Some other) = column == other
+is_column column (Some other) = other == column
 
 abbrev pub is_of_column : ℕ → Relation → Bool
 is_of_column column r = is_column column (one_to_one_column r.side)
