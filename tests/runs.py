@@ -1,0 +1,144 @@
+#!/usr/bin/env python3
+"""tests/runs.py [--any] PROGRAM FOLDER..: runs the program over each run in these folders, with a file as its store.
+
+A run is a folder with calls.jsonl (the lines in), replies.jsonl (the lines out) and cells.txt (the cells afterwards, one a line:
+table, row, column, value; row and value in hex), and, where it has them,
+- mapping.json; where there is none, the mapping is tests/flat.json: persons and orders without relations,
+- cells-before.txt, the cells that the store has before,
+- calls-2.jsonl and replies-2.jsonl, a second process over the file that the first left,
+- status and stderr, where the program ends with another status than 0,
+- words, a word a line, which the program gets in the place of a mapping and a store,
+- stage: what it needs that is not there yet.
+All is compared byte for byte. With --any, a run with a call or a mapping that the program does not serve yet is skipped, and said so.
+Exit status 0 where all that ran agree.
+"""
+import json, os, sqlite3, subprocess, sys, tempfile
+
+SERVED = {"createEntityManager", "new", "set", "get", "begin", "persist", "commit", "rollback", "setRollbackOnly", "find"}
+STAGES = {b"a transaction per manager", b"mapping revision 2"}
+HERE = os.path.dirname(os.path.abspath(__file__))
+FLAT = os.path.join(HERE, "flat.json")
+TABLE = ("CREATE TABLE cell (t INTEGER NOT NULL, r BLOB NOT NULL, c INTEGER NOT NULL,\n"
+         "  v BLOB NOT NULL, PRIMARY KEY (t, r, c)) STRICT")
+SECONDS = 60
+
+
+def read(folder, name):
+    path = os.path.join(folder, name)
+    if not os.path.exists(path):
+        return None
+    with open(path, "rb") as file:
+        return file.read()
+
+
+def unserved(folder):
+    """Why a run can't be made today, or None."""
+    stage = read(folder, "stage")
+    if stage and stage.strip() in STAGES:
+        return stage.decode().strip()
+    for line in read(folder, "calls.jsonl").splitlines():
+        try:
+            call = json.loads(line)
+        except ValueError:
+            continue
+        word = call.get("call") if isinstance(call, dict) else None
+        if isinstance(word, str) and word not in SERVED and word != "x":
+            return "call " + word
+    mapping = read(folder, "mapping.json")
+    for entity in (json.loads(mapping)["entities"] if mapping else []):
+        for member in ("extends", "relations", "listeners", "callbacks"):
+            if entity.get(member):
+                return "mapping with " + member
+    return None
+
+
+def cells(path):
+    """The cells of a store's file; none where there is no file, or no table in it."""
+    if not os.path.exists(path):
+        return ""
+    with sqlite3.connect(path) as store:
+        if not store.execute("SELECT 1 FROM sqlite_schema WHERE name = 'cell'").fetchone():
+            return ""
+        rows = store.execute("SELECT t, hex(r), c, hex(v) FROM cell ORDER BY t, r, c")
+        return "".join(f"{t}, {r.lower()}, {c}, {v.lower()}\n" for t, r, c, v in rows)
+
+
+def fill(path, text):
+    with sqlite3.connect(path) as store:
+        store.execute(TABLE)
+        for line in text.decode().splitlines():
+            table, row, column, value = [part.strip() for part in line.split(",")]
+            store.execute("INSERT INTO cell VALUES (?, ?, ?, ?)", (int(table), bytes.fromhex(row), int(column), bytes.fromhex(value)))
+
+
+def run(program, words, calls):
+    """What the program answers, ended and said."""
+    return subprocess.run([program, *words], input=calls, capture_output=True, timeout=SECONDS)
+
+
+def words_of(folder, store):
+    words = read(folder, "words")
+    if words is not None:
+        return words.decode().splitlines()
+    mapping = os.path.join(folder, "mapping.json")
+    return ["--mapping", mapping if os.path.exists(mapping) else FLAT, "--db", store]
+
+
+def other_replies(found, wanted):
+    """Where the replies are others than are wanted, or None."""
+    if found == wanted:
+        return None
+    for at, (one, other) in enumerate(zip(found.splitlines(), wanted.splitlines())):
+        if one != other:
+            return f"reply {at + 1}: {one.decode(errors='replace')[:200]}, and not {other.decode(errors='replace')[:200]}"
+    return f"{len(found.splitlines())} lines, and not {len(wanted.splitlines())}"
+
+
+def difference(program, folder):
+    """What differs from the run in a folder, or None."""
+    with tempfile.TemporaryDirectory() as place:
+        store = os.path.join(place, "store.db")
+        before = read(folder, "cells-before.txt")
+        if before is not None:
+            fill(store, before)
+        words, status, stderr = words_of(folder, store), int(read(folder, "status") or b"0"), read(folder, "stderr") or b""
+        for ending in ("", "-2"):
+            calls = read(folder, f"calls{ending}.jsonl")
+            if calls is None:
+                continue
+            ran = run(program, words, calls)
+            if ran.returncode != status:
+                return f"status {ran.returncode}, not {status}: {ran.stderr.decode(errors='replace').strip()}"
+            if ran.stderr.strip() != stderr.strip():
+                return f"standard error {ran.stderr!r}, not {stderr!r}"
+            found = other_replies(ran.stdout, read(folder, f"replies{ending}.jsonl") or b"")
+            if found:
+                return found
+        after = read(folder, "cells.txt")
+        if after is not None and cells(store) != after.decode():
+            return "cells:\n" + cells(store)
+        return None
+
+
+def main(words):
+    is_any = words[:1] == ["--any"]
+    words = words[1:] if is_any else words
+    if len(words) < 2:
+        sys.exit(__doc__)
+    agree = differ = skipped = 0
+    for top in words[1:]:
+        for name in sorted(os.listdir(top)):
+            folder = os.path.join(top, name)
+            if read(folder, "calls.jsonl") is None:
+                continue
+            why = unserved(folder) if is_any else None
+            found = None if why else difference(words[0], folder)
+            agree, differ, skipped = agree + (not why and not found), differ + bool(found), skipped + bool(why)
+            if why or found:
+                print(f"skipped {name}: {why}" if why else f"differs {name}: {found}")
+    print(f"{agree} runs agree, {differ} differ" + (f", {skipped} are skipped" if is_any else ""))
+    return 1 if differ or not agree else 0
+
+
+if __name__ == "__main__":
+    sys.exit(main(sys.argv[1:]))

@@ -1,0 +1,15 @@
+#!/usr/bin/env bash
+# The runs of tests/runs, over the program that the gate has built, as each of the two compilers makes it.
+set -u
+cd "$(dirname "$0")/.." || exit 1
+if ! command -v python3 >/dev/null 2>&1; then
+    echo "python3 is not on this machine, so no run was tried"
+    exit 77
+fi
+programs=$(bash tests/built) || exit $?
+failed=0
+for program in $programs; do
+    echo "$(basename "$program"):"
+    python3 tests/runs.py "$program" tests/runs || failed=1
+done
+exit "$failed"
