@@ -1,12 +1,15 @@
-//! Tests of stored functions by name, managers' contexts and rows, which stand on no store, a module for each crate. They stand in a crate of their own, so
-//! that they are proved over those crates and not with them once more.
+//! Tests of what neither a run of the program nor an example shows: readers and writers that fail, the names of all refusals, and
+//! calls that the program does not make yet. They stand in a crate of their own, so that they are proved over the libraries and
+//! not with them once more.
 #![tactic(auto)]
 
 #[cfg(test)]
-mod behaviour;
+mod hearing;
 #[cfg(test)]
-mod context;
+mod lines;
 #[cfg(test)]
-mod overlay;
+mod pairs;
 #[cfg(test)]
-mod rows;
+mod refusals;
+#[cfg(test)]
+mod related;
