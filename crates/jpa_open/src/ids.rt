@@ -90,7 +90,10 @@ pub(crate) fn note_each(ids: &mut Vec<(Identity, ())>, more: Vec<(Identity, ())>
 }
 
 /// More identities among those in rising order. Fails for want of memory alone.
-pub(crate) fn insert_each(ids: &mut Vec<(Identity, ())>, more: &[(Identity, ())]) -> Result<(), Cause>
+pub(crate) fn insert_each(
+    ids: &mut Vec<(Identity, ())>,
+    more: &[(Identity, ())],
+) -> Result<(), Cause>
     requires { T (is_sorted identity_cmp ids.old.items) }
     ensures ok { OnOk result ((q : Identity) → is_some (find identity_cmp q ids.new.items) ≡ (is_some (find identity_cmp q more.now) || is_some (find identity_cmp q ids.old.items))) }
     ensures rising { OnOk result (T (is_sorted identity_cmp ids.new.items)) }

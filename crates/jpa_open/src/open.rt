@@ -118,7 +118,8 @@ impl OpenSet {
 
     /// The object under an identity, if the manager at work sees one there, with its identity. Takes no memory.
     pub fn entry_of(&self, id: &Identity) -> Option<&(Identity, Stored)>
-        ensures { option_copied result ≡ option_map (λ x. (id.now, x)) (sets.stored_at (opened.now self.now) id.now) }
+        ensures { option_copied result
+            ≡ option_map (λ x. (id.now, x)) (sets.stored_at (opened.now self.now) id.now) }
     {
         if self.is_shown {
             self.seen(id)
@@ -166,7 +167,8 @@ impl OpenSet {
     /// Writes an object under an identity, in place of what stands there, if anything. For want of memory, which is
     /// `OutOfMemory` and the only refusal, the set stays as it was.
     pub fn put(&mut self, id: Identity, object: Stored) -> Result<(), Cause>
-        ensures ok { OnOk result (self.new ≡ opened.with_seen (sets.with_stored id object self.old.seen) self.old) }
+        ensures ok { OnOk result
+            (self.new ≡ opened.with_seen (sets.with_stored id object self.old.seen) self.old) }
         ensures err { OnErr result (self.new ≡ self.old) }
         ensures refused { IfErr result (λ cause. cause ≡ Cause.OutOfMemory) }
     {
@@ -184,7 +186,8 @@ impl OpenSet {
     /// Takes out what stands under an identity, if anything. For want of memory, which is `OutOfMemory` and the only
     /// refusal, the set stays as it was.
     pub fn remove(&mut self, id: &Identity) -> Result<(), Cause>
-        ensures ok { OnOk result (self.new ≡ opened.with_seen (sets.without (id.now ∷ []) self.old.seen) self.old) }
+        ensures ok { OnOk result
+            (self.new ≡ opened.with_seen (sets.without (id.now ∷ []) self.old.seen) self.old) }
         ensures err { OnErr result (self.new ≡ self.old) }
         ensures refused { IfErr result (λ cause. cause ≡ Cause.OutOfMemory) }
     {
@@ -213,14 +216,15 @@ impl OpenSet {
         self.gone.clear();
     }
 
-    /// Undoes what the transaction wrote. Takes no memory.
+    /// Undoes what the transaction wrote, and gives back the room for it. Takes no memory.
     pub fn discard(&mut self)
         ensures { self.new ≡ opened.with_kept self.old.committed (opened.with_seen self.old.committed self.old) }
     {
-        self.fresh.clear();
-        self.gone.clear();
-        self.written.clear();
-        self.dropped.clear();
+        let alloc = *self.committed.allocator();
+        self.written = Vec::new(alloc);
+        self.dropped = Vec::new(alloc);
+        self.fresh = Vec::new(alloc);
+        self.gone = Vec::new(alloc);
     }
 
     /// Commits what the transaction wrote. Takes no memory.

@@ -60,9 +60,11 @@ fn passes(asked: &Asked<'_>, owner: &Identity) -> bool
 {
     match asked {
         Asked::Wrong => true,
-        Asked::Rival { table, column: _, but } => {
-            owner.table == *table && !is_same_identity(owner, but)
-        }
+        Asked::Rival {
+            table,
+            column: _,
+            but,
+        } => { owner.table == *table && !is_same_identity(owner, but) }
     }
 }
 
@@ -106,12 +108,22 @@ impl OpenSet {
     }
 
     /// Whether a relation is one of those that are asked for.
-    fn is_asked(&self, metamodel: &Metamodel, id: &Identity, asked: &Asked<'_>, relation: &Relation) -> bool
+    fn is_asked(
+        &self,
+        metamodel: &Metamodel,
+        id: &Identity,
+        asked: &Asked<'_>,
+        relation: &Relation,
+    ) -> bool
         ensures { result ≡ relation_test metamodel.now (opened.now self.now) id.now asked.now relation.now }
     {
         match asked {
             Asked::Wrong => !self.is_of(metamodel, id, relation.target),
-            Asked::Rival { table: _, column, but: _ } => is_of_column(relation.side, *column),
+            Asked::Rival {
+                table: _,
+                column,
+                but: _,
+            } => is_of_column(relation.side, *column),
         }
     }
 
@@ -222,7 +234,8 @@ impl OpenSet {
         id: &Identity,
         but: &Identity,
     ) -> bool
-        ensures { result ≡ leads.has_rival metamodel.now (opened.now self.now) (record { table = table; column = column; target = id.now }) but.now }
+        ensures { result ≡ leads.has_rival metamodel.now (opened.now self.now)
+            (record { table = table; column = column; target = id.now }) but.now }
     {
         self.holds(metamodel, id, &Asked::Rival { table, column, but })
     }

@@ -1,4 +1,4 @@
-use Rattle.std.proofs.Common.{◌≡◌, ◌∙◌, ap, sym, subst, ◌||◌, Bool, true, false, refl, Result, Ok, Err, List, map}
+use Rattle.std.proofs.Common.{◌≡◌, ◌∙◌, ap, sym, subst, ◌||◌, Bool, true, false, refl, Result, Ok, Err, List}
 use Rattle.std.specs.Prelude.{IfOk, is_some}
 use Rattle.jpa_value.specs.declared.refusal.Cause.{Cause}
 use Rattle.jpa_value.specs.declared.value.Identity.{Identity}

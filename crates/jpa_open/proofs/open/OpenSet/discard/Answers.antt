@@ -9,8 +9,8 @@ returns c =
     let s = c.self.inside in
     (λ i. record {
       committed = s.committed.items;
-      kept = over (layer (c.clear-3.ensures.items i) (c.clear-4.ensures.items i)) s.committed.items;
-      seen = over (layer (c.clear.ensures.items i) (c.clear-2.ensures.items i)) (over (layer (c.clear-3.ensures.items i) (c.clear-4.ensures.items i)) s.committed.items);
+      kept = over (layer (c.new.ensures.items i) (c.new-2.ensures.items i)) s.committed.items;
+      seen = over (layer (c.new-3.ensures.items i) (c.new-4.ensures.items i)) (over (layer (c.new.ensures.items i) (c.new-2.ensures.items i)) s.committed.items);
       is_shown = s.is_shown;
     })
     ∙ (λ i. record { committed = s.committed.items; kept = nothing_over s.committed.items i; seen = (nothing_over (over (layer [] []) s.committed.items) ∙ nothing_over s.committed.items) i; is_shown = s.is_shown })

@@ -1,4 +1,4 @@
-use Rattle.std.proofs.Common.{◌≡◌, ◌∙◌, ap, sym, subst, ◌||◌, ◌++◌, ◌+◌, true, false, refl, List, [], ◌∷◌, map, Bor}
+use Rattle.std.proofs.Common.{◌∙◌, ap, sym, subst, ◌||◌, ◌++◌, ◌+◌, true, false, map, Bor}
 use Rattle.std.specs.Prelude.{filter}
 use Rattle.std.specs.Ordering.{is_gt}
 use Rattle.std.specs.BTreeMap.Range.{range_contains}

@@ -1,4 +1,4 @@
-use Rattle.std.proofs.Common.{◌≡◌, ◌∙◌, ap, sym, subst, ◌++◌, ◌+◌, Bool, true, false, T, List, map, refl, Bor}
+use Rattle.std.proofs.Common.{◌∙◌, ap, sym, subst, ◌++◌, ◌+◌, T, map, refl, Bor}
 use Rattle.std.specs.Prelude.{filter}
 use Rattle.std.specs.Ordering.{is_gt}
 use Rattle.std.specs.FinMap.Entries.{is_sorted}
