@@ -3,3 +3,4 @@ pub mod Orders
 pub mod Blocks
 pub mod Stable
 pub mod Ordered
+pub mod Once

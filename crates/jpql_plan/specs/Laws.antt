@@ -1,6 +1,6 @@
 -- Laws of what queries mean, in a reader's words.
 use Rattle.std.specs.Prelude.{◌≡◌, ℕ, Bool, true, false, not, ◌||◌, List, [], ◌∷◌, ◌++◌, map, Option, Some, None, if◌then◌else◌}
-use Rattle.std.specs.List.{filter}
+use Rattle.std.specs.List.{filter, list_any}
 use Rattle.std.specs.List.Sorted.{IsSortedBy, IsStableBy}
 use Rattle.jpa_model.specs.declared.unit.PersistenceUnit.{PersistenceUnit}
 use Rattle.jpa_stored.specs.Sets.{StoredSet}
@@ -16,6 +16,8 @@ use Rattle.jpql_eval.specs.declared.datum.Datum.{Datum}
 use Rattle.jpql_eval.specs.declared.datum.Truth.{Truth}
 use Rattle.jpql_eval.specs.Answers.{Answer, gives, ◌>>=◌, each}
 use Rattle.jpql_eval.specs.Truths.{is_yes}
+use Rattle.jpql_eval.specs.Data.{same_data}
+use Rattle.jpql_eval.specs.Aggregates.{once}
 use Rattle.jpql_plan.specs.Paths.{Entry, Tuple, object_at, with_object, objects, related_objects}
 use Rattle.jpql_plan.specs.Meaning.{alone, is_any, in_turn, kept, tuples_where, value, value_drops, condition, truth, source, join, exists}
 use Rattle.jpql_plan.specs.Selection.{Row, precedes, in_order}
@@ -71,3 +73,12 @@ pub record OrderLaws (keys : List TypedKey) (rows : List Row) : Type 0 where
   pub stable : IsStableBy (precedes keys) rows (in_order keys rows)
   -- and there is no other
   pub one : (others : List Row) → IsSortedBy (precedes keys) others → IsStableBy (precedes keys) rows others → others ≡ in_order keys rows
+
+-- DISTINCT goes by the items of rows.
+abbrev pub is_same_row : Row → Row → Bool
+is_same_row a b = same_data a.items b.items
+
+-- DISTINCT (chapter 4.8.1): one more row is kept exactly where no row before it is the same.
+pub record DistinctLaws (rows : List Row) (row : Row) : Type 0 where
+  pub one_more : once is_same_row (rows ++ row ∷ [])
+      ≡ (if list_any (λ (before : Row). is_same_row before row) rows then once is_same_row rows else once is_same_row rows ++ row ∷ [])

@@ -8,7 +8,7 @@ ghost use Rattle.jpql_eval.specs.declared.datum.Truth.{Truth};
 ghost use Rattle.jpql_eval.specs.Answers.{Answer};
 ghost use Rattle.jpql_plan.specs.Paths.{Tuple};
 ghost use Rattle.jpql_plan.specs.Selection.{Row};
-ghost use Rattle.jpql_plan.specs.Laws.{FromLaws, WhereLaws, OrderLaws};
+ghost use Rattle.jpql_plan.specs.Laws.{FromLaws, WhereLaws, OrderLaws, DistinctLaws};
 
 /// The laws of FROM and EXISTS (chapters 4.4 and 4.6.16); it does nothing. A range is the objects of its class in rising
 /// order, an inner join a filter of related objects; a LEFT JOIN loses no tuple; elements of FROM may be parted anywhere;
@@ -26,4 +26,9 @@ pub fn where_laws()
 /// The laws of ORDER BY (chapter 4.9); it does nothing. It is the one stable sort by the keys.
 pub fn order_laws()
     ensures { (keys : List TypedKey) (rows : List Row) → OrderLaws keys rows }
+{}
+
+/// The law of DISTINCT (chapter 4.8.1); it does nothing. One more row is kept exactly where no row before it is the same.
+pub fn distinct_laws()
+    ensures { (rows : List Row) (row : Row) → DistinctLaws rows row }
 {}
