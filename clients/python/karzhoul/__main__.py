@@ -1,0 +1,7 @@
+"""`python3 -m karzhoul`: the command."""
+
+import sys
+
+from .command import main
+
+sys.exit(main())

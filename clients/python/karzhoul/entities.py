@@ -1,0 +1,222 @@
+"""Objects of entities as objects of Python: their attributes read and write through the program, which alone holds their values."""
+
+from __future__ import annotations
+
+from collections.abc import Sequence
+from dataclasses import dataclass
+from typing import TYPE_CHECKING, Any, ClassVar, Dict, Iterable, Iterator, List, NamedTuple, Optional, Tuple, Type, Union, overload
+
+from .lines import LifecycleEvent
+from .refusals import IllegalArgument
+from .unit import EntityDescription, Member, MemberKind
+
+if TYPE_CHECKING:
+    from .factory import EntityManagerFactory
+
+
+class Handle(NamedTuple):
+    """Where an object lives: its factory, and its number in the program."""
+
+    factory: EntityManagerFactory
+    number: int
+
+
+class Entity:
+    """An object of an entity. A number of the program is always the same object of Python, as long as that is held.
+
+    `EntityManagerFactory.entity` gives the class of an entity, whose attributes are the entity's members. An object whose class
+    isn't known, as one that an event told first, is an `Entity` itself; each name that isn't known here is asked of the program.
+    """
+
+    __slots__ = ("_karzhoul", "__weakref__")
+    __entity__: ClassVar[Optional[EntityDescription]] = None
+    __factory__: ClassVar[Optional["EntityManagerFactory"]] = None
+
+    def __init__(self, /, **values: Any) -> None:
+        if self.__factory__ is None:
+            raise TypeError("EntityManagerFactory.entity gives the classes of which objects are made")
+        self.__factory__.adopt(self)
+        for name, value in values.items():
+            setattr(self, name, value)
+
+    def __getattr__(self, name: str) -> Any:
+        if name.startswith("__") or name == "_karzhoul":
+            raise AttributeError(name)
+        factory = handle_of(self).factory
+        try:
+            return factory.get(self, name)
+        except IllegalArgument as refused:
+            raise AttributeError(f"{self!r} has no member {name!r}") from refused
+
+    def __setattr__(self, name: str, value: Any) -> None:
+        if isinstance(getattr(type(self), name, None), (_Property, _EmbeddedProperty)):
+            object.__setattr__(self, name, value)
+        else:
+            handle_of(self).factory.set(self, name, value)
+
+    def __repr__(self) -> str:
+        return f"<{type(self).__name__} #{handle_of(self).number}>"
+
+
+_SLOT = Entity.__dict__["_karzhoul"]
+
+
+def handle_of(entity: Entity) -> Handle:
+    """An object's handle, also where the entity has a member of the slot's name."""
+    return _SLOT.__get__(entity)  # type: ignore[no-any-return]
+
+
+def bind(entity: Entity, handle: Handle) -> None:
+    """Makes an object of Python stand for an object of the program."""
+    _SLOT.__set__(entity, handle)
+
+
+class _Property:
+    """A member as an attribute."""
+
+    def __init__(self, member: Member) -> None:
+        self.member = member
+        self.__doc__ = f"{member.kind.value} of {member.type}"
+
+    def __get__(self, entity: Optional[Entity], owner: Any = None) -> Any:
+        if entity is None:
+            return self
+        if self.member.kind is MemberKind.COLLECTION:
+            return Collection(entity, self.member.name)
+        return handle_of(entity).factory.get(entity, self.member.name)
+
+    def __set__(self, entity: Entity, value: Any) -> None:
+        # `object.members += [..]` has added them when it assigns.
+        if not (isinstance(value, Collection) and value.is_of(entity, self.member.name)):
+            handle_of(entity).factory.set(entity, self.member.name, value)
+
+
+class _EmbeddedProperty:
+    """An embedded id as an attribute."""
+
+    def __init__(self, name: str, parts: Tuple[str, ...]) -> None:
+        self.name, self.parts = name, parts
+
+    def __get__(self, entity: Optional[Entity], owner: Any = None) -> Any:
+        return self if entity is None else EmbeddedId(entity, self.name, self.parts)
+
+    def __set__(self, entity: Entity, value: Union[Dict[str, Any], Iterable[Any]]) -> None:
+        given = value if isinstance(value, dict) else dict(zip(self.parts, value))
+        for part in given:
+            handle_of(entity).factory.set(entity, f"{self.name}.{part}", given[part])
+
+
+class EmbeddedId:
+    """The embedded id of an object; its parts are attributes, and `tuple(id)` are their values."""
+
+    __slots__ = ("_entity", "_name", "_parts")
+
+    def __init__(self, entity: Entity, name: str, parts: Tuple[str, ...]) -> None:
+        for slot, value in zip(self.__slots__, (entity, name, parts)):
+            object.__setattr__(self, slot, value)
+
+    def __getattr__(self, part: str) -> Any:
+        if part not in self._parts:
+            raise AttributeError(f"{self._name} of {self._entity!r} has no part {part!r}")
+        return handle_of(self._entity).factory.get(self._entity, f"{self._name}.{part}")
+
+    def __setattr__(self, part: str, value: Any) -> None:
+        handle_of(self._entity).factory.set(self._entity, f"{self._name}.{part}", value)
+
+    def __iter__(self) -> Iterator[Any]:
+        return iter([getattr(self, part) for part in self._parts])
+
+    def __eq__(self, other: object) -> bool:
+        return tuple(self) == tuple(other) if isinstance(other, (EmbeddedId, tuple)) else NotImplemented
+
+    __hash__ = None  # type: ignore[assignment]
+
+    def __repr__(self) -> str:
+        return f"<{self._name} of {self._entity!r}>"
+
+
+class Collection(Sequence):  # type: ignore[type-arg]
+    """The members of a relation to many: a list that is read anew each time, to whose end members are added and from which the first
+    occurrence of a member is taken out."""
+
+    __slots__ = ("_entity", "_name")
+
+    def __init__(self, entity: Entity, name: str) -> None:
+        self._entity, self._name = entity, name
+
+    def is_of(self, entity: Entity, name: str) -> bool:
+        """Whether it is this member of this object."""
+        return self._entity is entity and self._name == name
+
+    def _members(self) -> List[Entity]:
+        return handle_of(self._entity).factory.get(self._entity, self._name)  # type: ignore[no-any-return]
+
+    @overload
+    def __getitem__(self, at: int) -> Entity: ...
+
+    @overload
+    def __getitem__(self, at: slice) -> List[Entity]: ...
+
+    def __getitem__(self, at: Union[int, slice]) -> Union[Entity, List[Entity]]:
+        return self._members()[at]
+
+    def __len__(self) -> int:
+        return len(self._members())
+
+    def __iter__(self) -> Iterator[Entity]:
+        return iter(self._members())
+
+    def __contains__(self, member: object) -> bool:
+        return member in self._members()
+
+    def __reversed__(self) -> Iterator[Entity]:
+        return reversed(self._members())
+
+    def __eq__(self, other: object) -> bool:
+        return self._members() == list(other) if isinstance(other, (list, Collection)) else NotImplemented
+
+    __hash__ = None  # type: ignore[assignment]
+
+    def __iadd__(self, members: Iterable[Entity]) -> Collection:
+        self.extend(members)
+        return self
+
+    def append(self, member: Entity) -> None:
+        """Adds a member at the end."""
+        handle_of(self._entity).factory.add(self._entity, self._name, member)
+
+    def extend(self, members: Iterable[Entity]) -> None:
+        """Adds members at the end."""
+        for member in list(members):
+            self.append(member)
+
+    def remove(self, member: Entity) -> None:
+        """Takes out the first occurrence of a member; a `ValueError` where there is none."""
+        if not handle_of(self._entity).factory.take_out(self._entity, self._name, member):
+            raise ValueError(f"{member!r} is not in {self._name} of {self._entity!r}")
+
+    def clear(self) -> None:
+        """Takes out all members."""
+        for member in self._members():
+            self.remove(member)
+
+    def __repr__(self) -> str:
+        return f"<{self._name} of {self._entity!r}>"
+
+
+def class_of(factory: EntityManagerFactory, entity: EntityDescription) -> Type[Entity]:
+    """The class of an entity's objects."""
+    names: Dict[str, Any] = {member.name: _Property(member) for member in entity.members if "." not in member.name}
+    if entity.embedded is not None:
+        names[entity.embedded] = _EmbeddedProperty(entity.embedded, tuple(part.name.partition(".")[2] for part in entity.key))
+    names.update(__slots__=(), __entity__=entity, __factory__=factory, __doc__=f"An object of the entity {entity.name}.")
+    return type(entity.name, (Entity,), names)
+
+
+@dataclass(frozen=True)
+class Event:
+    """An event of an object's life, with the names of the listeners and callbacks that ran."""
+
+    kind: LifecycleEvent
+    object: Entity
+    ran: Tuple[str, ...] = ()

@@ -1,0 +1,289 @@
+"""A running unit of entities: its classes, its managers, the calls on objects, and what the application hears of their lives."""
+
+from __future__ import annotations
+
+import json
+import os
+import tempfile
+import threading
+import weakref
+from collections import deque
+from contextlib import contextmanager
+from pathlib import Path
+from typing import Any, Callable, Deque, Dict, Iterable, Iterator, List, Mapping, Optional, Sequence, Tuple, Type, TypeVar, Union
+
+from .entities import Entity, Event, Handle, bind, class_of, handle_of
+from .lines import LifecycleEvent, is_call, line_of, reply_of, spelled, text_spelled
+from .manager import EntityManager
+from .program import Program, Sent, Words, find_program
+from .refusals import KarzhoulError, NotServed, ProgramNotFound, Refused, refusal_named
+from .refusals import Mapping as MappingRefused
+from .strict_json import read, text_of
+from .unit import EntityDescription, entities_of
+
+E = TypeVar("E", bound=Entity)
+Asked = Union[str, Type[E]]
+Callback = Callable[[Event], None]
+
+
+def open(mapping: Union[Words, Mapping[str, Any]], db: Optional[Words] = None, *, program: Optional[Words] = None) -> EntityManagerFactory:
+    """Starts the program over a mapping (a file, or what such a file says) and a database file; without one the store is in memory.
+
+    A mapping that is refused is a `refusals.Mapping` that says where it is wrong, a store a `Damaged` or a `StoreFault`. `program`
+    names the program to start (`program.find_program` tells where it is looked for else).
+    """
+    if isinstance(mapping, Mapping):
+        with tempfile.TemporaryDirectory(prefix="karzhoul-") as place:
+            path = Path(place, "mapping.json")
+            path.write_text(json.dumps(mapping, ensure_ascii=False), encoding="utf-8")
+            return open(path, db, program=program)
+    running = Program([find_program(program), "--mapping", os.fspath(mapping)] + (["--db", os.fspath(db)] if db is not None else []))
+    try:
+        running.start()
+        return EntityManagerFactory(running, entities_of(read(text_of(Path(mapping).read_bytes())).plain()))  # type: ignore[arg-type]
+    except MappingRefused as refused:
+        from .linter import lint
+
+        refused.faults = tuple(map(str, lint(Path(mapping).read_bytes()).findings)) if os.path.isfile(mapping) else ()
+        raise
+    except BaseException:
+        running.close()
+        raise
+
+
+class EntityManagerFactory:
+    """A running unit. A context manager that ends the program; threads may share it, and each call is done as a whole."""
+
+    def __init__(self, program: Program, entities: Mapping[str, EntityDescription]) -> None:
+        self._program = program
+        self._classes = {name: class_of(self, entity) for name, entity in entities.items()}
+        self._objects: weakref.WeakValueDictionary[int, Entity] = weakref.WeakValueDictionary()
+        self._lock = threading.RLock()
+        self._pipelines = 0
+        self._deferred: List[Sent] = []
+        self._callbacks: List[Tuple[Callback, frozenset[LifecycleEvent]]] = []
+        self._events: Deque[Event] = deque()
+        self._is_notifying = False
+
+    def __enter__(self) -> EntityManagerFactory:
+        return self
+
+    def __exit__(self, *_: object) -> None:
+        self.close()
+
+    @property
+    def program(self) -> Program:
+        """The running program."""
+        return self._program
+
+    @property
+    def entities(self) -> Dict[str, EntityDescription]:
+        """The entities by name."""
+        return {name: kind.__entity__ for name, kind in self._classes.items()}  # type: ignore[misc]
+
+    def close(self) -> None:
+        """Ends the program; what isn't committed is gone. Again it does nothing."""
+        with self._lock:
+            self._program.close()
+
+    def entity(self, name: str) -> Type[Entity]:
+        """The class of an entity: calling it makes a new object, as `Person(name="Ada")`."""
+        return self._classes[name]
+
+    def create_entity_manager(self) -> EntityManager:
+        """A manager with an empty context."""
+        return EntityManager(self, self.ask("createEntityManager"))
+
+    def listen(self, callback: Callback, *events: LifecycleEvent) -> None:
+        """Hands the events of these kinds, or without any all events, to a callback, in the order told, when their call is done. A
+        callback may call, and what it raises is raised by the call that told the event."""
+        self._callbacks.append((callback, frozenset(events or LifecycleEvent)))
+
+    # ---- objects
+
+    def new(self, entity: Asked[E], /, **values: Any) -> E:
+        """A new object with these values."""
+        return self._class(entity)(**values)
+
+    def new_many(self, entity: Asked[E], rows: Iterable[Mapping[str, Any]]) -> List[E]:
+        """A new object for each row of values, sent without waiting for each."""
+        rows = list(rows)
+        kind = self._class(entity)
+        with self._lock:
+            made = self.ask_many("new", [{"entity": text_spelled(kind.__name__)}] * len(rows), kind)
+            with self.pipeline():
+                for each, row in zip(made, rows):
+                    for name, value in row.items():
+                        setattr(each, name, value)
+            return made
+
+    def get(self, entity: Entity, name: str) -> Any:
+        """The value of a member; of a collection a list of its members."""
+        return self.ask("get", self._target(entity, name), object=self.number(entity), name=text_spelled(name))
+
+    def get_many(self, objects: Sequence[Entity], name: str) -> List[Any]:
+        """The values that objects of one class have of a member, asked without waiting for each."""
+        kind = self._target(objects[0], name) if objects else None
+        spelling = text_spelled(name)
+        return self.ask_many("get", ({"object": self.number(entity), "name": spelling} for entity in objects), kind)
+
+    def set(self, entity: Entity, name: str, value: Any) -> None:
+        """Sets a member."""
+        self.tell("set", object=self.number(entity), name=text_spelled(name), value=self.given(value))
+
+    def add(self, entity: Entity, name: str, member: Entity) -> None:
+        """Adds a member to a collection, at its end."""
+        self.tell("add", object=self.number(entity), name=text_spelled(name), member=self.number(member))
+
+    def take_out(self, entity: Entity, name: str, member: Entity) -> bool:
+        """Takes the first occurrence of a member out of a collection, and answers whether there was one."""
+        return self.ask("takeOut", object=self.number(entity), name=text_spelled(name), member=self.number(member))  # type: ignore[no-any-return]
+
+    def number(self, entity: Entity) -> str:
+        """The number of an object of this factory, as JSON."""
+        handle = handle_of(entity) if isinstance(entity, Entity) else None
+        if handle is None or handle.factory is not self:
+            raise ValueError(f"{entity!r} is no object of this factory")
+        return str(handle.number)
+
+    def given(self, value: Any) -> str:
+        """A value or an object as JSON."""
+        return f'{{"object":{self.number(value)}}}' if isinstance(value, Entity) else spelled(value)
+
+    def found(self, answer: Any, kind: Optional[Type[E]] = None) -> Any:
+        """What an answer says: values, bytes, and objects, which are of this class where it isn't known better."""
+        if type(answer) is list:
+            return [self.found(item, kind) for item in answer]
+        if type(answer) is not dict:
+            return answer
+        return bytes.fromhex(answer["hex"]) if "hex" in answer else self._object(answer["object"], kind or Entity)
+
+    def adopt(self, entity: Entity) -> None:
+        """Makes a new object of the program for an object of Python."""
+        with self._lock:
+            number = handle_of(self.ask("new", entity=text_spelled(type(entity).__name__))).number
+            bind(entity, Handle(self, number))
+            self._objects[number] = entity
+
+    def _object(self, number: int, kind: Type[Entity]) -> Entity:
+        with self._lock:
+            known = self._objects.get(number)
+            if known is None:
+                known = kind.__new__(kind)
+                bind(known, Handle(self, number))
+                self._objects[number] = known
+            elif type(known) is Entity and kind is not Entity:
+                object.__setattr__(known, "__class__", kind)
+            return known
+
+    def _class(self, entity: Asked[E]) -> Type[E]:
+        return self._classes[entity] if isinstance(entity, str) else entity  # type: ignore[return-value]
+
+    def _target(self, entity: Entity, name: str) -> Optional[Type[Entity]]:
+        member = getattr(getattr(type(entity), name, None), "member", None)
+        return self._classes.get(member.type) if member is not None else None
+
+    # ---- calls
+
+    @contextmanager
+    def pipeline(self) -> Iterator[None]:
+        """Within it, calls that answer nothing but null (`set`, `add`, `persist` and the like) are sent without waiting for their
+        replies. A call that answers something, and the end of the block, wait for all replies, and raise the first refusal, with the
+        others as its `later`; what was sent after a refused call was done all the same. Other threads wait until the block ends."""
+        with self._lock:
+            self._pipelines += 1
+            try:
+                yield
+            except BaseException:
+                self._pipelines -= 1
+                try:
+                    self._settle()
+                except KarzhoulError:
+                    pass  # What the block itself raised is told.
+                raise
+            self._pipelines -= 1
+            if not self._pipelines:
+                self._settle()
+
+    def ask(self, call: str, kind: Optional[Type[Entity]] = None, /, **members: str) -> Any:
+        """Does a call, whose members are JSON, and gives its answer, with objects of this class where their class isn't known better."""
+        with self._lock:
+            self._settle()
+            sent = self._program.send(line_of(call, **members))
+            reply = reply_of(self._program.wait(sent))
+            if reply.refusal is None and not reply.events:
+                return self.found(reply.ok, kind)
+            return self._taken([sent], kind)[0]
+
+    def ask_many(self, call: str, members: Iterable[Dict[str, str]], kind: Optional[Type[Entity]] = None) -> List[Any]:
+        """Does a call several times without waiting for each, and gives the answers."""
+        with self._lock:
+            self._settle()
+            return self._taken([self._program.send(line_of(call, **each)) for each in members], kind)
+
+    def tell(self, call: str, /, **members: str) -> None:
+        """Does a call that answers null; within a pipeline without waiting for its reply."""
+        with self._lock:
+            self._deferred.append(self._program.send(line_of(call, **members)))
+            if not self._pipelines:
+                self._settle()
+
+    def send_line(self, line: str) -> Any:
+        """Sends any line as it is, and gives its answer."""
+        if "\n" in line:
+            raise ValueError("a line has no line feed")
+        with self._lock:
+            self._settle()
+            return self._taken([self._program.send(line.encode())], None)[0]
+
+    def _settle(self) -> None:
+        if self._deferred:
+            deferred, self._deferred = self._deferred, []
+            self._taken(deferred, None)
+
+    def _taken(self, sent: Sequence[Sent], kind: Optional[Type[Entity]]) -> List[Any]:
+        """The answers to lines. Their events are told first, and then the first refusal is raised."""
+        answers: List[Any] = []
+        refused: List[KarzhoulError] = []
+        for each in sent:
+            reply = reply_of(self._program.wait(each))
+            answers.append(self.found(reply.ok, kind))
+            if reply.refusal is not None or (reply.events and self._callbacks):
+                events = tuple([Event(told.event, self._object(told.number, Entity), told.ran) for told in reply.events])
+                self._events.extend(events)
+                if reply.refusal is not None:
+                    refused.append(_refusal(reply.refusal, events, each.line))
+        try:
+            self._notify()
+        finally:
+            if refused:
+                if isinstance(refused[0], Refused):
+                    refused[0].later = tuple(refused[1:])
+                raise refused[0]
+        return answers
+
+    def _notify(self) -> None:
+        """Tells the events in their order; those of calls that a callback makes come after them."""
+        if self._is_notifying:
+            return
+        self._is_notifying = True
+        faults: List[Exception] = []
+        try:
+            while self._events:
+                event = self._events.popleft()
+                for callback, kinds in list(self._callbacks):
+                    if event.kind in kinds:
+                        try:
+                            callback(event)
+                        except Exception as raised:
+                            faults.append(raised)
+        finally:
+            self._is_notifying = False
+        if faults:
+            raise faults[0]
+
+
+def _refusal(refusal: Tuple[str, Optional[str]], events: Tuple[Event, ...], line: bytes) -> KarzhoulError:
+    name, detail = refusal
+    text = line.decode(errors="replace")
+    return NotServed(text) if name == "BadLine" and is_call(line) else refusal_named(name, detail, events, text)

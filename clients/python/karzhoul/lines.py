@@ -1,0 +1,198 @@
+"""The lines that are sent and the replies that are read: which calls there are, what they take, and how values are spelled."""
+
+from __future__ import annotations
+
+import enum
+import json
+import re
+from typing import Any, Callable, Mapping, NamedTuple, Optional, Tuple
+
+from .strict_json import GREATEST_INTEGER, LEAST_INTEGER, NoJson, read, text_of
+
+
+class FlushMode(str, enum.Enum):
+    """When a query in a transaction flushes first."""
+
+    AUTO = "AUTO"
+    COMMIT = "COMMIT"
+
+
+class LockMode(str, enum.Enum):
+    """How a managed object is locked (chapter 3.4)."""
+
+    READ = "READ"
+    OPTIMISTIC = "OPTIMISTIC"
+    WRITE = "WRITE"
+    OPTIMISTIC_FORCE_INCREMENT = "OPTIMISTIC_FORCE_INCREMENT"
+
+
+class LifecycleEvent(str, enum.Enum):
+    """The events of an object's life (chapter 3.5)."""
+
+    PRE_PERSIST = "PrePersist"
+    POST_PERSIST = "PostPersist"
+    PRE_REMOVE = "PreRemove"
+    POST_REMOVE = "PostRemove"
+    PRE_UPDATE = "PreUpdate"
+    POST_UPDATE = "PostUpdate"
+    POST_LOAD = "PostLoad"
+
+
+class Told(NamedTuple):
+    """An event as a reply tells it: the object's number, and the listeners and callbacks that ran."""
+
+    event: LifecycleEvent
+    number: int
+    ran: Tuple[str, ...]
+
+
+# ---- which lines are calls
+
+
+class Takes(enum.Enum):
+    """What a member of a call may be."""
+
+    INTEGER = "an integer"
+    NAME = "a text"
+    VALUE = "a value"
+    KEY = "a list of values"
+    PARAMS = "values by the names of parameters"
+    FLUSH_MODE = "a flush mode"
+    LOCK_MODE = "a lock mode"
+
+
+_EM = {"em": Takes.INTEGER}
+_OBJECT = {"object": Takes.INTEGER}
+_ON = {**_EM, **_OBJECT}
+_NAMED = {**_OBJECT, "name": Takes.NAME}
+_KEYED = {**_EM, "entity": Takes.NAME, "key": Takes.KEY}
+_STATEMENT = {**_EM, "text": Takes.NAME, "params": Takes.PARAMS}
+_QUERY = {**_STATEMENT, "first": Takes.INTEGER, "max": Takes.INTEGER}
+_OPTIONAL = {"params", "first", "max"}
+
+CALLS: Mapping[str, Mapping[str, Takes]] = {
+    "createEntityManager": {},
+    "close": _EM,
+    "begin": _EM,
+    "commit": _EM,
+    "rollback": _EM,
+    "setRollbackOnly": _EM,
+    "clear": _EM,
+    "flush": _EM,
+    "setFlushMode": {**_EM, "mode": Takes.FLUSH_MODE},
+    "new": {"entity": Takes.NAME},
+    "get": _NAMED,
+    "set": {**_NAMED, "value": Takes.VALUE},
+    "add": {**_NAMED, "member": Takes.INTEGER},
+    "takeOut": {**_NAMED, "member": Takes.INTEGER},
+    "find": _KEYED,
+    "getReference": _KEYED,
+    "persist": _ON,
+    "remove": _ON,
+    "refresh": _ON,
+    "detach": _ON,
+    "merge": _ON,
+    "contains": _ON,
+    "lock": {**_ON, "mode": Takes.LOCK_MODE},
+    "query": _QUERY,
+    "querySingle": _QUERY,
+    "executeUpdate": _STATEMENT,
+}
+"""The calls with their members; those of `params`, `first` and `max` may be absent."""
+
+
+def _is_value(given: Any) -> bool:
+    if isinstance(given, dict) and len(given) == 1:
+        digits = given.get("hex")
+        is_bytes = isinstance(digits, str) and re.fullmatch(r"(?:[0-9a-fA-F]{2})*", digits) is not None
+        return is_bytes or type(given.get("object")) is int
+    return given is None or type(given) in (int, str)
+
+
+_TAKEN: Mapping[Takes, Callable[[Any], bool]] = {
+    Takes.INTEGER: lambda given: type(given) is int,
+    Takes.NAME: lambda given: isinstance(given, str),
+    Takes.VALUE: _is_value,
+    Takes.KEY: lambda given: isinstance(given, list) and all(map(_is_value, given)),
+    Takes.PARAMS: lambda given: isinstance(given, dict) and all(map(_is_value, given.values())),
+    Takes.FLUSH_MODE: lambda given: given in [mode.value for mode in FlushMode],
+    Takes.LOCK_MODE: lambda given: given in [mode.value for mode in LockMode],
+}
+
+
+def is_call(line: bytes) -> bool:
+    """Whether a line is a call by the rules, be it served or not."""
+    try:
+        said = read(text_of(line)).plain()
+    except NoJson:
+        return False
+    if not isinstance(said, dict) or not isinstance(said.get("call"), str) or said["call"] not in CALLS:
+        return False
+    members = CALLS[said.pop("call")]
+    are_there = all(name in said or name in _OPTIONAL for name in members)
+    return are_there and all(name in members and _TAKEN[members[name]](given) for name, given in said.items())
+
+
+# ---- lines
+
+text_spelled: Callable[[str], str] = json.encoder.encode_basestring
+"""A text as JSON."""
+
+
+def line_of(call: str, **members: str) -> bytes:
+    """The line of a call, without its line feed, whose members are JSON already. A text that isn't Unicode, as a lone surrogate, is a
+    `UnicodeEncodeError`."""
+    said = "".join([f',"{name}":{value}' for name, value in members.items()])
+    return f'{{"call":"{call}"{said}}}'.encode()
+
+
+def spelled(value: Any) -> str:
+    """A value as JSON: None, an int of 64 bits, a str or bytes; anything else is a `TypeError` or an `OverflowError`."""
+    kind = type(value)
+    if kind is str:
+        return text_spelled(value)
+    if kind is int:
+        if LEAST_INTEGER <= value <= GREATEST_INTEGER:
+            return str(value)
+        raise OverflowError(f"{value} is no integer of 64 bits")
+    if value is None:
+        return "null"
+    if isinstance(value, (bytes, bytearray, memoryview)):
+        return f'{{"hex":"{bytes(value).hex()}"}}'
+    if isinstance(value, str):
+        return text_spelled(str.__str__(value))
+    if isinstance(value, int) and kind is not bool:
+        return spelled(int(value))
+    raise TypeError(f"a value is None, an int, a str, bytes or an object of an entity, and no {kind.__name__}")
+
+
+# ---- replies
+
+
+class Reply(NamedTuple):
+    """A reply: `ok` where there is no refusal, which is the refusal's name and its detail."""
+
+    events: Tuple[Told, ...]
+    ok: Any
+    refusal: Optional[Tuple[str, Optional[str]]]
+
+
+_scan = json.JSONDecoder().scan_once
+_NOTHING = Reply((), None, None)
+_OBJECT_FRONT = b'{"events":[],"ok":{"object":'
+
+
+def reply_of(line: bytes) -> Reply:
+    """The reply on a line, which is compact JSON; a `ValueError` where there is none."""
+    if line == b'{"events":[],"ok":null}':
+        return _NOTHING
+    if line.startswith(_OBJECT_FRONT) and line.endswith(b"}}"):
+        return Reply((), {"object": int(line[len(_OBJECT_FRONT) : -2])}, None)
+    try:
+        said = _scan(line.decode(), 0)[0]
+        events = tuple([Told(LifecycleEvent(name), number, tuple(ran)) for name, number, *ran in said["events"]])
+        if "error" in said:
+            return Reply(events, None, (said["error"]["name"], said["error"].get("why")))
+        return Reply(events, said["ok"], None)
+    except (StopIteration, KeyError, TypeError) as fault:
+        raise ValueError(f"{line[:100]!r} is no reply") from fault

@@ -1,0 +1,213 @@
+"""The program as a running process: lines go in, and one reply comes out for each, in their order."""
+
+from __future__ import annotations
+
+import os
+import select
+import shutil
+import subprocess
+import sys
+import tempfile
+import weakref
+from collections import deque
+from pathlib import Path
+from typing import IO, Deque, List, Optional, Sequence, Union
+
+from .refusals import KarzhoulError, ProgramEnded, ProgramNotFound, refusal_of
+
+VARIABLE = "KARZHOUL_PROGRAM"
+_SLICE = 1 << 16
+_PATIENCE = 2.0
+
+Words = Union[str, "os.PathLike[str]"]
+
+
+def find_program(given: Optional[Words] = None) -> str:
+    """The program to start: the one that is given, else that of the variable KARZHOUL_PROGRAM, else `jpa` at the top of the
+    repository that this package lies in, else `jpa` on the PATH."""
+    named = given if given is not None else os.environ.get(VARIABLE)
+    if named is not None:
+        found = shutil.which(os.fspath(named))
+        if found is None:
+            raise ProgramNotFound(f"{os.fspath(named)!r} is no program that can be started")
+        return os.path.abspath(found)
+    for top in list(Path(__file__).resolve().parents)[3:4]:
+        if (top / "crates" / "jpa").is_dir() and os.access(top / "jpa", os.X_OK):
+            return str(top / "jpa")
+    on_path = shutil.which("jpa")
+    if on_path is None:
+        raise ProgramNotFound(f"there is no program 'jpa' on the PATH: name it by program=.. or by the variable {VARIABLE}")
+    return on_path
+
+
+class Sent:
+    """A line that was handed in, and its reply's line once that was read."""
+
+    __slots__ = ("line", "reply")
+
+    def __init__(self, line: bytes) -> None:
+        self.line = line
+        self.reply: Optional[bytes] = None
+
+
+class Program:
+    """A program that was started with these words. Not for use by two threads at a time.
+
+    What is written never waits for what is read: replies are read while lines are written, so that no number of lines handed in at
+    a time can fill both pipes. What the program tells on standard error goes to a file, and is told where it ends.
+    """
+
+    def __init__(self, words: Sequence[str]) -> None:
+        self._told: IO[bytes] = tempfile.TemporaryFile()
+        try:
+            self._process = subprocess.Popen(
+                list(words), bufsize=0, stdin=subprocess.PIPE, stdout=subprocess.PIPE, stderr=self._told
+            )
+        except OSError as fault:
+            self._told.close()
+            raise ProgramNotFound(f"{words[0]} can't be started: {fault.strerror}") from fault
+        assert self._process.stdin is not None and self._process.stdout is not None
+        self._in = self._process.stdin.fileno()
+        self._out = self._process.stdout.fileno()
+        os.set_blocking(self._in, False)
+        self._outgoing = bytearray()
+        self._incoming = b""
+        self._unanswered: Deque[Sent] = deque()
+        self._fault: Optional[KarzhoulError] = None
+        self._is_moving = False
+        self._reading, self._moving = select.poll(), select.poll()
+        for poll in (self._reading, self._moving):
+            poll.register(self._out, select.POLLIN)
+        self._moving.register(self._in, select.POLLOUT)
+        self._end = weakref.finalize(self, _end, self._process, self._told, os.getpid())
+
+    @property
+    def pid(self) -> int:
+        """The process's number."""
+        return self._process.pid
+
+    @property
+    def fault(self) -> Optional[KarzhoulError]:
+        """Why the program answers no more; None while it does."""
+        return self._fault
+
+    def send(self, line: bytes) -> Sent:
+        """Hands in a line, which is written now or with later ones."""
+        if self._fault:
+            raise self._fault
+        sent = Sent(line)
+        self._unanswered.append(sent)
+        self._outgoing += line
+        self._outgoing += b"\n"
+        while len(self._outgoing) >= _SLICE:
+            self._exchange()
+        return sent
+
+    def wait(self, sent: Sent) -> bytes:
+        """The reply's line. The program's end is a `ProgramEnded`, or the refusal that it ended with."""
+        while sent.reply is None:
+            if self._fault:
+                raise self._fault
+            self._exchange()
+        return sent.reply
+
+    def start(self) -> None:
+        """Waits for the program to answer at all, by an empty line, which is no call. What it tells meanwhile, as where it is being
+        built, goes to standard error."""
+        sent, shown = self.send(b""), 0
+        self._write()
+        while sent.reply is None and self._fault is None:
+            if self._reading.poll(_PATIENCE * 1000):
+                self._exchange()
+            else:
+                shown = self._show(shown)
+        self.wait(sent)
+
+    def close(self) -> None:
+        """Writes what was handed in, ends the program's input and waits for its end."""
+        try:
+            while (self._outgoing or self._unanswered) and not self._fault:
+                self._exchange()
+        finally:
+            self._fault = self._fault or ProgramEnded(None)
+            self._end()
+
+    def _show(self, shown: int) -> int:
+        told = self._tell()
+        if len(told) > shown:
+            print(f"karzhoul: waiting for {self._process.args[0]}: {told[shown:].strip()}", file=sys.stderr)  # type: ignore[index]
+        return len(told)
+
+    def _tell(self) -> str:
+        size = os.fstat(self._told.fileno()).st_size
+        return os.pread(self._told.fileno(), size, 0).decode(errors="replace")
+
+    def _exchange(self) -> None:
+        """Moves some bytes: writes as far as the pipe takes them, and reads where there is something or nothing is left to write."""
+        if self._is_moving:
+            self._break("a call was interrupted while bytes were on their way")
+        if self._outgoing:
+            self._is_moving = True
+            self._write()
+            self._is_moving = False
+        if not self._outgoing:
+            self._reading.poll()
+        elif all(pipe != self._out for pipe, _ in self._moving.poll()):
+            return
+        self._is_moving = True
+        self._read()
+        self._is_moving = False
+
+    def _write(self) -> None:
+        try:
+            del self._outgoing[: os.write(self._in, self._outgoing[:_SLICE])]
+        except BlockingIOError:
+            pass
+        except BrokenPipeError:
+            # What it wrote before its end is still read.
+            self._outgoing.clear()
+
+    def _read(self) -> None:
+        chunk = os.read(self._out, _SLICE)
+        if not chunk:
+            self._fault = self._ended()
+            return
+        lines: List[bytes] = (self._incoming + chunk).split(b"\n")
+        self._incoming = lines.pop()
+        for line in lines:
+            if not self._unanswered:
+                self._break("the program told more than it was asked")
+            self._unanswered.popleft().reply = line
+
+    def _break(self, why: str) -> None:
+        self._process.kill()
+        self._fault = ProgramEnded(self._process.wait(), why)
+        raise self._fault
+
+    def _ended(self) -> KarzhoulError:
+        """Why the program ended: the refusal that it told where it never came to answer, as of its mapping."""
+        try:
+            status = self._process.wait(_PATIENCE)
+        except subprocess.TimeoutExpired:
+            self._process.kill()
+            status = self._process.wait()
+        told = self._tell()
+        last = told.rstrip().rpartition("\n")[2]
+        if status in (2, 3) and last.startswith("jpa: "):
+            return refusal_of(last[len("jpa: ") :])
+        return ProgramEnded(status, told)
+
+
+def _end(process: "subprocess.Popen[bytes]", told: IO[bytes], owner: int) -> None:
+    """Ends the process where it was started here, and not in a parent of this process. Called once, at the interpreter's exit at
+    the latest."""
+    for pipe in (process.stdin, process.stdout):
+        if pipe is not None:
+            pipe.close()
+    if os.getpid() == owner:
+        try:
+            process.wait(timeout=10)
+        except subprocess.TimeoutExpired:
+            process.kill()
+            process.wait()
+    told.close()

@@ -1,0 +1,236 @@
+"""What a store holds, as tables and as one page: read through the program, object by object, and never by the store's cells."""
+
+from __future__ import annotations
+
+import html
+import itertools
+import json
+from dataclasses import dataclass
+from typing import Any, Dict, Iterable, List, Mapping, Optional, Sequence, Tuple
+
+from .diagram import diagram
+from .entities import Entity, handle_of
+from .factory import EntityManagerFactory
+from .manager import EntityManager
+from .refusals import NotServed, Refused
+from .unit import EntityDescription
+
+Keys = Mapping[str, Sequence[Any]]
+Identity = Tuple[str, Tuple[Any, ...]]
+
+MOST_KEYS = 100_000
+_WIDEST = 40
+_SLICE = 1_000
+
+
+@dataclass(frozen=True)
+class Link:
+    """A related object, by its entity and key."""
+
+    identity: Identity
+
+    def __str__(self) -> str:
+        entity, key = self.identity
+        return f"{entity} {', '.join(value_text(part) for part in key)}"
+
+
+@dataclass
+class Table:
+    """The stored objects of an entity. `note` says how they were found, and what else there may be."""
+
+    entity: EntityDescription
+    columns: List[str]
+    rows: List[List[Any]]
+    note: str
+
+    def identity(self, row: Sequence[Any]) -> Identity:
+        """The identity of the object in a row, whose key comes first."""
+        return self.entity.name, tuple(row[: len(self.entity.key)])
+
+
+def tables(app: EntityManagerFactory, keys: Keys, most: int = MOST_KEYS) -> List[Table]:
+    """The stored objects of each entity, in the mapping's order: those that a query finds, or, where the program serves no queries, those
+    of generated keys, of which at most so many are looked for, and those of the keys that are given."""
+    return [_Reader(app, keys, most).table(entity) for entity in app.entities.values()]
+
+
+class _Reader:
+    def __init__(self, app: EntityManagerFactory, keys: Keys, most: int) -> None:
+        self._app, self._keys, self._most = app, keys, most
+        self._em = app.create_entity_manager()
+
+    def table(self, entity: EntityDescription) -> Table:
+        objects, note = self._objects(entity)
+        columns = [member.name for member in entity.members]
+        values = [self._column(objects, name) for name in columns]
+        rows = sorted(map(list, zip(*values)), key=lambda row: _order(row[: len(entity.key)]))
+        return Table(entity, columns, rows, note)
+
+    def _objects(self, entity: EntityDescription) -> Tuple[List[Entity], str]:
+        name = entity.name
+        try:
+            found = self._em.query(f"SELECT e FROM {name} e WHERE TYPE(e) = {name}", self._app.entity(name))
+            return found, "all that are stored"
+        except NotServed:
+            pass
+        given = list(self._keys.get(name, ()))
+        if not entity.is_generated:
+            return self._found(entity, given), "those of the keys that were given" if given else "no keys were given (--key), and the program serves no queries yet"
+        following = next_number(self._em, self._app, entity)
+        last = min(following - 1, self._most)
+        note = "all that are stored" if last == following - 1 else f"those of the keys from 1 to {last:,}, of the {following - 1:,} that were given out"
+        return self._found(entity, itertools.chain(range(1, last + 1), (key for key in given if not 1 <= key <= last))), note
+
+    def _found(self, entity: EntityDescription, keys: Iterable[Any]) -> List[Entity]:
+        found: List[Optional[Entity]] = []
+        for part in iter(lambda remaining=iter(keys): list(itertools.islice(remaining, _SLICE)), []):  # type: ignore[misc]
+            found += self._em.find_many(self._app.entity(entity.name), part)
+        return [each for each in dict.fromkeys(found) if each is not None]
+
+    def _column(self, objects: List[Entity], name: str) -> List[Any]:
+        values: List[Any] = []
+        for start in range(0, len(objects), _SLICE):
+            values += self._app.get_many(objects[start : start + _SLICE], name)
+        return [self._linked(value) for value in values]
+
+    def _linked(self, value: Any) -> Any:
+        if isinstance(value, list):
+            return [self._linked(each) for each in value]
+        if isinstance(value, Entity):
+            known = type(value).__entity__
+            name = known.name if known else "object"
+            key = tuple(self._app.get(value, part.name) for part in known.key) if known else (handle_of(value).number,)
+            return Link((name, key))
+        return value
+
+
+def next_number(em: EntityManager, app: EntityManagerFactory, entity: EntityDescription) -> int:
+    """The number that the next object of a generated key gets: it is given one in a transaction that is rolled back, so that nothing is
+    stored. All stored objects have lower ones."""
+    transaction = em.transaction().begin()
+    try:
+        probe = app.new(entity.name)
+        em.persist(probe)
+        return int(app.get(probe, entity.key[0].name))
+    except Refused:
+        return 1
+    finally:
+        transaction.rollback()
+
+
+def _order(key: Sequence[Any]) -> List[Tuple[str, Any]]:
+    return [(type(part).__name__, part) for part in key]
+
+
+def value_text(value: Any) -> str:
+    """A value as a reader sees it."""
+    if value is None:
+        return "null"
+    if isinstance(value, bytes):
+        return f"x'{value.hex()}'"
+    if isinstance(value, str):
+        return value if value.isprintable() else json.dumps(value, ensure_ascii=False)[1:-1]
+    if isinstance(value, list):
+        return "[" + ", ".join(map(value_text, value)) + "]"
+    return str(value)
+
+
+# ---- as text
+
+
+def text_page(shown: Sequence[Table]) -> str:
+    """The tables as text."""
+    return "\n".join(map(_text_table, shown))
+
+
+def _text_table(table: Table) -> str:
+    cells = [table.columns] + [[_cut(value_text(value)) for value in row] for row in table.rows]
+    widths = [max(map(len, column)) for column in zip(*cells)]
+    numbers = [all(isinstance(row[place], int) or row[place] is None for row in table.rows) for place in range(len(widths))]
+    lines = [" | ".join(_padded(cell, width, is_number) for cell, width, is_number in zip(row, widths, numbers)).rstrip() for row in cells]
+    lines.insert(1, "-+-".join("-" * width for width in widths))
+    count = f"{len(table.rows)} object" + ("" if len(table.rows) == 1 else "s")
+    return "\n".join([f"{table.entity.name}: {count} ({table.note})", *(lines if table.rows else []), ""])
+
+
+def _padded(cell: str, width: int, is_number: bool) -> str:
+    return cell.rjust(width) if is_number else cell.ljust(width)
+
+
+def _cut(text: str) -> str:
+    return text if len(text) <= _WIDEST else text[: _WIDEST - 1] + "…"
+
+
+# ---- as a page
+
+_STYLE = """
+:root { color-scheme: light dark; --line: #8886; --soft: #8882; --link: #2563eb; }
+@media (prefers-color-scheme: dark) { :root { --link: #7aa2ff; } }
+body { font: 15px/1.5 system-ui, sans-serif; margin: 2rem auto; max-width: 72rem; padding: 0 1rem; }
+h1 { font-size: 1.4rem; } h2 { font-size: 1.1rem; margin-top: 2rem; } a { color: var(--link); text-decoration: none; }
+a:hover { text-decoration: underline; } .note { opacity: .7; } .scroll { overflow-x: auto; }
+table { border-collapse: collapse; } th, td { border: 1px solid var(--line); padding: .2rem .6rem; text-align: left; vertical-align: top; }
+th { background: var(--soft); font-weight: 600; } td.int { text-align: right; font-variant-numeric: tabular-nums; }
+td.bytes { font-family: ui-monospace, monospace; font-size: .85em; overflow-wrap: anywhere; } td.null { opacity: .45; }
+tr:target { outline: 2px solid var(--link); } svg { max-width: 100%; height: auto; } svg text { fill: currentColor; font: 13px system-ui, sans-serif; }
+svg .name { font-weight: 600; } svg .type { opacity: .65; } svg rect { fill: var(--soft); stroke: var(--line); } svg path { fill: none; stroke: var(--link); }
+svg marker path { fill: var(--link); stroke: none; } svg .kind { font-size: 11px; opacity: .8; }
+"""
+
+
+def html_page(shown: Sequence[Table], title: str) -> str:
+    """One page with the entities and their relations as a diagram, and the rows of each, with links to related rows."""
+    anchors = {table.identity(row): f"{table.entity.name}-{place}" for table in shown for place, row in enumerate(table.rows, 1)}
+    parts = [
+        '<!DOCTYPE html>\n<html lang="en">\n<head>\n<meta charset="utf-8">\n<meta name="viewport" content="width=device-width, initial-scale=1">',
+        f"<title>{html.escape(title)}</title>\n<style>{_STYLE}</style>\n</head>\n<body>\n<h1>{html.escape(title)}</h1>",
+        f'<div class="scroll">{diagram([table.entity for table in shown])}</div>',
+        *(_html_table(table, anchors) for table in shown),
+        "</body>\n</html>\n",
+    ]
+    return "\n".join(parts)
+
+
+def _html_table(table: Table, anchors: Dict[Identity, str]) -> str:
+    heads = "".join(f'<th title="{html.escape(member.kind.value)}">{html.escape(member.name)}</th>' for member in table.entity.members)
+    rows = "\n".join(
+        f'<tr id="{anchors[table.identity(row)]}">{"".join(_html_cell(value, anchors) for value in row)}</tr>' for row in table.rows
+    )
+    head = f'<h2 id="{table.entity.name}">{table.entity.name} <span class="note">{len(table.rows)}: {html.escape(table.note)}</span></h2>'
+    return f'{head}\n<div class="scroll"><table>\n<thead><tr>{heads}</tr></thead>\n<tbody>\n{rows}\n</tbody>\n</table></div>'
+
+
+def _html_cell(value: Any, anchors: Dict[Identity, str]) -> str:
+    kind = "null" if value is None else type(value).__name__.lower()
+    items = value if isinstance(value, list) else [value]
+    return f'<td class="{kind}">{", ".join(_html_item(item, anchors) for item in items)}</td>'
+
+
+def _html_item(value: Any, anchors: Dict[Identity, str]) -> str:
+    said = html.escape(value_text(value))
+    anchor = anchors.get(value.identity) if isinstance(value, Link) else None
+    return f'<a href="#{anchor}">{said}</a>' if anchor else said
+
+
+def keys_of(given: Sequence[str], entities: Mapping[str, EntityDescription]) -> Dict[str, List[Any]]:
+    """The keys that are given as `Entity=7`, `Entity=1..100` or, of several parts, `Entity=[1,"a",{"hex":"0aff"}]`; a text of its own
+    may go without quotes. A `ValueError` where one is none."""
+    keys: Dict[str, List[Any]] = {}
+    for said in given:
+        name, mark, text = said.partition("=")
+        if not mark or name not in entities:
+            raise ValueError(f"{said!r} is no key: write ENTITY=KEY, with an entity of the mapping")
+        keys.setdefault(name, []).extend(_keys(entities[name], text))
+    return keys
+
+
+def _keys(entity: EntityDescription, text: str) -> List[Any]:
+    first, mark, last = text.partition("..")
+    if mark and len(entity.key) == 1 and entity.key[0].type == "int":
+        return list(range(int(first), int(last) + 1))
+    try:
+        said = json.loads(text)
+    except ValueError:
+        said = text
+    parts = [bytes.fromhex(part["hex"]) if isinstance(part, dict) and set(part) == {"hex"} else part for part in (said if isinstance(said, list) else [said])]
+    return [tuple(parts)]

@@ -1,0 +1,130 @@
+"""What the tests share: the program, mappings, and a stub that plays a program by a transcript."""
+
+from __future__ import annotations
+
+import contextlib
+import os
+import re
+import shutil
+import tempfile
+import unittest
+from pathlib import Path
+from typing import Any, Dict, Iterator, List, NamedTuple, Optional
+
+import karzhoul
+
+HERE = Path(__file__).resolve().parent
+TOP = HERE.parents[2]
+DATA = TOP / "crates" / "jpa_examples" / "data"
+FLAT = TOP / "tests" / "flat.json"
+STUB = HERE / "stub.py"
+
+
+def built_program() -> Optional[str]:
+    """The program that stands built; it is never built here, since that proves it."""
+    named = os.environ.get("KARZHOUL_PROGRAM")
+    if named:
+        return shutil.which(named)
+    built = TOP / "crates" / "jpa" / "out" / "jpa"
+    return str(built) if os.access(built, os.X_OK) else None
+
+
+PROGRAM = built_program()
+needs_program = unittest.skipUnless(PROGRAM, "the program isn't built: run ./jpa once, or set KARZHOUL_PROGRAM")
+
+PERSONS: Dict[str, Any] = {
+    "revision": 1,
+    "entities": [
+        {
+            "name": "Person",
+            "table": 1,
+            "key": [{"name": "id", "type": "int"}],
+            "generated": True,
+            "version": {"name": "version", "column": 1},
+            "attributes": [{"name": "name", "type": "text", "column": 2}],
+        },
+        {
+            "name": "Place",
+            "table": 7,
+            "key": [{"name": "row", "type": "int"}, {"name": "shelf", "type": "text"}, {"name": "tag", "type": "bytes"}],
+            "embedded": "at",
+            "attributes": [
+                {"name": "label", "type": "text", "column": 3, "required": True},
+                {"name": "scan", "type": "bytes", "column": 4},
+                {"name": "mood", "type": "text", "column": 5, "converter": "mood"},
+            ],
+        },
+        {"name": "Order", "table": 2, "key": [{"name": "number", "type": "int"}], "attributes": [{"name": "amount", "type": "int", "column": 1}]},
+    ],
+    "functions": [{"name": "mood", "make": "table", "pairs": [["glad", 1], ["sad", 2]]}],
+}
+"""Entities as every program serves them."""
+
+
+class ProgramTest(unittest.TestCase):
+    """A test over a program of its own, with its store in memory."""
+
+    mapping: Any = PERSONS
+
+    def setUp(self) -> None:
+        self.app = karzhoul.open(self.mapping, program=PROGRAM)
+        self.addCleanup(self.app.close)
+        self.em = self.app.create_entity_manager()
+        self.Person = self.app.entity("Person")
+        self.Place = self.app.entity("Place")
+        self.Order = self.app.entity("Order")
+
+    def committed(self, **values: Any) -> Any:
+        """A person with these values, committed."""
+        person = self.Person(**values)
+        with self.em.transaction():
+            self.em.persist(person)
+        return person
+
+
+@contextlib.contextmanager
+def played(transcript: str, mapping: Any) -> Iterator[karzhoul.EntityManagerFactory]:
+    """A stub that takes the lines after `>` and answers those after `<`."""
+    with tempfile.TemporaryDirectory() as place:
+        path = Path(place, "transcript")
+        path.write_text(transcript, encoding="utf-8")
+        before = os.environ.get("KARZHOUL_TRANSCRIPT")
+        os.environ["KARZHOUL_TRANSCRIPT"] = str(path)
+        try:
+            app = karzhoul.open(mapping, program=STUB)
+        finally:
+            if before is None:
+                del os.environ["KARZHOUL_TRANSCRIPT"]
+            else:
+                os.environ["KARZHOUL_TRANSCRIPT"] = before
+        with app:
+            yield app
+
+
+class Example(NamedTuple):
+    """A worked example of crates/jpa_examples/data."""
+
+    kind: str
+    title: str
+    rows: List[str]
+    given: List[str]
+    wanted: List[str]
+
+
+def examples(name: str) -> Iterator[Example]:
+    """The worked examples of a file."""
+    for block in re.split(r"\n\n+", (DATA / name).read_text(encoding="utf-8").strip("\n")):
+        head, *lines = block.split("\n")
+        marked = {mark: [line[2:] for line in lines if line[:1] == mark] for mark in "=><"}
+        kind, _, title = head.partition(" ")
+        yield Example(kind, title, marked["="], marked[">"], marked["<"])
+
+
+def long_text(lines: List[str]) -> str:
+    """The text of lines of which `FIRST..LAST PIECE` stands for its piece once for each number, in place of each `#`."""
+    text = ""
+    for line in lines:
+        found = re.fullmatch(r"(-?\d+)\.\.(-?\d+) (.*)", line)
+        pieces = [found[3].replace("#", str(n)) for n in range(int(found[1]), int(found[2]) + 1)] if found else [line]
+        text += "".join(pieces)
+    return text

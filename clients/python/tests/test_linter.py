@@ -1,0 +1,267 @@
+"""The check of mappings, against the worked mappings, and against the program's verdict on these and on mutated ones."""
+
+from __future__ import annotations
+
+import copy
+import json
+import random
+import re
+import subprocess
+import tempfile
+import unittest
+from pathlib import Path
+from typing import Any, Callable, Dict, Iterator, List, Optional, Tuple
+
+from karzhoul.linter import Fault, Report, lint
+
+from .support import HERE, PERSONS, PROGRAM, TOP, examples, long_text, needs_program
+
+MUTATIONS = 240
+
+
+def worked_mappings() -> Iterator[Tuple[str, str]]:
+    """The mappings of the worked examples, by title: mappings, limits, functions and metamodels."""
+    for name in ("mappings", "functions"):
+        for example in examples(name):
+            yield f"{name}: {example.title}", "\n".join(example.given)
+    for example in examples("limits"):
+        yield f"limits: {example.title}", long_text(example.given)
+    for example in examples("metamodels"):
+        yield f"metamodels: {example.title}", long_text(example.rows)
+
+
+def verdict(text: str) -> Optional[str]:
+    found = lint(text.encode()).verdict
+    return found.value if found else None
+
+
+class Examples(unittest.TestCase):
+    def test_mappings_and_limits(self) -> None:
+        count = 0
+        for name in ("mappings", "limits"):
+            for example in examples(name):
+                text = long_text(example.given) if name == "limits" else "\n".join(example.given)
+                found, (wanted,) = verdict(text), example.wanted
+                with self.subTest(example.title):
+                    # These examples are of mappings without a look at their functions.
+                    self.assertEqual("read" if found in (None, "function") else found, wanted)
+                count += 1
+        self.assertGreater(count, 70)
+
+    def test_functions(self) -> None:
+        for example in examples("functions"):
+            report = lint("\n".join(example.given).encode())
+            (wanted,) = example.wanted
+            with self.subTest(example.title):
+                # These are read by themselves, of what need be no mapping.
+                if wanted == "json":
+                    self.assertEqual(report.verdict, Fault.JSON)
+                elif report.verdict in (None, Fault.FUNCTION, Fault.MODEL):
+                    told = {finding.fault for finding in report.findings}
+                    self.assertEqual(Fault.FUNCTION in told, wanted == "function")
+
+    def test_members(self) -> None:
+        count = 0
+        for example in examples("members"):
+            frame, values = example.rows
+            for line, wanted in zip(example.given, example.wanted):
+                for value, word in zip(values.split(" ") if "#" in line else [""], wanted.split(" ")):
+                    text = frame.replace("@", line).replace("#", value)
+                    if (verdict(text) == "shape") != (word == "shape"):
+                        self.fail(f"{example.title}: {line} with {value}: {verdict(text)}, and not {word}")
+                    count += 1
+        self.assertGreater(count, 2000)
+
+    def test_metamodels_are_well_formed(self) -> None:
+        for example in examples("metamodels"):
+            with self.subTest(example.title):
+                self.assertIn(verdict(long_text(example.rows)), (None, "function"))
+
+
+class Places(unittest.TestCase):
+    def told(self, change: Callable[[Any], None]) -> List[Tuple[str, str]]:
+        mapping = copy.deepcopy(PERSONS)
+        change(mapping)
+        return [(finding.fault.value, finding.path) for finding in lint(json.dumps(mapping).encode()).findings]
+
+    def test_each_rule_names_its_place(self) -> None:
+        changes: List[Tuple[str, Callable[[Any], None], str, str]] = [
+            ("revision", lambda m: m.update(revision=2), "model", "$.revision"),
+            ("a member too many", lambda m: m["entities"][0].update(colour=1), "shape", "$.entities[0].colour"),
+            ("a member too few", lambda m: m["entities"][0].pop("table"), "shape", "$.entities[0]"),
+            ("a wrong type", lambda m: m["entities"][0].update(table="1"), "shape", "$.entities[0].table"),
+            ("a table twice", lambda m: m["entities"][1].update(table=1), "model", "$.entities[1].table"),
+            ("a column twice", lambda m: m["entities"][0]["attributes"][0].update(column=1), "model", "$.entities[0].attributes[0].column"),
+            ("a name twice", lambda m: m["entities"][2].update(name="Person"), "model", "$.entities[2].name"),
+            ("a member twice", lambda m: m["entities"][0]["attributes"][0].update(name="id"), "model", "$.entities[0].attributes[0].name"),
+            ("no name", lambda m: m["entities"][0].update(name="1st"), "model", "$.entities[0].name"),
+            ("no embedded id", lambda m: m["entities"][1].pop("embedded"), "model", "$.entities[1].key"),
+            ("a generated text", lambda m: m["entities"][0]["key"][0].update(type="text"), "model", "$.entities[0].generated"),
+            ("no function", lambda m: m.update(functions=[]), "function", "$.entities[1].attributes[2].converter"),
+            ("an unknown make", lambda m: m["functions"][0].update(make="x"), "function", "$.functions[0].make"),
+            ("a pair twice", lambda m: m["functions"][0]["pairs"].append(["glad", 3]), "function", "$.functions[0].pairs[2]"),
+            ("an unknown event", lambda m: m.update(listeners=[{"name": "l", "events": ["Load"]}]), "model", "$.listeners[0].events[0]"),
+        ]
+        for title, change, fault, path in changes:
+            with self.subTest(title):
+                self.assertIn((fault, path), self.told(change))
+        self.assertEqual(self.told(lambda m: None), [])
+
+    def test_lines_and_columns(self) -> None:
+        report = lint('{"revision":1,\n "entities":[\n  {"name":"é","table":0}]}'.encode())
+        self.assertEqual([(finding.line, finding.column) for finding in report.findings], [(3, 3)])
+        (finding,) = lint(b'{"revision":1,\n  "entities":[}').findings
+        self.assertEqual((finding.line, finding.column), (2, 15))
+        self.assertEqual(str(finding), "2:15: $: a value is missing [Mapping(json)]")
+
+    def test_what_is_not_served_everywhere_is_told_apart(self) -> None:
+        report = lint("\n".join(next(examples("mappings")).given).encode())
+        self.assertIsNone(report.verdict)
+        self.assertEqual([finding.path for finding in report.unserved], ["$.entities[0].relations", "$.entities[1].relations"])
+        self.assertEqual(report.verdict_of(serves_all=False), Fault.MODEL)
+        self.assertIsNone(report.verdict_of(serves_all=True))
+
+
+# ---- against the program
+
+
+def answer(text: bytes) -> Optional[str]:
+    """What the program says of a mapping; None where it takes it."""
+    with tempfile.TemporaryDirectory() as place:
+        path = Path(place, "mapping.json")
+        path.write_bytes(text)
+        ran = subprocess.run([str(PROGRAM), "--mapping", str(path)], input=b"", capture_output=True, timeout=60)
+    if ran.returncode == 0:
+        return None
+    found = re.fullmatch(r"jpa: Mapping\((\w+)\)\n", ran.stderr.decode())
+    if ran.returncode != 2 or not found:
+        raise AssertionError(f"status {ran.returncode}: {ran.stderr!r}")
+    return found[1]
+
+
+def agrees(report: Report, said: Optional[str]) -> bool:
+    """Whether a program says so of a mapping, one that serves all or one that doesn't."""
+    verdicts = (report.verdict_of(serves_all) for serves_all in (False, True))
+    return said in [found.value if found else None for found in verdicts]
+
+
+RICH: Dict[str, Any] = json.loads((HERE / "data" / "relations.json").read_text(encoding="utf-8"))
+"""Relations of each kind but one."""
+
+WORDS: List[Any] = [None, True, 0, 1, 2, -1, 1_000_000, 1_000_001, 1.5, "", "x", "id", "Person", "int", "PERSIST", "PrePersist", [], {}, [{}], "a" * 65]
+
+
+class Mutator:
+    """Makes a mapping out of another one by a few small changes."""
+
+    def __init__(self, seed: int) -> None:
+        self.random = random.Random(seed)
+
+    def mutated(self, mapping: Any) -> Any:
+        mapping = copy.deepcopy(mapping)
+        for _ in range(self.random.choice((1, 1, 1, 2))):
+            places = list(self.places(mapping))
+            if places:
+                self.change(*self.random.choice(places))
+        return mapping
+
+    def places(self, value: Any) -> Iterator[Tuple[Any, Any]]:
+        """Each object and list with each of its names or places."""
+        names = list(value) if isinstance(value, dict) else range(len(value)) if isinstance(value, list) else ()
+        for name in names:
+            yield value, name
+            yield from self.places(value[name])
+
+    def change(self, holder: Any, name: Any) -> None:
+        roll = self.random.random()
+        if roll < 0.2:
+            del holder[name]
+        elif roll < 0.3 and isinstance(holder, list):
+            holder.append(copy.deepcopy(holder[name]))
+        elif roll < 0.4 and isinstance(holder, dict):
+            holder[self.random.choice(["name", "column", "required", "extends", "embedded", "events", "mappedBy", "x"])] = holder[name]
+        elif roll < 0.6 and isinstance(holder[name], (int, str)) and not isinstance(holder[name], bool):
+            holder[name] = holder[name] + (self.random.choice([1, -1]) if isinstance(holder[name], int) else "x")
+        else:
+            holder[name] = copy.deepcopy(self.random.choice(WORDS))
+
+
+@needs_program
+class AgainstTheProgram(unittest.TestCase):
+    def test_worked_mappings(self) -> None:
+        count = 0
+        for title, text in worked_mappings():
+            with self.subTest(title):
+                self.assertTrue(agrees(lint(text.encode()), answer(text.encode())), lint(text.encode()))
+            count += 1
+        self.assertGreater(count, 120)
+
+    def test_files_of_the_repository(self) -> None:
+        for path in [*TOP.glob("tests/*.json"), *HERE.glob("data/*.json")]:
+            data = path.read_bytes()
+            with self.subTest(path.name):
+                self.assertTrue(agrees(lint(data), answer(data)), lint(data))
+
+    def test_mutated_mappings(self) -> None:
+        wide = json.loads((TOP / "tests" / "wide.json").read_text(encoding="utf-8"))
+        refused: Dict[Optional[str], int] = {}
+        for seed in range(MUTATIONS):
+            mapping = Mutator(seed).mutated((PERSONS, wide, RICH)[seed % 3])
+            text = json.dumps(mapping).encode()
+            said = answer(text)
+            refused[said] = refused.get(said, 0) + 1
+            if not agrees(lint(text), said):
+                self.fail(f"seed {seed}: the program says {said} of {text.decode()}, and the check {lint(text)}")
+        self.assertEqual(set(refused), {None, "shape", "model", "function"})
+
+    def test_mutated_texts(self) -> None:
+        text = json.dumps(PERSONS, indent=1)
+        refused = set()
+        for seed in range(MUTATIONS // 4):
+            chosen = random.Random(seed)
+            at = chosen.randrange(len(text))
+            by = chosen.choice(["", '"', "{", "}", "[", "]", ",", ":", "0", "-", "\\", "\t", "\x01", "1e400", "\\ud800", "\u00e9", "true"])
+            mutated = (text[:at] + by + text[at + chosen.randrange(2) :]).encode()
+            said = answer(mutated)
+            refused.add(said)
+            if not agrees(lint(mutated), said):
+                self.fail(f"seed {seed}: the program says {said} of {mutated.decode()}, and the check {lint(mutated)}")
+        self.assertIn("json", refused)
+
+    def test_texts_that_readers_differ_on(self) -> None:
+        good = json.dumps(PERSONS)
+        start = '{"revision":1,"entities":[{"name":"E","table":1,"key":[{"name":"id","type":"int"}]}]'
+        texts = [
+            b"",
+            b"\xef\xbb\xbf" + good.encode(),
+            good.encode() + b" \n\r\t ",
+            good.encode() + b"x",
+            good.replace("Ada", "x").encode("utf-16"),
+            start.encode() + b',"functions":NaN}',
+            start.encode() + b',"functions":[]}',
+            start.encode() + b',"functions":' + b"[" * 126 + b"]" * 126 + b"}",
+            start.encode() + b',"functions":' + b"[" * 127 + b"]" * 127 + b"}",
+            (start + ',"functions":[],"functions":1}').encode(),
+            (start + ',"functions":1,"functions":[]}').encode(),
+            (start + ',"revision":1.0}').encode(),
+            (start + ',"revision":-0}').encode(),
+            (start + ',"revision":9223372036854775808}').encode(),
+            (start + ',"functions":' + "9" * 400 + "}").encode(),
+            (start + ',"functions":0e99999}').encode(),
+            (start + ',"functions":[{"name":"\\ud83d\\ude00","make":"note"}]}').encode(),
+            (start + ',"functions":[{"name":"\\ud83d","make":"note"}]}').encode(),
+            (start + ',"functions":[{"name":"\\udc00\\ud800","make":"note"}]}').encode(),
+            (start + ',"functions":[{"name":"\\ud83dx","make":"note"}]}').encode(),
+            (start + ',"functions":[{"name":"\\ud83d\\u0041","make":"note"}]}').encode(),
+            (start + ',"functions":[{"name":"\x7f","make":"note"}]}').encode(),
+            (start + ',"functions":[{"name":"\x1f","make":"note"}]}').encode(),
+            start.encode() + b',"functions":[{"name":"\xff","make":"note"}]}',
+            start.encode() + b',"functions":[{"name":"\xed\xa0\x80","make":"note"}]}',
+        ]
+        for text in texts:
+            with self.subTest(text[:200]):
+                self.assertTrue(agrees(lint(text), answer(text)), (answer(text), lint(text)))
+
+
+if __name__ == "__main__":
+    unittest.main()
