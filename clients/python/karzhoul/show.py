@@ -51,7 +51,8 @@ class Table:
 def tables(app: EntityManagerFactory, keys: Keys, most: int = MOST_KEYS) -> List[Table]:
     """The stored objects of each entity, in the mapping's order: those that a query finds, or, where the program serves no queries, those
     of generated keys, of which at most so many are looked for, and those of the keys that are given."""
-    return [_Reader(app, keys, most).table(entity) for entity in app.entities.values()]
+    reader = _Reader(app, keys, most)
+    return [reader.table(entity) for entity in app.entities.values()]
 
 
 class _Reader:

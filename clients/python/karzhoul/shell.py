@@ -1,0 +1,259 @@
+"""A prompt: calls in short words, with completion, history and readable answers."""
+
+from __future__ import annotations
+
+import json
+import re
+import sys
+from pathlib import Path
+from typing import Any, Callable, Dict, Iterable, List, Sequence, Tuple
+
+from .entities import Entity, Event, handle_of
+from .factory import EntityManagerFactory
+from .lines import CALLS, FlushMode, LockMode, Takes, spelled, text_spelled
+from .refusals import KarzhoulError, ProgramEnded, Refused
+from .show import value_text
+from .unit import MemberKind
+
+HISTORY = Path.home() / ".karzhoul_history"
+COMMANDS = ("help", "entities", "manager", "quit")
+SILENT = {"close", "begin", "commit", "rollback", "setRollbackOnly", "clear", "flush", "setFlushMode", "set", "add", "persist", "remove", "refresh", "detach", "lock"}
+"""The calls that answer nothing but null."""
+HELP = """Calls, as `new Person`, `set #1 name "Ada"`, `begin`, `persist #1`, `commit`, `find Person 1`, `get #1 name`:
+objects are #1, values null, 7, "a text" (or a bare word) and x'0aff'; a key of several parts is several values. A call is made by the
+manager at the prompt; `manager 2` changes it, and `createEntityManager` makes one and goes to it. In queries `:name=value`,
+`first=0` and `max=10` may follow the text. A line that begins with { is sent as it is.
+help [CALL], entities, quit"""
+
+_TOKEN = re.compile(r'\s*("(?:[^"\\]|\\.)*"|:?\w+="(?:[^"\\]|\\.)*"|\{[^}]*\}|\S+)')
+_BYTES = re.compile(r"x'((?:[0-9a-fA-F]{2})*)'")
+
+
+class Misread(ValueError):
+    """What was typed isn't understood."""
+
+
+class Shell:
+    """A prompt over a running unit."""
+
+    def __init__(self, app: EntityManagerFactory, write: Callable[[str], object] = print) -> None:
+        self._app, self._write = app, write
+        self._manager = app.create_entity_manager().number
+        self._held: List[Entity] = []
+        self._ends = False
+        app.listen(self._tell)
+
+    # ---- the prompt
+
+    def run(self) -> None:
+        """Reads and does lines until there are no more, or the program has ended."""
+        is_terminal = sys.stdin.isatty()
+        if is_terminal:
+            self._write(f"{', '.join(self._app.entities)}. 'help' tells how.")
+            self._with_history()
+        while not self._ends:
+            try:
+                self.do(input(f"{self._manager}> ") if is_terminal else _piped())
+            except EOFError:
+                return
+            except KeyboardInterrupt:
+                self._write("")
+
+    def _with_history(self) -> None:
+        try:
+            import atexit
+            import readline
+        except ImportError:
+            return
+        if HISTORY.exists():
+            readline.read_history_file(HISTORY)
+        atexit.register(_keep_history, readline)
+        readline.set_completer_delims(" \t")
+        readline.parse_and_bind("tab: complete")
+        readline.set_completer(lambda text, state: dict(enumerate(self.completions(readline.get_line_buffer()[: readline.get_begidx()], text))).get(state))
+
+    def do(self, said: str) -> None:
+        """Does one line, and tells its answer or its refusal."""
+        try:
+            self._do(said.strip())
+        except Refused as refused:
+            self._write(f"refused: {refused}\n  {(type(refused).__doc__ or '').strip()}")
+        except ProgramEnded as ended:
+            self._write(str(ended))
+            self._ends = True
+        except (KarzhoulError, Misread, TypeError, OverflowError) as fault:
+            self._write(str(fault))
+
+    def _do(self, said: str) -> None:
+        words = _TOKEN.findall(said)
+        if said.startswith("{"):
+            self._answer(self._app.send_line(said), is_silent=False)
+        elif not words:
+            return
+        elif words[0] in CALLS:
+            self._call(words[0], words[1:])
+        elif words[0] == "entities":
+            self._entities()
+        elif words[0] == "help":
+            self._write(usage(words[1]) if words[1:] and words[1] in CALLS else f"{HELP}\n{', '.join(CALLS)}")
+        elif words[0] == "manager" and len(words) == 2 and words[1].isdigit():
+            self._manager = int(words[1])
+        elif words[0] in ("quit", "exit"):
+            self._ends = True
+        else:
+            raise Misread(f"{words[0]!r} is no call: 'help' lists them")
+
+    def _call(self, call: str, words: List[str]) -> None:
+        members = members_of(call, words, self._manager)
+        kind = self._app.entities.get(json.loads(members["entity"])) if "entity" in members else None
+        answer = self._app.ask(call, self._app.entity(kind.name) if kind else None, **members)
+        if call == "createEntityManager":
+            self._manager = answer
+        self._answer(answer, call in SILENT)
+
+    # ---- answers
+
+    def _answer(self, answer: Any, is_silent: bool) -> None:
+        items = answer if isinstance(answer, list) else [answer]
+        self._held += [item for item in items if isinstance(item, Entity)]
+        self._write("done" if is_silent else readable(answer))
+
+    def _tell(self, event: Event) -> None:
+        self._held.append(event.object)
+        ran = f", which ran {', '.join(event.ran)}" if event.ran else ""
+        self._write(f"  {event.kind.value} {readable(event.object)}{ran}")
+
+    def _entities(self) -> None:
+        for entity in self._app.entities.values():
+            members = ", ".join(f"{member.name}: {member.type}{_mark(member.kind)}" for member in entity.members)
+            self._write(f"{entity.name}: {members}")
+
+    # ---- completion
+
+    def completions(self, before: str, text: str) -> List[str]:
+        """The words that may stand where `text` begins, after what stands before it."""
+        words = _TOKEN.findall(before)
+        offered = (*CALLS, *COMMANDS) if not words else self._words_after(words[0], words[1:])
+        return [f"{word} " for word in sorted(offered) if word.startswith(text)]
+
+    def _words_after(self, call: str, words: Sequence[str]) -> Iterable[str]:
+        names = [name for name in CALLS.get(call, {}) if name != "em"]
+        asked = names[len(words)] if len(words) < len(names) else ""
+        if call == "help" and not words:
+            return CALLS
+        if asked == "entity":
+            return self._app.entities
+        if asked in ("object", "member"):
+            return [f"#{handle_of(held).number}" for held in dict.fromkeys(self._held)]
+        if asked == "name":
+            return self._members(words[0])
+        modes = LockMode if call == "lock" else FlushMode
+        return [mode.value for mode in modes] if asked == "mode" else ()
+
+    def _members(self, word: str) -> Iterable[str]:
+        held = [type(each).__entity__ for each in self._held if f"#{handle_of(each).number}" == word]
+        known = [entity for entity in held if entity is not None] or list(self._app.entities.values())
+        return {member.name for entity in known for member in entity.members}
+
+
+def _piped() -> str:
+    line = sys.stdin.readline()
+    if not line:
+        raise EOFError
+    return line
+
+
+def _keep_history(readline: Any) -> None:
+    try:
+        readline.set_history_length(1000)
+        readline.write_history_file(HISTORY)
+    except OSError:
+        pass  # A history that can't be kept is no fault of the calls.
+
+
+def _mark(kind: MemberKind) -> str:
+    return "" if kind is MemberKind.ATTRIBUTE else f" ({kind.value})"
+
+
+def readable(answer: Any) -> str:
+    """An answer as a reader sees it."""
+    if isinstance(answer, Entity):
+        known = type(answer).__entity__
+        return f"#{handle_of(answer).number}" + (f" {known.name}" if known else "")
+    if isinstance(answer, bool):
+        return "yes" if answer else "no"
+    if isinstance(answer, list):
+        return "[" + ", ".join(map(readable, answer)) + "]"
+    return json.dumps(answer, ensure_ascii=False) if isinstance(answer, str) else value_text(answer)
+
+
+def usage(call: str) -> str:
+    """How a call is written."""
+    names = [name for name in CALLS[call] if name != "em"]
+    shown = {"object": "#N", "member": "#N", "key": "KEY..", "params": "[:NAME=VALUE..]", "first": "[first=N]", "max": "[max=N]"}
+    return " ".join([call, *(shown.get(name, name.upper()) for name in names)])
+
+
+# ---- words
+
+
+def members_of(call: str, words: Sequence[str], em: int) -> Dict[str, str]:
+    """The members of a call as JSON, from the words after it."""
+    members: Dict[str, str] = {}
+    left = list(words)
+    for name, takes in CALLS[call].items():
+        if name == "em":
+            members["em"] = str(em)
+        elif takes is Takes.KEY:
+            members[name] = f"[{','.join(map(_value, left))}]"
+            left = []
+        elif name in ("params", "first", "max"):
+            left = _optional(members, name, left)
+        elif not left:
+            raise Misread(f"{name} is missing: {usage(call)}")
+        else:
+            members[name] = _member(takes, left.pop(0))
+    if left:
+        raise Misread(f"{left[0]!r} is too much: {usage(call)}")
+    return members
+
+
+def _optional(members: Dict[str, str], name: str, words: List[str]) -> List[str]:
+    front = ":" if name == "params" else f"{name}="
+    mine = [word[len(front) :] for word in words if word.startswith(front)]
+    if name == "params" and mine:
+        pairs: List[Tuple[str, str, str]] = [word.partition("=") for word in mine]
+        members[name] = "{" + ",".join(f"{text_spelled(parameter)}:{_value(value)}" for parameter, _, value in pairs) + "}"
+    elif mine:
+        members[name] = _member(Takes.INTEGER, mine[-1])
+    return [word for word in words if not word.startswith(front)]
+
+
+def _member(takes: Takes, word: str) -> str:
+    if takes is Takes.VALUE:
+        return _value(word)
+    if takes is Takes.INTEGER:
+        if not re.fullmatch(r"#?-?\d+", word):
+            raise Misread(f"{word!r} is no number, and no object as #1")
+        return str(int(word.lstrip("#")))
+    return text_spelled(_text(word))
+
+
+def _text(word: str) -> str:
+    if not word.startswith('"'):
+        return word
+    try:
+        return str(json.loads(word))
+    except ValueError:
+        raise Misread(f"{word} is no text: it is written as in JSON") from None
+
+
+def _value(word: str) -> str:
+    if word == "null":
+        return "null"
+    if re.fullmatch(r"#\d+", word):
+        return f'{{"object":{word[1:]}}}'
+    if re.fullmatch(r"-?\d+", word):
+        return spelled(int(word))
+    found = _BYTES.fullmatch(word)
+    return spelled(bytes.fromhex(found[1])) if found else spelled(_text(word))

@@ -1,0 +1,329 @@
+"""The command: check, show with its page, and the shell."""
+
+from __future__ import annotations
+
+import contextlib
+import copy
+import importlib.util
+import io
+import json
+import os
+import shutil
+import subprocess
+import sys
+import tempfile
+import unittest
+from html.parser import HTMLParser
+from pathlib import Path
+from typing import Any, Dict, List, Tuple
+from unittest import mock
+from xml.etree import ElementTree
+
+import karzhoul
+from karzhoul import show
+from karzhoul.command import main
+from karzhoul.diagram import diagram
+from karzhoul.shell import Shell, members_of, usage
+from karzhoul.unit import entities_of
+
+from .support import HERE, PERSONS, PROGRAM, examples, needs_program, played
+
+BROWSERS = ("chromium", "chromium-browser", "google-chrome", "firefox")
+
+
+def ran(*words: str) -> Tuple[int, str, str]:
+    """The command's status and what it prints."""
+    out, err = io.StringIO(), io.StringIO()
+    with contextlib.redirect_stdout(out), contextlib.redirect_stderr(err):
+        status = main([words[0], "--program", str(PROGRAM), *words[1:]])
+    return status, out.getvalue(), err.getvalue()
+
+
+class Page(HTMLParser):
+    """Anchors, links and the nesting of a page."""
+
+    VOID = {"meta", "link", "br"}
+
+    def __init__(self, text: str) -> None:
+        super().__init__()
+        self.ids: List[str] = []
+        self.links: List[str] = []
+        self.open: List[str] = []
+        self.feed(text)
+        self.close()
+
+    def handle_starttag(self, tag: str, attrs: List[Tuple[str, Any]]) -> None:
+        given = dict(attrs)
+        self.ids += [given["id"]] if "id" in given else []
+        self.links += [given["href"]] if "href" in given else []
+        if tag not in self.VOID:
+            self.open.append(tag)
+
+    def handle_endtag(self, tag: str) -> None:
+        assert self.open.pop() == tag, tag
+
+
+class WithStore(unittest.TestCase):
+    """A test over a database with a few objects."""
+
+    def setUp(self) -> None:
+        place = tempfile.TemporaryDirectory()
+        self.addCleanup(place.cleanup)
+        self.place = Path(place.name)
+        self.mapping, self.db = str(self.place / "mapping.json"), str(self.place / "app.db")
+        Path(self.mapping).write_text(json.dumps(PERSONS), encoding="utf-8")
+        with karzhoul.open(self.mapping, self.db, program=PROGRAM) as app:
+            em = app.create_entity_manager()
+            with em.transaction():
+                for name in ("Ada", None, "<b>&\n", "é" * 60):
+                    em.persist(app.new("Person", name=name))
+                em.persist(app.new("Order", number=7, amount=-3))
+                em.persist(app.new("Place", at=(1, "a", b"\x0a"), label="x", scan=b"\xff"))
+
+    def over(self, *words: str) -> Tuple[int, str, str]:
+        return ran(*words, "--mapping", self.mapping)
+
+
+@needs_program
+class Show(WithStore):
+    def test_tables(self) -> None:
+        before = Path(self.db).read_bytes()
+        status, out, err = self.over("show", self.db, "--key", "Order=1..10", "--key", 'Place=[1,"a",{"hex":"0a"}]')
+        self.assertEqual((status, err), (0, ""))
+        wanted = [
+            "Person: 4 objects (all that are stored)",
+            "id | version | name",
+            "---+---------+-----------------------------------------",
+            " 1 |       0 | Ada",
+            " 2 |       0 | null",
+            " 3 |       0 | <b>&\\n",
+            f" 4 |       0 | {'é' * 39}…",
+            "",
+            "Place: 1 object (those of the keys that were given)",
+            "at.row | at.shelf | at.tag | label | scan  | mood",
+            "-------+----------+--------+-------+-------+-----",
+            "     1 | a        | x'0a'  | x     | x'ff' | null",
+            "",
+            "Order: 1 object (those of the keys that were given)",
+            "number | amount",
+            "-------+-------",
+            "     7 |     -3",
+        ]
+        if "no queries yet" in self.over("show", self.db)[1]:
+            self.assertEqual(out.splitlines(), wanted)
+        self.assertEqual(Path(self.db).read_bytes(), before)
+
+    def test_all_generated_keys_are_found_also_after_gaps(self) -> None:
+        with karzhoul.open(self.mapping, self.db, program=PROGRAM) as app:
+            em = app.create_entity_manager()
+            for is_kept in (False, True):
+                transaction = em.transaction().begin()
+                for _ in range(20):
+                    em.persist(app.new("Person"))
+                transaction.commit() if is_kept else transaction.rollback()
+        with karzhoul.open(self.mapping, self.db, program=PROGRAM) as app:
+            persons = show.tables(app, {})[0]
+            self.assertEqual([row[0] for row in persons.rows], [1, 2, 3, 4, *range(25, 45)])
+            self.assertEqual(persons.note, "all that are stored")
+            some = show.tables(app, {"Person": [30]}, most=3)[0]
+            if some.note != "all that are stored":
+                self.assertEqual([row[0] for row in some.rows], [1, 2, 3, 30])
+                self.assertEqual(some.note, "those of the keys from 1 to 3, of the 45 that were given out")
+
+    def test_the_page(self) -> None:
+        page = str(self.place / "page.html")
+        status, out, _ = self.over("show", self.db, "--html", page, "--key", "Order=7")
+        self.assertEqual((status, out.split(":")[0]), (0, page))
+        text = Path(page).read_text(encoding="utf-8")
+        parsed = Page(text)
+        self.assertEqual(parsed.open, [])
+        self.assertEqual(len(parsed.ids), len(set(parsed.ids)))
+        for link in parsed.links:
+            self.assertIn(link[1:], parsed.ids)
+        self.assertIn("&lt;b&gt;&amp;\\n", text)
+        self.assertNotIn("<b>&", text)
+
+    @unittest.skipUnless(any(map(shutil.which, BROWSERS)), "no headless browser is installed")
+    def test_the_page_in_a_browser(self) -> None:
+        page = self.place / "page.html"
+        self.over("show", self.db, "--html", str(page))
+        browser = next(found for found in map(shutil.which, BROWSERS) if found)
+        shot = self.place / "page.png"
+        words = ["--headless", f"--screenshot={shot}" if "firefox" not in browser else f"--screenshot {shot}", *(["--no-sandbox"] if "firefox" not in browser else [])]
+        subprocess.run([browser, *words, page.as_uri()], check=True, capture_output=True, timeout=60)
+        self.assertTrue(shot.read_bytes().startswith(b"\x89PNG"))
+
+    def test_what_can_not_be_shown(self) -> None:
+        self.assertEqual(self.over("show", str(self.place / "none.db"))[0], 4)
+        status, _, err = self.over("show", self.db, "--key", "Nobody=1")
+        self.assertEqual((status, "is no key" in err), (4, True))
+        Path(self.mapping).write_text("{}", encoding="utf-8")
+        status, _, err = self.over("show", self.db)
+        self.assertEqual((status, "Mapping(shape)" in err), (4, True))
+
+
+class Queried(unittest.TestCase):
+    def test_where_queries_are_served_they_find_what_is_shown(self) -> None:
+        persons = json.loads("\n".join(next(examples("mappings")).given))
+        lines = [
+            ('{"call":"createEntityManager"}', "1"),
+            ('{"call":"query","em":1,"text":"SELECT e FROM Person e WHERE TYPE(e) = Person"}', '[{"object":1}]'),
+            ('{"call":"get","object":1,"name":"id"}', "1"),
+            ('{"call":"get","object":1,"name":"version"}', "0"),
+            ('{"call":"get","object":1,"name":"name"}', '"Ada"'),
+            ('{"call":"get","object":1,"name":"orders"}', '[{"object":2}]'),
+            ('{"call":"get","object":2,"name":"number"}', "10"),
+            ('{"call":"query","em":1,"text":"SELECT e FROM Order e WHERE TYPE(e) = Order"}', '[{"object":2}]'),
+            ('{"call":"get","object":2,"name":"number"}', "10"),
+            ('{"call":"get","object":2,"name":"amount"}', "5"),
+            ('{"call":"get","object":2,"name":"person"}', '{"object":1}'),
+            ('{"call":"get","object":1,"name":"id"}', "1"),
+        ]
+        with played("".join(f'> {line}\n< {{"events":[],"ok":{ok}}}\n' for line, ok in lines), persons) as app:
+            shown = show.tables(app, {})
+        text = show.text_page(shown)
+        self.assertIn(" 1 |       0 | Ada  | [Order 10]", text)
+        self.assertIn("    10 |      5 | Person 1", text)
+        page = show.html_page(shown, "a <store>")
+        self.assertIn('<a href="#Order-1">Order 10</a>', page)
+        self.assertIn('<a href="#Person-1">Person 1</a>', page)
+        parsed = Page(page)
+        for link in parsed.links:
+            self.assertIn(link[1:], parsed.ids)
+
+
+class Diagram(unittest.TestCase):
+    def test_relations_are_arrows(self) -> None:
+        entities = list(entities_of(json.loads((HERE / "data" / "relations.json").read_text(encoding="utf-8"))).values())
+        drawn = ElementTree.fromstring(diagram(entities))
+        titles = [title.text for title in drawn.iter("{http://www.w3.org/2000/svg}title")]
+        self.assertEqual(titles, ["A.b to B", "A.bs to B"])
+
+    def test_superclasses_are_arrows_and_many_entities_are_boxes(self) -> None:
+        mapping = copy.deepcopy(PERSONS)
+        mapping["entities"] += [{"name": f"Sub{n}", "extends": "Person"} for n in range(20)]
+        drawn = ElementTree.fromstring(diagram(list(entities_of(mapping).values())))
+        self.assertEqual(len(list(drawn.iter("{http://www.w3.org/2000/svg}rect"))), 23)
+        self.assertEqual(len(list(drawn.iter("{http://www.w3.org/2000/svg}title"))), 20)
+        ElementTree.fromstring(diagram([]))
+
+
+class Keys(unittest.TestCase):
+    def test_keys_as_they_are_typed(self) -> None:
+        entities = entities_of(PERSONS)
+        given = ["Order=1..3", "Order=-7", 'Place=[1,"a",{"hex":"0aff"}]', "Person=x"]
+        self.assertEqual(
+            show.keys_of(given, entities), {"Order": [1, 2, 3, (-7,)], "Place": [(1, "a", b"\x0a\xff")], "Person": [("x",)]}
+        )
+        for wrong in ("Order", "Nobody=1", "Order=a..b"):
+            with self.assertRaises(ValueError):
+                show.keys_of([wrong], entities)
+
+
+@needs_program
+class Check(WithStore):
+    def test_a_good_mapping(self) -> None:
+        self.assertEqual(ran("check", self.mapping), (0, f"{self.mapping}: good\n", ""))
+
+    def test_a_wrong_mapping(self) -> None:
+        wrong = copy.deepcopy(PERSONS)
+        wrong["entities"][0]["table"] = wrong["entities"][1]["table"]
+        Path(self.mapping).write_text(json.dumps(wrong), encoding="utf-8")
+        status, out, _ = ran("check", self.mapping)
+        self.assertEqual(status, 1)
+        self.assertIn("$.entities[1].table: table 7 is taken already [Mapping(model)]", out)
+
+    def test_a_mapping_that_is_not_served_yet(self) -> None:
+        status, out, _ = ran("check", str(HERE / "data" / "relations.json"))
+        self.assertIn(status, (0, 3))
+        self.assertEqual("not served yet" in out, status == 3)
+
+    def test_a_file_that_is_not_there(self) -> None:
+        self.assertEqual(ran("check", "/nowhere")[0], 4)
+
+
+@needs_program
+class AShell(unittest.TestCase):
+    def setUp(self) -> None:
+        self.app = karzhoul.open(PERSONS, program=PROGRAM)
+        self.addCleanup(self.app.close)
+        self.told: List[str] = []
+        self.shell = Shell(self.app, self.told.append)
+
+    def says(self, *lines: str) -> List[str]:
+        self.told.clear()
+        for line in lines:
+            self.shell.do(line)
+        return list(self.told)
+
+    def test_calls_and_their_answers(self) -> None:
+        self.assertEqual(self.says("new Person", 'set #1 name "Ada L"', "get #1 name"), ["#1 Person", "done", '"Ada L"'])
+        self.assertEqual(self.says("begin", "persist #1"), ["done", "  PrePersist #1 Person", "done"])
+        self.assertEqual(self.says("commit", "find Person 1", "find Person 2"), ["  PostPersist #1 Person", "done", "#1 Person", "null"])
+        self.assertEqual(self.says("new Place", "set #2 at.tag x'0aff'", "get #2 at.tag")[2:], ["x'0aff'"])
+        self.assertEqual(self.says("createEntityManager", "find Person 1"), ["2", "  PostLoad #3 Person", "#3 Person"])
+        self.assertEqual(self.says("manager 1", "find Person 1"), ["#1 Person"])
+
+    def test_refusals_are_told_and_nothing_ends(self) -> None:
+        self.assertTrue(self.says("find Nobody 1")[0].startswith("refused: IllegalArgument(entity)"))
+        self.assertTrue(self.says('{"call":"x"}')[0].startswith("refused: BadLine"))
+        self.assertEqual(self.says("frobnicate"), ["'frobnicate' is no call: 'help' lists them"])
+        self.assertEqual(self.says("set #1 name"), ["value is missing: set #N NAME VALUE"])
+        self.assertEqual(self.says("begin now"), ["'now' is too much: begin"])
+        self.assertEqual(self.says("persist Ada"), ["'Ada' is no number, and no object as #1"])
+        self.assertEqual(self.says(""), [])
+        self.assertIn("Person: id: int (key), version: int (version), name: text", self.says("entities"))
+        self.assertIn("createEntityManager", self.says("help")[0])
+
+    def test_completion(self) -> None:
+        complete = self.shell.completions
+        self.assertEqual(complete("", "se"), ["set ", "setFlushMode ", "setRollbackOnly "])
+        self.assertEqual(complete("find ", "P"), ["Person ", "Place "])
+        self.assertEqual(complete("get #1 ", "na"), ["name "])
+        self.assertEqual(complete("set #9 ", "at.t"), ["at.tag "])
+        self.says("new Order")
+        self.assertEqual(complete("persist ", "#"), ["#1 "])
+        self.assertEqual(complete("get #1 ", ""), ["amount ", "number "])
+        self.assertEqual(complete("lock #1 ", "OPT"), ["OPTIMISTIC ", "OPTIMISTIC_FORCE_INCREMENT "])
+        self.assertEqual(complete("help ", "mer"), ["merge "])
+        self.assertEqual(complete("begin ", ""), [])
+
+    def test_an_ended_program_ends_it(self) -> None:
+        os.kill(self.app.program.pid, 9)
+        with mock.patch("sys.stdin", io.StringIO("find Person 1\nfind Person 2\n")):
+            self.shell.run()
+        self.assertEqual(self.told, ["the program was ended by signal 9"])
+
+
+class Words(unittest.TestCase):
+    def test_members_of_calls(self) -> None:
+        told: Dict[str, Tuple[str, List[str]]] = {
+            '{"em":3,"entity":"Place","key":[1,"a",{"hex":"0a"}]}': ("find", ["Place", "1", "a", "x'0a'"]),
+            '{"object":1,"name":"person","value":{"object":2}}': ("set", ["#1", "person", "#2"]),
+            '{"em":3,"text":"SELECT p","params":{"n":"A b","1":null},"first":0,"max":5}': ("query", ['"SELECT p"', "max=5", ':n="A b"', ":1=null", "first=0"]),
+            '{"em":3,"object":1,"mode":"READ"}': ("lock", ["1", "READ"]),
+            '{"em":3}': ("begin", []),
+        }
+        for wanted, (call, words) in told.items():
+            said = "{" + ",".join(f'"{name}":{value}' for name, value in members_of(call, words, 3).items()) + "}"
+            self.assertEqual(said, wanted)
+        self.assertEqual(usage("query"), "query TEXT [:NAME=VALUE..] [first=N] [max=N]")
+
+
+class Package(unittest.TestCase):
+    @unittest.skipUnless(importlib.util.find_spec("setuptools") and importlib.util.find_spec("pip"), "there is no pip, or no setuptools")
+    def test_it_is_installed_by_pip(self) -> None:
+        with tempfile.TemporaryDirectory() as place:
+            shutil.copytree(HERE.parent, Path(place, "source"))
+            words = ["install", "--quiet", "--no-index", "--no-deps", "--no-build-isolation", "--target", str(Path(place, "there")), str(Path(place, "source"))]
+            made = subprocess.run([sys.executable, "-m", "pip", *words], capture_output=True, text=True, timeout=100)
+            if made.returncode:
+                self.skipTest(f"pip can't build it here: {made.stderr.strip()[-200:]}")
+            found = subprocess.run([sys.executable, "-c", "import karzhoul; print(karzhoul.__file__)"], cwd=place, env={**os.environ, "PYTHONPATH": str(Path(place, "there"))}, capture_output=True, text=True)
+            self.assertEqual(found.stdout.strip(), str(Path(place, "there", "karzhoul", "__init__.py")))
+            self.assertTrue(Path(place, "there", "karzhoul", "py.typed").exists())
+            self.assertTrue(Path(place, "there", "bin", "karzhoul").exists())
+
+
+if __name__ == "__main__":
+    unittest.main()
