@@ -311,14 +311,13 @@ class Words(unittest.TestCase):
 
 
 class Package(unittest.TestCase):
-    @unittest.skipUnless(importlib.util.find_spec("setuptools") and importlib.util.find_spec("pip"), "there is no pip, or no setuptools")
+    @unittest.skipUnless(importlib.util.find_spec("pip"), "there is no pip")
     def test_it_is_installed_by_pip(self) -> None:
         with tempfile.TemporaryDirectory() as place:
             shutil.copytree(HERE.parent, Path(place, "source"))
-            words = ["install", "--quiet", "--no-index", "--no-deps", "--no-build-isolation", "--target", str(Path(place, "there")), str(Path(place, "source"))]
+            words = ["install", "--quiet", "--no-index", "--no-deps", "--target", str(Path(place, "there")), str(Path(place, "source"))]
             made = subprocess.run([sys.executable, "-m", "pip", *words], capture_output=True, text=True, timeout=100)
-            if made.returncode:
-                self.skipTest(f"pip can't build it here: {made.stderr.strip()[-200:]}")
+            self.assertEqual(made.returncode, 0, made.stderr)
             found = subprocess.run([sys.executable, "-c", "import karzhoul; print(karzhoul.__file__)"], cwd=place, env={**os.environ, "PYTHONPATH": str(Path(place, "there"))}, capture_output=True, text=True)
             self.assertEqual(found.stdout.strip(), str(Path(place, "there", "karzhoul", "__init__.py")))
             self.assertTrue(Path(place, "there", "karzhoul", "py.typed").exists())
