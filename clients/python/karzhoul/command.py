@@ -66,7 +66,7 @@ def run_check(said: argparse.Namespace) -> int:
         print(f"{said.mapping}: good")
         return 0
     for finding in report.unserved:
-        print(f"{said.mapping}:{finding.line}:{finding.column}: {finding.path}: {finding.message}")
+        print(f"{said.mapping}:{finding}")
     print(f"{said.mapping}: well formed, and not served yet: {refused}")
     return UNSERVED
 

@@ -79,7 +79,7 @@ def _arrows(box: _Box, boxes: Dict[str, _Box]) -> List[str]:
     arrows = []
     for place, member in enumerate(box.entity.members):
         target = boxes.get(member.type)
-        if member in box.entity.relations and member.is_owner and target is not None:
+        if target is not None and member.is_owner and member.declarer == box.entity.name:
             arrows.append(_arrow(box, box.line(place) - 4, target, member.name))
     if box.entity.superclass in boxes:
         arrows.append(_arrow(box, box.top + 14, boxes[str(box.entity.superclass)], "extends"))

@@ -42,12 +42,13 @@ def open(mapping: Union[Words, Mapping[str, Any]], db: Optional[Words] = None, *
         running.start()
         return EntityManagerFactory(running, entities_of(read(text_of(Path(mapping).read_bytes())).plain()))  # type: ignore[arg-type]
     except MappingRefused as refused:
-        from .linter import lint
+        from .linter import Report, lint
 
-        refused.faults = tuple(map(str, lint(Path(mapping).read_bytes()).findings)) if os.path.isfile(mapping) else ()
+        report = lint(Path(mapping).read_bytes()) if os.path.isfile(mapping) else Report()
+        refused.faults = tuple(map(str, report.findings or report.unserved))
         raise
     except BaseException:
-        running.close()
+        running.kill()
         raise
 
 

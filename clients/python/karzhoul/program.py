@@ -5,6 +5,7 @@ from __future__ import annotations
 import os
 import select
 import shutil
+import signal
 import subprocess
 import sys
 import tempfile
@@ -60,8 +61,9 @@ class Program:
     def __init__(self, words: Sequence[str]) -> None:
         self._told: IO[bytes] = tempfile.TemporaryFile()
         try:
+            # In a group of its own, so that Ctrl-C at a terminal interrupts a call and doesn't end the program.
             self._process = subprocess.Popen(
-                list(words), bufsize=0, stdin=subprocess.PIPE, stdout=subprocess.PIPE, stderr=self._told
+                list(words), bufsize=0, stdin=subprocess.PIPE, stdout=subprocess.PIPE, stderr=self._told, start_new_session=True
             )
         except OSError as fault:
             self._told.close()
@@ -132,6 +134,11 @@ class Program:
             self._fault = self._fault or ProgramEnded(None)
             self._end()
 
+    def kill(self) -> None:
+        """Ends the program at once, with what it runs itself, as where it is being built."""
+        _kill(self._process)
+        self.close()
+
     def _show(self, shown: int) -> int:
         told = self._tell()
         if len(told) > shown:
@@ -180,7 +187,7 @@ class Program:
             self._unanswered.popleft().reply = line
 
     def _break(self, why: str) -> None:
-        self._process.kill()
+        _kill(self._process)
         self._fault = ProgramEnded(self._process.wait(), why)
         raise self._fault
 
@@ -189,7 +196,7 @@ class Program:
         try:
             status = self._process.wait(_PATIENCE)
         except subprocess.TimeoutExpired:
-            self._process.kill()
+            _kill(self._process)
             status = self._process.wait()
         told = self._tell()
         last = told.rstrip().rpartition("\n")[2]
@@ -208,6 +215,11 @@ def _end(process: "subprocess.Popen[bytes]", told: IO[bytes], owner: int) -> Non
         try:
             process.wait(timeout=10)
         except subprocess.TimeoutExpired:
-            process.kill()
+            _kill(process)
             process.wait()
     told.close()
+
+
+def _kill(process: "subprocess.Popen[bytes]") -> None:
+    if process.poll() is None:
+        os.killpg(process.pid, signal.SIGKILL)

@@ -215,6 +215,8 @@ class Damaged(Refused):
 REFUSALS: Dict[str, Type[Refused]] = {kind.__name__: kind for kind in Refused.__subclasses__()}
 """The refusals by name."""
 
+__all__ = ["KarzhoulError", "NotServed", "ProgramEnded", "ProgramNotFound", "Refused", *REFUSALS]
+
 _TEXT = re.compile(r"(\w+)(?:\((.*)\))?", re.DOTALL)
 
 

@@ -25,6 +25,8 @@ class Member:
     kind: MemberKind
     type: str
     """`int`, `text` or `bytes`; of a relation the target's name."""
+    declarer: str
+    """The class of the chain that declares it."""
     is_owner: bool = False
 
 
@@ -69,14 +71,14 @@ def _described(declared: Mapping[str, Any], name: str) -> EntityDescription:
 def _key(root: Any) -> Iterator[Member]:
     prefix = f"{root['embedded']}." if "embedded" in root else ""
     for part in root["key"]:
-        yield Member(prefix + part["name"], MemberKind.KEY, part["type"])
+        yield Member(prefix + part["name"], MemberKind.KEY, part["type"], root["name"])
     if "version" in root:
-        yield Member(root["version"]["name"], MemberKind.VERSION, "int")
+        yield Member(root["version"]["name"], MemberKind.VERSION, "int", root["name"])
 
 
 def _own(entity: Any) -> Iterator[Member]:
     for attribute in entity.get("attributes", ()):
-        yield Member(attribute["name"], MemberKind.ATTRIBUTE, attribute["type"])
+        yield Member(attribute["name"], MemberKind.ATTRIBUTE, attribute["type"], entity["name"])
     for relation in entity.get("relations", ()):
         kind = MemberKind.TO_ONE if relation["kind"] in ("manyToOne", "oneToOne") else MemberKind.COLLECTION
-        yield Member(relation["name"], kind, relation["target"], "mappedBy" not in relation)
+        yield Member(relation["name"], kind, relation["target"], entity["name"], "mappedBy" not in relation)

@@ -16,7 +16,7 @@ from karzhoul.linter import Fault, Report, lint
 
 from .support import HERE, PERSONS, PROGRAM, TOP, examples, long_text, needs_program
 
-MUTATIONS = 240
+MUTATIONS = 160
 
 
 def worked_mappings() -> Iterator[Tuple[str, str]]:

@@ -2,7 +2,9 @@
 
 from __future__ import annotations
 
+import contextlib
 import gc
+import io
 import os
 import signal
 import subprocess
@@ -57,6 +59,20 @@ class Finding(unittest.TestCase):
 
 
 class Ends(unittest.TestCase):
+    def test_an_interrupted_start_ends_what_it_started(self) -> None:
+        with tempfile.TemporaryDirectory() as place:
+            slow, number = Path(place, "slow"), Path(place, "number")
+            slow.write_text(f"#!/bin/sh\nsleep 100 &\necho $! >{number}\necho building >&2\nwait\n", encoding="utf-8")
+            slow.chmod(0o755)
+            interrupt(self, 3)
+            with self.assertRaises(KeyboardInterrupt), contextlib.redirect_stderr(io.StringIO()) as told:
+                karzhoul.open(PERSONS, program=slow)
+            self.assertEqual(told.getvalue(), f"karzhoul: waiting for {slow}: building\n")
+            deadline = time.monotonic() + 10
+            while lives(int(number.read_text())) and time.monotonic() < deadline:
+                time.sleep(0.05)
+            self.assertFalse(lives(int(number.read_text())))
+
     def test_an_end_in_the_middle_of_a_call(self) -> None:
         transcript = '> {"call":"createEntityManager"}\n< {"events":[],"ok":1}\n> {"call":"flush","em":1}\n! kill\n'
         with played(transcript, PERSONS) as app:
@@ -169,7 +185,7 @@ class OfTheProgram(ProgramTest):
 
     def test_an_interrupted_call_loses_no_reply(self) -> None:
         person = self.committed(name="Ada")
-        self.interrupt(0.05)
+        interrupt(self, 0.05)
         count = 0
         with self.assertRaises(KeyboardInterrupt):
             while True:
@@ -181,11 +197,8 @@ class OfTheProgram(ProgramTest):
             # The interrupt came between a pipe's bytes and the note that they moved.
             self.assertIn("interrupted", str(ended))
 
-    def interrupt(self, seconds: float) -> None:
-        timer = threading.Timer(seconds, os.kill, (os.getpid(), signal.SIGINT))
-        self.addCleanup(signal.signal, signal.SIGINT, signal.signal(signal.SIGINT, signal.default_int_handler))
-        self.addCleanup(timer.join)
-        timer.start()
+    def test_ctrl_c_at_a_terminal_ends_no_program(self) -> None:
+        self.assertNotEqual(os.getpgid(self.app.program.pid), os.getpgid(0))
 
     def test_an_interpreter_s_exit(self) -> None:
         code = (
@@ -228,6 +241,14 @@ class OfTheProgram(ProgramTest):
         sent = [running.send(b'{"call":"x"}') for _ in range(50_000)]
         self.assertIn(b"BadLine", running.wait(sent[-1]))
         running.close()
+
+
+def interrupt(test: unittest.TestCase, seconds: float) -> None:
+    """Interrupts this process after so many seconds, as Ctrl-C does."""
+    timer = threading.Timer(seconds, os.kill, (os.getpid(), signal.SIGINT))
+    test.addCleanup(signal.signal, signal.SIGINT, signal.signal(signal.SIGINT, signal.default_int_handler))
+    test.addCleanup(timer.join)
+    timer.start()
 
 
 def lives(pid: int) -> bool:
