@@ -24,8 +24,8 @@ class Handle(NamedTuple):
 class Entity:
     """An object of an entity. A number of the program is always the same object of Python, as long as that is held.
 
-    `EntityManagerFactory.entity` gives the class of an entity, whose attributes are the entity's members. An object whose class
-    isn't known, as one that an event told first, is an `Entity` itself; each name that isn't known here is asked of the program.
+    `EntityManagerFactory.entity` gives the class of an entity, whose attributes are the entity's members. A name that isn't known here,
+    as of a subclass's member, is asked of the program.
     """
 
     __slots__ = ("_karzhoul", "__weakref__")
@@ -48,14 +48,17 @@ class Entity:
         except IllegalArgument as refused:
             raise AttributeError(f"{self!r} has no member {name!r}") from refused
 
-    def __setattr__(self, name: str, value: Any) -> None:
-        if isinstance(getattr(type(self), name, None), (_Property, _EmbeddedProperty)):
-            object.__setattr__(self, name, value)
-        else:
-            handle_of(self).factory.set(self, name, value)
-
     def __repr__(self) -> str:
         return f"<{type(self).__name__} #{handle_of(self).number}>"
+
+
+class AnyEntity(Entity):
+    """An object whose class isn't known yet, as one that an event told first: each name is a member to the program."""
+
+    __slots__ = ()
+
+    def __setattr__(self, name: str, value: Any) -> None:
+        handle_of(self).factory.set(self, name, value)
 
 
 _SLOT = Entity.__dict__["_karzhoul"]
@@ -87,7 +90,7 @@ class _Property:
 
     def __set__(self, entity: Entity, value: Any) -> None:
         # `object.members += [..]` has added them when it assigns.
-        if not (isinstance(value, Collection) and value.is_of(entity, self.member.name)):
+        if not (type(value) is Collection and value.is_of(entity, self.member.name)):
             handle_of(entity).factory.set(entity, self.member.name, value)
 
 

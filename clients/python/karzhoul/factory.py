@@ -12,8 +12,8 @@ from contextlib import contextmanager
 from pathlib import Path
 from typing import Any, Callable, Deque, Dict, Iterable, Iterator, List, Mapping, Optional, Sequence, Tuple, Type, TypeVar, Union
 
-from .entities import Entity, Event, Handle, bind, class_of, handle_of
-from .lines import LifecycleEvent, is_call, line_of, reply_of, spelled, text_spelled
+from .entities import AnyEntity, Entity, Event, Handle, bind, class_of, handle_of
+from .lines import DONE, NOTHING, LifecycleEvent, is_call, line_of, object_in, reply_of, spelled, text_spelled
 from .manager import EntityManager
 from .program import Program, Sent, Words, find_program
 from .refusals import KarzhoulError, NotServed, ProgramNotFound, Refused, refusal_named
@@ -24,6 +24,8 @@ from .unit import EntityDescription, entities_of
 E = TypeVar("E", bound=Entity)
 Asked = Union[str, Type[E]]
 Callback = Callable[[Event], None]
+
+_FEWEST_OBJECTS = 1_000
 
 
 def open(mapping: Union[Words, Mapping[str, Any]], db: Optional[Words] = None, *, program: Optional[Words] = None) -> EntityManagerFactory:
@@ -44,6 +46,7 @@ def open(mapping: Union[Words, Mapping[str, Any]], db: Optional[Words] = None, *
     except MappingRefused as refused:
         from .linter import Report, lint
 
+        running.close()
         report = lint(Path(mapping).read_bytes()) if os.path.isfile(mapping) else Report()
         refused.faults = tuple(map(str, report.findings or report.unserved))
         raise
@@ -58,7 +61,8 @@ class EntityManagerFactory:
     def __init__(self, program: Program, entities: Mapping[str, EntityDescription]) -> None:
         self._program = program
         self._classes = {name: class_of(self, entity) for name, entity in entities.items()}
-        self._objects: weakref.WeakValueDictionary[int, Entity] = weakref.WeakValueDictionary()
+        self._objects: Dict[int, weakref.ref[Entity]] = {}
+        self._most_objects = _FEWEST_OBJECTS
         self._lock = threading.RLock()
         self._pipelines = 0
         self._deferred: List[Sent] = []
@@ -114,8 +118,8 @@ class EntityManagerFactory:
             made = self.ask_many("new", [{"entity": text_spelled(kind.__name__)}] * len(rows), kind)
             with self.pipeline():
                 for each, row in zip(made, rows):
-                    for name, value in row.items():
-                        setattr(each, name, value)
+                    for name in row:
+                        setattr(each, name, row[name])
             return made
 
     def get(self, entity: Entity, name: str) -> Any:
@@ -142,10 +146,11 @@ class EntityManagerFactory:
 
     def number(self, entity: Entity) -> str:
         """The number of an object of this factory, as JSON."""
-        handle = handle_of(entity) if isinstance(entity, Entity) else None
-        if handle is None or handle.factory is not self:
-            raise ValueError(f"{entity!r} is no object of this factory")
-        return str(handle.number)
+        if isinstance(entity, Entity):
+            factory, number = handle_of(entity)
+            if factory is self:
+                return str(number)
+        raise ValueError(f"{entity!r} is no object of this factory")
 
     def given(self, value: Any) -> str:
         """A value or an object as JSON."""
@@ -157,25 +162,35 @@ class EntityManagerFactory:
             return [self.found(item, kind) for item in answer]
         if type(answer) is not dict:
             return answer
-        return bytes.fromhex(answer["hex"]) if "hex" in answer else self._object(answer["object"], kind or Entity)
+        return bytes.fromhex(answer["hex"]) if "hex" in answer else self._object(answer["object"], kind or AnyEntity)
 
     def adopt(self, entity: Entity) -> None:
         """Makes a new object of the program for an object of Python."""
         with self._lock:
-            number = handle_of(self.ask("new", entity=text_spelled(type(entity).__name__))).number
-            bind(entity, Handle(self, number))
-            self._objects[number] = entity
+            self._settle()
+            sent = self._program.send(line_of("new", {"entity": text_spelled(type(entity).__name__)}))
+            number = object_in(self._program.wait(sent))
+            if number is None:
+                number = handle_of(self._taken([sent], None)[0]).number
+            self._bind(entity, number)
 
     def _object(self, number: int, kind: Type[Entity]) -> Entity:
-        with self._lock:
-            known = self._objects.get(number)
-            if known is None:
-                known = kind.__new__(kind)
-                bind(known, Handle(self, number))
-                self._objects[number] = known
-            elif type(known) is Entity and kind is not Entity:
-                object.__setattr__(known, "__class__", kind)
-            return known
+        held = self._objects.get(number)
+        known = held() if held is not None else None
+        if known is None:
+            known = kind.__new__(kind)
+            self._bind(known, number)
+        elif type(known) is AnyEntity and kind is not AnyEntity:
+            object.__setattr__(known, "__class__", kind)
+        return known
+
+    def _bind(self, entity: Entity, number: int) -> None:
+        """Makes an object of Python the one of this number. Those that nobody holds any more are forgotten from time to time."""
+        bind(entity, Handle(self, number))
+        self._objects[number] = weakref.ref(entity)
+        if len(self._objects) > self._most_objects:
+            self._objects = {known: held for known, held in self._objects.items() if held() is not None}
+            self._most_objects = max(_FEWEST_OBJECTS, 2 * len(self._objects))
 
     def _class(self, entity: Asked[E]) -> Type[E]:
         return self._classes[entity] if isinstance(entity, str) else entity  # type: ignore[return-value]
@@ -210,24 +225,24 @@ class EntityManagerFactory:
         """Does a call, whose members are JSON, and gives its answer, with objects of this class where their class isn't known better."""
         with self._lock:
             self._settle()
-            sent = self._program.send(line_of(call, **members))
-            reply = reply_of(self._program.wait(sent))
-            if reply.refusal is None and not reply.events:
-                return self.found(reply.ok, kind)
-            return self._taken([sent], kind)[0]
+            sent = self._program.send(line_of(call, members))
+            number = object_in(self._program.wait(sent))
+            return self._taken([sent], kind)[0] if number is None else self._object(number, kind or AnyEntity)
 
     def ask_many(self, call: str, members: Iterable[Dict[str, str]], kind: Optional[Type[Entity]] = None) -> List[Any]:
         """Does a call several times without waiting for each, and gives the answers."""
         with self._lock:
             self._settle()
-            return self._taken([self._program.send(line_of(call, **each)) for each in members], kind)
+            return self._taken([self._program.send(line_of(call, each)) for each in members], kind)
 
     def tell(self, call: str, /, **members: str) -> None:
         """Does a call that answers null; within a pipeline without waiting for its reply."""
         with self._lock:
-            self._deferred.append(self._program.send(line_of(call, **members)))
-            if not self._pipelines:
-                self._settle()
+            sent = self._program.send(line_of(call, members))
+            if self._pipelines:
+                self._deferred.append(sent)
+            elif not self._says_nothing(self._program.wait(sent)):
+                self._taken([sent], None)
 
     def send_line(self, line: str) -> Any:
         """Sends any line as it is, and gives its answer."""
@@ -236,6 +251,10 @@ class EntityManagerFactory:
         with self._lock:
             self._settle()
             return self._taken([self._program.send(line.encode())], None)[0]
+
+    def _says_nothing(self, line: bytes) -> bool:
+        """Whether a reply answers null, and tells no event that anybody hears."""
+        return line == NOTHING or (not self._callbacks and line.endswith(DONE))
 
     def _settle(self) -> None:
         if self._deferred:
@@ -247,10 +266,18 @@ class EntityManagerFactory:
         answers: List[Any] = []
         refused: List[KarzhoulError] = []
         for each in sent:
-            reply = reply_of(self._program.wait(each))
+            line = each.reply or self._program.wait(each)
+            if self._says_nothing(line):
+                answers.append(None)
+                continue
+            number = object_in(line)
+            if number is not None:
+                answers.append(self._object(number, kind or AnyEntity))
+                continue
+            reply = reply_of(line)
             answers.append(self.found(reply.ok, kind))
             if reply.refusal is not None or (reply.events and self._callbacks):
-                events = tuple([Event(told.event, self._object(told.number, Entity), told.ran) for told in reply.events])
+                events = tuple([Event(told.event, self._object(told.number, AnyEntity), told.ran) for told in reply.events])
                 self._events.extend(events)
                 if reply.refusal is not None:
                     refused.append(_refusal(reply.refusal, events, each.line))

@@ -139,11 +139,13 @@ text_spelled: Callable[[str], str] = json.encoder.encode_basestring
 """A text as JSON."""
 
 
-def line_of(call: str, **members: str) -> bytes:
+def line_of(call: str, members: Mapping[str, str]) -> bytes:
     """The line of a call, without its line feed, whose members are JSON already. A text that isn't Unicode, as a lone surrogate, is a
     `UnicodeEncodeError`."""
-    said = "".join([f',"{name}":{value}' for name, value in members.items()])
-    return f'{{"call":"{call}"{said}}}'.encode()
+    said = f'{{"call":"{call}"'
+    for name in members:
+        said += f',"{name}":{members[name]}'
+    return f"{said}}}".encode()
 
 
 def spelled(value: Any) -> str:
@@ -177,17 +179,22 @@ class Reply(NamedTuple):
     refusal: Optional[Tuple[str, Optional[str]]]
 
 
-_scan = json.JSONDecoder().scan_once
-_NOTHING = Reply((), None, None)
+DONE = b',"ok":null}'
+"""The end of each reply that answers null, and of no other one: of a refusal's its events stand last."""
+NOTHING = b'{"events":[]' + DONE
+"""The reply that says nothing."""
+
 _OBJECT_FRONT = b'{"events":[],"ok":{"object":'
+_scan = json.JSONDecoder().scan_once
+
+
+def object_in(line: bytes) -> Optional[int]:
+    """The number of the object that a reply answers, where it is one that answers an object and tells no event."""
+    return int(line[len(_OBJECT_FRONT) : -2]) if line.startswith(_OBJECT_FRONT) and line.endswith(b"}}") else None
 
 
 def reply_of(line: bytes) -> Reply:
     """The reply on a line, which is compact JSON; a `ValueError` where there is none."""
-    if line == b'{"events":[],"ok":null}':
-        return _NOTHING
-    if line.startswith(_OBJECT_FRONT) and line.endswith(b"}}"):
-        return Reply((), {"object": int(line[len(_OBJECT_FRONT) : -2])}, None)
     try:
         said = _scan(line.decode(), 0)[0]
         events = tuple([Told(LifecycleEvent(name), number, tuple(ran)) for name, number, *ran in said["events"]])

@@ -99,8 +99,7 @@ class Program:
             raise self._fault
         sent = Sent(line)
         self._unanswered.append(sent)
-        self._outgoing += line
-        self._outgoing += b"\n"
+        self._outgoing += line + b"\n"
         while len(self._outgoing) >= _SLICE:
             self._exchange()
         return sent
@@ -130,6 +129,8 @@ class Program:
         try:
             while (self._outgoing or self._unanswered) and not self._fault:
                 self._exchange()
+        except ProgramEnded:
+            pass  # Then it has ended, as is wanted.
         finally:
             self._fault = self._fault or ProgramEnded(None)
             self._end()
@@ -167,7 +168,11 @@ class Program:
 
     def _write(self) -> None:
         try:
-            del self._outgoing[: os.write(self._in, self._outgoing[:_SLICE])]
+            written = os.write(self._in, self._outgoing)
+            if written == len(self._outgoing):
+                self._outgoing.clear()
+            else:
+                del self._outgoing[:written]
         except BlockingIOError:
             pass
         except BrokenPipeError:

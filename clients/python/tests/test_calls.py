@@ -74,8 +74,10 @@ class Objects(ProgramTest):
     def test_a_name_that_is_no_member(self) -> None:
         person = self.Person()
         self.assertFalse(hasattr(person, "nmae"))
-        with self.assertRaises(karzhoul.IllegalArgument) as raised:
+        with self.assertRaises(AttributeError):
             person.nmae = "Ada"
+        with self.assertRaises(karzhoul.IllegalArgument) as raised:
+            self.app.set(person, "nmae", "Ada")
         self.assertEqual(raised.exception.detail, "name")
 
     def test_an_object_of_another_factory(self) -> None:
