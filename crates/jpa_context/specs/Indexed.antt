@@ -1,9 +1,9 @@
 -- An index of places by fingerprints, one of entries by their objects, and what ties both to the entries of a context.
-use Rattle.std.specs.Prelude.{◌≡◌, ℕ, ◌-◌, ◌&&◌, ◌==◌, Bool, false, List, [], ◌∷◌, ◌++◌, length, take, map, filter, nat_eq, Option, Some, None, is_some, if◌then◌else◌}
+use Rattle.std.specs.Prelude.{◌≡◌, ◌⊎◌, ℕ, ◌-◌, ◌&&◌, ◌==◌, Bool, false, List, [], ◌∷◌, ◌++◌, length, take, map, filter, nat_eq, Option, Some, None, is_some, if◌then◌else◌}
 use Rattle.std.specs.Global.{Vec}
 use Rattle.std.specs.HashMap.{get}
-use Rattle.jpa_value.specs.declared.value.Value.{Value}
 use Rattle.std.specs.Option.{option_or}
+use Rattle.jpa_value.specs.declared.value.Value.{Value}
 use Rattle.jpa_undo.specs.Undo.{Changes}
 use Rattle.jpa_context.specs.declared.Entry.{Entry}
 use Rattle.jpa_context.specs.declared.index.PlaceIndex.{PlaceIndex}
@@ -57,6 +57,22 @@ Forgets object old new = (n : ℕ) → place_in new n ≡ (if object == n then N
 -- each object has the place of its first entry, and no other object has one
 abbrev pub IsAt : List Entry → ObjectPlaces → Type 0
 IsAt es at' = (n : ℕ) → place_in at' n ≡ entry_place n es
+
+-- some objects lose their places
+abbrev pub Loses : (ℕ → Bool) → ObjectPlaces → ObjectPlaces → Type 0
+Loses goes old new = (n : ℕ) → place_in new n ≡ (if goes n then None else place_in old n)
+
+-- each object has the place of its first entry, or none
+abbrev pub WereAt : List Entry → ObjectPlaces → Type 0
+WereAt es at' = (n : ℕ) → (place_in at' n ≡ None) ⊎ (place_in at' n ≡ entry_place n es)
+
+-- the entries whose objects have places
+abbrev pub with_places : ObjectPlaces → List Entry → List Entry
+with_places at' es = filter (λ e. has_place at' e.object) es
+
+-- each object that has a place has that of its first entry among these, if it has one there
+abbrev pub Renumbers : List Entry → ObjectPlaces → ObjectPlaces → Type 0
+Renumbers es old new = (n : ℕ) → place_in new n ≡ (if has_place old n then option_or (entry_place n es) (place_in old n) else None)
 
 -- ---- places by fingerprints
 

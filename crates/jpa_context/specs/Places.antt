@@ -1,6 +1,6 @@
 -- What stays of an entry while it stands in a context: its object, and the key under which it entered; where an object's entry
 -- stands, and which entries stay where objects leave (Jakarta Persistence 3.1, chapters 3.2.7 and 3.2.8).
-use Rattle.std.specs.Prelude.{◌≡◌, ℕ, not, ◌==◌, List, filter, Option, Some, None, slice_get, slice_index_or}
+use Rattle.std.specs.Prelude.{◌≡◌, ℕ, Bool, not, ◌==◌, ◌&&◌, List, filter, Option, Some, None, slice_get, slice_index_or}
 use Rattle.std.specs.List.{list_any, position_from}
 use Rattle.jpa_heap.specs.declared.LiveObject.{LiveObject}
 use Rattle.jpa_heap.specs.Objects.{object_at}
@@ -19,10 +19,19 @@ abbrev pub entry_at : List Entry → Option ℕ → Option Entry
 entry_at es None = None
 entry_at es (Some k) = slice_get es k
 
--- the entries of other objects than these
-abbrev pub without_objects : List ℕ → List Entry → List Entry
-without_objects objects es = filter (λ e. not (list_any (λ n. n == e.object) objects)) es
+-- whether it is one of these objects; and the entries of all others
+abbrev pub is_among : List ℕ → ℕ → Bool
+is_among objects n = list_any (λ m. m == n) objects
 
--- without those of the objects that are removed for this manager
+abbrev pub without_objects : List ℕ → List Entry → List Entry
+without_objects objects es = filter (λ e. not (is_among objects e.object)) es
+
+-- whether an object is removed for a manager; whether it is and has one of these entries; and the entries of all others
+abbrev pub is_gone : List LiveObject → ℕ → ℕ → Bool
+is_gone objects manager n = is_removed (state_from manager (object_at objects n).life)
+
+abbrev pub has_gone : List LiveObject → ℕ → List Entry → ℕ → Bool
+has_gone objects manager es n = list_any (λ e. is_gone objects manager e.object && (e.object == n)) es
+
 abbrev pub without_removed : List LiveObject → ℕ → List Entry → List Entry
-without_removed objects manager es = filter (λ e. not (is_removed (state_from manager (object_at objects e.object).life))) es
+without_removed objects manager es = filter (λ e. not (is_gone objects manager e.object)) es

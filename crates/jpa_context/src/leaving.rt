@@ -1,12 +1,8 @@
 //! How entries leave a context for good, without memory: the objects that leave lose their places first, then the entries without a
 //! place go, and the others get new places.
-ghost use Rattle.std.specs.Prelude.{◌≡◌, ◌⊎◌, ◌&&◌, ◌==◌, ℕ, None, filter, length, if◌then◌else◌};
-ghost use Rattle.std.specs.List.{list_any};
-ghost use Rattle.std.specs.Option.{option_or};
-ghost use Rattle.jpa_heap.specs.Objects.{object_at};
+ghost use Rattle.std.specs.Prelude.{◌≡◌, length};
 ghost use Rattle.jpa_context.specs.Indexed as indexed;
-ghost use Rattle.jpa_context.specs.Places.{entry_place};
-ghost use Rattle.jpa_context.specs.Work.{state_from, is_removed};
+ghost use Rattle.jpa_context.specs.Places as places;
 
 use crate::Entry;
 use crate::fingerprint::fingerprint;
@@ -17,7 +13,7 @@ use jpa_undo::UndoList;
 
 /// Takes the places of some objects.
 pub(crate) fn forget_objects(at: &mut ObjectPlaces, objects: &[usize])
-    ensures { (n : ℕ) → indexed.place_in at.new n ≡ (if list_any (λ m. m == n) objects.now then None else indexed.place_in at.old n) }
+    ensures { indexed.Loses (places.is_among objects.now) at.old at.new }
 {
     for object in objects {
         at.forget(*object);
@@ -26,7 +22,7 @@ pub(crate) fn forget_objects(at: &mut ObjectPlaces, objects: &[usize])
 
 /// Whether an object is removed for a manager.
 fn is_gone(objects: &[LiveObject], object: usize, manager: usize) -> bool
-    ensures { result ≡ is_removed (state_from manager (object_at objects.now object).life) }
+    ensures { result ≡ places.is_gone objects.now manager object }
 {
     match objects.get(object) {
         Some(live) => match live.life {
@@ -44,7 +40,7 @@ pub(crate) fn forget_removed(
     objects: &[LiveObject],
     manager: usize,
 )
-    ensures { (n : ℕ) → indexed.place_in at.new n ≡ (if list_any (λ e. is_removed (state_from manager (object_at objects.now e.object).life) && (e.object == n)) entries.now then None else indexed.place_in at.old n) }
+    ensures { indexed.Loses (places.has_gone objects.now manager entries.now) at.old at.new }
 {
     for entry in entries {
         if is_gone(objects, entry.object, manager) {
@@ -56,7 +52,7 @@ pub(crate) fn forget_removed(
 /// Takes the objects without a place out of an index of entries.
 fn thin(index: &mut PlaceIndex, entries: &[Entry], at: &ObjectPlaces)
     requires { indexed.IsOf entries.now index.old }
-    ensures { indexed.IsOf (filter (λ e. indexed.has_place at.now e.object) entries.now) index.new }
+    ensures { indexed.IsOf (indexed.with_places at.now entries.now) index.new }
 {
     for entry in entries {
         if !at.has(entry.object) {
@@ -67,7 +63,7 @@ fn thin(index: &mut PlaceIndex, entries: &[Entry], at: &ObjectPlaces)
 
 /// Gives each object that has a place the place of its first entry among these, if it has one there.
 fn renumber(at: &mut ObjectPlaces, entries: &[Entry])
-    ensures { (n : ℕ) → indexed.place_in at.new n ≡ (if indexed.has_place at.old n then option_or (entry_place n entries.now) (indexed.place_in at.old n) else None) }
+    ensures { indexed.Renumbers entries.now at.old at.new }
 {
     for i in (0..entries.len()).rev() {
         at.move_to(entries[i].object, i);
@@ -76,7 +72,7 @@ fn renumber(at: &mut ObjectPlaces, entries: &[Entry])
 
 /// Takes the entries whose objects have no place out of a list, for good.
 fn retain_placed(list: &mut UndoList<Entry>, at: &ObjectPlaces)
-    ensures now { list.new.now ≡ filter (λ e. indexed.has_place at.now e.object) list.old.now }
+    ensures now { list.new.now ≡ indexed.with_places at.now list.old.now }
     ensures since { list.new.since ≡ list.new.now }
 {
     list.retain(|entry| at.has(entry.object));
@@ -90,8 +86,8 @@ pub(crate) fn drop_unplaced(
     at: &mut ObjectPlaces,
 ) -> usize
     requires all { indexed.IsOf list.old.now index.old }
-    requires placed { (n : ℕ) → (indexed.place_in at.old n ≡ None) ⊎ (indexed.place_in at.old n ≡ entry_place n list.old.now) }
-    ensures now { list.new.now ≡ filter (λ e. indexed.has_place at.old e.object) list.old.now }
+    requires placed { indexed.WereAt list.old.now at.old }
+    ensures now { list.new.now ≡ indexed.with_places at.old list.old.now }
     ensures since { list.new.since ≡ list.new.now }
     ensures all { indexed.IsOf list.new.now index.new }
     ensures placed { indexed.IsAt list.new.now at.new }
