@@ -44,7 +44,8 @@ def _parser() -> argparse.ArgumentParser:
     shown = commands.add_parser("show", parents=[over], help="show what a database file holds")
     shown.add_argument("db")
     shown.add_argument("--html", metavar="FILE", help="write one page to this file")
-    shown.add_argument("--key", action="append", default=[], metavar="ENTITY=KEY", help="a key to look for where it isn't generated: 7, 1..100, or [1,\"a\"]")
+    keys = "a key to look for where it isn't generated: 7, 1..100, or [1,\"a\"]"
+    shown.add_argument("--key", action="append", default=[], metavar="ENTITY=KEY", help=keys)
     shown.add_argument("--most", type=int, default=show.MOST_KEYS, help="how many generated keys to look for (%(default)s)")
     shown.set_defaults(run=run_show)
 

@@ -62,7 +62,8 @@ def _box(box: _Box) -> str:
     ]
     for place, member in enumerate(box.entity.members):
         parts.append(f'<text x="{box.left + _MARGIN}" y="{box.line(place)}">{html.escape(_cut(member.name, 20))}</text>')
-        parts.append(f'<text class="type" text-anchor="end" x="{box.left + _WIDTH - _MARGIN}" y="{box.line(place)}">{html.escape(_type(member))}</text>')
+        right = box.left + _WIDTH - _MARGIN
+        parts.append(f'<text class="type" text-anchor="end" x="{right}" y="{box.line(place)}">{html.escape(_type(member))}</text>')
     return "".join(parts)
 
 
@@ -97,4 +98,5 @@ def _arrow(box: _Box, height: int, target: _Box, name: str) -> str:
     path = f"M{start_at} {height}C{first} {height} {second} {end} {end_at} {end}"
     where = start_at + (4 if not is_left else -4 - _LETTER * len(name))
     label = f'<text class="kind" x="{where}" y="{height - 5}">{html.escape(name)}</text>' if name == "extends" else ""
-    return f'<path d="{path}" marker-end="url(#arrow)"><title>{html.escape(box.entity.name)}.{html.escape(name)} to {html.escape(target.entity.name)}</title></path>{label}'
+    title = html.escape(f"{box.entity.name}.{name} to {target.entity.name}")
+    return f'<path d="{path}" marker-end="url(#arrow)"><title>{title}</title></path>{label}'

@@ -16,7 +16,7 @@ from .entities import AnyEntity, Entity, Event, Handle, bind, class_of, handle_o
 from .lines import DONE, NOTHING, LifecycleEvent, is_call, line_of, object_in, reply_of, spelled, text_spelled
 from .manager import EntityManager
 from .program import Program, Sent, Words, find_program
-from .refusals import KarzhoulError, NotServed, ProgramNotFound, Refused, refusal_named
+from .refusals import KarzhoulError, NotServed, Refused, refusal_named
 from .refusals import Mapping as MappingRefused
 from .strict_json import read, text_of
 from .unit import EntityDescription, entities_of

@@ -374,7 +374,8 @@ class _Model:
         count = len(self._unit.entities)
         if not 1 <= count <= MOST_ENTITIES:
             self._tell(self._unit.root.at("entities"), f"there are 1 to {MOST_ENTITIES} entities, and not {count}")
-        self._repeated(((entity.text("name"), entity.at("name")) for entity in self._unit.entities), lambda name: f"a second entity has the name {name!r}")
+        names = ((entity.text("name"), entity.at("name")) for entity in self._unit.entities)
+        self._repeated(names, lambda name: f"a second entity has the name {name!r}")
 
     def _names(self) -> None:
         for where in self._named():
@@ -651,7 +652,8 @@ def _value(value: Value) -> Optional[Tuple[type, object]]:
 def _unknown(teller: _Teller, root: Value, made: _Made) -> bool:
     """Tells the functions that a mapping names and doesn't make."""
     unit = _Unit(root)
-    listeners = [*unit.root.items("listeners"), *(each for entity in unit.entities for sort in ("listeners", "callbacks") for each in entity.items(sort))]
+    own = (each for entity in unit.entities for sort in ("listeners", "callbacks") for each in entity.items(sort))
+    listeners = [*unit.root.items("listeners"), *own]
     named = [(listener.at("name"), made.listeners, "listener") for listener in listeners]
     attributes = (attribute for entity in unit.entities for attribute in entity.items("attributes") if attribute.has("converter"))
     named += [(attribute.at("converter"), made.converters, "converter") for attribute in attributes]
@@ -668,4 +670,5 @@ def _unserved(teller: _Teller, root: Value) -> None:
     for owner, names in parts:
         for name in names:
             if owner.has(name) and owner.at(name).value.data:
-                teller.tell_unserved((*owner.path, name), owner.at(name).value, f"{'subclasses' if name == 'extends' else name} may not be served yet")
+                what = "subclasses" if name == "extends" else name
+                teller.tell_unserved((*owner.path, name), owner.at(name).value, f"{what} may not be served yet")

@@ -122,7 +122,8 @@ class Program:
                 self._exchange()
             else:
                 shown = self._show(shown)
-        self.wait(sent)
+        if b'"BadLine"' not in self.wait(sent):
+            raise ProgramNotFound(f"{self._process.args[0]!r} is no program that answers calls")  # type: ignore[index]
 
     def close(self) -> None:
         """Writes what was handed in, ends the program's input and waits for its end."""

@@ -6,7 +6,7 @@ import json
 import re
 import sys
 from pathlib import Path
-from typing import Any, Callable, Dict, Iterable, List, Sequence, Tuple
+from typing import Any, Callable, Dict, Iterable, List, Optional, Sequence, Tuple
 
 from .entities import Entity, Event, handle_of
 from .factory import EntityManagerFactory
@@ -17,8 +17,9 @@ from .unit import MemberKind
 
 HISTORY = Path.home() / ".karzhoul_history"
 COMMANDS = ("help", "entities", "manager", "quit")
-SILENT = {"close", "begin", "commit", "rollback", "setRollbackOnly", "clear", "flush", "setFlushMode", "set", "add", "persist", "remove", "refresh", "detach", "lock"}
-"""The calls that answer nothing but null."""
+SPEAKING = {"createEntityManager", "new", "get", "takeOut", "find", "getReference", "merge", "contains"}
+SPEAKING |= {"query", "querySingle", "executeUpdate"}
+"""The calls that answer more than null."""
 HELP = """Calls, as `new Person`, `set #1 name "Ada"`, `begin`, `persist #1`, `commit`, `find Person 1`, `get #1 name`:
 objects are #1, values null, 7, "a text" (or a bare word) and x'0aff'; a key of several parts is several values. A call is made by the
 manager at the prompt; `manager 2` changes it, and `createEntityManager` makes one and goes to it. In queries `:name=value`,
@@ -70,7 +71,14 @@ class Shell:
         atexit.register(_keep_history, readline)
         readline.set_completer_delims(" \t")
         readline.parse_and_bind("tab: complete")
-        readline.set_completer(lambda text, state: dict(enumerate(self.completions(readline.get_line_buffer()[: readline.get_begidx()], text))).get(state))
+        readline.set_completer(self._completer(readline))
+
+    def _completer(self, readline: Any) -> Callable[[str, int], Optional[str]]:
+        def complete(text: str, state: int) -> Optional[str]:
+            before = readline.get_line_buffer()[: readline.get_begidx()]
+            return dict(enumerate(self.completions(before, text))).get(state)
+
+        return complete
 
     def do(self, said: str) -> None:
         """Does one line, and tells its answer or its refusal."""
@@ -87,7 +95,7 @@ class Shell:
     def _do(self, said: str) -> None:
         words = _TOKEN.findall(said)
         if said.startswith("{"):
-            self._answer(self._app.send_line(said), is_silent=False)
+            self._answer(self._app.send_line(said), speaks=True)
         elif not words:
             return
         elif words[0] in CALLS:
@@ -109,14 +117,14 @@ class Shell:
         answer = self._app.ask(call, self._app.entity(kind.name) if kind else None, **members)
         if call == "createEntityManager":
             self._manager = answer
-        self._answer(answer, call in SILENT)
+        self._answer(answer, call in SPEAKING)
 
     # ---- answers
 
-    def _answer(self, answer: Any, is_silent: bool) -> None:
+    def _answer(self, answer: Any, speaks: bool) -> None:
         items = answer if isinstance(answer, list) else [answer]
         self._held += [item for item in items if isinstance(item, Entity)]
-        self._write("done" if is_silent else readable(answer))
+        self._write(readable(answer) if speaks else "done")
 
     def _tell(self, event: Event) -> None:
         self._held.append(event.object)

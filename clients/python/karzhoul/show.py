@@ -76,11 +76,12 @@ class _Reader:
             pass
         given = list(self._keys.get(name, ()))
         if not entity.is_generated:
-            return self._found(entity, given), "those of the keys that were given" if given else "no keys were given (--key), and the program serves no queries yet"
+            note = "those of the keys that were given" if given else "no keys were given (--key), and the program serves no queries yet"
+            return self._found(entity, given), note
         following = next_number(self._em, self._app, entity)
         last = min(following - 1, self._most)
-        note = "all that are stored" if last == following - 1 else f"those of the keys from 1 to {last:,}, of the {following - 1:,} that were given out"
-        return self._found(entity, itertools.chain(range(1, last + 1), (key for key in given if not 1 <= key <= last))), note
+        some = f"those of the keys from 1 to {last:,}, of the {following - 1:,} that were given out"
+        return self._found(entity, itertools.chain(range(1, last + 1), given)), "all that are stored" if last == following - 1 else some
 
     def _found(self, entity: EntityDescription, keys: Iterable[Any]) -> List[Entity]:
         found: List[Optional[Entity]] = []
@@ -173,8 +174,9 @@ a:hover { text-decoration: underline; } .note { opacity: .7; } .scroll { overflo
 table { border-collapse: collapse; } th, td { border: 1px solid var(--line); padding: .2rem .6rem; text-align: left; vertical-align: top; }
 th { background: var(--soft); font-weight: 600; } td.int { text-align: right; font-variant-numeric: tabular-nums; }
 td.bytes { font-family: ui-monospace, monospace; font-size: .85em; overflow-wrap: anywhere; } td.null { opacity: .45; }
-tr:target { outline: 2px solid var(--link); } svg { max-width: 100%; height: auto; } svg text { fill: currentColor; font: 13px system-ui, sans-serif; }
-svg .name { font-weight: 600; } svg .type { opacity: .65; } svg rect { fill: var(--soft); stroke: var(--line); } svg path { fill: none; stroke: var(--link); }
+tr:target { outline: 2px solid var(--link); } svg { max-width: 100%; height: auto; }
+svg text { fill: currentColor; font: 13px system-ui, sans-serif; } svg .name { font-weight: 600; } svg .type { opacity: .65; }
+svg rect { fill: var(--soft); stroke: var(--line); } svg path { fill: none; stroke: var(--link); }
 svg marker path { fill: var(--link); stroke: none; } svg .kind { font-size: 11px; opacity: .8; }
 """
 
@@ -233,5 +235,8 @@ def _keys(entity: EntityDescription, text: str) -> List[Any]:
         said = json.loads(text)
     except ValueError:
         said = text
-    parts = [bytes.fromhex(part["hex"]) if isinstance(part, dict) and set(part) == {"hex"} else part for part in (said if isinstance(said, list) else [said])]
-    return [tuple(parts)]
+    return [tuple(map(_part, said if isinstance(said, list) else [said]))]
+
+
+def _part(said: Any) -> Any:
+    return bytes.fromhex(said["hex"]) if isinstance(said, dict) and set(said) == {"hex"} else said

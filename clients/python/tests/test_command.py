@@ -149,7 +149,7 @@ class Show(WithStore):
         self.over("show", self.db, "--html", str(page))
         browser = next(found for found in map(shutil.which, BROWSERS) if found)
         shot = self.place / "page.png"
-        words = ["--headless", f"--screenshot={shot}" if "firefox" not in browser else f"--screenshot {shot}", *(["--no-sandbox"] if "firefox" not in browser else [])]
+        words = ["--headless", "--screenshot", str(shot)] if "firefox" in browser else ["--headless", "--no-sandbox", f"--screenshot={shot}"]
         subprocess.run([browser, *words, page.as_uri()], check=True, capture_output=True, timeout=60)
         self.assertTrue(shot.read_bytes().startswith(b"\x89PNG"))
 
@@ -300,7 +300,10 @@ class Words(unittest.TestCase):
         told: Dict[str, Tuple[str, List[str]]] = {
             '{"em":3,"entity":"Place","key":[1,"a",{"hex":"0a"}]}': ("find", ["Place", "1", "a", "x'0a'"]),
             '{"object":1,"name":"person","value":{"object":2}}': ("set", ["#1", "person", "#2"]),
-            '{"em":3,"text":"SELECT p","params":{"n":"A b","1":null},"first":0,"max":5}': ("query", ['"SELECT p"', "max=5", ':n="A b"', ":1=null", "first=0"]),
+            '{"em":3,"text":"SELECT p","params":{"n":"A b","1":null},"first":0,"max":5}': (
+                "query",
+                ['"SELECT p"', "max=5", ':n="A b"', ":1=null", "first=0"],
+            ),
             '{"em":3,"object":1,"mode":"READ"}': ("lock", ["1", "READ"]),
             '{"em":3}': ("begin", []),
         }
@@ -318,7 +321,8 @@ class Package(unittest.TestCase):
             words = ["install", "--quiet", "--no-index", "--no-deps", "--target", str(Path(place, "there")), str(Path(place, "source"))]
             made = subprocess.run([sys.executable, "-m", "pip", *words], capture_output=True, text=True, timeout=100)
             self.assertEqual(made.returncode, 0, made.stderr)
-            found = subprocess.run([sys.executable, "-c", "import karzhoul; print(karzhoul.__file__)"], cwd=place, env={**os.environ, "PYTHONPATH": str(Path(place, "there"))}, capture_output=True, text=True)
+            code, env = "import karzhoul; print(karzhoul.__file__)", {**os.environ, "PYTHONPATH": str(Path(place, "there"))}
+            found = subprocess.run([sys.executable, "-c", code], cwd=place, env=env, capture_output=True, text=True)
             self.assertEqual(found.stdout.strip(), str(Path(place, "there", "karzhoul", "__init__.py")))
             self.assertTrue(Path(place, "there", "karzhoul", "py.typed").exists())
             self.assertTrue(Path(place, "there", "bin", "karzhoul").exists())

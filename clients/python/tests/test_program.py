@@ -56,6 +56,12 @@ class Finding(unittest.TestCase):
             karzhoul.open(PERSONS, program="/bin/cat")
         with self.assertRaises(karzhoul.ProgramEnded):
             karzhoul.open(PERSONS, program="/bin/true")
+        with tempfile.TemporaryDirectory() as place:
+            other = Path(place, "other")
+            other.write_text("#!/bin/sh\nexec cat\n", encoding="utf-8")
+            other.chmod(0o755)
+            with self.assertRaises(karzhoul.ProgramNotFound):
+                karzhoul.open(PERSONS, program=other)
 
 
 class Ends(unittest.TestCase):
@@ -102,8 +108,8 @@ class Ends(unittest.TestCase):
             self.assertEqual(raised.exception.status, 4)
 
     def test_a_transaction_whose_program_ends_raises_that(self) -> None:
-        transcript = '> {"call":"createEntityManager"}\n< {"events":[],"ok":1}\n> {"call":"begin","em":1}\n< {"events":[],"ok":null}\n> {"call":"flush","em":1}\n! 4\n'
-        with played(transcript, PERSONS) as app:
+        transcript = '> {"call":"createEntityManager"}\n< {"events":[],"ok":1}\n> {"call":"begin","em":1}\n< {"events":[],"ok":null}\n'
+        with played(transcript + '> {"call":"flush","em":1}\n! 4\n', PERSONS) as app:
             em = app.create_entity_manager()
             with self.assertRaises(karzhoul.ProgramEnded):
                 with em.transaction():

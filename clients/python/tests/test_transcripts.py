@@ -194,7 +194,9 @@ class Transcripts(unittest.TestCase):
             '{"call":"createEntityManager"}': "1",
             '{"call":"new","entity":"Person"}': '{"object":1}',
             f'{{"call":"executeUpdate","em":1,"text":"{text}","params":{{"n":{{"hex":"00ff"}},"p":{{"object":1}}}}}}': "1",
-            '{"call":"query","em":1,"text":"SELECT p, p.name FROM Person p","params":{},"first":0,"max":2}': '[[{"object":2},"Ada"],[null,{"hex":"0a"}]]',
+            '{"call":"query","em":1,"text":"SELECT p, p.name FROM Person p","params":{},"first":0,"max":2}': (
+                '[[{"object":2},"Ada"],[null,{"hex":"0a"}]]'
+            ),
             '{"call":"close","em":1}': "null",
         }
         script = "".join(f'> {line}\n< {{"events":[],"ok":{ok}}}\n' for line, ok in lines.items())

@@ -58,7 +58,8 @@ class Tutorial(unittest.TestCase):
             python = bin_folder / "python3"
             python.write_text(f'#!/bin/sh\nexec {shlex.quote(sys.executable)} "$@"\n', encoding="utf-8")
             python.chmod(0o755)
-            env = {**os.environ, "KARZHOUL_PROGRAM": str(PROGRAM), "TMPDIR": place, "PATH": f"{bin_folder}:{os.environ['PATH']}", "PYTHONDONTWRITEBYTECODE": "1"}
+            own = {"KARZHOUL_PROGRAM": str(PROGRAM), "TMPDIR": place, "PATH": f"{bin_folder}:{os.environ['PATH']}"}
+            env = {**os.environ, **own, "PYTHONDONTWRITEBYTECODE": "1"}
             ran = subprocess.run(["bash", "-c", "".join(script())], cwd=TOP, env=env, capture_output=True, text=True, timeout=100)
             self.assertEqual((ran.returncode, ran.stderr), (0, ""))
             self.check(ran.stdout)
