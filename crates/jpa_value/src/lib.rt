@@ -20,8 +20,8 @@ pub use boxed::Boxed;
 pub use copy::TryCopy;
 pub use event::LifecycleEvent;
 pub use limits::{
-    MOST_BYTES, MOST_LINE_BYTES, MOST_OBJECTS, MOST_OPEN_MANAGERS, MOST_OPEN_PARENTHESES, MOST_QUERY_BYTES,
-    MOST_QUERY_VARIABLES,
+    MOST_BYTES, MOST_LINE_BYTES, MOST_OBJECTS, MOST_OPEN_MANAGERS, MOST_OPEN_PARENTHESES,
+    MOST_QUERY_BYTES, MOST_QUERY_VARIABLES,
 };
 pub use list::{Bytes, Seq, Text};
 pub use order::{
