@@ -16,7 +16,7 @@ use Rattle.jpa_context.specs.Work.{Work}
 use Rattle.jpa_context.specs.Steps.{Done}
 use Rattle.jpa_context.specs.Undo.{IsPlain, Since}
 use Rattle.jpa_flush.specs.Flush.{flush}
-use Rattle.jpa_flush.specs.Writes.{writes}
+use Rattle.jpa_flush.specs.Writes.{AreWritesOf}
 use Rattle.jpa_provider.specs.declared.session.Status.{Status}
 use Rattle.jpa_provider.specs.declared.session.Session.{Session}
 use Rattle.jpa_provider.specs.Machine.{Machine, Manager, manager_at, is_begun, work_of}
@@ -24,14 +24,13 @@ use Rattle.jpa_provider.specs.Invariant.{IsMachine, context_of}
 use Rattle.jpa_provider.specs.Serving.{transaction_in, manager_in, machine_of, since_of, IsPlainMachine, IsServing, Refuses, Stores}
 use Rattle.jpa_provider.proofs.AtWork.{IsAtWork, taken}
 use Rattle.jpa_provider.proofs.AfterFlush.{still_at_work, numbers_rise}
-use Rattle.jpa_provider.proofs.DistinctObjects.{distinct_objects}
-use Rattle.jpa_provider.proofs.DistinctWrites.{distinct_writes}
+use Rattle.jpa_consistent.proofs.DistinctObjects.{distinct_objects}
 use Rattle.jpa_provider.proofs.Opened.{transaction_there}
 use Rattle.jpa_provider.proofs.Plain.{committed_plain}
 use Rattle.jpa_provider.proofs.Serving.{entries_in}
 use Rattle.jpa_provider.proofs.Sessions.{manager_there, managers_count}
 use Rattle.jpa_provider.proofs.Steady.{same, rolled_steady, free_set, IsSteady}
-use Rattle.jpa_provider.proofs.StorableWrites.{storable_writes}
+use Rattle.jpa_consistent.proofs.StorableWrites.{storable_writes, single_writes}
 
 pub begun_active : (s : Session) (m : ℕ) → m < length s.managers.items → (manager_in s.managers.items m).status ≡ Status.Active → is_begun (manager_at (machine_of s) m).transaction ≡ true
 begun_active s m l active = ap is_begun (transaction_there s m l) ∙ ap (λ (st : Status). is_begun (transaction_in st s.work.view.now)) active
@@ -47,6 +46,10 @@ pub objects_once : (world : World) (s : Session) (m : ℕ) → m < length s.mana
 objects_once world s m l h =
     distinct_objects world.model (machine_of s).objects (context_of (machine_of s) m) ((h.machine).managers m (subst (λ n. m < n) (sym (managers_count s)) l)).distinct
 
+-- what a flush wrote, of the same work otherwise named
+pub writes_from : {world : World} {u v : Work} {es : List (Identity × Stored)} → u ≡ v → AreWritesOf world u es → AreWritesOf world v es
+writes_from {world} {u} {v} {es} e h = subst (λ w. AreWritesOf world w es) e h
+
 module _ (world : World) (s : Session) (m : ℕ) (l : m < length s.managers.items) (h : IsServing world s) (w : Work) (e : flush world (work_of (machine_of s) m) ≡ Done tt w) where
   within : m < length (machine_of s).managers
   within = subst (λ n. m < n) (sym (managers_count s)) l
@@ -55,13 +58,13 @@ module _ (world : World) (s : Session) (m : ℕ) (l : m < length s.managers.item
   before = taken m h.machine
 
   after_it : IsAtWork world (machine_of s) m w
-  after_it = still_at_work w h.flat h.convertible before e
+  after_it = still_at_work (machine_of s) w h.flat h.regular before e
 
-  pub flushed_storable : AreStorable world (writes world.model (work_of (machine_of s) m))
-  flushed_storable = storable_writes w h.flat h.convertible before e
+  pub flushed_storable : {es : List (Identity × Stored)} → AreWritesOf world (work_of (machine_of s) m) es → AreStorable world es
+  flushed_storable ws = storable_writes w h.flat h.regular before e ws
 
-  pub flushed_distinct : all_distinct (λ (a b : Identity × Stored). same_identity a.0 b.0) (writes world.model (work_of (machine_of s) m)) ≡ true
-  flushed_distinct = distinct_writes world.model (work_of (machine_of s) m) ((h.machine).managers m within).distinct
+  pub flushed_distinct : {es : List (Identity × Stored)} → AreWritesOf world (work_of (machine_of s) m) es → all_distinct (λ (a b : Identity × Stored). same_identity a.0 b.0) es ≡ true
+  flushed_distinct ws = single_writes w h.flat h.regular before e ws
 
   pub flushed_numbers : are_numbers world.model w.numbers ≡ true
   flushed_numbers = after_it.numbered

@@ -1,7 +1,7 @@
 -- What holds once a flush ended, of the set and the next numbers that are stored then.
 use Rattle.std.proofs.Common.{◌≡◌, ℕ, true, subst}
 use Rattle.std.specs.Prelude.{nat_le}
-use Rattle.jpa_behaviour.specs.Behaviour.{World, AnswersConvertible}
+use Rattle.jpa_behaviour.specs.Behaviour.{World, IsRegular}
 use Rattle.jpa_stored.specs.Sets.{each_fits}
 use Rattle.jpa_context.specs.Work.{Work}
 use Rattle.jpa_context.specs.Steps.{Done}
@@ -9,13 +9,15 @@ use Rattle.jpa_lifecycle.specs.Flat.{IsFlat}
 use Rattle.jpa_flush.specs.Flush.{flush}
 use Rattle.jpa_provider.specs.Machine.{Machine}
 use Rattle.jpa_provider.specs.Invariant.{IsMachine}
-use Rattle.jpa_provider.proofs.Facts.{numbers_trans}
-use Rattle.jpa_provider.proofs.AtWork.{HoldsAfter, IsAtWork}
-use Rattle.jpa_provider.proofs.Flushed.{flush_holds}
+use Rattle.jpa_consistent.proofs.Facts.{numbers_trans}
+use Rattle.jpa_consistent.specs.Going.{HoldsAfter}
+use Rattle.jpa_provider.proofs.AtWork.{IsAtWork}
+use Rattle.jpa_consistent.proofs.Flushed.{flush_goes}
+use Rattle.jpa_consistent.proofs.Going.{More}
 
-pub still_at_work : {world : World} {M : Machine} {m : ℕ} {w : Work} (w' : Work) → IsFlat world.model → AnswersConvertible world → IsAtWork world M m w → flush world w ≡ Done tt w' →
+pub still_at_work : {world : World} (M : Machine) {m : ℕ} {w : Work} (w' : Work) → IsFlat world.model → IsRegular world → IsAtWork world M m w → flush world w ≡ Done tt w' →
     IsAtWork world M m w'
-still_at_work {world} {M} {m} w' flat convertible h e = subst (HoldsAfter (λ u v. IsAtWork world M m v)) e (flush_holds flat convertible h)
+still_at_work {world} M {m} {w} w' flat regular h e = (subst (HoldsAfter (λ u v. IsAtWork world M m v × More w v)) e (flush_goes flat regular h)).0
 
 -- no next number falls below the stored one
 pub numbers_rise : {world : World} {M : Machine} {m : ℕ} {w : Work} → IsMachine world M → IsAtWork world M m w → each_fits nat_le M.stored_numbers w.numbers ≡ true

@@ -14,51 +14,44 @@ use Rattle.jpa_heap.specs.declared.Life.{Life}
 use Rattle.jpa_heap.specs.declared.LiveObject.{LiveObject}
 use Rattle.jpa_heap.specs.Objects.{object_at}
 use Rattle.jpa_context.specs.declared.Entry.{Entry}
+use Rattle.jpa_context.specs.Undo.{IsPlaced}
 use Rattle.jpa_context.specs.Work.{Work, object}
 use Rattle.jpa_context.specs.Steps.{Outcome, Done, Refused, Op, after, require}
+use Rattle.jpa_consistent.specs.Consistent.{Others, IsContext, IsConsistent, contexts, IsEntry, stands_in}
+use Rattle.jpa_consistent.proofs.Going.{stands_same}
+use Rattle.jpa_consistent.proofs.Placed.{placed_at_work}
+use Rattle.jpa_consistent.proofs.Kept.{KeepsHeld, others_kept}
 use Rattle.jpa_provider.specs.Machine.{Machine, Manager, Transaction, manager_at, no_manager, work_of, kept, seen_in, view_in}
 use Rattle.jpa_provider.specs.Routes.{holder_in}
-use Rattle.jpa_provider.specs.Invariant.{IsMachine, IsManager, IsTransaction, IsLive, IsEntry, are_one, is_idle, stands_in, context_of}
-use Rattle.jpa_provider.proofs.Facts.{held_more, numbers_same, numbers_trans}
-
--- ---- what holds where an operation is done
-
-abbrev pub HoldsAfter : {A : Type 0} → (A → Work → Type 0) → Outcome A → Type 0
-HoldsAfter P (Done a w) = P a w
-HoldsAfter P (Refused r events) = Unit {0}
-
-pub after_holds : {A B : Type 0} (P : B → Work → Type 0) (Q : A → Work → Type 0) (o : Outcome A) (f : A → Op B) → HoldsAfter Q o →
-    ((a : A) (w : Work) → Q a w → HoldsAfter P (f a w)) → HoldsAfter P (after o f)
-after_holds P Q (Done a w) f h k = k a w h
-after_holds P Q (Refused r events) f h k = tt
-
-pub require_holds : {B : Type 0} (P : B → Work → Type 0) (b : Bool) (r : Cause) (w : Work) (f : Unit {0} → Op B) → (b ≡ true → HoldsAfter P (f tt w)) →
-    HoldsAfter P (after (require b r w) f)
-require_holds P true r w f k = k refl
-require_holds P false r w f k = tt
-
--- a requirement that is the last of an operation
-pub require_holds_last : (P : Unit {0} → Work → Type 0) (b : Bool) (r : Cause) (w : Work) → (b ≡ true → P tt w) → HoldsAfter P (require b r w)
-require_holds_last P true r w k = k refl
-require_holds_last P false r w k = tt
+use Rattle.jpa_provider.specs.Invariant.{IsMachine, IsManager, IsTransaction, is_idle, context_of}
+use Rattle.jpa_consistent.proofs.Facts.{held_more, numbers_same, numbers_trans}
 
 -- ---- a manager at work
 
--- the contexts then: its own as the work has it
-abbrev pub contexts : Machine → ℕ → Work → ℕ → List Entry
-contexts M m w k = if k == m then w.context else context_of M k
+-- what stands beside the manager
+abbrev pub others_of : Machine → Others
+others_of M = record { count = length M.managers; context = context_of M; numbers = M.numbers }
 
-pub record IsAtWork (world : World) (M : Machine) (m : ℕ) (w : Work) : Type 0 where
-  pub manager : w.manager ≡ m
-  pub objects : All (IsLive world.model w.objects) w.objects
-  pub entries : All (IsEntry world.model w.objects w.numbers m) w.context
-  pub distinct : all_distinct (are_one world.model w.objects) w.context ≡ true
-  pub others : (k : ℕ) → k < length M.managers → k ≢ m → IsManager world w.objects w.numbers k (manager_at M k)
-  pub placed : (n : ℕ) → n < length w.objects → stands_in (contexts M m w) n (object w n).life ≡ true
-  pub view : CanBeHeld world w.view w.numbers
-  pub numbered : are_numbers world.model w.numbers ≡ true
-  pub raised : each_fits nat_le M.numbers w.numbers ≡ true
-  pub few : length w.objects ≤ most_objects
+abbrev pub IsAtWork : World → Machine → ℕ → Work → Type 0
+IsAtWork world M m w = IsConsistent world (others_of M) m w
+
+-- ---- a manager, where objects change
+
+more_held : (world : World) (ns ms : List ℕ) (t : Option Transaction) → each_fits nat_le ns ms ≡ true → are_numbers world.model ms ≡ true → IsTransaction world ns t → IsTransaction world ms t
+more_held world ns ms None l n h = tt
+more_held world ns ms (Some t) l n h = (held_more ms h.0 l n, held_more ms h.1 l n)
+
+abbrev pub context_in : {world : World} {os : List LiveObject} {ns : List ℕ} {k : ℕ} {x : Manager} → IsManager world os ns k x → IsContext world.model os ns k x.context
+context_in h = record { entries = h.entries; distinct = h.distinct }
+
+-- with its context as it is then
+pub manager_then : {world : World} {os ps : List LiveObject} {ns ms : List ℕ} {k : ℕ} {x : Manager} → IsContext world.model ps ms k x.context → each_fits nat_le ns ms ≡ true → are_numbers world.model ms ≡ true →
+    IsManager world os ns k x → IsManager world ps ms k x
+manager_then {world} {os} {ps} {ns} {ms} {k} {x} c l n h = record { entries = c.entries; distinct = c.distinct; transaction = more_held world ns ms x.transaction l n h.transaction; idle = h.idle }
+
+pub manager_kept : {world : World} {os ps : List LiveObject} {ns ms : List ℕ} {k : ℕ} {x : Manager} → KeepsHeld k os ps → each_fits nat_le ns ms ≡ true → are_numbers world.model ms ≡ true →
+    IsManager world os ns k x → IsManager world ps ms k x
+manager_kept keeps l n h = manager_then (others_kept keeps l (context_in h)) l n h
 
 -- ---- the machine gives the work
 
@@ -67,17 +60,11 @@ view_held : (world : World) (C : StoredSet) (ns stored : List ℕ) (t : Option T
 view_held world C ns stored None c l n h = held_more ns c l n
 view_held world C ns stored (Some t) c l n h = h.1
 
-pub stands_same : (c d : ℕ → List Entry) (n : ℕ) (life : Life) → ((k : ℕ) → c k ≡ d k) → stands_in c n life ≡ true → stands_in d n life ≡ true
-stands_same c d n Life.New e h = refl
-stands_same c d n (Life.Managed k) e h = subst (λ es. list_any (λ x. x.object == n) es ≡ true) (e k) h
-stands_same c d n (Life.Removed k) e h = subst (λ es. list_any (λ x. x.object == n) es ≡ true) (e k) h
-stands_same c d n Life.Detached e h = refl
-
 either : (b : Bool) (xs ys : List Entry) → (b ≡ true → xs ≡ ys) → ys ≡ (if b then xs else ys)
 either true xs ys e = sym (e refl)
 either false xs ys e = refl
 
-contexts_same : (M : Machine) (m k : ℕ) → context_of M k ≡ contexts M m (work_of M m) k
+contexts_same : (M : Machine) (m k : ℕ) → context_of M k ≡ contexts (others_of M) m (work_of M m) k
 contexts_same M m k = either (k == m) (context_of M m) (context_of M k) (λ e. ap (context_of M) (sym (eqb-true k m e)))
 
 -- a number names a manager, or what stands there is no manager's
@@ -108,13 +95,16 @@ taken {world} {M} m h =
       objects = h.objects;
       entries = own.entries;
       distinct = own.distinct;
-      others = λ k l' apart. h.managers k l';
-      placed = λ n l'. stands_same (context_of M) (contexts M m (work_of M m)) n (object_at M.objects n).life (contexts_same M m) (h.placed n l');
+      others = λ k l' apart. context_in (h.managers k l');
+      placed = λ n l'. stands_same (context_of M) (contexts (others_of M) m (work_of M m)) n (object_at M.objects n).life (contexts_same M m) (h.placed n l');
       view = view_held world M.committed M.numbers M.stored_numbers (manager_at M m).transaction h.committed h.stored h.numbered own.transaction;
       numbered = h.numbered;
       raised = numbers_same M.numbers;
       few = h.objects_few;
     }
+
+pub work_placed : {world : World} {M : Machine} (m : ℕ) → IsMachine world M → IsPlaced world.model (work_of M m)
+work_placed m h = placed_at_work (taken m h)
 
 -- ---- the machine takes it back
 
@@ -171,8 +161,8 @@ given_back {world} {M} {m} {w} l is_open h at =
             transaction = seen_held world M.numbers w.numbers w.view (manager_at M m).transaction at.raised at.numbered at.view (h.managers m l).transaction;
             idle = idle_open (manager_at M m).is_open w.context (seen_in (manager_at M m).transaction w.view) is_open;
           })
-          at.others;
-      placed = λ n l'. stands_same (contexts M m w) (context_of (kept M m w)) n (object w n).life (λ k. contexts_set M.managers m k (back M m w) l) (at.placed n l');
+          (λ k l' apart. manager_then (at.others k l' apart) at.raised at.numbered (h.managers k l'));
+      placed = λ n l'. stands_same (contexts (others_of M) m w) (context_of (kept M m w)) n (object w n).life (λ k. contexts_set M.managers m k (back M m w) l) (at.placed n l');
       committed = h.committed;
       numbered = at.numbered;
       stored = numbers_trans M.stored_numbers M.numbers w.numbers h.stored at.raised;
@@ -200,8 +190,8 @@ given_by_nobody {world} {M} {m} {w} l e h at =
     subst (IsMachine world) (sym (no_manager_kept M m w l))
     (record {
       objects = at.objects;
-      managers = λ k l'. at.others k l' (λ q. omega (arith, q, l, l'));
-      placed = λ n l'. stands_same (contexts M m w) (context_of M) n (object w n).life (λ k. own_or_other (k == m) k refl) (at.placed n l');
+      managers = λ k l'. manager_then (at.others k l' (λ q. omega (arith, q, l, l'))) at.raised at.numbered (h.managers k l');
+      placed = λ n l'. stands_same (contexts (others_of M) m w) (context_of M) n (object w n).life (λ k. own_or_other (k == m) k refl) (at.placed n l');
       committed = h.committed;
       numbered = at.numbered;
       stored = numbers_trans M.stored_numbers M.numbers w.numbers h.stored at.raised;

@@ -7,7 +7,7 @@ use Rattle.std.proofs.lemmas.Bool.{true≢false, ltb-true}
 use Rattle.jpa_value.specs.declared.refusal.Argument.{Argument}
 use Rattle.jpa_value.specs.declared.refusal.Cause.{Cause}
 use Rattle.jpa_model.specs.Chains.{root_of, class_of}
-use Rattle.jpa_behaviour.specs.Behaviour.{World, AnswersConvertible, is_short}
+use Rattle.jpa_behaviour.specs.Behaviour.{World, IsRegular, is_short}
 use Rattle.jpa_protocol.specs.declared.call.Given.{Given}
 use Rattle.jpa_protocol.specs.declared.reply.Answer.{Answer}
 use Rattle.jpa_heap.specs.declared.Handed.{Handed}
@@ -16,20 +16,22 @@ use Rattle.jpa_context.specs.Work.{Work}
 use Rattle.jpa_context.specs.Steps.{Outcome, Done, Refused, after, give}
 use Rattle.jpa_lifecycle.specs.Flat.{IsFlat}
 use Rattle.jpa_ops.specs.Load.{find}
-use Rattle.jpa_ops.specs.Members.{set}
+use Rattle.jpa_ops.specs.Members.{get, set}
 use Rattle.jpa_ops.specs.States.{persist}
 use Rattle.jpa_flush.specs.Flush.{flush}
 use Rattle.jpa_provider.specs.Machine.{Machine}
-use Rattle.jpa_provider.specs.Calls.{object_numbered, handed, nothing, object_or_null, told_as, give_or, class_named, key_given, is_short_given, whole_key}
+use Rattle.jpa_provider.specs.Calls.{object_numbered, handed, got, nothing, object_or_null, told_as, give_or, class_named, key_given, is_short_given, whole_key}
 use Rattle.jpa_provider.specs.Transactions.{commit_work, reads_hold}
-use Rattle.jpa_provider.specs.Routes.{set_call, persist_call, find_call}
+use Rattle.jpa_provider.specs.Routes.{get_call, set_call, persist_call, find_call}
 use Rattle.jpa_provider.specs.Invariant.{given_representable}
-use Rattle.jpa_provider.proofs.AtWork.{HoldsAfter, after_holds, require_holds, require_holds_last, IsAtWork}
-use Rattle.jpa_provider.proofs.Created.{handed_representable}
-use Rattle.jpa_provider.proofs.Changed.{HasSet, set_holds}
-use Rattle.jpa_provider.proofs.Entered.{persist_holds}
-use Rattle.jpa_provider.proofs.Loaded.{find_holds}
-use Rattle.jpa_provider.proofs.Flushed.{flush_holds}
+use Rattle.jpa_consistent.specs.Going.{HoldsAfter}
+use Rattle.jpa_consistent.proofs.Going.{after_holds, require_holds, require_holds_last, More, only}
+use Rattle.jpa_provider.proofs.AtWork.{IsAtWork}
+use Rattle.jpa_consistent.proofs.Setting.{handed_representable}
+use Rattle.jpa_consistent.proofs.Changed.{HasSet, set_holds}
+use Rattle.jpa_consistent.proofs.Got.{get_same}
+use Rattle.jpa_consistent.proofs.Laws.{Steps, persist_goes, find_goes}
+use Rattle.jpa_consistent.proofs.Flushed.{flush_goes}
 
 -- ---- what is handed in
 
@@ -72,28 +74,29 @@ set_call_holds world flat w n name g l rep =
     (λ v w' h. subst (λ u. HoldsAfter (λ a w''. HasSet world w w'') (told_as nothing (set world n name v) u)) (sym h.1)
     (told_holds (HasSet world w) nothing (set world n name v w) (set_holds world flat w n name v l h.0)))
 
-pub persist_call_holds : {world : World} {M : Machine} {m : ℕ} {w : Work} → IsFlat world.model → (number : ℤ) → IsAtWork world M m w →
-    HoldsAfter (λ a w'. IsAtWork world M m w') (persist_call world number w)
-persist_call_holds {world} {M} {m} {w} flat number h =
-    after_holds _ (InHeap w) (object_numbered number w) (λ n. told_as nothing (persist world n)) (numbered_holds number w)
-    (λ n v e. subst (λ v'. HoldsAfter (λ a w'. IsAtWork world M m w') (told_as nothing (persist world n) v')) (sym e.1)
-    (told_holds (IsAtWork world M m) nothing (persist world n w) (persist_holds flat n h e.0)))
+pub get_call_same : (world : World) → IsFlat world.model → (n : ℕ) (name : List ℕ) (w : Work) → HoldsAfter (λ a w'. w' ≡ w) (get_call world name n w)
+get_call_same world flat n name w = told_holds (λ w'. w' ≡ w) got (get world n name w) (get_same world flat n name w)
 
-pub given_or : {A : Type 0} (r : Cause) (o : Option A) (w : Work) → HoldsAfter (λ a w'. w' ≡ w) (give_or r o w)
+given_or : {A : Type 0} (r : Cause) (o : Option A) (w : Work) → HoldsAfter (λ a w'. w' ≡ w) (give_or r o w)
 given_or r None w = tt
 given_or r (Some a) w = refl
 
-pub find_call_holds : {world : World} {M : Machine} {m : ℕ} {w : Work} → IsFlat world.model → (name : List ℕ) (key : List Given) → IsAtWork world M m w →
-    HoldsAfter (λ n w'. IsAtWork world M m w') (find_call world name key w)
-find_call_holds {world} {M} {m} {w} flat name key h =
-    require_holds _ (list_all is_short_given key) Cause.Limit w _ (λ short.
-    after_holds _ (λ class w'. w' ≡ w) (class_named world name w) _ (given_or (Cause.IllegalArgument Argument.Entity) (class_of world.model name) w) (λ class v e.
-    after_holds _ (λ vs w'. w' ≡ v) (key_given world class key v) _ (given_or (Cause.IllegalArgument Argument.Key) (whole_key (root_of world.model class).key key) v) (λ vs u e'.
-    subst (λ w'. HoldsAfter (λ a w''. IsAtWork world M m w'') (told_as object_or_null (find world class vs) w')) (sym (e' ∙ e))
-    (told_holds (IsAtWork world M m) object_or_null (find world class vs w) (find_holds flat class vs h)))))
+-- with what the steps keep
+module _ {world : World} {P : Work → Type 0} (steps : Steps world P) where
+  pub persist_call_goes : IsFlat world.model → (number : ℤ) (w : Work) → P w → HoldsAfter (λ a v. P v) (persist_call world number w)
+  persist_call_goes flat number w p =
+      after_holds (λ a v. P v) (InHeap w) (object_numbered number w) (λ n. told_as nothing (persist world n)) (numbered_holds number w)
+      (λ n v e. subst (λ v'. HoldsAfter (λ a u. P u) (told_as nothing (persist world n) v')) (sym e.1) (told_holds P nothing (persist world n w) (only P w (persist world n w) (persist_goes steps flat n w p e.0))))
 
-pub commit_work_holds : {world : World} {M : Machine} {m : ℕ} {w : Work} → IsFlat world.model → AnswersConvertible world → IsAtWork world M m w →
+  pub find_call_goes : (name : List ℕ) (key : List Given) (w : Work) → P w → HoldsAfter (λ a v. P v) (find_call world name key w)
+  find_call_goes name key w p =
+      require_holds (λ a v. P v) (list_all is_short_given key) Cause.Limit w _ (λ short.
+      after_holds (λ a v. P v) (λ class v. v ≡ w) (class_named world name w) _ (given_or (Cause.IllegalArgument Argument.Entity) (class_of world.model name) w) (λ class v e.
+      after_holds (λ a u. P u) (λ vs u. u ≡ v) (key_given world class key v) _ (given_or (Cause.IllegalArgument Argument.Key) (whole_key (root_of world.model class).key key) v) (λ vs u e'.
+      subst (λ w'. HoldsAfter (λ a u'. P u') (told_as object_or_null (find world class vs) w')) (sym (e' ∙ e)) (told_holds P object_or_null (find world class vs w) (find_goes steps class vs w p)))))
+
+pub commit_work_holds : {world : World} (M : Machine) {m : ℕ} {w : Work} → IsFlat world.model → IsRegular world → IsAtWork world M m w →
     HoldsAfter (λ u w'. IsAtWork world M m w') (commit_work world w)
-commit_work_holds {world} {M} {m} {w} flat convertible h =
-    after_holds _ (λ u w'. IsAtWork world M m w') (flush world w) _ (flush_holds flat convertible h)
-    (λ u v k. require_holds_last _ (reads_hold world.model v) Cause.OptimisticLock v (λ hold. k))
+commit_work_holds {world} M {m} {w} flat regular h =
+    after_holds _ (λ u w'. IsAtWork world M m w' × More w w') (flush world w) _ (flush_goes flat regular h)
+    (λ u v k. require_holds_last _ (reads_hold world.model v) Cause.OptimisticLock v (λ hold. k.0))

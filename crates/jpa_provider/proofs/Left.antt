@@ -3,7 +3,7 @@ use Rattle.std.proofs.Common.{◌≡◌, ◌⊎◌, inl, inr, ℕ, Bool, true, f
 use Rattle.std.specs.Prelude.{Option, Some, None, IsErr, nat_le, slice_set}
 use Rattle.std.proofs.lemmas.Bool.{false≢true, true≢false}
 use Rattle.std.proofs.Math.Seq.{map-set_same}
-use Rattle.jpa_behaviour.specs.Behaviour.{World, AnswersConvertible}
+use Rattle.jpa_behaviour.specs.Behaviour.{World, IsRegular}
 use Rattle.jpa_stored.specs.Sets.{each_fits}
 use Rattle.jpa_heap.specs.declared.Life.{Life}
 use Rattle.jpa_heap.specs.declared.LiveObject.{LiveObject}
@@ -19,7 +19,7 @@ use Rattle.jpa_provider.specs.Routes.{Route, commits, rolls_back, route, is_comm
 use Rattle.jpa_provider.specs.Step.{Step}
 use Rattle.jpa_provider.specs.Invariant.{IsMachine, hands_representable}
 use Rattle.jpa_provider.specs.Left.{unmarked, unmarked_in, stateless, LivesAsBefore, HoldsSameValues}
-use Rattle.jpa_provider.proofs.Facts.{numbers_same}
+use Rattle.jpa_consistent.proofs.Facts.{numbers_same}
 use Rattle.jpa_provider.proofs.Ways.{IsOther, Ways, does_something, on_route, on_step}
 use Rattle.jpa_provider.proofs.Operated.{IsDone, does}
 
@@ -140,7 +140,7 @@ step_undone M world call reply N step =
     let r = route call in
     on_step world call (IsUndone M r) (on_route r (undone_ways M world r) (does_something world M r)) (λ h. unchanged M) step
 
-pub step_rises : (M : Machine) {world : World} (call : Call) (reply : Reply) (N : Machine) → IsFlat world.model → AnswersConvertible world → hands_representable call ≡ true → IsMachine world M → Step world M call reply N →
+pub step_rises : (M : Machine) {world : World} (call : Call) (reply : Reply) (N : Machine) → IsFlat world.model → IsRegular world → hands_representable call ≡ true → IsMachine world M → Step world M call reply N →
     each_fits nat_le M.numbers N.numbers ≡ true
-step_rises M {world} call reply N flat convertible rep h step =
-    on_step world call (Rises M) (on_route (route call) (rising_ways M world (route call)) (does world M flat convertible call rep h)) (stay M) step
+step_rises M {world} call reply N flat regular rep h step =
+    on_step world call (Rises M) (on_route (route call) (rising_ways M world (route call)) (does world M flat regular call rep h)) (stay M) step

@@ -18,7 +18,8 @@ use Rattle.jpa_provider.specs.Machine.{Machine, work_of}
 use Rattle.jpa_provider.specs.Calls.{ended, marks, marks_if_callback, give_or}
 use Rattle.jpa_provider.specs.Routes.{Route, OfManager, OfObject, by_route, holder, holder_in, is_free, route}
 use Rattle.jpa_provider.specs.Operations.{on_numbered, operation_of, manager_holding, EndsSo}
-use Rattle.jpa_provider.specs.Invariant.{IsMachine, stands_in, context_of}
+use Rattle.jpa_consistent.specs.Consistent.{stands_in}
+use Rattle.jpa_provider.specs.Invariant.{IsMachine, context_of}
 use Rattle.jpa_provider.specs.Serving.{machine_of, Serves}
 use Rattle.jpa_provider.proofs.AtWork.{IsOpen, holding_open}
 use Rattle.jpa_provider.proofs.Opened.{refusal}

@@ -3,7 +3,7 @@ use Rattle.std.proofs.Common.{◌≡◌, ◌<◌, ◌≤◌, ◌⊎◌, inl, inr
 use Rattle.std.specs.Prelude.{All}
 use Rattle.std.proofs.lemmas.Bool.{cases_lt, false≢true}
 use Rattle.std.proofs.lemmas.List.Elements.{All-nil, All-weaker}
-use Rattle.jpa_behaviour.specs.Behaviour.{World, AnswersConvertible}
+use Rattle.jpa_behaviour.specs.Behaviour.{World, IsRegular}
 use Rattle.jpa_stored.specs.Sets.{StoredSet}
 use Rattle.jpa_rows.specs.Cells.{CanBeHeld}
 use Rattle.jpa_heap.specs.Shape.{HasShape}
@@ -14,11 +14,12 @@ use Rattle.jpa_protocol.specs.declared.call.Call.{Call}
 use Rattle.jpa_protocol.specs.declared.reply.Reply.{Reply}
 use Rattle.jpa_provider.specs.declared.session.Session.{Session}
 use Rattle.jpa_provider.specs.Machine.{Manager, manager_at, opened, IsStoredAs}
-use Rattle.jpa_provider.specs.Invariant.{HasOneTransaction, IsEntry, IsMachine, hands_representable}
+use Rattle.jpa_consistent.specs.Consistent.{IsEntry}
+use Rattle.jpa_provider.specs.Invariant.{HasOneTransaction, IsMachine, hands_representable}
 use Rattle.jpa_provider.specs.Routes.{is_commit}
 use Rattle.jpa_provider.specs.Serving.{machine_of, manager_in, nobody, IsPlainMachine, IsServing, IsSettled, Serves}
 use Rattle.jpa_provider.proofs.OneTransaction.{step_one}
-use Rattle.jpa_provider.proofs.Placed.{work_placed}
+use Rattle.jpa_provider.proofs.AtWork.{work_placed}
 use Rattle.jpa_provider.proofs.Sessions.{manager_there, managers_count}
 use Rattle.jpa_provider.proofs.Settled.{opened_holds}
 use Rattle.jpa_provider.proofs.Outcome.{step_keeps}
@@ -29,8 +30,8 @@ pub serves_on : (world : World) (s t : Session) (call : Call) (reply : Reply) �
 serves_on world s t call reply h rep step plain settled =
     record {
       flat = h.flat;
-      convertible = h.convertible;
-      machine = step_keeps h.flat h.convertible call rep h.machine step;
+      regular = h.regular;
+      machine = step_keeps h.flat h.regular call rep h.machine step;
       one = step_one world call h.one step;
       plain = plain;
       settled = settled;
@@ -38,7 +39,7 @@ serves_on world s t call reply h rep step plain settled =
 
 -- after each call but commit
 pub serves_other : (world : World) (s t : Session) (call : Call) (reply : Reply) → IsServing world s → hands_representable call ≡ true → is_commit call ≡ false → Serves world s call reply t → IsSettled t → IsServing world t
-serves_other world s t call reply h rep other step settled = serves_on world s t call reply h rep step (step_plain world h.flat call other h.plain step) settled
+serves_other world s t call reply h rep other step settled = serves_on world s t call reply h rep step (step_plain world h.flat h.regular call rep other h.machine h.plain step) settled
 
 pub stored_other : (world : World) (s t : Session) (call : Call) (reply : Reply) → IsServing world s → is_commit call ≡ false → Serves world s call reply t → IsStoredAs (machine_of s) (machine_of t)
 stored_other world s t call reply h other step = step_still (machine_of s) world call reply (machine_of t) step (inl other)
@@ -85,11 +86,11 @@ entries_in {world} s h k = by_place (cases_lt k (length s.managers.items))
 
 -- ---- as it is opened
 
-pub opened_serving : (world : World) (s : Session) (set : StoredSet) (numbers : List ℕ) → IsFlat world.model → AnswersConvertible world → CanBeHeld world set numbers → machine_of s ≡ opened set numbers → IsSettled s → IsServing world s
-opened_serving world s set numbers flat convertible held e settled =
+pub opened_serving : (world : World) (s : Session) (set : StoredSet) (numbers : List ℕ) → IsFlat world.model → IsRegular world → CanBeHeld world set numbers → machine_of s ≡ opened set numbers → IsSettled s → IsServing world s
+opened_serving world s set numbers flat regular held e settled =
     record {
       flat = flat;
-      convertible = convertible;
+      regular = regular;
       machine = subst (IsMachine world) (sym e) (opened_holds held);
       one = subst HasOneTransaction (sym e) (λ m k a b. absurd (false≢true a));
       plain = subst IsPlainMachine (sym e) (record { objects = All-nil _; contexts = λ k. All-nil _ });

@@ -13,9 +13,11 @@ use Rattle.jpa_heap.specs.Objects.{object_at}
 use Rattle.jpa_context.specs.declared.Entry.{Entry}
 use Rattle.jpa_provider.specs.Machine.{Machine, Manager, Transaction, opened, manager_at, no_manager, new_manager, marked, marked_in}
 use Rattle.jpa_provider.specs.Transactions.{begun}
-use Rattle.jpa_provider.specs.Invariant.{IsMachine, IsManager, IsTransaction, IsLive, IsEntry, is_idle, context_of}
-use Rattle.jpa_provider.proofs.Facts.{held_more, numbers_same}
-use Rattle.jpa_provider.proofs.AtWork.{manager_set, managers_set, stands_same}
+use Rattle.jpa_consistent.specs.Consistent.{IsLive, IsEntry}
+use Rattle.jpa_provider.specs.Invariant.{IsMachine, IsManager, IsTransaction, is_idle, context_of}
+use Rattle.jpa_consistent.proofs.Facts.{held_more, numbers_same}
+use Rattle.jpa_consistent.proofs.Going.{stands_same}
+use Rattle.jpa_provider.proofs.AtWork.{manager_set, managers_set}
 
 -- ---- as it is opened
 

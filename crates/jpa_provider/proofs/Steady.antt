@@ -3,28 +3,26 @@ use Rattle.std.proofs.Common.{◌≡◌, ◌<◌, ℕ, zero, suc, Bool, true, fa
 use Rattle.std.specs.Prelude.{All, slice_index_or, slice_set}
 use Rattle.std.proofs.lemmas.Bool.{true≢false}
 use Rattle.std.proofs.lemmas.List.Elements.{All-nil, All-set, All-push}
-use Rattle.jpa_behaviour.specs.Behaviour.{World}
+use Rattle.jpa_behaviour.specs.Behaviour.{World, IsRegular}
 use Rattle.jpa_heap.specs.declared.Life.{Life}
 use Rattle.jpa_heap.specs.declared.LiveObject.{LiveObject}
 use Rattle.jpa_heap.specs.Objects.{new_object, object_at, with_life}
 use Rattle.jpa_context.specs.declared.Entry.{Entry}
 use Rattle.jpa_context.specs.declared.Lock.{Lock}
 use Rattle.jpa_context.specs.Undo.{IsPlain}
-use Rattle.jpa_context.specs.Steps.{Outcome, Done, Refused}
 use Rattle.jpa_lifecycle.specs.Flat.{IsFlat}
 use Rattle.jpa_ops.specs.States.{detach_each}
 use Rattle.jpa_protocol.specs.declared.call.Call.{Call}
 use Rattle.jpa_protocol.specs.declared.reply.Reply.{Reply}
-use Rattle.jpa_provider.specs.Machine.{Machine, Manager, no_manager, new_manager, with_manager, work_of, rolled_back, IsStoredAs}
+use Rattle.jpa_provider.specs.Machine.{Machine, Manager, no_manager, new_manager, with_manager, rolled_back, IsStoredAs}
 use Rattle.jpa_provider.specs.Calls.{marked_if}
-use Rattle.jpa_provider.specs.Transactions.{commit_work}
-use Rattle.jpa_provider.specs.Routes.{Route, commits, route, is_commit, holder_in, get_call, set_call, persist_call, find_call}
+use Rattle.jpa_provider.specs.Routes.{Route, commits, route, is_commit}
 use Rattle.jpa_provider.specs.Step.{Step}
-use Rattle.jpa_provider.specs.Invariant.{context_of}
+use Rattle.jpa_provider.specs.Invariant.{IsMachine, context_of, hands_representable}
 use Rattle.jpa_provider.specs.Serving.{IsPlainMachine}
-use Rattle.jpa_provider.proofs.AtWork.{HoldsAfter}
-use Rattle.jpa_provider.proofs.Plain.{set_call_plain, get_call_plain, persist_plain, find_plain, IsThere}
-use Rattle.jpa_provider.proofs.Ways.{Ways, Does, on_route, on_step}
+use Rattle.jpa_consistent.proofs.Instances.{IsThere}
+use Rattle.jpa_provider.proofs.Operated.{does_plainly}
+use Rattle.jpa_provider.proofs.Ways.{Ways, on_route, on_step}
 
 -- both at once
 abbrev pub IsSteady : Machine → Machine → Type 0
@@ -51,9 +49,6 @@ detached_there [] os h = h
 detached_there (e ∷ es) os h =
     let x = with_life (object_at os e.object) Life.Detached in
     detached_there es _ (All-set IsThere os e.object x refl h)
-
-pub work_plain : {M : Machine} (m : ℕ) → IsPlainMachine M → IsPlain (work_of M m)
-work_plain m h = record { objects = h.objects; context = h.contexts m }
 
 module _ {M : Machine} (h : IsPlainMachine M) where
   pub same : IsSteady M M
@@ -89,31 +84,8 @@ module _ {M : Machine} (h : IsPlainMachine M) where
         undoes = λ writes none m events why o apart. absurd (true≢false (sym writes ∙ apart));
       }
 
-plainly : {A : Type 0} (o : Outcome A) (b : Bool) → HoldsAfter (λ a w. IsPlain w) o → HoldsAfter (λ a w. b ≡ false → IsPlain w) o
-plainly (Done a w) b k = λ apart. k
-plainly (Refused r events) b k = tt
-
-does_plain : {M : Machine} (world : World) → IsFlat world.model → (call : Call) → IsPlainMachine M → Does world M (λ m w. commits (route call) ≡ false → IsPlain w) (route call)
-does_plain world flat Call.CreateEntityManager h = tt
-does_plain world flat (Call.NewObject name) h = tt
-does_plain {M} world flat (Call.SetValue object name value) h = λ n l.
-    let m = holder_in M (object_at M.objects n).life in
-    plainly (set_call world name value n (work_of M m)) false (set_call_plain world n name value (work_of M m) (work_plain m h) l)
-does_plain {M} world flat (Call.Get object name) h = λ n l.
-    let m = holder_in M (object_at M.objects n).life in
-    plainly (get_call world name n (work_of M m)) false (get_call_plain world flat n name (work_of M m) (work_plain m h))
-does_plain world flat (Call.Begin em) h = tt
-does_plain {M} world flat (Call.Persist em object) h = λ m o. plainly (persist_call world object (work_of M m)) false (persist_plain world flat object (work_of M m) (work_plain m h))
-does_plain {M} world flat (Call.Commit em) h = λ m o. not_asked (commit_work world (work_of M m))
-  where
-    not_asked : (o : Outcome (Unit {0})) → HoldsAfter (λ a w. true ≡ false → IsPlain w) o
-    not_asked (Done a w) = λ apart. absurd (true≢false apart)
-    not_asked (Refused r events) = tt
-does_plain world flat (Call.Rollback em) h = tt
-does_plain world flat (Call.SetRollbackOnly em) h = tt
-does_plain {M} world flat (Call.Find em name key) h = λ m o. plainly (find_call world name key (work_of M m)) false (find_plain world flat name key (work_of M m) (work_plain m h))
-
-pub step_plain : {M N : Machine} {reply : Reply} (world : World) → IsFlat world.model → (call : Call) → is_commit call ≡ false → IsPlainMachine M → Step world M call reply N → IsPlainMachine N
-step_plain {M} world flat call apart h step =
+pub step_plain : {M N : Machine} {reply : Reply} (world : World) → IsFlat world.model → IsRegular world → (call : Call) → hands_representable call ≡ true → is_commit call ≡ false → IsMachine world M → IsPlainMachine M →
+    Step world M call reply N → IsPlainMachine N
+step_plain {M} world flat regular call rep apart machine h step =
     let r = route call in
-    on_step world call (λ o. commits r ≡ false → IsPlainMachine o.1) (on_route r (ways h world r) (does_plain world flat call h)) (λ none. h) step apart
+    on_step world call (λ o. commits r ≡ false → IsPlainMachine o.1) (on_route r (ways h world r) (does_plainly world M flat regular call rep machine h)) (λ none. h) step apart

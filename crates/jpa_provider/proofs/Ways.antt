@@ -21,7 +21,8 @@ use Rattle.jpa_provider.specs.Calls.{accepted, refused, because, ended, marks, m
 use Rattle.jpa_provider.specs.Transactions.{begin, begin_in, begun, commit, commit_in, commit_if, commit_of, commit_work, rollback, rollback_in, set_rollback_only, only_rollback_in}
 use Rattle.jpa_provider.specs.Routes.{Route, OfManager, OfObject, ToCreate, ToMake, ToBegin, ToCommit, ToRollBack, ToMark, by_route, if_open, by_manager, made_new, holder, holder_in, commits, rolls_back, route}
 use Rattle.jpa_provider.specs.Step.{Step, outcome}
-use Rattle.jpa_provider.proofs.AtWork.{HoldsAfter, IsOpen}
+use Rattle.jpa_consistent.specs.Going.{HoldsAfter}
+use Rattle.jpa_provider.proofs.AtWork.{IsOpen}
 use Rattle.jpa_provider.proofs.Created.{class_within}
 use Rattle.jpa_provider.proofs.Handed.{place_within}
 

@@ -2,7 +2,7 @@
 use Rattle.std.specs.Prelude.{◌≡◌, ◌<◌, ◌⊎◌, All, ℕ, Bool, true, false, List, [], ◌∷◌, length, map, Option, Some, None, Result, Ok, Err, slice_index_or, slice_set}
 use Rattle.jpa_value.specs.declared.refusal.Cause.{Cause}
 use Rattle.jpa_value.specs.declared.refusal.Refusal.{Refusal}
-use Rattle.jpa_behaviour.specs.Behaviour.{World, AnswersConvertible}
+use Rattle.jpa_behaviour.specs.Behaviour.{World, IsRegular}
 use Rattle.jpa_stored.specs.Sets.{StoredSet}
 use Rattle.jpa_protocol.specs.declared.call.Call.{Call}
 use Rattle.jpa_protocol.specs.declared.event.Told.{Told}
@@ -68,7 +68,7 @@ pub record IsSettled (s : Session) : Type 0 where
 -- what holds between calls
 pub record IsServing (world : World) (s : Session) : Type 0 where
   pub flat : IsFlat world.model
-  pub convertible : AnswersConvertible world
+  pub regular : IsRegular world
   pub machine : IsMachine world (machine_of s)
   pub one : HasOneTransaction (machine_of s)
   pub plain : IsPlainMachine (machine_of s)

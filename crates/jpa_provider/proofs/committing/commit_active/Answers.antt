@@ -13,16 +13,14 @@ use Rattle.jpa_context.specs.Work.{Work}
 use Rattle.jpa_context.specs.Steps.{Done, IsRefusedAs}
 use Rattle.jpa_context.specs.Undo.{now, since, IsPlaced, Since}
 use Rattle.jpa_flush.specs.Flush.{flush}
-use Rattle.jpa_flush.specs.Writes as flushed
 use Rattle.jpa_protocol.specs.declared.call.Call.{Call}
 use Rattle.jpa_rows.specs.Rows.{Rows}
 use Rattle.jpa_provider.specs.Provided.{rows_made, RunsAtMost, RunsDifference}
 use Rattle.jpa_provider.specs.Serving.{machine_of}
-use Rattle.jpa_provider.proofs.QuietWrites.{quiet_writes}
-use Rattle.jpa_provider.proofs.Active.{begun_active, objects_once, flushed_storable, flushed_distinct, flushed_numbers, flushed_rising, refused_steady, stored_plain}
+use Rattle.jpa_provider.proofs.Active.{begun_active, objects_once, writes_from, flushed_storable, flushed_distinct, flushed_numbers, flushed_rising, refused_steady, stored_plain}
 use Rattle.jpa_provider.proofs.Commits.{refused_step, stored_step}
 use Rattle.jpa_provider.proofs.Crashed.{made_by, not_accepted}
-use Rattle.jpa_provider.proofs.Placed.{work_placed}
+use Rattle.jpa_provider.proofs.AtWork.{work_placed}
 use Rattle.jpa_provider.proofs.Worked.{still_working}
 use Rattle.jpa_provider.proofs.committing.commit_active.Goals as goal
 
@@ -46,7 +44,8 @@ store_commit-requires-clause-storable g c =
     let world = world_of g.B.Behaviour.meaning model c.args.registry.now in
     let w : Work = now c.flush.new.work in
     let done = subst (λ (v : Work). flush world v ≡ Done tt w) c.take_work.ensures.work c.in-Ok.ensures.ends in
-    subst (AreStorable world) (sym (c.as_slice.ensures ∙ quiet_writes c.requires.serving.flat c.in-Ok.ensures.written ∙ ap (flushed.writes model) c.take_work.ensures.work)) (flushed_storable world s m c.requires.within c.requires.serving w done)
+    subst (AreStorable world) (sym c.as_slice.ensures)
+    (flushed_storable world s m c.requires.within c.requires.serving w done (writes_from c.take_work.ensures.work c.in-Ok.ensures.written))
 
 pub store_commit-requires-clause-distinct : goal.store_commit-requires-clause-distinct
 store_commit-requires-clause-distinct g c =
@@ -56,8 +55,8 @@ store_commit-requires-clause-distinct g c =
     let world = world_of g.B.Behaviour.meaning model c.args.registry.now in
     let w : Work = now c.flush.new.work in
     let done = subst (λ (v : Work). flush world v ≡ Done tt w) c.take_work.ensures.work c.in-Ok.ensures.ends in
-    subst (λ ws. all_distinct (λ (a b : Identity × Stored). same_identity a.0 b.0) ws ≡ true) (sym (c.as_slice.ensures ∙ quiet_writes c.requires.serving.flat c.in-Ok.ensures.written ∙ ap (flushed.writes model) c.take_work.ensures.work))
-    (flushed_distinct world s m c.requires.within c.requires.serving w done)
+    subst (λ ws. all_distinct (λ (a b : Identity × Stored). same_identity a.0 b.0) ws ≡ true) (sym c.as_slice.ensures)
+    (flushed_distinct world s m c.requires.within c.requires.serving w done (writes_from c.take_work.ensures.work c.in-Ok.ensures.written))
 
 pub store_commit-requires-clause-numbers : goal.store_commit-requires-clause-numbers
 store_commit-requires-clause-numbers g c =

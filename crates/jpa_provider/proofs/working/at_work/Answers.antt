@@ -9,7 +9,7 @@ use Rattle.jpa_context.specs.Undo.{now, IsPlaced}
 use Rattle.jpa_provider.specs.Machine.{work_of}
 use Rattle.jpa_provider.specs.Operations.{operation_of}
 use Rattle.jpa_provider.specs.Serving.{machine_of}
-use Rattle.jpa_provider.proofs.Placed.{work_placed}
+use Rattle.jpa_provider.proofs.AtWork.{work_placed}
 use Rattle.jpa_provider.proofs.Told.{no_fault}
 use Rattle.jpa_provider.proofs.Worked.{still_working, ends_so}
 use Rattle.jpa_provider.proofs.working.at_work.Goals as goal

@@ -13,7 +13,7 @@ use Rattle.jpa_provider.specs.declared.session.Session.{Session}
 use Rattle.jpa_provider.specs.Machine.{work_of}
 use Rattle.jpa_provider.specs.Operations.{operation_of, is_marked_by, told_of}
 use Rattle.jpa_provider.specs.Serving.{machine_of}
-use Rattle.jpa_provider.proofs.Placed.{work_placed}
+use Rattle.jpa_provider.proofs.AtWork.{work_placed}
 use Rattle.jpa_provider.proofs.Told.{of_operation}
 use Rattle.jpa_provider.proofs.Unheld.{nobody_works, nobody_keeps, nobody_restores}
 use Rattle.jpa_provider.proofs.Worked.{ends_so}

@@ -15,7 +15,7 @@ invariant_of-result g c =
     let numbers = c.in-Ok.ensures in
     let e : machine_of s ≡ opened c.args.committed c.args.numbers = c.opened-session.ensures.machine (numbers.0 ∙ c.as_slice.ensures) in
     record {
-      serving = opened_serving world s c.args.committed c.args.numbers (flat_of m c.requires.served) (c.laws.ensures.regular m).convertible c.requires.held e (c.opened-session.ensures.settled (numbers.1 ∙ sym numbers.0));
+      serving = opened_serving world s c.args.committed c.args.numbers (flat_of m c.requires.served) (c.laws.ensures.regular m) c.requires.held e (c.opened-session.ensures.settled (numbers.1 ∙ sym numbers.0));
       schema = c.requires.schema;
       holds = λ clean. subst (λ (M : Machine). g.R.RowSource.holds c.args.rows (rows_of world M.committed M.stored_numbers)) (sym e) (c.requires.holds clean);
     }

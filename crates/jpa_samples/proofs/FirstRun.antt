@@ -9,7 +9,7 @@ use Rattle.jpa_protocol.specs.declared.call.Call.{Call}
 use Rattle.jpa_protocol.specs.declared.reply.Answer.{Answer}
 use Rattle.jpa_provider.specs.Machine.{Machine, opened}
 use Rattle.jpa_provider.specs.Step.{replies_of, machine_after}
-use Rattle.jpa_provider.proofs.Sample.{P1, text, int, saw, ok, quiet, no}
+use Rattle.jpa_samples.proofs.Sample.{P1, text, int, saw, ok, quiet, no}
 
 abbrev pub fresh : Machine
 fresh = opened [] (1 ∷ [])

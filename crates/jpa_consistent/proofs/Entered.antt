@@ -1,8 +1,7 @@
--- What holds while a manager is at work is kept where an object enters its context, and by persist as a whole, in units
--- without relations and listeners.
+-- What holds while a manager is at work is kept where an object enters its context, and where a removed one is managed again.
 use Rattle.jpa_value.specs.Limits.{most_objects}
 use Rattle.std.proofs.Common.{◌≡◌, ◌≢◌, ◌<◌, ◌≤◌, ℕ, Bool, true, false, List, [], ◌∷◌, ◌++◌, length, refl, ap, sym, subst, ◌∙◌, arith}
-use Rattle.std.specs.Prelude.{slice_set, not, Option, Some, None, ◌==◌, ◌&&◌, ◌||◌, if◌then◌else◌, is_some}
+use Rattle.std.specs.Prelude.{slice_set, not, Option, Some, None, ◌==◌, ◌||◌, if◌then◌else◌, is_some}
 use Rattle.std.specs.List.{AllByRecursion, list_any, find}
 use Rattle.std.proofs.lemmas.Bool.{true≢false, eq-eqb, ne_eqb, and_parts, and_from, or_from, or_left, or_right, not-true, not_from_false}
 use Rattle.std.proofs.lemmas.List.{length-set}
@@ -10,7 +9,6 @@ use Rattle.std.proofs.lemmas.List.Elements.{All-weaker, All-push, recursion_from
 use Rattle.std.proofs.lemmas.List.Folds.{list_any-append}
 use Rattle.jpa_value.specs.declared.value.Identity.{Identity}
 use Rattle.jpa_value.specs.declared.refusal.Cause.{Cause}
-use Rattle.jpa_value.specs.declared.event.LifecycleEvent.{LifecycleEvent}
 use Rattle.jpa_value.specs.Value.{same_identity}
 use Rattle.jpa_model.specs.declared.unit.PersistenceUnit.{PersistenceUnit}
 use Rattle.jpa_model.specs.Chains.{root_of, root_class}
@@ -19,25 +17,20 @@ use Rattle.jpa_stored.specs.Sets.{all_distinct, is_key_of}
 use Rattle.jpa_heap.specs.declared.Life.{Life}
 use Rattle.jpa_heap.specs.declared.LiveObject.{LiveObject}
 use Rattle.jpa_heap.specs.Objects.{object_at, no_object, is_whole, identity_of}
-use Rattle.jpa_context.specs.declared.Base.{Base}
 use Rattle.jpa_context.specs.declared.Lock.{Lock}
 use Rattle.jpa_context.specs.declared.Entry.{Entry}
-use Rattle.jpa_context.specs.declared.EntityState.{EntityState}
-use Rattle.jpa_context.specs.Work.{Work, object, state_of, identity_at, instance, has_identity, object_in, with_life_of, entered, base_of}
-use Rattle.jpa_context.specs.Steps.{each}
-use Rattle.jpa_cascade.specs.declared.Operation.{Operation}
-use Rattle.jpa_cascade.proofs.Plain.{plain_waves}
-use Rattle.jpa_lifecycle.specs.Callbacks.{callback}
-use Rattle.jpa_ops.specs.States.{persist, persist_one, persist_node, become_managed, give_key, pre_persist_if, has_instance}
-use Rattle.jpa_provider.specs.Machine.{Machine}
-use Rattle.jpa_provider.specs.Invariant.{IsEntry, is_held_by, stands_in, context_of, are_one, name_of}
+use Rattle.jpa_context.specs.Work.{Work, object, identity_at, instance, has_identity, object_in, with_life_of, entered}
+use Rattle.jpa_ops.specs.States.{become_managed, give_key, has_instance}
+use Rattle.jpa_consistent.specs.Consistent.{IsEntry, is_held_by, stands_in, are_one, name_of}
 use Rattle.jpa_lifecycle.specs.Flat.{IsFlat}
-use Rattle.jpa_provider.proofs.Facts.{numbers_same, key_is_whole}
-use Rattle.jpa_provider.proofs.AtWork.{HoldsAfter, after_holds, require_holds, IsAtWork, contexts}
-use Rattle.jpa_provider.proofs.Kept.{KeepsHeld, manager_kept, entry_kept, distinct_kept, names_kept}
-use Rattle.jpa_provider.proofs.Changed.{holds_set, holds_apart, live_set, placed_set}
+use Rattle.jpa_consistent.proofs.Facts.{numbers_same, key_is_whole}
+use Rattle.jpa_consistent.specs.Going.{HoldsAfter}
+use Rattle.jpa_consistent.proofs.Going.{after_holds, require_holds}
+use Rattle.jpa_consistent.specs.Consistent.{IsConsistent, contexts, Others}
+use Rattle.jpa_consistent.proofs.Kept.{KeepsHeld, others_kept, entry_kept, distinct_kept, names_kept}
+use Rattle.jpa_consistent.proofs.Changed.{holds_set, holds_apart, live_set, placed_set}
 use Rattle.jpa_rows.specs.Cells.{key_given_by}
-use Rattle.jpa_provider.proofs.Persisted.{callback_holds, told_at_work, HasKey, give_key_holds, new_apart, at_place, state_code, life_new, life_removed}
+use Rattle.jpa_consistent.proofs.Persisted.{HasKey, give_key_holds, new_apart, at_place}
 
 -- ---- no other entry has the identity
 
@@ -86,16 +79,16 @@ pushed_if p true xs ys y h = to_pushed p xs y h
 pushed_if p false xs ys y h = h
 
 -- a context that grows keeps each object that stands in it
-pub stands_pushed : (M : Machine) (m : ℕ) (w : Work) (y : Entry) (n : ℕ) (life : Life) → stands_in (contexts M m w) n life ≡ true →
+pub stands_pushed : (M : Others) (m : ℕ) (w : Work) (y : Entry) (n : ℕ) (life : Life) → stands_in (contexts M m w) n life ≡ true →
     stands_in (contexts M m (record w { context = w.context ++ y ∷ [] })) n life ≡ true
 stands_pushed M m w y n Life.New h = refl
-stands_pushed M m w y n (Life.Managed k) h = pushed_if (λ e. e.object == n) (k == m) w.context (context_of M k) y h
-stands_pushed M m w y n (Life.Removed k) h = pushed_if (λ e. e.object == n) (k == m) w.context (context_of M k) y h
+stands_pushed M m w y n (Life.Managed k) h = pushed_if (λ e. e.object == n) (k == m) w.context (M.context k) y h
+stands_pushed M m w y n (Life.Removed k) h = pushed_if (λ e. e.object == n) (k == m) w.context (M.context k) y h
 stands_pushed M m w y n Life.Detached h = refl
 
 -- the manager's own object stands in its context
-pub stands_own : (M : Machine) (m : ℕ) (w : Work) (n : ℕ) → list_any (λ (e : Entry). e.object == n) w.context ≡ true → stands_in (contexts M m w) n (Life.Managed m) ≡ true
-stands_own M m w n h = subst (λ b. list_any (λ (e : Entry). e.object == n) (if b then w.context else context_of M m) ≡ true) (sym (eq-eqb m m refl)) h
+pub stands_own : (M : Others) (m : ℕ) (w : Work) (n : ℕ) → list_any (λ (e : Entry). e.object == n) w.context ≡ true → stands_in (contexts M m w) n (Life.Managed m) ≡ true
+stands_own M m w n h = subst (λ b. list_any (λ (e : Entry). e.object == n) (if b then w.context else M.context m) ≡ true) (sym (eq-eqb m m refl)) h
 
 -- the entry of an object that enters without a base
 abbrev entry_at : List LiveObject → ℕ → Entry
@@ -115,8 +108,8 @@ names_apart m os ps ns k n id (e ∷ es) keeps h same g = (
   names_apart m os ps ns k n id es keeps h.1 same g.1,
 )
 
-entered_at_work : {world : World} {M : Machine} {m n : ℕ} {w : Work} → HasKey world M m n w → has_instance world.model w (identity_at world.model w n) ≡ false →
-    IsAtWork world M m (entered n (with_life_of n (Life.Managed m) w))
+entered_at_work : {world : World} {M : Others} {m n : ℕ} {w : Work} → HasKey world M m n w → has_instance world.model w (identity_at world.model w n) ≡ false →
+    IsConsistent world M m (entered n (with_life_of n (Life.Managed m) w))
 entered_at_work {world} {M} {m} {n} {w} h free =
     let model = world.model in
     let os = w.objects in
@@ -143,6 +136,7 @@ entered_at_work {world} {M} {m} {n} {w} h free =
             key_representable = live.key_representable;
             version_representable = live.version_representable;
             values_representable = live.values_representable;
+            links_representable = live.links_representable;
           });
       entries = All-push (IsEntry model ps w.numbers m) w.context (entry_at ps n)
           (All-weaker (IsEntry model os w.numbers m) (IsEntry model ps w.numbers m) (λ e. entry_kept (keeps m) up) w.context at.entries)
@@ -157,7 +151,7 @@ entered_at_work {world} {M} {m} {n} {w} h free =
       distinct = distinct_push (are_one model ps) w.context (entry_at ps n) (distinct_kept w.context (keeps m) at.entries at.distinct)
           (names_apart model os ps w.numbers m n (name_of model x) w.context (keeps m) old (ap (name_of model) (sym here))
           (apart_from model w m (name_of model x) w.context old (none_found (λ e. has_identity (identity_at model w e.object) (name_of model x)) w.context none)));
-      others = λ k l' apart. manager_kept (keeps k) up at.numbered (at.others k l' apart);
+      others = λ k l' apart. others_kept (keeps k) up (at.others k l' apart);
       placed = placed_set os n y l (contexts M m (record w { context = w.context ++ entry_at ps n ∷ [] }))
           (λ k l'. stands_pushed M m w (entry_at ps n) k (object_at os k).life (at.placed k l'))
           (stands_own M m (record w { context = w.context ++ entry_at ps n ∷ [] }) n (is_pushed (λ e. e.object == n) w.context (entry_at ps n) (eq-eqb n n refl)));
@@ -167,20 +161,22 @@ entered_at_work {world} {M} {m} {n} {w} h free =
       few = subst (λ j. j ≤ most_objects) (sym (length-set os n y)) at.few;
     }
 
--- ---- persist
+-- ---- a new object becomes managed
 
-become_holds : {world : World} {M : Machine} {m : ℕ} {w : Work} → IsFlat world.model → (n : ℕ) → IsAtWork world M m w → n < length w.objects → (object w n).life ≡ Life.New →
-    HoldsAfter (λ u w'. IsAtWork world M m w') (become_managed world n w)
+pub become_holds : {world : World} {M : Others} {m : ℕ} {w : Work} → IsFlat world.model → (n : ℕ) → IsConsistent world M m w → n < length w.objects → (object w n).life ≡ Life.New →
+    HoldsAfter (λ u w'. IsConsistent world M m w' × (length w'.objects ≡ length w.objects)) (become_managed world n w)
 become_holds {world} {M} {m} {w} flat n h l new =
     let b = (root_of world.model (object w n).class).generated in
-    after_holds _ (λ u w'. HasKey world M m n w') (give_key world n b w) _ (give_key_holds flat n b h l new refl) (λ u v k.
-    require_holds _ (not (has_instance world.model v (identity_at world.model v n))) Cause.EntityExists v _ (λ free.
-    subst (λ j. IsAtWork world M m (entered n (with_life_of n (Life.Managed j) v))) (sym (k.at).manager)
-    (entered_at_work k (not-true (has_instance world.model v (identity_at world.model v n)) free))))
+    after_holds _ (λ u w'. HasKey world M m n w' × (length w'.objects ≡ length w.objects)) (give_key world n b w) _ (give_key_holds flat n b h l new refl) (λ u v k.
+    require_holds _ (not (has_instance world.model v (identity_at world.model v n))) Cause.EntityExists v _ (λ free. (
+      subst (λ j. IsConsistent world M m (entered n (with_life_of n (Life.Managed j) v))) (sym ((k.0).at).manager)
+          (entered_at_work k.0 (not-true (has_instance world.model v (identity_at world.model v n)) free)),
+      length-set v.objects n (managed_by v.manager (object v n)) ∙ k.1,
+    )))
 
 -- a removed object is managed again
-revived : {world : World} {M : Machine} {m : ℕ} {w : Work} (n : ℕ) → IsAtWork world M m w → n < length w.objects → (object w n).life ≡ Life.Removed m →
-    IsAtWork world M m (with_life_of n (Life.Managed m) w)
+pub revived : {world : World} {M : Others} {m : ℕ} {w : Work} (n : ℕ) → IsConsistent world M m w → n < length w.objects → (object w n).life ≡ Life.Removed m →
+    IsConsistent world M m (with_life_of n (Life.Managed m) w)
 revived {world} {M} {m} {w} n h l removed =
     let os = w.objects in
     let x = object w n in
@@ -202,40 +198,14 @@ revived {world} {M} {m} {w} n h l removed =
             key_representable = live.key_representable;
             version_representable = live.version_representable;
             values_representable = live.values_representable;
+            links_representable = live.links_representable;
           });
       entries = All-weaker (IsEntry world.model os w.numbers m) (IsEntry world.model ps w.numbers m) (λ e. entry_kept own up) w.context h.entries;
       distinct = distinct_kept w.context own h.entries h.distinct;
-      others = λ k l' d. manager_kept (apart k d) up h.numbered (h.others k l' d);
+      others = λ k l' d. others_kept (apart k d) up (h.others k l' d);
       placed = placed_set os n y l (contexts M m w) h.placed (subst (λ life. stands_in (contexts M m w) n life ≡ true) removed (h.placed n l));
       view = h.view;
       numbered = h.numbered;
       raised = h.raised;
       few = subst (λ j. j ≤ most_objects) (sym (length-set os n y)) h.few;
     }
-
-told_holds : {world : World} {M : Machine} {m : ℕ} {w : Work} → IsFlat world.model → (event : LifecycleEvent) (n : ℕ) → IsAtWork world M m w →
-    HoldsAfter (λ u w'. IsAtWork world M m w') (callback world event n w)
-told_holds {world} {M} {m} {w} flat event n h = callback_holds (λ u w'. IsAtWork world M m w') world flat event n w (λ e. told_at_work e h)
-
-pre_persist_holds : {world : World} {M : Machine} {m : ℕ} {w : Work} → IsFlat world.model → (n : ℕ) (b : Option Base) → IsAtWork world M m w →
-    HoldsAfter (λ u w'. IsAtWork world M m w') (pre_persist_if world n b w)
-pre_persist_holds flat n None h = told_holds flat LifecycleEvent.PrePersist n h
-pre_persist_holds flat n (Some b) h = h
-
-persist_one_holds : {world : World} {M : Machine} {m : ℕ} {w : Work} → IsFlat world.model → (n : ℕ) (s : EntityState) → state_of w n ≡ s → IsAtWork world M m w → n < length w.objects →
-    HoldsAfter (λ u w'. IsAtWork world M m w') (persist_one world n s w)
-persist_one_holds {world} {M} {m} {w} flat n EntityState.New e h l =
-    after_holds _ (λ u w'. IsAtWork world M m w') (become_managed world n w) _ (become_holds flat n h l (life_new w.manager (object w n).life (ap state_code e)))
-    (λ u v k. told_holds flat LifecycleEvent.PrePersist n k)
-persist_one_holds flat n EntityState.Managed e h l = h
-persist_one_holds {world} {M} {m} {w} flat n EntityState.Removed e h l =
-    let removed : (object w n).life ≡ Life.Removed m = life_removed w.manager (object w n).life (ap state_code e) ∙ ap Life.Removed h.manager in
-    let v = with_life_of n (Life.Managed w.manager) w in
-    pre_persist_holds flat n (base_of v n) (subst (λ j. IsAtWork world M m (with_life_of n (Life.Managed j) w)) (sym h.manager) (revived n h l removed))
-persist_one_holds flat n EntityState.Detached e h l = tt
-
-pub persist_holds : {world : World} {M : Machine} {m : ℕ} {w : Work} → IsFlat world.model → (n : ℕ) → IsAtWork world M m w → n < length w.objects →
-    HoldsAfter (λ u w'. IsAtWork world M m w') (persist world n w)
-persist_holds {world} {M} {m} {w} flat n h l =
-    subst (λ nodes. HoldsAfter (λ u w'. IsAtWork world M m w') (each (persist_node world) nodes w)) (sym (plain_waves world.model Operation.Persist w n (flat.relations (object w n).class)))
-    (after_holds _ (λ u w'. IsAtWork world M m w') (persist_one world n (state_of w n) w) _ (persist_one_holds flat n (state_of w n) refl h l) (λ u v k. k))

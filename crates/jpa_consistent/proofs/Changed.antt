@@ -18,13 +18,13 @@ use Rattle.jpa_heap.specs.Assign.{set_in}
 use Rattle.jpa_context.specs.declared.Entry.{Entry}
 use Rattle.jpa_context.specs.Work.{Work, object, with_object}
 use Rattle.jpa_ops.specs.Members.{placed, set}
-use Rattle.jpa_provider.specs.Machine.{Machine}
-use Rattle.jpa_provider.specs.Invariant.{IsLive, IsEntry, is_held_by, stands_in}
+use Rattle.jpa_consistent.specs.Consistent.{IsLive, IsEntry, is_held_by, stands_in}
 use Rattle.jpa_lifecycle.specs.Flat.{IsFlat}
-use Rattle.jpa_provider.proofs.Facts.{numbers_same}
-use Rattle.jpa_provider.proofs.AtWork.{HoldsAfter, IsAtWork, contexts}
-use Rattle.jpa_provider.proofs.Kept.{KeepsClasses, KeepsHeld, manager_kept, live_kept, entry_kept, distinct_kept}
-use Rattle.jpa_provider.proofs.Created.{IsSet, OnObject, handed_representable, set_is, version_named}
+use Rattle.jpa_consistent.proofs.Facts.{numbers_same}
+use Rattle.jpa_consistent.specs.Going.{HoldsAfter}
+use Rattle.jpa_consistent.specs.Consistent.{IsConsistent, contexts, Others}
+use Rattle.jpa_consistent.proofs.Kept.{KeepsClasses, KeepsHeld, others_kept, live_kept, entry_kept, distinct_kept}
+use Rattle.jpa_consistent.proofs.Setting.{IsSet, OnObject, handed_representable, set_is, version_named}
 
 -- ---- one object replaced
 
@@ -84,8 +84,8 @@ held_old k (Life.Removed j) h = refl
 held_old k Life.Detached h = refl
 
 -- one object changes as set changes it
-pub changed_at_work : {world : World} {M : Machine} {m : ℕ} {w : Work} (n : ℕ) (y : LiveObject) → n < length w.objects → IsSet world.model w.objects (object w n) y → IsAtWork world M m w →
-    IsAtWork world M m (with_object n y w)
+pub changed_at_work : {world : World} {M : Others} {m : ℕ} {w : Work} (n : ℕ) (y : LiveObject) → n < length w.objects → IsSet world.model w.objects (object w n) y → IsConsistent world M m w →
+    IsConsistent world M m (with_object n y w)
 changed_at_work {world} {M} {m} {w} n y l s h =
     let os = w.objects in
     let x = object w n in
@@ -97,7 +97,7 @@ changed_at_work {world} {M} {m} {w} n y l s h =
       objects = live_set os n y l world.model s.class h.objects (s.live (h.objects n no_object l));
       entries = All-weaker (IsEntry world.model os w.numbers m) (IsEntry world.model (slice_set os n y) w.numbers m) (λ e. entry_kept (keeps m) up) w.context h.entries;
       distinct = distinct_kept w.context (keeps m) h.entries h.distinct;
-      others = λ k l' apart. manager_kept (keeps k) up h.numbered (h.others k l' apart);
+      others = λ k l' apart. others_kept (keeps k) up (h.others k l' apart);
       placed = placed_set os n y l (contexts M m w) h.placed (subst (λ life. stands_in (contexts M m w) n life ≡ true) (sym s.life) (h.placed n l));
       view = h.view;
       numbered = h.numbered;

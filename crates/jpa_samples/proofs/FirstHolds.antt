@@ -8,15 +8,15 @@ use Rattle.std.proofs.lemmas.Bool.{false≢true}
 use Rattle.jpa_value.specs.declared.value.Value.{Value}
 use Rattle.jpa_model.specs.Chains.{relations_of, root_of, root_class}
 use Rattle.jpa_lifecycle.specs.Callbacks.{hearers}
-use Rattle.jpa_behaviour.proofs.Regular.{no_converter_answers}
-use Rattle.jpa_behaviour.specs.Behaviour.{AnswersConvertible}
+use Rattle.jpa_behaviour.proofs.Regular.{regular_without}
+use Rattle.jpa_behaviour.specs.Behaviour.{IsRegular}
 use Rattle.jpa_stored.specs.Sets.{is_key_of}
 use Rattle.jpa_rows.specs.Cells.{Cell, CanBeHeld, StandFor, is_own_cell}
 use Rattle.jpa_provider.specs.Step.{machine_after}
 use Rattle.jpa_provider.specs.Invariant.{IsMachine}
 use Rattle.jpa_lifecycle.specs.Flat.{IsFlat}
-use Rattle.jpa_provider.proofs.Sample.{P1}
-use Rattle.jpa_provider.proofs.FirstRun.{fresh, first_run, after_first, person_cells, first_cells, set_key}
+use Rattle.jpa_samples.proofs.Sample.{P1}
+use Rattle.jpa_samples.proofs.FirstRun.{fresh, first_run, after_first, person_cells, first_cells, set_key}
 use Rattle.jpa_provider.proofs.Settled.{opened_holds}
 use Rattle.jpa_provider.proofs.Outcome.{machine_after_keeps}
 
@@ -39,8 +39,8 @@ persons_flat = record { relations = relations; hearers = none_hear; rooted = roo
     generated zero k h = refl
     generated (suc class) k h = absurd (false≢true h)
 
-persons_convert : AnswersConvertible P1
-persons_convert = no_converter_answers P1.model
+persons_regular : IsRegular P1
+persons_regular = regular_without P1.model
 
 ada_text : is_utf8 (codes "Ada") ≡ true
 ada_text = is_utf8-from_IsUtf8 (codes "Ada") (IsUtf8-from_ascii (codes "Ada") below)
@@ -60,10 +60,10 @@ committed_held = record { representable = ap (λ b. ((b && true) && true) && tru
 
 -- between any two calls
 first_holds : IsMachine P1 after_first
-first_holds = machine_after_keeps persons_flat persons_convert fresh first_run (ap (λ b. b && true) ada_text) (opened_holds empty_held)
+first_holds = machine_after_keeps persons_flat persons_regular fresh first_run (ap (λ b. b && true) ada_text) (opened_holds empty_held)
 
 set_key_holds : IsMachine P1 (machine_after P1 after_first set_key)
-set_key_holds = machine_after_keeps persons_flat persons_convert after_first set_key refl first_holds
+set_key_holds = machine_after_keeps persons_flat persons_regular after_first set_key refl first_holds
 
 -- its cells stand for what was committed, whatever stands in tables of others
 abbrev foreign : Cell

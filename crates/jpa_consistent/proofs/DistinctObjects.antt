@@ -12,7 +12,7 @@ use Rattle.jpa_stored.specs.Sets.{all_distinct}
 use Rattle.jpa_heap.specs.declared.LiveObject.{LiveObject}
 use Rattle.jpa_heap.specs.Objects.{object_at}
 use Rattle.jpa_context.specs.declared.Entry.{Entry}
-use Rattle.jpa_provider.specs.Invariant.{are_one, name_of}
+use Rattle.jpa_consistent.specs.Consistent.{are_one, name_of}
 
 -- entries of one object are of one identity
 one_object : (m : PersistenceUnit) (objects : List LiveObject) (a b : Entry) → a.object ≡ b.object → are_one m objects a b ≡ true

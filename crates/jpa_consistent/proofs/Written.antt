@@ -26,8 +26,8 @@ use Rattle.jpa_rows.specs.Cells.{version_representable, holds_representable, nam
 use Rattle.jpa_heap.specs.declared.LiveObject.{LiveObject}
 use Rattle.jpa_context.specs.Work.{Work, object, identity_at}
 use Rattle.jpa_flush.specs.Flush.{Action, joined, joined_all, first_version, raised, can_rise, converts, stored_of, written, owned_along}
-use Rattle.jpa_provider.specs.Invariant.{IsLive, name_of}
-use Rattle.jpa_provider.proofs.Created.{has_version}
+use Rattle.jpa_consistent.specs.Consistent.{IsLive, name_of}
+use Rattle.jpa_consistent.proofs.Setting.{has_version}
 
 -- ---- what holds of each entry of a set, where one is put and some are left out
 

@@ -16,8 +16,8 @@ use Rattle.jpa_context.specs.declared.Entry.{Entry}
 use Rattle.jpa_context.specs.Work.{Work, object, identity_at}
 use Rattle.jpa_flush.specs.Flush.{Action, action_of, planned, written}
 use Rattle.jpa_flush.specs.Writes.{paired, writes}
-use Rattle.jpa_provider.specs.Invariant.{are_one, name_of}
-use Rattle.jpa_provider.proofs.Written.{name_is}
+use Rattle.jpa_consistent.specs.Consistent.{are_one, name_of}
+use Rattle.jpa_consistent.proofs.Written.{name_is}
 
 -- ---- what is written for one object: nothing, or it alone, under its own name
 

@@ -12,10 +12,7 @@ use Rattle.jpa_behaviour.specs.Behaviour.{World}
 use Rattle.jpa_context.specs.Work.{Work, object}
 use Rattle.jpa_lifecycle.specs.Flat.{IsFlat}
 use Rattle.jpa_ops.specs.Members.{get, get_member}
-use Rattle.jpa_provider.specs.Calls.{got}
-use Rattle.jpa_provider.specs.Routes.{get_call}
-use Rattle.jpa_provider.proofs.AtWork.{HoldsAfter}
-use Rattle.jpa_provider.proofs.Handed.{told_holds}
+use Rattle.jpa_consistent.specs.Going.{HoldsAfter}
 
 abbrev is_plain : Option Member → Bool
 is_plain None = true
@@ -44,6 +41,5 @@ member_same world n (Some Member.Version) w h = refl
 member_same world n (Some (Member.Attribute i)) w h = refl
 member_same world n (Some (Member.Relation r)) w h = absurd (false≢true h)
 
-pub get_call_same : (world : World) → IsFlat world.model → (n : ℕ) (name : List ℕ) (w : Work) → HoldsAfter (λ a w'. w' ≡ w) (get_call world name n w)
-get_call_same world flat n name w =
-    told_holds (λ w'. w' ≡ w) got (get world n name w) (member_same world n (member_of world.model (object w n).class name) w (plain_member world.model flat (object w n).class name))
+pub get_same : (world : World) → IsFlat world.model → (n : ℕ) (name : List ℕ) (w : Work) → HoldsAfter (λ a w'. w' ≡ w) (get world n name w)
+get_same world flat n name w = member_same world n (member_of world.model (object w n).class name) w (plain_member world.model flat (object w n).class name)

@@ -12,9 +12,8 @@ use Rattle.jpa_model.specs.declared.unit.PersistenceUnit.{PersistenceUnit}
 use Rattle.jpa_model.specs.declared.unit.VersionColumn.{VersionColumn}
 use Rattle.jpa_model.specs.declared.unit.Relation.{Relation}
 use Rattle.jpa_model.specs.Chains.{attributes_of, relations_of, root_of, root_class, is_to_one}
-use Rattle.jpa_behaviour.specs.Behaviour.{World}
 use Rattle.jpa_stored.specs.Sets.{each_fits, all_distinct, is_shaped, is_key_of}
-use Rattle.jpa_rows.specs.Cells.{are_numbers, key_given_by, holds_representable}
+use Rattle.jpa_rows.specs.Cells.{key_given_by, holds_representable}
 use Rattle.jpa_heap.specs.declared.Link.{Link}
 use Rattle.jpa_heap.specs.declared.Held.{Held}
 use Rattle.jpa_heap.specs.declared.Collection.{Collection}
@@ -22,9 +21,8 @@ use Rattle.jpa_heap.specs.declared.LiveObject.{LiveObject}
 use Rattle.jpa_heap.specs.Objects.{object_at, no_object, new_object, empty_held}
 use Rattle.jpa_context.specs.declared.Base.{Base}
 use Rattle.jpa_context.specs.declared.Entry.{Entry}
-use Rattle.jpa_provider.specs.Machine.{Manager, Transaction}
-use Rattle.jpa_provider.specs.Invariant.{IsManager, IsTransaction, IsLive, IsEntry, are_one, name_of, is_held_by, stands_in, base_fits, known_fits, held_fits, link_fits, collection_fits, leads_to, version_fits}
-use Rattle.jpa_provider.proofs.Facts.{held_more, given_by_more, each_fits_weaker, each_fits_map, list_all_weaker, list_all_map}
+use Rattle.jpa_consistent.specs.Consistent.{IsContext, IsLive, IsEntry, are_one, name_of, is_held_by, stands_in, base_fits, known_fits, held_fits, link_fits, collection_fits, leads_to, version_fits, held_representable}
+use Rattle.jpa_consistent.proofs.Facts.{given_by_more, each_fits_weaker, each_fits_map, list_all_weaker, list_all_map}
 
 -- ---- links stay within the heap where it grows and no object's class changes
 
@@ -35,11 +33,11 @@ pub record KeepsClasses (os ps : List LiveObject) : Type 0 where
 module _ (m : PersistenceUnit) (os ps : List LiveObject) (keeps : KeepsClasses os ps) where
   leads_kept : (target k : ℕ) → leads_to m os target k ≡ true → leads_to m ps target k ≡ true
   leads_kept target k h =
-      let p = and_parts (nat_lt k (length os)) (root_class m (object_at os k).class == root_class m target) h in
+      let p = and_parts (nat_lt k (length os)) ((root_of m (object_at os k).class).table == (root_of m target).table) h in
       let l = ltb-true k (length os) p.0 in
       let more = keeps.more in
-      and_from (nat_lt k (length ps)) (root_class m (object_at ps k).class == root_class m target) (lt-ltb k (length ps) (omega (arith, l, more)))
-      (subst (λ c. (root_class m c == root_class m target) ≡ true) (sym (keeps.class k l)) p.1)
+      and_from (nat_lt k (length ps)) ((root_of m (object_at ps k).class).table == (root_of m target).table) (lt-ltb k (length ps) (omega (arith, l, more)))
+      (subst (λ c. ((root_of m c).table == (root_of m target).table) ≡ true) (sym (keeps.class k l)) p.1)
 
   link_kept : (target : ℕ) (l : Link) → link_fits m os target l ≡ true → link_fits m ps target l ≡ true
   link_kept target Link.None h = refl
@@ -69,6 +67,7 @@ module _ (m : PersistenceUnit) (os ps : List LiveObject) (keeps : KeepsClasses o
         key_representable = h.key_representable;
         version_representable = h.version_representable;
         values_representable = h.values_representable;
+        links_representable = h.links_representable;
       }
 
 -- ---- a manager's entries stay where the objects that it holds keep class and key and are held
@@ -149,21 +148,11 @@ pub distinct_kept : {m : PersistenceUnit} {os ps : List LiveObject} {ns : List �
 distinct_kept {m} {os} {ps} {ns} {k} xs keeps h d =
     sym (distinct_same m os ps xs (recursion_from_All (HaveNames m os ps) xs (All-weaker (IsEntry m os ns k) (HaveNames m os ps) (names_kept keeps) xs h))) ∙ d
 
--- ---- a manager
+-- ---- a context
 
-more_held : (world : World) (ns ms : List ℕ) (t : Option Transaction) → each_fits nat_le ns ms ≡ true → are_numbers world.model ms ≡ true → IsTransaction world ns t → IsTransaction world ms t
-more_held world ns ms None l n h = tt
-more_held world ns ms (Some t) l n h = (held_more ms h.0 l n, held_more ms h.1 l n)
-
-pub manager_kept : {world : World} {os ps : List LiveObject} {ns ms : List ℕ} {k : ℕ} {x : Manager} → KeepsHeld k os ps → each_fits nat_le ns ms ≡ true → are_numbers world.model ms ≡ true →
-    IsManager world os ns k x → IsManager world ps ms k x
-manager_kept {world} {os} {ps} {ns} {ms} {k} {x} keeps l n h =
-    record {
-      entries = All-weaker (IsEntry world.model os ns k) (IsEntry world.model ps ms k) (λ e. entry_kept keeps l) x.context h.entries;
-      distinct = distinct_kept x.context keeps h.entries h.distinct;
-      transaction = more_held world ns ms x.transaction l n h.transaction;
-      idle = h.idle;
-    }
+pub others_kept : {m : PersistenceUnit} {os ps : List LiveObject} {ns ms : List ℕ} {k : ℕ} {es : List Entry} → KeepsHeld k os ps → each_fits nat_le ns ms ≡ true → IsContext m os ns k es → IsContext m ps ms k es
+others_kept {m} {os} {ps} {ns} {ms} {k} {es} keeps l h =
+    record { entries = All-weaker (IsEntry m os ns k) (IsEntry m ps ms k) (λ e. entry_kept keeps l) es h.entries; distinct = distinct_kept es keeps h.entries h.distinct }
 
 -- ---- one more object
 
@@ -212,6 +201,10 @@ empty_fits : (m : PersistenceUnit) (os : List LiveObject) (r : Relation) (b : Bo
 empty_fits m os r true e = and_from (is_to_one r.side) true e refl
 empty_fits m os r false e = and_from (not (is_to_one r.side)) true (ap not e) refl
 
+empty_representable : (b : Bool) → held_representable (empty_held b) ≡ true
+empty_representable true = refl
+empty_representable false = refl
+
 pub new_live : (m : PersistenceUnit) (os : List LiveObject) (class : ℕ) → nat_lt class (length m.entities) ≡ true → IsLive m os (new_object m class)
 new_live m os class l =
     record {
@@ -223,4 +216,5 @@ new_live m os class l =
       key_representable = list_all_map _ _ (λ part. refl) (root_of m class).key;
       version_representable = refl;
       values_representable = list_all_map _ _ (λ a. refl) (attributes_of m class);
+      links_representable = list_all_map _ _ (λ r. empty_representable (is_to_one r.side)) (relations_of m class);
     }

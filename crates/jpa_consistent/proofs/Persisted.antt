@@ -1,4 +1,4 @@
--- What holds while a manager is at work is kept by persist, in units without relations and listeners.
+-- What holds while a manager is at work is kept where an object takes its key.
 use Rattle.jpa_value.specs.Limits.{most_objects}
 use Rattle.std.proofs.Common.{◌≡◌, ◌≢◌, ◌<◌, ◌≤◌, ℕ, zero, suc, Bool, true, false, List, [], ◌∷◌, length, refl, ap, sym, subst, arith}
 use Rattle.std.specs.Prelude.{slice_index_or, slice_set, slice_get, nat_lt, nat_le, not, Some, ◌==◌, ◌&&◌, if◌then◌else◌, pos, is_some}
@@ -10,7 +10,6 @@ use Rattle.std.proofs.lemmas.List.Elements.{All-weaker}
 use Rattle.jpa_value.specs.declared.value.Value.{Value}
 use Rattle.jpa_value.specs.declared.refusal.Cause.{Cause}
 use Rattle.jpa_value.specs.declared.refusal.Persist.{Persist}
-use Rattle.jpa_value.specs.declared.event.LifecycleEvent.{LifecycleEvent}
 use Rattle.jpa_value.specs.Value.{fits, is_null, is_i64}
 use Rattle.jpa_model.specs.declared.unit.Entity.{Entity}
 use Rattle.jpa_model.specs.declared.unit.Origin.{Origin}
@@ -24,25 +23,20 @@ use Rattle.jpa_heap.specs.declared.LiveObject.{LiveObject}
 use Rattle.jpa_heap.specs.Objects.{object_at, no_object, is_whole}
 use Rattle.jpa_context.specs.declared.EntityState.{EntityState}
 use Rattle.jpa_context.specs.Work.{Work, object, state_from, told}
-use Rattle.jpa_lifecycle.specs.Callbacks.{callback, hearers}
 use Rattle.jpa_ops.specs.States.{give_key, with_key, with_number, number_part, last_number}
 use Rattle.jpa_protocol.specs.declared.event.Told.{Told}
-use Rattle.jpa_provider.specs.Machine.{Machine}
-use Rattle.jpa_provider.specs.Invariant.{IsLive, IsEntry, is_held_by, stands_in}
+use Rattle.jpa_consistent.specs.Consistent.{IsLive, IsEntry, is_held_by, stands_in}
 use Rattle.jpa_lifecycle.specs.Flat.{IsFlat}
-use Rattle.jpa_lifecycle.proofs.Quiet.{callback_plain, event_told}
-use Rattle.jpa_provider.proofs.Facts.{held_more, numbers_trans, numbers_same, each_fits_set, each_fits_length}
-use Rattle.jpa_provider.proofs.AtWork.{HoldsAfter, require_holds, require_holds_last, IsAtWork, contexts}
-use Rattle.jpa_provider.proofs.Kept.{KeepsHeld, manager_kept, entry_kept, distinct_kept}
-use Rattle.jpa_provider.proofs.Changed.{holds_apart, live_set, placed_set}
+use Rattle.jpa_consistent.proofs.Facts.{held_more, numbers_trans, numbers_same, each_fits_set, each_fits_length}
+use Rattle.jpa_consistent.specs.Going.{HoldsAfter}
+use Rattle.jpa_consistent.proofs.Going.{require_holds, require_holds_last}
+use Rattle.jpa_consistent.specs.Consistent.{IsConsistent, contexts, Others}
+use Rattle.jpa_consistent.proofs.Kept.{KeepsHeld, others_kept, entry_kept, distinct_kept}
+use Rattle.jpa_consistent.proofs.Changed.{holds_apart, live_set, placed_set}
 
--- ---- without listeners an event is told, and nothing else happens
+-- ---- an event is told
 
-pub callback_holds : (P : Unit {0} → Work → Type 0) (world : World) → IsFlat world.model → (event : LifecycleEvent) (n : ℕ) (w : Work) →
-    ((e : Told) → P tt (told e w)) → HoldsAfter P (callback world event n w)
-callback_holds P world flat event n w h = subst (HoldsAfter P) (callback_plain world event n w (flat.hearers (object w n).class)) (h (event_told event n))
-
-pub told_at_work : {world : World} {M : Machine} {m : ℕ} {w : Work} (e : Told) → IsAtWork world M m w → IsAtWork world M m (told e w)
+pub told_at_work : {world : World} {M : Others} {m : ℕ} {w : Work} (e : Told) → IsConsistent world M m w → IsConsistent world M m (told e w)
 told_at_work e h =
     record {
       manager = h.manager;
@@ -86,9 +80,9 @@ life_removed m Life.Detached e = absurd (omega (arith, e))
 pub new_apart : (k : ℕ) (life : Life) → life ≡ Life.New → is_held_by k life ≡ false
 new_apart k life e = ap (is_held_by k) e
 
-replaced_new : {world : World} {M : Machine} {m : ℕ} {w : Work} (n : ℕ) (y : LiveObject) (ns : List ℕ) → IsAtWork world M m w → n < length w.objects → (object w n).life ≡ Life.New →
+replaced_new : {world : World} {M : Others} {m : ℕ} {w : Work} (n : ℕ) (y : LiveObject) (ns : List ℕ) → IsConsistent world M m w → n < length w.objects → (object w n).life ≡ Life.New →
     y.class ≡ (object w n).class → y.life ≡ Life.New → IsLive world.model w.objects y → each_fits nat_le w.numbers ns ≡ true → are_numbers world.model ns ≡ true →
-    IsAtWork world M m (record w { objects = slice_set w.objects n y; numbers = ns })
+    IsConsistent world M m (record w { objects = slice_set w.objects n y; numbers = ns })
 replaced_new {world} {M} {m} {w} n y ns h l new c new' live up numbered =
     let os = w.objects in
     let keeps : (k : ℕ) → KeepsHeld k os (slice_set os n y) = λ k. holds_apart os n y l k (new_apart k (object w n).life new) in
@@ -97,7 +91,7 @@ replaced_new {world} {M} {m} {w} n y ns h l new c new' live up numbered =
       objects = live_set os n y l world.model c h.objects live;
       entries = All-weaker (IsEntry world.model os w.numbers m) (IsEntry world.model (slice_set os n y) ns m) (λ e. entry_kept (keeps m) up) w.context h.entries;
       distinct = distinct_kept w.context (keeps m) h.entries h.distinct;
-      others = λ k l' apart. manager_kept (keeps k) up numbered (h.others k l' apart);
+      others = λ k l' apart. others_kept (keeps k) up (h.others k l' apart);
       placed = placed_set os n y l (contexts M m w) h.placed (ap (stands_in (contexts M m w) n) new');
       view = held_more ns h.view up numbered;
       numbered = numbered;
@@ -108,8 +102,8 @@ replaced_new {world} {M} {m} {w} n y ns h l new c new' live up numbered =
 -- ---- keys
 
 -- what holds once the key is there
-pub record HasKey (world : World) (M : Machine) (m n : ℕ) (w : Work) : Type 0 where
-  pub at : IsAtWork world M m w
+pub record HasKey (world : World) (M : Others) (m n : ℕ) (w : Work) : Type 0 where
+  pub at : IsConsistent world M m w
   pub within : n < length w.objects
   pub new : (object w n).life ≡ Life.New
   pub whole : is_key_of (root_of world.model (object w n).class) (object w n).key ≡ true
@@ -178,7 +172,7 @@ number_at (e ∷ es) (n ∷ ns) (suc r) l h =
 pub at_place : (os : List LiveObject) (n : ℕ) (y : LiveObject) → n < length os → object_at (slice_set os n y) n ≡ y
 at_place os n y l = get_or-set_same os n y no_object l
 
-unset_key : {world : World} {M : Machine} {m n : ℕ} {w : Work} → IsAtWork world M m w → n < length w.objects → (object w n).life ≡ Life.New →
+unset_key : {world : World} {M : Others} {m n : ℕ} {w : Work} → IsConsistent world M m w → n < length w.objects → (object w n).life ≡ Life.New →
     (root_of world.model (object w n).class).generated ≡ false → is_whole (object w n).key ≡ true → HasKey world M m n w
 unset_key {world} {M} {m} {n} {w} h l new g whole =
     let x = object w n in
@@ -190,7 +184,7 @@ unset_key {world} {M} {m} {n} {w} h l new g whole =
       given = ap (λ b. key_given_by w.numbers (root_class world.model x.class) b x.key) g;
     }
 
-given_key : {world : World} {M : Machine} {m n : ℕ} {w : Work} → IsFlat world.model → IsAtWork world M m w → n < length w.objects → (object w n).life ≡ Life.New →
+given_key : {world : World} {M : Others} {m n : ℕ} {w : Work} → IsFlat world.model → IsConsistent world M m w → n < length w.objects → (object w n).life ≡ Life.New →
     (root_of world.model (object w n).class).generated ≡ true →
     slice_index_or w.numbers (root_class world.model (object w n).class) 1 < last_number →
     HasKey world M m n
@@ -223,6 +217,7 @@ given_key {world} {M} {m} {n} {w} flat h l new g few =
             key_representable = and_from (is_i64 (pos k)) true (lt-ltb k 9223372036854775808 (omega (arith, few))) refl;
             version_representable = live.version_representable;
             values_representable = live.values_representable;
+            links_representable = live.links_representable;
           })
           (numbers_set w.numbers r (suc k) (omega arith))
           (each_fits_set _ model.entities w.numbers r (suc k) h.numbered
@@ -234,11 +229,12 @@ given_key {world} {M} {m} {n} {w} flat h l new g few =
           (subst (λ b. key_given_by ns r b (number_part k) ≡ true) (sym g) is_given);
     }
 
-pub give_key_holds : {world : World} {M : Machine} {m : ℕ} {w : Work} → IsFlat world.model → (n : ℕ) (b : Bool) → IsAtWork world M m w → n < length w.objects → (object w n).life ≡ Life.New →
-    (root_of world.model (object w n).class).generated ≡ b → HoldsAfter (λ u w'. HasKey world M m n w') (give_key world n b w)
+pub give_key_holds : {world : World} {M : Others} {m : ℕ} {w : Work} → IsFlat world.model → (n : ℕ) (b : Bool) → IsConsistent world M m w → n < length w.objects → (object w n).life ≡ Life.New →
+    (root_of world.model (object w n).class).generated ≡ b → HoldsAfter (λ u w'. HasKey world M m n w' × (length w'.objects ≡ length w.objects)) (give_key world n b w)
 give_key_holds {world} {M} {m} {w} flat n false h l new g =
-    require_holds_last _ (is_whole (object w n).key) (Cause.Persistence Persist.Key) w (λ whole. unset_key h l new g whole)
+    require_holds_last _ (is_whole (object w n).key) (Cause.Persistence Persist.Key) w (λ whole. (unset_key h l new g whole, refl))
 give_key_holds {world} {M} {m} {w} flat n true h l new g =
+    let k = slice_index_or w.numbers (root_class world.model (object w n).class) 1 in
     require_holds _ (list_all is_null (object w n).key) (Cause.Persistence Persist.Key) w _ (λ unset.
-    require_holds _ (nat_lt (slice_index_or w.numbers (root_class world.model (object w n).class) 1) last_number) (Cause.Persistence Persist.Generator) w _ (λ few.
-    given_key flat h l new g (ltb-true (slice_index_or w.numbers (root_class world.model (object w n).class) 1) last_number few)))
+    require_holds _ (nat_lt k last_number) (Cause.Persistence Persist.Generator) w _ (λ few.
+    (given_key flat h l new g (ltb-true k last_number few), length-set w.objects n (record (object w n) { key = number_part k }))))

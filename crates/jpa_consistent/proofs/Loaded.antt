@@ -1,4 +1,4 @@
--- What holds while a manager is at work is kept by find, in units without relations and listeners.
+-- What holds while a manager is at work is kept where a row is loaded, in units without relations.
 use Rattle.jpa_value.specs.Limits.{most_objects}
 use Rattle.std.proofs.Common.{◌≡◌, ◌<◌, ℕ, Bool, true, false, List, [], ◌∷◌, ◌++◌, length, map, refl, ap, sym, subst, ◌∙◌, arith}
 use Rattle.std.specs.Prelude.{nat_lt, Option, Some, None, ◌==◌, ◌&&◌, if◌then◌else◌, ℤ, is_some}
@@ -8,22 +8,20 @@ use Rattle.std.specs.Ordering.{is_eq}
 use Rattle.std.specs.declared.cmp.Ordering.{Ordering}
 use Rattle.std.specs.declared.cmp.Ordering.TheVariants.{Less, Equal, Greater}
 use Rattle.std.specs.FinMap.Entries.{find as entry_found}
-use Rattle.std.proofs.lemmas.Bool.{false≢true, true≢false, ltb-true, eqb-true, eq-eqb, ne_eqb, and_parts, and_from}
+use Rattle.std.proofs.lemmas.Bool.{false≢true, true≢false, eqb-true, eq-eqb, ne_eqb, and_parts, and_from}
 use Rattle.std.proofs.lemmas.List.{length-append, get_or_push}
 use Rattle.std.proofs.lemmas.List.Elements.{All-weaker, All-push, recursion_from_All}
 use Rattle.jpa_value.specs.declared.value.Value.{Value}
 use Rattle.jpa_value.specs.declared.value.Identity.{Identity}
-use Rattle.jpa_value.specs.declared.refusal.Cause.{Cause}
-use Rattle.jpa_value.specs.declared.event.LifecycleEvent.{LifecycleEvent}
 use Rattle.jpa_value.specs.Value.{identity_cmp, is_representable, same_identity, fits}
 use Rattle.jpa_value.proofs.Orders.{identity_exact}
 use Rattle.jpa_model.specs.declared.unit.PersistenceUnit.{PersistenceUnit}
 use Rattle.jpa_model.specs.declared.unit.Relation.{Relation}
 use Rattle.jpa_model.specs.declared.unit.VersionColumn.{VersionColumn}
-use Rattle.jpa_model.specs.Chains.{root_of, root_class, attributes_of, is_kind_of}
+use Rattle.jpa_model.specs.Chains.{root_of, root_class, attributes_of}
 use Rattle.jpa_behaviour.specs.Behaviour.{World}
 use Rattle.jpa_stored.specs.declared.stored.Stored.{Stored}
-use Rattle.jpa_stored.specs.Sets.{StoredSet, stored_at, each_fits, is_key_of, is_identity_of, is_shaped, version_there, members}
+use Rattle.jpa_stored.specs.Sets.{StoredSet, stored_at, each_fits, is_key_of, is_identity_of, is_shaped, version_there}
 use Rattle.jpa_rows.specs.Cells.{CanBeHeld, key_given_by, names_representable, holds_representable, version_representable}
 use Rattle.jpa_heap.specs.declared.Life.{Life}
 use Rattle.jpa_heap.specs.declared.LiveObject.{LiveObject}
@@ -32,17 +30,15 @@ use Rattle.jpa_context.specs.declared.Base.{Base}
 use Rattle.jpa_context.specs.declared.Lock.{Lock}
 use Rattle.jpa_context.specs.declared.Entry.{Entry}
 use Rattle.jpa_context.specs.Work.{Work, identity_at, instance, row, has_identity, entered, with_base}
-use Rattle.jpa_lifecycle.specs.Callbacks.{callback}
-use Rattle.jpa_ops.specs.Load.{object_loaded, base_loaded, held_loaded, made, load, found, found_row, find, known}
+use Rattle.jpa_ops.specs.Load.{object_loaded, base_loaded, held_loaded, made}
 use Rattle.jpa_ops.proofs.Loaded.{no_held, no_members}
-use Rattle.jpa_provider.specs.Machine.{Machine}
-use Rattle.jpa_provider.specs.Invariant.{IsLive, IsEntry, is_held_by, stands_in, are_one, name_of, version_fits, held_fits, known_fits, base_fits}
+use Rattle.jpa_consistent.specs.Consistent.{IsLive, IsEntry, is_held_by, stands_in, are_one, name_of, version_fits, held_fits, held_representable, known_fits, base_fits}
 use Rattle.jpa_lifecycle.specs.Flat.{IsFlat}
-use Rattle.jpa_provider.proofs.Facts.{numbers_same}
-use Rattle.jpa_provider.proofs.AtWork.{HoldsAfter, after_holds, require_holds, IsAtWork, contexts}
-use Rattle.jpa_provider.proofs.Kept.{manager_kept, entry_kept, distinct_kept, holds_more, live_more, placed_more}
-use Rattle.jpa_provider.proofs.Persisted.{callback_holds, told_at_work, fitting_key}
-use Rattle.jpa_provider.proofs.Entered.{distinct_push, none_found, apart_from, stands_pushed, stands_own, is_pushed, names_apart}
+use Rattle.jpa_consistent.proofs.Facts.{numbers_same}
+use Rattle.jpa_consistent.specs.Consistent.{IsConsistent, contexts, Others}
+use Rattle.jpa_consistent.proofs.Kept.{others_kept, entry_kept, distinct_kept, holds_more, live_more, placed_more}
+use Rattle.jpa_consistent.proofs.Persisted.{fitting_key}
+use Rattle.jpa_consistent.proofs.Entered.{distinct_push, none_found, apart_from, stands_pushed, stands_own, is_pushed, names_apart}
 
 -- ---- what stands in a set
 
@@ -128,6 +124,7 @@ loaded_live {m} {ns} {id} {x} flat os manager s h =
       key_representable = h.named;
       version_representable = r.0;
       values_representable = v.0;
+      links_representable = subst (λ hs. list_all held_representable hs ≡ true) (sym (no_held m s id x (flat.relations x.class))) refl;
     }
 
 loaded_base : {m : PersistenceUnit} {ns : List ℕ} {id : Identity} {x : Stored} → IsFlat m → (manager : ℕ) (s : StoredSet) → IsRow m ns id x →
@@ -156,9 +153,9 @@ earlier : (m : PersistenceUnit) (os : List LiveObject) (ns : List ℕ) (k : ℕ)
 earlier m os ns k [] h = tt
 earlier m os ns k (e ∷ es) h = (let l = (h.0).within in ne_eqb e.object (length os) (λ q. omega (arith, l, q)), earlier m os ns k es h.1)
 
-load_at_work : {world : World} {M : Machine} {m : ℕ} {w : Work} → IsFlat world.model → (id : Identity) (x : Stored) → IsAtWork world M m w → row w id ≡ Some x →
+pub load_at_work : {world : World} {M : Others} {m : ℕ} {w : Work} → IsFlat world.model → (id : Identity) (x : Stored) → IsConsistent world M m w → row w id ≡ Some x →
     is_some (instance world.model w id) ≡ false → length w.objects < most_objects →
-    IsAtWork world M m (with_base (length w.objects) (Some (base_loaded world.model w.view id x)) (entered (length w.objects) (made (object_loaded world.model w.manager w.view id x) w)))
+    IsConsistent world M m (with_base (length w.objects) (Some (base_loaded world.model w.view id x)) (entered (length w.objects) (made (object_loaded world.model w.manager w.view id x) w)))
 load_at_work {world} {M} {m} {w} flat id x h e free few =
     let model = world.model in
     let os = w.objects in
@@ -174,7 +171,7 @@ load_at_work {world} {M} {m} {w} flat id x h e free few =
     let here : obj ≡ object_at ps n = sym (get_or_push os obj no_object n refl) in
     let name : name_of model (object_at ps n) ≡ id = ap (name_of model) (sym here) ∙ name_loaded w.manager w.view r in
     let context : w.context ++ entry ∷ [] ≡ map (based n (Some b)) (w.context ++ entry_with n key None ∷ []) = sym (based_last n key (Some b) w.context (earlier model os w.numbers m w.context old)) in
-    let at : IsAtWork world M m (record w { objects = ps; context = w.context ++ entry ∷ [] }) =
+    let at : IsConsistent world M m (record w { objects = ps; context = w.context ++ entry ∷ [] }) =
     record {
       manager = h.manager;
       objects = live_more model os obj h.objects (loaded_live flat ps w.manager w.view r);
@@ -191,7 +188,7 @@ load_at_work {world} {M} {m} {w} flat id x h e free few =
       distinct = distinct_push (are_one model ps) w.context entry (distinct_kept w.context (holds_more m os obj) h.entries h.distinct)
           (names_apart model os ps w.numbers m n id w.context (holds_more m os obj) old name
           (apart_from model w m id w.context old (none_found (λ e'. has_identity (identity_at model w e'.object) id) w.context free)));
-      others = λ k l' apart. manager_kept (holds_more k os obj) up h.numbered (h.others k l' apart);
+      others = λ k l' apart. others_kept (holds_more k os obj) up (h.others k l' apart);
       placed = placed_more (contexts M m (record w { context = w.context ++ entry ∷ [] })) os obj
           (λ k l'. stands_pushed M m w entry k (object_at os k).life (h.placed k l'))
           (subst (λ j. stands_in (contexts M m (record w { context = w.context ++ entry ∷ [] })) n (Life.Managed j) ≡ true) (sym h.manager)
@@ -201,34 +198,4 @@ load_at_work {world} {M} {m} {w} flat id x h e free few =
       raised = h.raised;
       few = let s = length-append os (obj ∷ []) in omega (arith, s, few);
     } in
-    subst (λ es. IsAtWork world M m (record w { objects = ps; context = es })) context at
-
-load_holds : {world : World} {M : Machine} {m : ℕ} {w : Work} → IsFlat world.model → (id : Identity) (x : Stored) → IsAtWork world M m w → row w id ≡ Some x →
-    is_some (instance world.model w id) ≡ false → HoldsAfter (λ n w'. IsAtWork world M m w') (load world id x w)
-load_holds {world} {M} {m} {w} flat id x h e free =
-    let n = length w.objects in
-    let v = with_base n (Some (base_loaded world.model w.view id x)) (entered n (made (object_loaded world.model w.manager w.view id x) w)) in
-    require_holds _ (nat_lt n most_objects) Cause.Limit w _ (λ few.
-    after_holds _ (λ u w'. IsAtWork world M m w') (callback world LifecycleEvent.PostLoad n v) _
-    (callback_holds (λ u w'. IsAtWork world M m w') world flat LifecycleEvent.PostLoad n v (λ t. told_at_work t (load_at_work flat id x h e free (ltb-true n most_objects few))))
-    (λ u w' k. k))
-
--- ---- find
-
-found_row_holds : {world : World} {M : Machine} {m : ℕ} {w : Work} → IsFlat world.model → (class : ℕ) (id : Identity) (x : Stored) (b : Bool) → IsAtWork world M m w → row w id ≡ Some x →
-    is_some (instance world.model w id) ≡ false → HoldsAfter (λ n w'. IsAtWork world M m w') (found_row world class id x b w)
-found_row_holds {world} {M} {m} {w} flat class id x true h e free =
-    after_holds _ (λ n w'. IsAtWork world M m w') (load world id x w) _ (load_holds flat id x h e free) (λ n w' k. k)
-found_row_holds flat class id x false h e free = h
-
-found_holds : {world : World} {M : Machine} {m : ℕ} {w : Work} → IsFlat world.model → (class : ℕ) (id : Identity) (o : Option ℕ) (s : Option Stored) → IsAtWork world M m w →
-    instance world.model w id ≡ o → row w id ≡ s → HoldsAfter (λ n w'. IsAtWork world M m w') (found world class id o s w)
-found_holds flat class id (Some n) s h i r = h
-found_holds {world} flat class id None (Some x) h i r = found_row_holds flat class id x (is_kind_of world.model x.class class) h r (ap is_some i)
-found_holds flat class id None None h i r = h
-
-pub find_holds : {world : World} {M : Machine} {m : ℕ} {w : Work} → IsFlat world.model → (class : ℕ) (key : List Value) → IsAtWork world M m w →
-    HoldsAfter (λ n w'. IsAtWork world M m w') (find world class key w)
-find_holds {world} {M} {m} {w} flat class key h =
-    let id : Identity = record { table = (root_of world.model class).table; key = key } in
-    found_holds flat class id (instance world.model w id) (row w id) h refl refl
+    subst (λ es. IsConsistent world M m (record w { objects = ps; context = es })) context at

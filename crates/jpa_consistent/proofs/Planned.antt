@@ -1,10 +1,9 @@
 -- What a flush of a unit without relations and listeners checks and plans, and what it leaves of the work.
-use Rattle.std.proofs.Common.{◌≡◌, ◌<◌, ◌≤◌, ℕ, Bool, true, false, List, [], ◌∷◌, ◌++◌, length, map, refl, ap, sym, subst, ◌∙◌}
-use Rattle.std.specs.Prelude.{slice_set, nat_lt, not, Option, Some, None, ◌==◌, ◌&&◌, ◌||◌, if◌then◌else◌, ℤ, is_some}
+use Rattle.std.proofs.Common.{◌≡◌, ◌<◌, ℕ, Bool, true, false, List, [], ◌∷◌, ◌++◌, length, map, refl, ap, sym, subst, ◌∙◌}
+use Rattle.std.specs.Prelude.{nat_lt, not, Option, Some, None, ◌==◌, ◌&&◌, ◌||◌, if◌then◌else◌, ℤ, is_some}
 use Rattle.std.specs.List.{All, AllByRecursion, list_any, list_all, flat_map, zip}
 use Rattle.std.specs.Option.{unwrap_or}
 use Rattle.std.proofs.lemmas.Bool.{true≢false, eqb-true, eq-eqb, and_parts, and_from}
-use Rattle.std.proofs.lemmas.List.{length-set}
 use Rattle.std.proofs.lemmas.List.Elements.{All-weaker, All-map}
 use Rattle.jpa_value.specs.declared.value.Value.{Value}
 use Rattle.jpa_value.specs.declared.refusal.Cause.{Cause}
@@ -26,12 +25,13 @@ use Rattle.jpa_context.specs.declared.Entry.{Entry}
 use Rattle.jpa_context.specs.declared.EntityState.{EntityState}
 use Rattle.jpa_context.specs.Work.{Work, object, state_of, identity_at, row_at, with_object}
 use Rattle.jpa_flush.specs.Flush.{Action, Insert, Replace, Drop, replace_if, action_in, action_of, differs, is_write, check_action, row_is_base, all_convert, can_rise, stored_of, written, planned, first_version, raised}
-use Rattle.jpa_provider.specs.Machine.{Machine}
-use Rattle.jpa_provider.specs.Invariant.{IsLive, IsEntry, are_one, name_of, stands_in, context_of, base_fits, known_fits, version_fits}
+use Rattle.jpa_consistent.specs.Consistent.{IsLive, IsEntry, are_one, name_of, stands_in, base_fits, known_fits, version_fits}
 use Rattle.jpa_lifecycle.specs.Flat.{IsFlat}
-use Rattle.jpa_provider.proofs.AtWork.{HoldsAfter, require_holds, require_holds_last, IsAtWork, contexts}
-use Rattle.jpa_provider.proofs.Changed.{changed_at_work}
-use Rattle.jpa_provider.proofs.Written.{first_fits, raised_fits, first_representable, raised_representable, all_pass_converted, stored_shaped, stored_representable}
+use Rattle.jpa_consistent.specs.Going.{HoldsAfter}
+use Rattle.jpa_consistent.proofs.Going.{require_holds, require_holds_last}
+use Rattle.jpa_consistent.specs.Consistent.{IsConsistent, contexts, Others}
+use Rattle.jpa_consistent.proofs.Changed.{changed_at_work}
+use Rattle.jpa_consistent.proofs.Written.{first_fits, raised_fits, first_representable, raised_representable, all_pass_converted, stored_shaped, stored_representable}
 
 -- ---- what the checks of an action leave known
 
@@ -173,7 +173,7 @@ distinct_mapped m os f same (e ∷ es) =
     (ap (λ i. list_any (λ (y : Entry). one i y.object) (map f es)) (same e) ∙ any_mapped (one e.object) f same es)
     ∙ ap (λ b. not (list_any (are_one m os e) es) && b) (distinct_mapped m os f same es)
 
-stands_mapped : (M : Machine) (m : ℕ) (w : Work) (f : Entry → Entry) → ((e : Entry) → (f e).object ≡ e.object) → (n : ℕ) (life : Life) → stands_in (contexts M m w) n life ≡ true →
+stands_mapped : (M : Others) (m : ℕ) (w : Work) (f : Entry → Entry) → ((e : Entry) → (f e).object ≡ e.object) → (n : ℕ) (life : Life) → stands_in (contexts M m w) n life ≡ true →
     stands_in (contexts M m (record w { context = map f w.context })) n life ≡ true
 stands_mapped M m w f same n life h = by_life life h
   where
@@ -183,12 +183,12 @@ stands_mapped M m w f same n life h = by_life life h
 
     by_life : (life : Life) → stands_in (contexts M m w) n life ≡ true → stands_in (contexts M m (record w { context = map f w.context })) n life ≡ true
     by_life Life.New h = refl
-    by_life (Life.Managed k) h = by_test (k == m) (context_of M k) h
-    by_life (Life.Removed k) h = by_test (k == m) (context_of M k) h
+    by_life (Life.Managed k) h = by_test (k == m) (M.context k) h
+    by_life (Life.Removed k) h = by_test (k == m) (M.context k) h
     by_life Life.Detached h = refl
 
-pub mapped_at_work : {world : World} {M : Machine} {m : ℕ} {w : Work} (f : Entry → Entry) → ((e : Entry) → (f e).object ≡ e.object) →
-    ((e : Entry) → IsEntry world.model w.objects w.numbers m e → IsEntry world.model w.objects w.numbers m (f e)) → IsAtWork world M m w → IsAtWork world M m (record w { context = map f w.context })
+pub mapped_at_work : {world : World} {M : Others} {m : ℕ} {w : Work} (f : Entry → Entry) → ((e : Entry) → (f e).object ≡ e.object) →
+    ((e : Entry) → IsEntry world.model w.objects w.numbers m e → IsEntry world.model w.objects w.numbers m (f e)) → IsConsistent world M m w → IsConsistent world M m (record w { context = map f w.context })
 mapped_at_work {world} {M} {m} {w} f same keeps h =
     record {
       manager = h.manager;
@@ -230,8 +230,8 @@ abbrev pub versioned : LiveObject → Option ℤ → LiveObject
 versioned x v = record x { version = v }
 
 -- one object takes the version written
-pub versioned_at_work : {world : World} {M : Machine} {m : ℕ} {w : Work} (n : ℕ) (v : Option ℤ) → n < length w.objects → version_fits (root_of world.model (object w n).class).version v ≡ true →
-    version_representable v ≡ true → IsAtWork world M m w → IsAtWork world M m (with_object n (versioned (object w n) v) w)
+pub versioned_at_work : {world : World} {M : Others} {m : ℕ} {w : Work} (n : ℕ) (v : Option ℤ) → n < length w.objects → version_fits (root_of world.model (object w n).class).version v ≡ true →
+    version_representable v ≡ true → IsConsistent world M m w → IsConsistent world M m (with_object n (versioned (object w n) v) w)
 versioned_at_work {world} {M} {m} {w} n v l fits rep h =
     changed_at_work n (versioned (object w n) v) l
     (record {
@@ -248,5 +248,6 @@ versioned_at_work {world} {M} {m} {w} n v l fits rep h =
             key_representable = live.key_representable;
             version_representable = rep;
             values_representable = live.values_representable;
+            links_representable = live.links_representable;
           };
     }) h

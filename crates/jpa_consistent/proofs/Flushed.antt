@@ -1,4 +1,4 @@
--- What holds while a manager is at work is kept by a flush, in units without relations and listeners.
+-- What holds while a manager is at work is kept by a flush, in units without relations, whoever hears.
 use Rattle.std.proofs.Common.{◌≡◌, ◌≢◌, ◌<◌, ◌⊎◌, inl, inr, ℕ, Bool, true, false, List, [], ◌∷◌, length, map, refl, ap, sym, subst, ◌∙◌, arith}
 use Rattle.std.specs.Prelude.{slice_set, Option, Some, None, ◌==◌, ◌&&◌, if◌then◌else◌, ℤ}
 use Rattle.std.specs.List.{AllByRecursion, list_all, flat_map, filter, zip}
@@ -8,7 +8,6 @@ use Rattle.std.proofs.lemmas.List.{length-set}
 use Rattle.std.proofs.lemmas.List.Elements.{recursion_from_All}
 use Rattle.jpa_value.specs.declared.value.Value.{Value}
 use Rattle.jpa_value.specs.declared.value.Identity.{Identity}
-use Rattle.jpa_value.specs.declared.refusal.Cause.{Cause}
 use Rattle.jpa_value.specs.declared.refusal.Persist.{Persist}
 use Rattle.jpa_value.specs.declared.event.LifecycleEvent.{LifecycleEvent}
 use Rattle.jpa_value.specs.Value.{identity_cmp}
@@ -16,7 +15,7 @@ use Rattle.jpa_model.specs.declared.unit.PersistenceUnit.{PersistenceUnit}
 use Rattle.jpa_model.specs.declared.unit.Attribute.{Attribute}
 use Rattle.jpa_model.specs.declared.unit.Relation.{Relation}
 use Rattle.jpa_model.specs.Chains.{root_of, root_class, attributes_of, relations_of}
-use Rattle.jpa_behaviour.specs.Behaviour.{World, AnswersConvertible}
+use Rattle.jpa_behaviour.specs.Behaviour.{World, HearsRepresentable, IsRegular}
 use Rattle.jpa_stored.specs.declared.stored.Stored.{Stored}
 use Rattle.jpa_stored.specs.Sets.{StoredSet, without, fault_of, each_fits, is_shaped}
 use Rattle.jpa_rows.specs.Cells.{CanBeHeld, version_representable, holds_representable, names_representable, passes, key_given_by}
@@ -27,18 +26,20 @@ use Rattle.jpa_context.specs.declared.Entry.{Entry}
 use Rattle.jpa_context.specs.Work.{Work, object, state_of, is_managed, identity_at}
 use Rattle.jpa_context.specs.Steps.{Outcome, Done, Refused, Op, after, each}
 use Rattle.jpa_flush.specs.Flush.{Action, Insert, Replace, Drop, action_of, written, actions, listed, replaces_row, flushed, settled, settled_entry, settled_all, remembered, remembered_in, members_held, all_remembered, after_flush, sound_or, post, post_event, held_now, pre_update_for, pre_update_one, pre_update, check_one, check_actions, write_all, flush}
-use Rattle.jpa_flush.proofs.Flushed.{writing, updating, flat_flush}
-use Rattle.jpa_provider.specs.Machine.{Machine}
-use Rattle.jpa_provider.specs.Invariant.{IsLive, IsEntry, name_of, base_fits, known_fits, version_fits, held_fits}
+use Rattle.jpa_flush.proofs.Flushed.{writing, flat_flush}
+use Rattle.jpa_consistent.specs.Consistent.{IsLive, IsEntry, name_of, base_fits, known_fits, version_fits, held_fits}
 use Rattle.jpa_lifecycle.specs.Flat.{IsFlat}
-use Rattle.jpa_provider.proofs.Facts.{each_fits_none, list_all_weaker}
-use Rattle.jpa_provider.proofs.AtWork.{HoldsAfter, after_holds, IsAtWork}
-use Rattle.jpa_provider.proofs.Persisted.{callback_holds, told_at_work, at_place}
-use Rattle.jpa_provider.proofs.Changed.{object_read}
-use Rattle.jpa_provider.proofs.Loaded.{version_loads}
-use Rattle.jpa_provider.proofs.Written.{IsFit, all_joined_hold, all_joined_rise, part_holds, name_is}
+use Rattle.jpa_consistent.proofs.Facts.{each_fits_none, list_all_weaker}
+use Rattle.jpa_consistent.specs.Going.{HoldsAfter}
+use Rattle.jpa_consistent.proofs.Going.{after_holds, More, then_goes, same_many, each_goes}
+use Rattle.jpa_consistent.specs.Consistent.{IsConsistent, Others}
+use Rattle.jpa_consistent.proofs.Persisted.{at_place}
+use Rattle.jpa_consistent.proofs.Heard.{heard_at_work}
+use Rattle.jpa_consistent.proofs.Changed.{object_read}
+use Rattle.jpa_consistent.proofs.Loaded.{version_loads}
+use Rattle.jpa_consistent.proofs.Written.{IsFit, all_joined_hold, all_joined_rise, part_holds, name_is}
 use Rattle.jpa_lifecycle.specs.Callbacks.{callback}
-use Rattle.jpa_provider.proofs.Planned.{Checked, check_action_holds, IsPlanned, Writes, context_planned, mapped_at_work, based_entry, IsBase, new_base, versioned, versioned_at_work}
+use Rattle.jpa_consistent.proofs.Planned.{Checked, check_action_holds, IsPlanned, Writes, context_planned, mapped_at_work, based_entry, IsBase, new_base, versioned, versioned_at_work}
 
 -- ---- what is written settles
 
@@ -69,8 +70,8 @@ same_if : (b : Bool) (x e : Entry) → x.object ≡ e.object → (if b then x el
 same_if true x e q = q
 same_if false x e q = refl
 
-settled_one : {world : World} {M : Machine} {m : ℕ} {before w : Work} → IsFlat world.model → (n : ℕ) (x : Option Stored) → n < length before.objects →
-    ((s : Stored) → x ≡ Some s → Writes world before n s) → IsSame before w → IsAtWork world M m w → IsAtWork world M m (settled n x w) × IsSame before (settled n x w)
+settled_one : {world : World} {M : Others} {m : ℕ} {before w : Work} → IsFlat world.model → (n : ℕ) (x : Option Stored) → n < length before.objects →
+    ((s : Stored) → x ≡ Some s → Writes world before n s) → IsSame before w → IsConsistent world M m w → IsConsistent world M m (settled n x w) × IsSame before (settled n x w)
 settled_one {world} {M} {m} {before} {w} flat n None l h same at = (
   mapped_at_work (λ e. if e.object == n then record e { base = None } else e) (λ e. same_if (e.object == n) (record e { base = None }) e refl)
       (λ e k. cond_both (e.object == n) (record e { base = None }) e (IsEntry world.model w.objects w.numbers m) (λ q. based_entry e None refl k) (λ q. k)) at,
@@ -115,8 +116,8 @@ settled_one {world} {M} {m} {before} {w} flat n (Some x) l h same at =
         by_cases (inl q) = ap f q.1 ∙ e ∙ sym (ap (λ j. f (object_at w.objects j)) q.0)
         by_cases (inr q) = ap f q.1
 
-settled_each : {world : World} {M : Machine} {m : ℕ} (before w : Work) → IsFlat world.model → (plan : List (ℕ × Action)) → AllByRecursion (IsPlanned world before) plan → IsSame before w →
-    IsAtWork world M m w → IsAtWork world M m (settled_all world.model before plan w) × IsSame before (settled_all world.model before plan w)
+settled_each : {world : World} {M : Others} {m : ℕ} (before w : Work) → IsFlat world.model → (plan : List (ℕ × Action)) → AllByRecursion (IsPlanned world before) plan → IsSame before w →
+    IsConsistent world M m w → IsConsistent world M m (settled_all world.model before plan w) × IsSame before (settled_all world.model before plan w)
 settled_each before w flat [] h same at = (at, same)
 settled_each {world} {M} {m} before w flat (a ∷ as') h same at =
     let one = settled_one flat a.0 (written world.model before a.0 a.1) (h.0).0 (h.0).1 same at in
@@ -142,7 +143,7 @@ no_members_held {m} w n flat h =
     (each_fits_none (held_fits m w.objects) (object w n).relations
     (subst (λ (rs : List Relation). each_fits (held_fits m w.objects) rs (object w n).relations ≡ true) (flat.relations (object w n).class) h.relations))
 
-remembered_at_work : {world : World} {M : Machine} {m : ℕ} {w : Work} → IsFlat world.model → IsAtWork world M m w → IsAtWork world M m (all_remembered world.model w)
+remembered_at_work : {world : World} {M : Others} {m : ℕ} {w : Work} → IsFlat world.model → IsConsistent world M m w → IsConsistent world M m (all_remembered world.model w)
 remembered_at_work {world} {M} {m} {w} flat h =
     mapped_at_work (remembered world.model w)
     (λ e. same_if (is_managed (state_of w e.object)) (record e { base = remembered_in (members_held world.model w e.object) e.base }) e refl)
@@ -223,7 +224,7 @@ flushed_held {world} w plan h v sound =
     }
 
 -- another view that can be held
-viewed_at_work : {world : World} {M : Machine} {m : ℕ} {w : Work} (s : StoredSet) → CanBeHeld world s w.numbers → IsAtWork world M m w → IsAtWork world M m (record w { view = s })
+viewed_at_work : {world : World} {M : Others} {m : ℕ} {w : Work} (s : StoredSet) → CanBeHeld world s w.numbers → IsConsistent world M m w → IsConsistent world M m (record w { view = s })
 viewed_at_work s v h =
     record {
       manager = h.manager;
@@ -241,31 +242,25 @@ viewed_at_work s v h =
 same_itself : (w : Work) → IsSame w w
 same_itself w = record { many = refl; class = λ k. refl; key = λ k. refl; numbers = refl }
 
-flushed_at_work : {world : World} {M : Machine} {m : ℕ} {w : Work} → IsFlat world.model → (plan : List (ℕ × Action)) → AllByRecursion (IsPlanned world w) plan →
-    fault_of world.model (flushed world.model w plan) ≡ None → IsAtWork world M m w → IsAtWork world M m (after_flush world.model plan (flushed world.model w plan) w)
+flushed_at_work : {world : World} {M : Others} {m : ℕ} {w : Work} → IsFlat world.model → (plan : List (ℕ × Action)) → AllByRecursion (IsPlanned world w) plan →
+    fault_of world.model (flushed world.model w plan) ≡ None → IsConsistent world M m w →
+    IsConsistent world M m (after_flush world.model plan (flushed world.model w plan) w) × (length (after_flush world.model plan (flushed world.model w plan) w).objects ≡ length w.objects)
 flushed_at_work {world} {M} {m} {w} flat plan h sound at =
-    let s = settled_each w w flat plan h (same_itself w) at in
-    viewed_at_work (flushed world.model w plan)
-    (subst (CanBeHeld world (flushed world.model w plan)) (sym (s.1).numbers) (flushed_held w plan h at.view sound))
-    (remembered_at_work flat s.0)
+    let s = settled_each w w flat plan h (same_itself w) at in (
+      viewed_at_work (flushed world.model w plan)
+          (subst (CanBeHeld world (flushed world.model w plan)) (sym (s.1).numbers) (flushed_held w plan h at.view sound))
+          (remembered_at_work flat s.0),
+      (s.1).many,
+    )
 
 -- ---- the parts of a flush
 
-pub each_holds : {A : Type 0} (P : Work → Type 0) (f : A → Op (Unit {0})) → ((x : A) (w : Work) → P w → HoldsAfter (λ u w'. P w') (f x w)) → (xs : List A) (w : Work) → P w →
-    HoldsAfter (λ u w'. P w') (each f xs w)
-each_holds P f k [] w h = h
-each_holds P f k (x ∷ xs) w h = after_holds (λ u w'. P w') (λ u w'. P w') (f x w) _ (k x w h) (λ u w' h'. each_holds P f k xs w' h')
-
-told_holds : {world : World} {M : Machine} {m : ℕ} → IsFlat world.model → (event : LifecycleEvent) (n : ℕ) (w : Work) → IsAtWork world M m w →
-    HoldsAfter (λ u w'. IsAtWork world M m w') (callback world event n w)
-told_holds {world} {M} {m} flat event n w h = callback_holds (λ u w'. IsAtWork world M m w') world flat event n w (λ e. told_at_work e h)
-
-pre_update_holds : {world : World} {M : Machine} {m : ℕ} → IsFlat world.model → (e : Entry) (a : Option Action) (w : Work) → IsAtWork world M m w →
-    HoldsAfter (λ u w'. IsAtWork world M m w') (pre_update_for world e a w)
-pre_update_holds flat e (Some (Replace b)) w h = told_holds flat LifecycleEvent.PreUpdate e.object w h
-pre_update_holds flat e (Some Insert) w h = h
-pre_update_holds flat e (Some (Drop b)) w h = h
-pre_update_holds flat e None w h = h
+pre_update_holds : {world : World} {M : Others} {m : ℕ} → HearsRepresentable world → (e : Entry) (a : Option Action) (w : Work) → IsConsistent world M m w → e.object < length w.objects →
+    HoldsAfter (λ u w'. IsConsistent world M m w' × More w w') (pre_update_for world e a w)
+pre_update_holds {world} {M} {m} heard e (Some (Replace b)) w h l = same_many (IsConsistent world M m) w (callback world LifecycleEvent.PreUpdate e.object w) (heard_at_work heard LifecycleEvent.PreUpdate e.object l h)
+pre_update_holds heard e (Some Insert) w h l = (h, omega arith)
+pre_update_holds heard e (Some (Drop b)) w h l = (h, omega arith)
+pre_update_holds heard e None w h l = (h, omega arith)
 
 -- the checks change nothing
 pub checks_hold : (world : World) (es : List Entry) (w : Work) →
@@ -284,27 +279,45 @@ sound_holds : (P : Unit {0} → Work → Type 0) (f : Option Persist) (w : Work)
 sound_holds P None w next k = k refl
 sound_holds P (Some fault) w next k = tt
 
-write_holds : {world : World} {M : Machine} {m : ℕ} {w : Work} → IsFlat world.model → AnswersConvertible world →
-    AllByRecursion (λ (e : Entry). Checked world w e.object (action_of world.model w e)) w.context → IsAtWork world M m w → HoldsAfter (λ u w'. IsAtWork world M m w') (write_all world w)
-write_holds {world} {M} {m} {w} flat convertible checked h =
+planned_within : (world : World) (w : Work) (k : ℕ) → k ≡ length w.objects → (plan : List (ℕ × Action)) → AllByRecursion (IsPlanned world w) plan → AllByRecursion (λ (a : ℕ × Action). a.0 < k) plan
+planned_within world w k e [] h = tt
+planned_within world w k e (a ∷ as') h = (let l = (h.0).0 in omega (arith, e, l), planned_within world w k e as' h.1)
+
+entries_within : (m : PersistenceUnit) (os : List LiveObject) (ns : List ℕ) (k : ℕ) (es : List Entry) → AllByRecursion (IsEntry m os ns k) es → AllByRecursion (λ (e : Entry). e.object < length os) es
+entries_within m os ns k [] h = tt
+entries_within m os ns k (e ∷ es) h = ((h.0).within, entries_within m os ns k es h.1)
+
+write_holds : {world : World} {M : Others} {m : ℕ} {w : Work} → IsFlat world.model → IsRegular world →
+    AllByRecursion (λ (e : Entry). Checked world w e.object (action_of world.model w e)) w.context → IsConsistent world M m w → HoldsAfter (λ u w'. IsConsistent world M m w' × More w w') (write_all world w)
+write_holds {world} {M} {m} {w} flat regular checked h =
     let plan = actions world.model w in
-    let known = context_planned world w m flat convertible w.context (recursion_from_All (IsEntry world.model w.objects w.numbers m) w.context h.entries) h.objects checked in
-    sound_holds (λ u w'. IsAtWork world M m w') (fault_of world.model (flushed world.model w plan)) w _ (λ sound.
-    each_holds (IsAtWork world M m) (post world) (λ a v k. told_holds flat (post_event a.1) a.0 v k) plan (after_flush world.model plan (flushed world.model w plan) w)
-    (flushed_at_work flat plan known sound h))
+    let set = flushed world.model w plan in
+    let next = after_flush world.model plan set w in
+    let known = context_planned world w m flat regular.convertible w.context (recursion_from_All (IsEntry world.model w.objects w.numbers m) w.context h.entries) h.objects checked in
+    sound_holds (λ u w'. IsConsistent world M m w' × More w w') (fault_of world.model set) w _ (λ sound.
+    let done = flushed_at_work flat plan known sound h in
+    from_next next done.1 (each (post world) plan next)
+    (each_goes (IsConsistent world M m) (λ (a : ℕ × Action). a.0) (post world) (λ a v k l. same_many (IsConsistent world M m) v (callback world (post_event a.1) a.0 v) (heard_at_work regular.heard (post_event a.1) a.0 l k)) plan next done.0
+    (planned_within world w (length next.objects) done.1 plan known)))
+  where
+    from_next : (next : Work) → length next.objects ≡ length w.objects → (o : Outcome (Unit {0})) → HoldsAfter (λ u v. IsConsistent world M m v × More next v) o → HoldsAfter (λ u v. IsConsistent world M m v × More w v) o
+    from_next next e (Done u v) k = let l = k.1 in (k.0, omega (arith, e, l))
+    from_next next e (Refused r events) k = tt
 
 -- the flush from its last part back
-writing_holds : {world : World} {M : Machine} {m : ℕ} {w : Work} → IsFlat world.model → AnswersConvertible world → IsAtWork world M m w → HoldsAfter (λ u w'. IsAtWork world M m w') (writing world w)
-writing_holds {world} {M} {m} {w} flat convertible h =
+writing_holds : {world : World} {M : Others} {m : ℕ} {w : Work} → IsFlat world.model → IsRegular world → IsConsistent world M m w → HoldsAfter (λ u w'. IsConsistent world M m w' × More w w') (writing world w)
+writing_holds {world} {M} {m} {w} flat regular h =
     after_holds _ (λ u w'. (w' ≡ w) × AllByRecursion (λ (e : Entry). Checked world w e.object (action_of world.model w e)) w.context) (check_actions world w) _ (checks_hold world w.context w)
-    (λ u v k. subst (λ v'. HoldsAfter (λ u' w'. IsAtWork world M m w') (write_all world v')) (sym k.0) (write_holds flat convertible k.1 h))
+    (λ u v k. subst (λ v'. HoldsAfter (λ u' w'. IsConsistent world M m w' × More w w') (write_all world v')) (sym k.0) (write_holds flat regular k.1 h))
 
-updating_holds : {world : World} {M : Machine} {m : ℕ} {w : Work} → IsFlat world.model → AnswersConvertible world → IsAtWork world M m w → HoldsAfter (λ u w'. IsAtWork world M m w') (updating world w)
-updating_holds {world} {M} {m} {w} flat convertible h =
-    after_holds _ (λ u w'. IsAtWork world M m w') (pre_update world w) _
-    (each_holds (IsAtWork world M m) (pre_update_one world) (λ e v k. pre_update_holds flat e (action_of world.model v e) v k) w.context w h)
-    (λ u v k. writing_holds flat convertible k)
+-- PreUpdate, of the objects of the context
+pub pre_update_goes : {world : World} {M : Others} {m : ℕ} {w : Work} → HearsRepresentable world → IsConsistent world M m w → HoldsAfter (λ u w'. IsConsistent world M m w' × More w w') (pre_update world w)
+pre_update_goes {world} {M} {m} {w} heard h =
+    each_goes (IsConsistent world M m) (λ (e : Entry). e.object) (pre_update_one world) (λ e v k l. pre_update_holds heard e (action_of world.model v e) v k l) w.context w h
+    (entries_within world.model w.objects w.numbers m w.context (recursion_from_All (IsEntry world.model w.objects w.numbers m) w.context h.entries))
 
-pub flush_holds : {world : World} {M : Machine} {m : ℕ} {w : Work} → IsFlat world.model → AnswersConvertible world → IsAtWork world M m w →
-    HoldsAfter (λ u w'. IsAtWork world M m w') (flush world w)
-flush_holds {world} {M} {m} {w} flat convertible h = subst (HoldsAfter (λ u w'. IsAtWork world M m w')) (sym (flat_flush world flat w)) (updating_holds flat convertible h)
+pub flush_goes : {world : World} {M : Others} {m : ℕ} {w : Work} → IsFlat world.model → IsRegular world → IsConsistent world M m w →
+    HoldsAfter (λ u w'. IsConsistent world M m w' × More w w') (flush world w)
+flush_goes {world} {M} {m} {w} flat regular h =
+    subst (HoldsAfter (λ u w'. IsConsistent world M m w' × More w w')) (sym (flat_flush world flat w))
+    (then_goes w (pre_update world w) _ (pre_update_goes regular.heard h) (λ u v k more. writing_holds flat regular k))

@@ -13,8 +13,8 @@ use Rattle.jpa_protocol.specs.declared.reply.Answer.{Answer}
 use Rattle.jpa_provider.specs.Machine.{Machine, opened, new_manager}
 use Rattle.jpa_provider.specs.Step.{replies_of, machine_after, outcome}
 use Rattle.jpa_provider.specs.Left.{LivesAsBefore, HoldsSameValues}
-use Rattle.jpa_provider.proofs.Sample.{P1, flat, text, int, saw, ok, quiet, no}
-use Rattle.jpa_provider.proofs.FirstRun.{fresh, after_first}
+use Rattle.jpa_samples.proofs.Sample.{P1, flat, text, int, saw, ok, quiet, no}
+use Rattle.jpa_samples.proofs.FirstRun.{fresh, after_first}
 
 -- manager 2 changes the person that manager 1 holds
 abbrev changed_by_two : List Call

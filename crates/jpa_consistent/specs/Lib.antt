@@ -1,0 +1,2 @@
+pub mod Consistent
+pub mod Going
