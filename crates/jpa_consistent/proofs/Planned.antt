@@ -1,4 +1,4 @@
--- What a flush of a unit without relations and listeners checks and plans, and what it leaves of the work.
+-- What a flush of a unit without relations checks and plans, and what it leaves of the work.
 use Rattle.std.proofs.Common.{◌≡◌, ◌<◌, ℕ, Bool, true, false, List, [], ◌∷◌, ◌++◌, length, map, refl, ap, sym, subst, ◌∙◌}
 use Rattle.std.specs.Prelude.{nat_lt, not, Option, Some, None, ◌==◌, ◌&&◌, ◌||◌, if◌then◌else◌, ℤ, is_some}
 use Rattle.std.specs.List.{All, AllByRecursion, list_any, list_all, flat_map, zip}

@@ -1,4 +1,4 @@
--- A unit that is served is flat: each class is its own root, and nothing is related or hears.
+-- A unit that is served is flat: each class is its own root, and nothing is related.
 use Rattle.std.proofs.Common.{◌≡◌, ℕ, zero, suc, pos, Bool, true, false, List, [], ◌∷◌, ◌++◌, length, refl, ap, sym, subst, ◌∙◌}
 use Rattle.std.specs.Prelude.{not, ◌&&◌, ◌||◌, nat_lt, slice_index_or, if◌then◌else◌}
 use Rattle.std.specs.List.{list_all, list_any, flat_map}
@@ -10,11 +10,9 @@ use Rattle.jpa_model.specs.declared.unit.Part.{Part}
 use Rattle.jpa_model.specs.declared.unit.Root.{Root}
 use Rattle.jpa_model.specs.declared.unit.Origin.{Origin}
 use Rattle.jpa_model.specs.declared.unit.Entity.{Entity}
-use Rattle.jpa_model.specs.declared.unit.Listener.{Listener}
 use Rattle.jpa_model.specs.declared.unit.PersistenceUnit.{PersistenceUnit}
 use Rattle.jpa_model.specs.Chains.{entity_at, no_entity, chain, chain_from, root_of, root_in, root_class, relations_of}
 use Rattle.jpa_stored.specs.Sets.{each_fits, is_key_of}
-use Rattle.jpa_lifecycle.specs.Callbacks.{hearers, heard_from}
 use Rattle.jpa_lifecycle.specs.Flat.{IsFlat}
 use Rattle.jpa_provider.specs.Served.{is_served, is_none, is_integer, is_one_integer, is_root_served, is_entity_served}
 
@@ -32,18 +30,14 @@ item_holds p (x ∷ xs) (suc i) d h g = item_holds p xs i d h (and_parts (p x) (
 record IsAlone (e : Entity) : Type 0 where
   root : is_root_served e.origin ≡ true
   relations : e.relations ≡ []
-  listeners : e.listeners ≡ []
-  callbacks : e.callbacks ≡ []
 
 alone : (e : Entity) → is_entity_served e ≡ true → IsAlone e
 alone e h =
-    let a = and_parts (is_root_served e.origin) (is_none e.relations && (is_none e.listeners && is_none e.callbacks)) h in
-    let b = and_parts (is_none e.relations) (is_none e.listeners && is_none e.callbacks) a.1 in
-    let c = and_parts (is_none e.listeners) (is_none e.callbacks) b.1 in
-    record { root = a.0; relations = nothing_in e.relations b.0; listeners = nothing_in e.listeners c.0; callbacks = nothing_in e.callbacks c.1 }
+    let a = and_parts (is_root_served e.origin) (is_none e.relations) h in
+    record { root = a.0; relations = nothing_in e.relations a.1 }
 
 entity_alone : (m : PersistenceUnit) → is_served m ≡ true → (class : ℕ) → IsAlone (entity_at m class)
-entity_alone m h class = alone (entity_at m class) (item_holds is_entity_served m.entities class no_entity refl (and_parts (is_none m.listeners) (list_all is_entity_served m.entities) h).1)
+entity_alone m h class = alone (entity_at m class) (item_holds is_entity_served m.entities class no_entity refl h)
 
 -- ---- its chain is the class alone
 
@@ -58,7 +52,7 @@ one_chain m h class = chain_alone m (length m.entities) class (entity_at m class
 pub own_root : (m : PersistenceUnit) → is_served m ≡ true → (class : ℕ) → root_class m class ≡ class
 own_root m h class = ap (λ cs. slice_index_or cs 0 class) (one_chain m h class)
 
--- ---- nothing is related, and nothing hears
+-- ---- nothing is related
 
 of_one : {A : Type 0} (f : ℕ → List A) (class : ℕ) → f class ≡ [] → flat_map f (class ∷ []) ≡ []
 of_one f class e = ap (λ xs. xs ++ []) e
@@ -67,29 +61,6 @@ no_relations : (m : PersistenceUnit) → is_served m ≡ true → (class : ℕ) 
 no_relations m h class =
     ap (flat_map (λ c. (entity_at m c).relations)) (one_chain m h class)
     ∙ of_one (λ c. (entity_at m c).relations) class (entity_alone m h class).relations
-
-none_of : (b : Bool) (ls : List Listener) → ls ≡ [] → (if b then [] else ls) ≡ []
-none_of true ls e = refl
-none_of false ls e = e
-
-same_either : {A : Type 0} (b : Bool) (x : A) → (if b then x else x) ≡ x
-same_either true x = refl
-same_either false x = refl
-
-none_together : {A : Type 0} (xs ys zs : List A) → xs ≡ [] → ys ≡ [] → zs ≡ [] → xs ++ ys ++ zs ≡ []
-none_together xs ys zs e f g = λ i. e i ++ f i ++ g i
-
-no_hearers : (m : PersistenceUnit) → is_served m ≡ true → (class : ℕ) → hearers m class ≡ []
-no_hearers m h class =
-    let quiet : m.listeners ≡ [] = nothing_in m.listeners (and_parts (is_none m.listeners) (list_all is_entity_served m.entities) h).0 in
-    none_together (if list_any (λ c. (entity_at m c).exclude_default) (chain m class) then [] else m.listeners)
-    (flat_map (λ c. (entity_at m c).listeners) (heard_from [] m (chain m class)))
-    (flat_map (λ c. (entity_at m c).callbacks) (chain m class))
-    (none_of (list_any (λ c. (entity_at m c).exclude_default) (chain m class)) m.listeners quiet)
-    (ap (λ cs. flat_map (λ c. (entity_at m c).listeners) (heard_from [] m cs)) (one_chain m h class)
-    ∙ ap (flat_map (λ c. (entity_at m c).listeners)) (same_either (entity_at m class).exclude_super (class ∷ []))
-    ∙ of_one (λ c. (entity_at m c).listeners) class (entity_alone m h class).listeners)
-    (ap (flat_map (λ c. (entity_at m c).callbacks)) (one_chain m h class) ∙ of_one (λ c. (entity_at m c).callbacks) class (entity_alone m h class).callbacks)
 
 -- ---- a number is a whole generated key
 
@@ -116,7 +87,6 @@ pub flat_of : (m : PersistenceUnit) → is_served m ≡ true → IsFlat m
 flat_of m h =
     record {
       relations = no_relations m h;
-      hearers = no_hearers m h;
       rooted = λ class l. subst (λ c. nat_lt c (length m.entities) ≡ true) (sym (own_root m h class)) l;
       generated = whole_number m h;
     }

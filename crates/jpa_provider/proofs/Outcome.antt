@@ -1,4 +1,4 @@
--- What holds of the machine between calls is kept by each call: here for units without relations and listeners.
+-- What holds of the machine between calls is kept by each call: here for units without relations.
 use Rattle.std.proofs.Common.{◌≡◌, ℕ, Bool, true, false, List, [], ◌∷◌, refl, sym, subst}
 use Rattle.std.specs.Prelude.{◌&&◌}
 use Rattle.std.specs.List.{list_all}

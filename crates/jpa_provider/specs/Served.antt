@@ -1,4 +1,4 @@
--- The units that are served: entities of their own tables, without relations, subclasses, listeners and callbacks.
+-- The units that are served: entities of their own tables, without relations and subclasses, whoever hears their events.
 use Rattle.std.specs.Prelude.{Bool, true, false, not, ◌&&◌, ◌||◌, List, [], ◌∷◌}
 use Rattle.std.specs.List.{list_all}
 use Rattle.jpa_value.specs.declared.value.Kind.{Kind}
@@ -27,7 +27,7 @@ is_root_served (Origin.Root root) = not root.generated || is_one_integer root.ke
 is_root_served (Origin.Extends parent) = false
 
 abbrev pub is_entity_served : Entity → Bool
-is_entity_served e = is_root_served e.origin && (is_none e.relations && (is_none e.listeners && is_none e.callbacks))
+is_entity_served e = is_root_served e.origin && is_none e.relations
 
 abbrev pub is_served : PersistenceUnit → Bool
-is_served m = is_none m.listeners && list_all is_entity_served m.entities
+is_served m = list_all is_entity_served m.entities

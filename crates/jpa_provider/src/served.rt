@@ -28,10 +28,7 @@ fn is_root_served(origin: &Origin) -> bool
 fn is_entity_served(entity: &Entity) -> bool
     ensures { result ≡ served.is_entity_served entity.now }
 {
-    is_root_served(&entity.origin)
-        && entity.relations.is_empty()
-        && entity.listeners.is_empty()
-        && entity.callbacks.is_empty()
+    is_root_served(&entity.origin) && entity.relations.is_empty()
 }
 
 fn are_entities_served(entities: &[Entity]) -> bool
@@ -45,10 +42,10 @@ fn are_entities_served(entities: &[Entity]) -> bool
     true
 }
 
-/// Whether a provider serves a unit today: entities of their own tables, without relations, subclasses, listeners and callbacks
+/// Whether a provider serves a unit today: entities of their own tables, without relations and subclasses, whoever hears their events
 /// (Jakarta Persistence 3.1, chapter 2.1).
 pub fn is_served(unit: &PersistenceUnit) -> bool
     ensures { result ≡ served.is_served unit.now }
 {
-    unit.listeners.is_empty() && are_entities_served(unit.entities.as_slice())
+    are_entities_served(unit.entities.as_slice())
 }

@@ -7,7 +7,6 @@ use Rattle.std.specs.Prelude.{codes, slice_index, ◌↔◌, ◌&&◌, ◌≡◌
 use Rattle.std.proofs.lemmas.Bool.{false≢true}
 use Rattle.jpa_value.specs.declared.value.Value.{Value}
 use Rattle.jpa_model.specs.Chains.{relations_of, root_of, root_class}
-use Rattle.jpa_lifecycle.specs.Callbacks.{hearers}
 use Rattle.jpa_behaviour.proofs.Regular.{regular_without}
 use Rattle.jpa_behaviour.specs.Behaviour.{IsRegular}
 use Rattle.jpa_stored.specs.Sets.{is_key_of}
@@ -21,15 +20,11 @@ use Rattle.jpa_provider.proofs.Settled.{opened_holds}
 use Rattle.jpa_provider.proofs.Outcome.{machine_after_keeps}
 
 persons_flat : IsFlat P1.model
-persons_flat = record { relations = relations; hearers = none_hear; rooted = rooted; generated = generated }
+persons_flat = record { relations = relations; rooted = rooted; generated = generated }
   where
     relations : (class : ℕ) → relations_of P1.model class ≡ []
     relations zero = refl
     relations (suc class) = refl
-
-    none_hear : (class : ℕ) → hearers P1.model class ≡ []
-    none_hear zero = refl
-    none_hear (suc class) = refl
 
     rooted : (class : ℕ) → nat_lt class 1 ≡ true → nat_lt (root_class P1.model class) 1 ≡ true
     rooted zero h = refl
