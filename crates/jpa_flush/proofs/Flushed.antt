@@ -34,7 +34,7 @@ use Rattle.jpa_flush.specs.Writes.{paired, writes, AreWritesOf}
 use Rattle.jpa_flush.specs.Plan.{plan_of, writes_of, settled_by, told_by, applied}
 use Rattle.jpa_flush.proofs.Plain.{IsPlainEntry, IsKept, drops, item, items, plan_is, all_kept, plain_entries, plain_stored_of}
 use Rattle.jpa_flush.proofs.Joined.{is_written, AreWritten, put_over}
-use Rattle.jpa_flush.proofs.Rounds.{refused_after}
+use Rattle.jpa_ops.proofs.Refused.{refused_after}
 use Rattle.jpa_flush.proofs.Updated.{by_updates, updated_plain, updated_within}
 
 -- ---- nothing along relations

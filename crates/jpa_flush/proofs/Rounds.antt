@@ -15,17 +15,13 @@ use Rattle.jpa_context.specs.Undo.{IsPlain}
 use Rattle.jpa_context.specs.Work.{Work}
 use Rattle.jpa_context.specs.Steps.{Outcome, Done, Op, after, each, IsRefusedAs}
 use Rattle.jpa_lifecycle.specs.Flat.{IsFlat}
+use Rattle.jpa_ops.proofs.Refused.{refused_after}
 use Rattle.jpa_flush.specs.declared.steps.Step.{Step}
 use Rattle.jpa_flush.specs.declared.planning.Planned.{Planned}
 use Rattle.jpa_flush.specs.Flush.{pre_update_one, check_one, check_actions}
 use Rattle.jpa_flush.specs.Plan.{step_of, update, check, insertion, replacement, planned, planned_of}
 use Rattle.jpa_flush.proofs.Plain.{IsPlainEntry, plain_check, plain_update}
 use Rattle.jpa_flush.proofs.Updated.{IsUpdated, updated_plain}
-
-pub refused_after : {A B : Type 0} (r : Cause) (events : List Told) (o : Outcome A) (f : A → Op B) → IsRefusedAs r events o → IsRefusedAs r events (after o f)
-refused_after Cause.OutOfMemory events o f h = tt
-refused_after Cause.StoreFault events o f h = h
-refused_after r events o f h = ap (λ p. after p f) h
 
 next : {X : Type 0} (f : X → Op (Unit {0})) (xs : List X) (i : ℕ) (x : X) (w : Work) → i < length xs → x ≡ get_or xs i x → each f (drop i xs) w ≡ after (f x w) (λ _. each f (drop (i + 1) xs))
 next f xs i x w l read = at_drop_more (λ ys. each f ys w) xs i x l ∙ ap (λ y. after (f y w) (λ _. each f (drop (i + 1) xs))) (sym read)

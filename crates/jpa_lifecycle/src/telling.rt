@@ -1,5 +1,5 @@
 //! Events that are told.
-ghost use Rattle.std.specs.Prelude.{◌≡◌, ◌<◌, suc, [], length, IfErr, OnOk};
+ghost use Rattle.std.specs.Prelude.{◌≡◌, ◌<◌, suc, length, IfErr, OnOk};
 ghost use Rattle.jpa_behaviour.specs.Registered.{world_of};
 ghost use Rattle.jpa_context.specs.Steps.{Meets};
 ghost use Rattle.jpa_context.specs.Undo.{now, since};
@@ -26,8 +26,7 @@ fn tell(
 ) -> Result<(), Cause>
     requires { object < length work.old.objects.now }
     ensures told { OnOk result (now work.new ≡ works.told (record { event = event; object = suc object; ran = ran }) (now work.old)) }
-    ensures same { now work.new ≡ record (now work.old) { events = (now work.new).events } }
-    ensures since { since work.new ≡ since work.old }
+    ensures others { work.new ≡ record work.old { events = work.new.events } }
     ensures err { IfErr result (λ cause. cause ≡ Cause.OutOfMemory) }
 {
     // An object's number, one more than its place, is at most the count.
@@ -50,6 +49,7 @@ fn conclude(
     requires object { object < length work.old.objects.now }
     requires refusal { callbacks.IsCallbackRefusal fired.refusal }
     ensures meets { Meets result (now work.new) (callbacks.ended fired.refusal (callbacks.told_fired event object fired (now work.old))) }
+    ensures others { work.new ≡ record work.old { objects = work.new.objects; events = work.new.events } }
     ensures since { since work.new ≡ since work.old }
 {
     let Fired {
@@ -81,7 +81,7 @@ pub fn callback<B: Behaviour>(
     requires object { object < length work.old.objects.now }
     requires shape { HasShape metamodel.now (works.object (now work.old) object) }
     ensures meets { Meets result (now work.new) (callbacks.callback (world_of B.meaning metamodel.now registry.now) event object (now work.old)) }
-    ensures events { callbacks.hearers metamodel.now (works.object (now work.old) object).class ≡ [] → now work.new ≡ record (now work.old) { events = (now work.new).events } }
+    ensures others { work.new ≡ record work.old { objects = work.new.objects; events = work.new.events } }
     ensures since { since work.new ≡ since work.old }
 {
     let live = &work.objects.as_slice()[object];

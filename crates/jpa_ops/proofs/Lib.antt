@@ -1,3 +1,4 @@
 mod Fitting
 pub mod Loaded
 mod Persisted
+pub mod Refused

@@ -12,13 +12,14 @@ use Rattle.std.proofs.lemmas.List.{get_or_push}
 use Rattle.std.proofs.lemmas.List.Elements.{recursion_from_All}
 use Rattle.std.proofs.lemmas.Bool.{true≢false, ltb-true, lt-ltb, eq-eqb, ne_eqb, and_parts}
 use Rattle.jpa_value.specs.declared.value.Identity.{Identity}
+use Rattle.jpa_value.specs.declared.value.Value.{Value}
 use Rattle.jpa_value.specs.declared.refusal.Cause.{Cause}
 use Rattle.jpa_value.specs.declared.event.LifecycleEvent.{LifecycleEvent}
 use Rattle.jpa_value.specs.Value.{identity_cmp, fits}
 use Rattle.jpa_value.proofs.Orders.{identity_exact}
 use Rattle.jpa_model.specs.declared.unit.PersistenceUnit.{PersistenceUnit}
 use Rattle.jpa_model.specs.declared.unit.Relation.{Relation}
-use Rattle.jpa_model.specs.Chains.{attributes_of, relations_of, root_of, is_to_one}
+use Rattle.jpa_model.specs.Chains.{attributes_of, relations_of, root_of, is_kind_of, is_to_one}
 use Rattle.jpa_behaviour.specs.Behaviour.{World}
 use Rattle.jpa_stored.specs.declared.stored.Stored.{Stored}
 use Rattle.jpa_stored.specs.Sets.{StoredSet, stored_at, all_shaped, is_shaped, is_identity_of, is_key_of, version_there, each_fits, members}
@@ -29,12 +30,14 @@ use Rattle.jpa_heap.specs.Shape.{HasShape}
 use Rattle.jpa_context.specs.declared.Base.{Base}
 use Rattle.jpa_context.specs.declared.Lock.{Lock}
 use Rattle.jpa_context.specs.declared.Entry.{Entry}
-use Rattle.jpa_context.specs.Steps.{◌>>◌, Op, Done, after, change, give, require}
+use Rattle.jpa_protocol.specs.declared.event.Told.{Told}
+use Rattle.jpa_context.specs.Steps.{◌>>◌, Op, Done, after, change, give, require, IsRefusedAs}
 use Rattle.jpa_context.specs.Work.{Work, object, entered, with_base}
 use Rattle.jpa_lifecycle.specs.Callbacks.{callback}
 use Rattle.jpa_lifecycle.specs.Flat.{IsFlat}
 use Rattle.jpa_ops.proofs.Fitting.{each_fits_length}
-use Rattle.jpa_ops.specs.Load.{object_loaded, base_loaded, held_loaded, made, load, known, unread}
+use Rattle.jpa_ops.proofs.Refused.{refused_after}
+use Rattle.jpa_ops.specs.Load.{found, found_row, object_loaded, base_loaded, held_loaded, made, load, known, unread}
 
 -- ---- a row of a shaped set
 
@@ -149,15 +152,56 @@ loads world id x w flat h e =
     ap (λ b. after (require b Cause.Limit w) (λ _. entering world id x (length w.objects))) e
     ∙ ap (λ w'. after (callback world LifecycleEvent.PostLoad (length w.objects) w') (λ _. give (length w.objects))) (entered_row world.model id x w (flat.relations x.class) h)
 
--- the lists took the row and its entry, and the event was told
-pub loaded : (world : World) (id : Identity) (x : Stored) (w : Work) (n : ℕ) (objects : List LiveObject) (context : List Entry) (new : Work) →
-    IsFlat world.model → All (λ (e : Entry). e.object < length w.objects) w.context → n ≡ length w.objects → n < most_objects →
-    objects ≡ w.objects ++ object_of_row w.manager id x ∷ [] →
-    context ≡ w.context ++ record { object = n; key = id.key; lock = Lock.Unlocked; base = Some (record { stored = x; members = [] }) } ∷ [] →
-    callback world LifecycleEvent.PostLoad n (record w { objects = objects; context = context }) ≡ Done tt new → load world id x w ≡ Done n new
-loaded world id x w n objects context new flat h place room os es told =
+-- the lists took the row and its entry
+abbrev IsEntered : Identity → Stored → Work → ℕ → List LiveObject → List Entry → Type 0
+IsEntered id x w n objects context =
+    (n ≡ length w.objects) × (n < most_objects) × (objects ≡ w.objects ++ object_of_row w.manager id x ∷ [])
+    × (context ≡ w.context ++ record { object = n; key = id.key; lock = Lock.Unlocked; base = Some (record { stored = x; members = [] }) } ∷ [])
+
+pub entered_by : (id : Identity) (x : Stored) (w : Work) (n : ℕ) (object : LiveObject) (key : List Value) (members : List (Option (List Identity))) (objects : List LiveObject) (context : List Entry) →
+    n ≡ length w.objects → n < most_objects → object ≡ object_of_row w.manager id x → key ≡ object.key → members ≡ [] → objects ≡ w.objects ++ object ∷ [] →
+    context ≡ w.context ++ record { object = n; key = key; lock = Lock.Unlocked; base = Some (record { stored = x; members = members }) } ∷ [] → IsEntered id x w n objects context
+entered_by id x w n object key members objects context place room made keyed bare pushed entered =
+    let whole = keyed ∙ ap (λ (o : LiveObject). o.key) made in (
+      place,
+      room,
+      pushed ∙ ap (λ (o : LiveObject). w.objects ++ o ∷ []) made,
+      entered ∙ (λ i. w.context ++ record { object = n; key = whole i; lock = Lock.Unlocked; base = Some (record { stored = x; members = bare i }) } ∷ []),
+    )
+
+loads_as : (world : World) (id : Identity) (x : Stored) (w : Work) (n : ℕ) (objects : List LiveObject) (context : List Entry) → IsFlat world.model → All (λ (e : Entry). e.object < length w.objects) w.context →
+    IsEntered id x w n objects context → load world id x w ≡ after (callback world LifecycleEvent.PostLoad n (record w { objects = objects; context = context })) (λ _. give n)
+loads_as world id x w n objects context flat h e =
+    let place = e.0 in
+    let room = e.1 in
     let entry : ℕ → Entry = λ k. record { object = k; key = id.key; lock = Lock.Unlocked; base = Some (record { stored = x; members = [] }) } in
-    let entries : w.context ++ entry (length w.objects) ∷ [] ≡ context = ap (λ k. w.context ++ entry k ∷ []) (sym place) ∙ sym es in
+    let entries : w.context ++ entry (length w.objects) ∷ [] ≡ context = ap (λ k. w.context ++ entry k ∷ []) (sym place) ∙ sym e.3 in
     loads world id x w flat h (lt-ltb (length w.objects) most_objects (omega (arith, place, room)))
-    ∙ (λ i. after (callback world LifecycleEvent.PostLoad (sym place i) (record w { objects = sym os i; context = entries i })) (λ _. give (sym place i)))
-    ∙ ap (λ o. after o (λ _. give n)) told
+    ∙ (λ i. after (callback world LifecycleEvent.PostLoad (sym place i) (record w { objects = sym e.2 i; context = entries i })) (λ _. give (sym place i)))
+
+-- and the event was told
+pub loaded : (world : World) (id : Identity) (x : Stored) (w : Work) (n : ℕ) (objects : List LiveObject) (context : List Entry) (new : Work) → IsFlat world.model →
+    All (λ (e : Entry). e.object < length w.objects) w.context → IsEntered id x w n objects context →
+    callback world LifecycleEvent.PostLoad n (record w { objects = objects; context = context }) ≡ Done tt new → load world id x w ≡ Done n new
+loaded world id x w n objects context new flat h e told = loads_as world id x w n objects context flat h e ∙ ap (λ o. after o (λ _. give n)) told
+
+-- or a listener refused
+pub load_refused : (world : World) (id : Identity) (x : Stored) (w : Work) (n : ℕ) (objects : List LiveObject) (context : List Entry) (r : Cause) (events : List Told) → IsFlat world.model →
+    All (λ (e : Entry). e.object < length w.objects) w.context → IsEntered id x w n objects context →
+    IsRefusedAs r events (callback world LifecycleEvent.PostLoad n (record w { objects = objects; context = context })) → IsRefusedAs r events (load world id x w)
+load_refused world id x w n objects context r events flat h e refused =
+    subst (IsRefusedAs r events) (sym (loads_as world id x w n objects context flat h e))
+    (refused_after r events (callback world LifecycleEvent.PostLoad n (record w { objects = objects; context = context })) (λ _. give n) refused)
+
+-- ---- found
+
+by_class : (world : World) (class : ℕ) (id : Identity) (x : Stored) (w : Work) (r : Cause) (events : List Told) (b : Bool) → b ≡ true → IsRefusedAs r events (load world id x w) →
+    IsRefusedAs r events (found_row world class id x b w)
+by_class world class id x w r events true e h = refused_after r events (load world id x w) (λ n. give (Some n)) h
+by_class world class id x w r events false e h = absurd (true≢false (sym e))
+
+-- a row of the class that is refused at its load
+pub found_refused : (world : World) (class : ℕ) (id : Identity) (x : Stored) (o : Option Stored) (w : Work) (r : Cause) (events : List Told) → o ≡ Some x → is_kind_of world.model x.class class ≡ true →
+    IsRefusedAs r events (load world id x w) → IsRefusedAs r events (found world class id None o w)
+found_refused world class id x o w r events e kind h =
+    subst (λ p. IsRefusedAs r events (found world class id None p w)) (sym e) (by_class world class id x w r events (is_kind_of world.model x.class class) kind h)
