@@ -1,0 +1,18 @@
+//! Statements run over a set of stored objects (Jakarta Persistence 3.1, chapter 4).
+//!
+//! Objects are borrowed from the set, and none is copied while tuples are joined. What is found is what the
+//! definitions of jpql_plan say: the same rows in the same order, or the same Overflow.
+#![tactic(auto)]
+
+mod classes;
+mod collections;
+mod conditions;
+mod drops;
+mod links;
+mod object;
+mod paths;
+mod run;
+mod simple;
+mod tuple;
+mod tuples;
+mod values;
