@@ -46,7 +46,7 @@ def unserved(folder):
             return "call " + word
     mapping = read(folder, "mapping.json")
     for entity in (json.loads(mapping)["entities"] if mapping else []):
-        for member in ("extends", "relations", "listeners", "callbacks"):
+        for member in ("extends", "relations"):
             if entity.get(member):
                 return "mapping with " + member
     return None
