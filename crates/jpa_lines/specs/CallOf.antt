@@ -8,7 +8,7 @@ use Rattle.jpa_value.specs.declared.refusal.Cause.{Cause}
 use Rattle.jpa_value.specs.declared.refusal.Cause.TheVariants.{BadLine, Limit}
 use Rattle.jpa_value.specs.declared.value.Value.TheVariants.{Null, Int, Text, Bytes}
 use Rattle.jpa_protocol.specs.declared.call.Call.{Call}
-use Rattle.jpa_protocol.specs.declared.call.Call.TheVariants.{CreateEntityManager, NewObject, SetValue, Get, Begin, Persist, Commit, Rollback, SetRollbackOnly, Find}
+use Rattle.jpa_protocol.specs.declared.call.Call.TheVariants.{CreateEntityManager, NewObject, SetValue, Get, Begin, Persist, Contains, Clear, Commit, Rollback, SetRollbackOnly, Find, GetReference}
 use Rattle.jpa_protocol.specs.declared.call.Given.{Given}
 use Rattle.jpa_protocol.specs.declared.call.Given.TheVariants as given
 use Rattle.serde_json.specs.Data.{Data, null, boolean, number, string, array, object}
@@ -99,21 +99,23 @@ of_em call d = do
   em ← em_of d
   Some (call em)
 
-unfoldable pub persist_of : Data → Option Call
-persist_of d = do
+-- a call of a manager and an object
+unfoldable pub on_object_of : (ℤ → ℤ → Call) → Data → Option Call
+on_object_of call d = do
   all ← guard (count_of d == 3)
   em ← integer_at (codes "em") d
   on ← integer_at (codes "object") d
-  Some (Persist em on)
+  Some (call em on)
 
-unfoldable pub find_of : Data → Option Call
-find_of d = do
+-- a call that finds by a key
+unfoldable pub by_key_of : (ℤ → List ℕ → List Given → Call) → Data → Option Call
+by_key_of call d = do
   all ← guard (count_of d == 4)
   em ← integer_at (codes "em") d
   entity ← text_at (codes "entity") d
   member ← get (codes "key") d
   key ← list_of given_of member
-  Some (Find em entity key)
+  Some (call em entity key)
 
 abbrev pub word_of : List ℕ → Option Word
 word_of name =
@@ -123,10 +125,13 @@ word_of name =
     else if bytes_eq name (codes "get") then Some word.Get
     else if bytes_eq name (codes "begin") then Some word.Begin
     else if bytes_eq name (codes "persist") then Some word.Persist
+    else if bytes_eq name (codes "contains") then Some word.Contains
+    else if bytes_eq name (codes "clear") then Some word.Clear
     else if bytes_eq name (codes "commit") then Some word.Commit
     else if bytes_eq name (codes "rollback") then Some word.Rollback
     else if bytes_eq name (codes "setRollbackOnly") then Some word.SetRollbackOnly
     else if bytes_eq name (codes "find") then Some word.Find
+    else if bytes_eq name (codes "getReference") then Some word.GetReference
     else None
 
 -- the call of this word with the members of d
@@ -136,11 +141,14 @@ worded_call word.New d = new_of d
 worded_call word.Set d = set_of d
 worded_call word.Get d = get_of d
 worded_call word.Begin d = of_em Begin d
-worded_call word.Persist d = persist_of d
+worded_call word.Persist d = on_object_of Persist d
+worded_call word.Contains d = on_object_of Contains d
+worded_call word.Clear d = of_em Clear d
 worded_call word.Commit d = of_em Commit d
 worded_call word.Rollback d = of_em Rollback d
 worded_call word.SetRollbackOnly d = of_em SetRollbackOnly d
-worded_call word.Find d = find_of d
+worded_call word.Find d = by_key_of Find d
+worded_call word.GetReference d = by_key_of GetReference d
 
 unfoldable pub call_of : Data → Option Call
 call_of d = do

@@ -1,10 +1,11 @@
 //! The call that a line means.
 ghost use Rattle.std.specs.Prelude.{◌≡◌, ◌⊎◌, IfOk, IfErr, Ok, Err};
 ghost use Rattle.serde_json.specs.View.{view};
+ghost use Rattle.jpa_protocol.specs.declared.call.Call.{Call};
 ghost use Rattle.jpa_value.specs.declared.refusal.Cause.TheVariants.{OutOfMemory};
 ghost use Rattle.jpa_json.specs.Members.{integer_of};
 ghost use Rattle.jpa_json.specs.Outcome.{Gives, same};
-ghost use Rattle.jpa_lines.specs.CallOf.{integer_at, hex_of, marked_of, given_of, em_of, create_of, new_of, set_of, get_of, persist_of, find_of, word_of, worded_call, call_of, text_call, meaning};
+ghost use Rattle.jpa_lines.specs.CallOf.{integer_at, hex_of, marked_of, given_of, em_of, create_of, new_of, set_of, get_of, on_object_of, by_key_of, word_of, worded_call, call_of, text_call, meaning};
 
 use jpa_json::{Described, Unread, json_of, member, only, or_refuse, str_at, text_at};
 use jpa_protocol::{Call, Given};
@@ -24,10 +25,13 @@ enum Word {
     Get,
     Begin,
     Persist,
+    Contains,
+    Clear,
     Commit,
     Rollback,
     SetRollbackOnly,
     Find,
+    GetReference,
 }
 
 /// The call that a line means. A line that is longer than `MOST_LINE_BYTES` is refused as `Limit`, whatever it says, and
@@ -69,10 +73,13 @@ fn word_of(name: &str) -> Result<Word, Unread>
         "get" => Ok(Word::Get),
         "begin" => Ok(Word::Begin),
         "persist" => Ok(Word::Persist),
+        "contains" => Ok(Word::Contains),
+        "clear" => Ok(Word::Clear),
         "commit" => Ok(Word::Commit),
         "rollback" => Ok(Word::Rollback),
         "setRollbackOnly" => Ok(Word::SetRollbackOnly),
         "find" => Ok(Word::Find),
+        "getReference" => Ok(Word::GetReference),
         _ => Err(Unread::Form),
     }
 }
@@ -87,10 +94,13 @@ fn worded_call(alloc: Global, word: Word, json: &Json) -> Result<Call, Unread>
         Word::Get => get_of(alloc, json),
         Word::Begin => Ok(Call::Begin { em: em_of(json)? }),
         Word::Persist => persist_of(json),
+        Word::Contains => contains_of(json),
+        Word::Clear => Ok(Call::Clear { em: em_of(json)? }),
         Word::Commit => Ok(Call::Commit { em: em_of(json)? }),
         Word::Rollback => Ok(Call::Rollback { em: em_of(json)? }),
         Word::SetRollbackOnly => Ok(Call::SetRollbackOnly { em: em_of(json)? }),
         Word::Find => find_of(alloc, json),
+        Word::GetReference => get_reference_of(alloc, json),
     }
 }
 
@@ -146,9 +156,9 @@ fn em_of(json: &Json) -> Result<i64, Unread>
     integer_at(json, "em")
 }
 
-#[tactic(auto, unfolding(crate::specs::CallOf::persist_of))]
+#[tactic(auto, unfolding(crate::specs::CallOf::on_object_of))]
 fn persist_of(json: &Json) -> Result<Call, Unread>
-    ensures { Gives same result (persist_of (view json.now)) }
+    ensures { Gives same result (on_object_of Call.Persist (view json.now)) }
 {
     only(json, 3)?;
     let em = integer_at(json, "em")?;
@@ -156,9 +166,30 @@ fn persist_of(json: &Json) -> Result<Call, Unread>
     Ok(Call::Persist { em, object })
 }
 
-#[tactic(auto, unfolding(crate::specs::CallOf::find_of))]
+#[tactic(auto, unfolding(crate::specs::CallOf::on_object_of))]
+fn contains_of(json: &Json) -> Result<Call, Unread>
+    ensures { Gives same result (on_object_of Call.Contains (view json.now)) }
+{
+    only(json, 3)?;
+    let em = integer_at(json, "em")?;
+    let object = integer_at(json, "object")?;
+    Ok(Call::Contains { em, object })
+}
+
+#[tactic(auto, unfolding(crate::specs::CallOf::by_key_of))]
+fn get_reference_of(alloc: Global, json: &Json) -> Result<Call, Unread>
+    ensures { Gives same result (by_key_of Call.GetReference (view json.now)) }
+{
+    only(json, 4)?;
+    let em = integer_at(json, "em")?;
+    let entity = text_at(alloc, json, "entity")?;
+    let key = <Seq<Given> as Described<Calls>>::read(alloc, member(json, "key")?)?;
+    Ok(Call::GetReference { em, entity, key })
+}
+
+#[tactic(auto, unfolding(crate::specs::CallOf::by_key_of))]
 fn find_of(alloc: Global, json: &Json) -> Result<Call, Unread>
-    ensures { Gives same result (find_of (view json.now)) }
+    ensures { Gives same result (by_key_of Call.Find (view json.now)) }
 {
     only(json, 4)?;
     let em = integer_at(json, "em")?;

@@ -41,6 +41,15 @@ pub enum Call {
         em: i64,
         object: i64,
     },
+    /// Asks whether an object is managed (chapter 3.2.8).
+    Contains {
+        em: i64,
+        object: i64,
+    },
+    /// Detaches all objects of a manager (chapter 3.2.7).
+    Clear {
+        em: i64,
+    },
     /// Commits the transaction of a manager.
     Commit {
         em: i64,
@@ -55,6 +64,12 @@ pub enum Call {
     },
     /// Finds an object by its entity and the parts of its key.
     Find {
+        em: i64,
+        entity: Text,
+        key: Seq<Given>,
+    },
+    /// Finds an object that there must be, by its entity and the parts of its key.
+    GetReference {
         em: i64,
         entity: Text,
         key: Seq<Given>,

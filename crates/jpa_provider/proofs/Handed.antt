@@ -22,7 +22,7 @@ use Rattle.jpa_flush.specs.Flush.{flush}
 use Rattle.jpa_provider.specs.Machine.{Machine}
 use Rattle.jpa_provider.specs.Calls.{object_numbered, handed, got, nothing, object_or_null, told_as, give_or, class_named, key_given, is_short_given, whole_key}
 use Rattle.jpa_provider.specs.Transactions.{commit_work, reads_hold}
-use Rattle.jpa_provider.specs.Routes.{get_call, set_call, persist_call, find_call}
+use Rattle.jpa_provider.specs.Routes.{get_call, set_call, persist_call, find_call, get_reference_call, there_must_be}
 use Rattle.jpa_provider.specs.Invariant.{given_representable}
 use Rattle.jpa_consistent.specs.Going.{HoldsAfter}
 use Rattle.jpa_consistent.proofs.Going.{after_holds, require_holds, require_holds_last, More, only}
@@ -81,6 +81,16 @@ given_or : {A : Type 0} (r : Cause) (o : Option A) (w : Work) → HoldsAfter (λ
 given_or r None w = tt
 given_or r (Some a) w = refl
 
+there_holds : (K : Work → Type 0) (a : Answer) (w : Work) → K w → HoldsAfter (λ b w'. K w') (there_must_be a w)
+there_holds K Answer.Null w k = tt
+there_holds K (Answer.Truth b) w k = k
+there_holds K (Answer.Number n) w k = k
+there_holds K (Answer.Value v) w k = k
+there_holds K (Answer.Object n) w k = k
+there_holds K (Answer.Objects ns) w k = k
+there_holds K (Answer.Row items) w k = k
+there_holds K (Answer.Rows rows) w k = k
+
 -- with what the steps keep
 module _ {world : World} {P : Work → Type 0} (steps : Steps world P) where
   pub persist_call_goes : IsFlat world.model → (number : ℤ) (w : Work) → P w → HoldsAfter (λ a v. P v) (persist_call world number w)
@@ -94,6 +104,10 @@ module _ {world : World} {P : Work → Type 0} (steps : Steps world P) where
       after_holds (λ a v. P v) (λ class v. v ≡ w) (class_named world name w) _ (given_or (Cause.IllegalArgument Argument.Entity) (class_of world.model name) w) (λ class v e.
       after_holds (λ a u. P u) (λ vs u. u ≡ v) (key_given world class key v) _ (given_or (Cause.IllegalArgument Argument.Key) (whole_key (root_of world.model class).key key) v) (λ vs u e'.
       subst (λ w'. HoldsAfter (λ a u'. P u') (told_as object_or_null (find world class vs) w')) (sym (e' ∙ e)) (told_holds P object_or_null (find world class vs w) (find_goes steps class vs w p)))))
+
+  pub get_reference_call_goes : (name : List ℕ) (key : List Given) (w : Work) → P w → HoldsAfter (λ a v. P v) (get_reference_call world name key w)
+  get_reference_call_goes name key w p =
+      after_holds (λ a v. P v) (λ a v. P v) (find_call world name key w) there_must_be (find_call_goes name key w p) (λ a v k. there_holds P a v k)
 
 pub commit_work_holds : {world : World} (M : Machine) {m : ℕ} {w : Work} → IsFlat world.model → IsRegular world → IsAtWork world M m w →
     HoldsAfter (λ u w'. IsAtWork world M m w') (commit_work world w)

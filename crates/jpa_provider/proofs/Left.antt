@@ -61,6 +61,8 @@ module _ (M : Machine) where
         refuses = λ other m events cause b apart h. marked_or_not b m;
         begins = λ other m o free apart h. absurd (false≢true h);
         marking = λ other m apart h. absurd (false≢true h);
+        tells = λ other answer apart h. absurd (false≢true h);
+        clears = λ other m o apart h. absurd (false≢true h);
         rolls = λ none m o apart h. absurd (false≢true h);
         stores = λ writes none m w o k apart h. absurd (false≢true h);
         undoes = λ writes none m events why o apart h. absurd (true≢false (sym writes ∙ apart));
@@ -96,6 +98,8 @@ module _ (M : Machine) where
         refuses = λ other m events cause b. neither other;
         begins = λ other m o free. neither other;
         marking = λ other m. neither other;
+        tells = λ other answer. neither other;
+        clears = λ other m o. neither other;
         rolls = λ apart m o h. rolled m;
         stores = λ writes apart m w o k. not_refused r writes apart;
         undoes = λ writes apart m events why o h. rolled m;
@@ -123,6 +127,8 @@ module _ (M : Machine) where
         refuses = λ other m events cause b. marked_stay b m;
         begins = λ other m o free. stay;
         marking = λ other m. stay;
+        tells = λ other answer. stay;
+        clears = λ other m o. stay;
         rolls = λ apart m o. stay;
         stores = λ writes apart m w o k. (k.at).raised;
         undoes = λ writes apart m events why o. stay;

@@ -1,3 +1,4 @@
+pub mod Asked
 pub mod AtWork
 pub mod Settled
 pub mod Created

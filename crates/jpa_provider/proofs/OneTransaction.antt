@@ -7,7 +7,7 @@ use Rattle.jpa_behaviour.specs.Behaviour.{World}
 use Rattle.jpa_stored.specs.Sets.{StoredSet}
 use Rattle.jpa_protocol.specs.declared.call.Call.{Call}
 use Rattle.jpa_protocol.specs.declared.reply.Reply.{Reply}
-use Rattle.jpa_provider.specs.Machine.{Machine, Manager, Transaction, manager_at, no_manager, new_manager, is_begun, has_transaction, is_busy, seen_in, marked_in, kept, rolled_back, committed_after}
+use Rattle.jpa_provider.specs.Machine.{Machine, Manager, Transaction, manager_at, no_manager, new_manager, is_begun, has_transaction, is_busy, seen_in, marked_in, kept, rolled_back, cleared, committed_after}
 use Rattle.jpa_provider.specs.Calls.{marked_if}
 use Rattle.jpa_provider.specs.Transactions.{begun}
 use Rattle.jpa_provider.specs.Routes.{Route, route}
@@ -83,6 +83,8 @@ module _ (M : Machine) (h : HasOneTransaction M) where
         refuses = λ other m events cause b. marked_one b m;
         begins = λ other m o free. begun_one m free;
         marking = λ other m. marked_one true m;
+        tells = λ other a. h;
+        clears = λ other m o. one_kept M (cleared M m) (λ j. flag_set M.managers m j _ (λ b. b)) h;
         rolls = λ apart m o. ended_one m _ (rolled_back M m) refl refl;
         stores = λ writes apart m w o k. ended_one m _ (committed_after M m w) refl refl;
         undoes = λ writes apart m events why o. ended_one m _ (rolled_back M m) refl refl;

@@ -14,11 +14,11 @@ use Rattle.jpa_consistent.proofs.Laws.{Steps}
 use Rattle.jpa_consistent.proofs.Instances.{at_work, plainly, IsPlainly}
 use Rattle.jpa_provider.specs.Machine.{Machine, work_of}
 use Rattle.jpa_provider.specs.Transactions.{commit_work}
-use Rattle.jpa_provider.specs.Routes.{route, is_commit, holder_in, get_call, set_call, persist_call, find_call}
+use Rattle.jpa_provider.specs.Routes.{route, is_commit, holder_in, get_call, set_call, persist_call, find_call, get_reference_call}
 use Rattle.jpa_provider.specs.Invariant.{IsMachine, hands_representable}
 use Rattle.jpa_provider.specs.Serving.{IsPlainMachine}
 use Rattle.jpa_provider.proofs.AtWork.{others_of, IsAtWork, IsOpen, MayReturn, taken, holder_may, may_still}
-use Rattle.jpa_provider.proofs.Handed.{get_call_same, set_call_holds, persist_call_goes, find_call_goes, commit_work_holds}
+use Rattle.jpa_provider.proofs.Handed.{get_call_same, set_call_holds, persist_call_goes, find_call_goes, get_reference_call_goes, commit_work_holds}
 use Rattle.jpa_provider.proofs.Ways.{Does}
 
 -- ---- of a manager that is open, and of whoever holds an object
@@ -53,6 +53,9 @@ module _ (world : World) (M : Machine) (P K : ℕ → Work → Type 0) (steps : 
   does_by flat h start (Call.Commit em) rep commits = commits refl
   does_by flat h start (Call.Rollback em) rep commits = tt
   does_by flat h start (Call.SetRollbackOnly em) rep commits = tt
+  does_by flat h start (Call.GetReference em name key) rep commits = λ m o. of_open m o (get_reference_call world name key (work_of M m)) (get_reference_call_goes (steps m) name key (work_of M m) (start m))
+  does_by flat h start (Call.Contains em object) rep commits = tt
+  does_by flat h start (Call.Clear em) rep commits = tt
   does_by flat h start (Call.Find em name key) rep commits = λ m o. of_open m o (find_call world name key (work_of M m)) (find_call_goes (steps m) name key (work_of M m) (start m))
 
 -- ---- what holds of the machine

@@ -15,7 +15,7 @@ use Rattle.jpa_lifecycle.specs.Flat.{IsFlat}
 use Rattle.jpa_provider.proofs.AtWork.{returned}
 use Rattle.jpa_provider.proofs.Settled.{created_holds, begun_holds, marked_holds}
 use Rattle.jpa_provider.proofs.Created.{object_made}
-use Rattle.jpa_provider.proofs.Ended.{committed_holds, rolled_back_holds}
+use Rattle.jpa_provider.proofs.Ended.{cleared_holds, committed_holds, rolled_back_holds}
 use Rattle.jpa_provider.proofs.Ways.{Ways, on_route, on_step}
 use Rattle.jpa_provider.proofs.Operated.{IsDone, does}
 
@@ -29,6 +29,8 @@ ways {world} {M} r h =
       refuses = λ other m events cause b. marked_or_not b m;
       begins = λ other m o free. begun_holds m o.within o.is_open h;
       marking = λ other m. marked_holds m h;
+      tells = λ other a. h;
+      clears = λ other m o. cleared_holds m o.within o.is_open h;
       rolls = λ apart m o. rolled_back_holds m o.within o.is_open h;
       stores = λ writes apart m w o k. committed_holds o.within o.is_open h k.at;
       undoes = λ writes apart m events why o. rolled_back_holds m o.within o.is_open h;

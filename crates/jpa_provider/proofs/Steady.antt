@@ -79,6 +79,8 @@ module _ {M : Machine} (h : IsPlainMachine M) where
         refuses = λ other m events cause b apart. marked_or_not b m;
         begins = λ other m o free apart. replaced m _ (h.contexts m);
         marking = λ other m apart. marked_or_not true m;
+        tells = λ other a apart. h;
+        clears = λ other m o apart. record { objects = detached_there (context_of M m) M.objects h.objects; contexts = free_set M.managers m _ (All-nil _) h.contexts };
         rolls = λ none m o apart. (rolled_steady m).0;
         stores = λ writes none m w o k apart. absurd (true≢false (sym writes ∙ apart));
         undoes = λ writes none m events why o apart. absurd (true≢false (sym writes ∙ apart));

@@ -35,6 +35,8 @@ ways world M r =
       keeps = λ other m w a k h. record { committed = refl; numbers = refl };
       refuses = λ other m events cause b h. marked_or_not M b m;
       begins = λ other m o free h. record { committed = refl; numbers = refl };
+      tells = λ other a h. still M;
+      clears = λ other m o h. record { committed = refl; numbers = refl };
       marking = λ other m h. record { committed = refl; numbers = refl };
       rolls = λ apart m o h. record { committed = refl; numbers = refl };
       stores = λ writes apart m w o k. neither r writes;

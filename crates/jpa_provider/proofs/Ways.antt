@@ -1,6 +1,6 @@
 -- The ways in which calls end: what holds in each of them holds of every call, by cases on its route.
 use Rattle.std.proofs.Common.{◌≡◌, ◌<◌, inl, inr, ℕ, ℤ, Bool, true, false, List, [], ◌∷◌, ◌++◌, length, refl, sym, subst}
-use Rattle.std.specs.Prelude.{Option, Some, None, ◌&&◌, suc, nat_lt, count_by}
+use Rattle.std.specs.Prelude.{Result, Ok, Err, Option, Some, None, ◌&&◌, suc, nat_lt, count_by}
 use Rattle.std.proofs.lemmas.Bool.{and_parts, ltb-true, cond_both}
 use Rattle.jpa_value.specs.Limits.{most_managers, most_objects, most_open_managers}
 use Rattle.jpa_value.specs.declared.refusal.Argument.{Argument}
@@ -16,10 +16,10 @@ use Rattle.jpa_protocol.specs.declared.call.Call.{Call}
 use Rattle.jpa_protocol.specs.declared.event.Told.{Told}
 use Rattle.jpa_protocol.specs.declared.reply.Answer.{Answer}
 use Rattle.jpa_protocol.specs.declared.reply.Reply.{Reply}
-use Rattle.jpa_provider.specs.Machine.{Machine, Manager, Transaction, manager_at, new_manager, is_busy, work_of, kept, marked, rolled_back, committed_after}
+use Rattle.jpa_provider.specs.Machine.{Machine, Manager, Transaction, manager_at, new_manager, is_busy, work_of, kept, marked, rolled_back, cleared, committed_after}
 use Rattle.jpa_provider.specs.Calls.{accepted, refused, because, ended, marks, marks_if_callback, marked_if, give_or}
 use Rattle.jpa_provider.specs.Transactions.{begin, begin_in, begun, commit, commit_in, commit_if, commit_of, commit_work, rollback, rollback_in, set_rollback_only, only_rollback_in}
-use Rattle.jpa_provider.specs.Routes.{Route, OfManager, OfObject, ToCreate, ToMake, ToBegin, ToCommit, ToRollBack, ToMark, by_route, if_open, by_manager, made_new, holder, holder_in, commits, rolls_back, route}
+use Rattle.jpa_provider.specs.Routes.{Route, OfManager, OfObject, ToCreate, ToMake, ToBegin, ToCommit, ToRollBack, ToMark, ToAsk, ToClear, answered, by_route, if_open, by_manager, made_new, holder, holder_in, commits, rolls_back, route}
 use Rattle.jpa_provider.specs.Step.{Step, outcome}
 use Rattle.jpa_consistent.specs.Going.{HoldsAfter}
 use Rattle.jpa_provider.proofs.AtWork.{IsOpen}
@@ -41,6 +41,8 @@ pub record Ways (world : World) (M : Machine) (r : Route) (P : Reply × Machine 
   pub refuses : IsOther r → (m : ℕ) (events : List Told) (cause : Cause) (b : Bool) → P (refused events (Refusal.Because cause) (marked_if b M m))
   pub begins : IsOther r → (m : ℕ) → IsOpen M m → is_busy M ≡ false → P (accepted [] Answer.Null (begun M m))
   pub marking : IsOther r → (m : ℕ) → P (accepted [] Answer.Null (marked M m))
+  pub tells : IsOther r → (a : Answer) → P (accepted [] a M)
+  pub clears : IsOther r → (m : ℕ) → IsOpen M m → P (accepted [] Answer.Null (cleared M m))
   pub rolls : commits r ≡ false → (m : ℕ) → IsOpen M m → P (accepted [] Answer.Null (rolled_back M m))
   pub stores : commits r ≡ true → rolls_back r ≡ false → (m : ℕ) (w : Work) → IsOpen M m → K m w → P (accepted w.events Answer.Null (committed_after M m w))
   pub undoes : commits r ≡ true → rolls_back r ≡ false → (m : ℕ) (events : List Told) (why : Refusal) → IsOpen M m → P (refused events why (rolled_back M m))
@@ -55,6 +57,8 @@ Does world M K (ToMake name) = Unit {0}
 Does world M K (ToBegin em) = Unit {0}
 Does world M K (ToRollBack em) = Unit {0}
 Does world M K (ToMark em) = Unit {0}
+Does world M K (ToAsk em question) = Unit {0}
+Does world M K (ToClear em) = Unit {0}
 
 -- nothing need be known
 pub holds_anyway : {A : Type 0} (o : Outcome A) → HoldsAfter (λ a w. Unit {0}) o
@@ -70,6 +74,8 @@ does_something world M (ToMake name) = tt
 does_something world M (ToBegin em) = tt
 does_something world M (ToRollBack em) = tt
 does_something world M (ToMark em) = tt
+does_something world M (ToAsk em question) = tt
+does_something world M (ToClear em) = tt
 
 module _ {world : World} {M : Machine} {r : Route} {P : Reply × Machine → Type 0} {K : ℕ → Work → Type 0} (h : Ways world M r P K) where
   ends : IsOther r → (rule : Cause → Bool) (m : ℕ) (o : Outcome Answer) → HoldsAfter (λ a w. K m w) o → P (ended rule M m o)
@@ -106,6 +112,10 @@ module _ {world : World} {M : Machine} {r : Route} {P : Reply × Machine → Typ
   by_mark other m None = h.same (Cause.IllegalState State.Inactive)
   by_mark other m (Some t) = h.marking other m
 
+  by_answer : IsOther r → (a : Result Answer Cause) → P (answered M a)
+  by_answer other (Ok a) = h.tells other a
+  by_answer other (Err cause) = h.same cause
+
   by_flush : commits r ≡ true → rolls_back r ≡ false → (m : ℕ) → IsOpen M m → (o : Outcome (Unit {0})) → HoldsAfter (λ u w. K m w) o → P (commit_of M m o)
   by_flush writes apart m o (Done u w) k = h.stores writes apart m w o k
   by_flush writes apart m o (Refused cause events) k = h.undoes writes apart m events (Refusal.Rollback cause) o
@@ -136,6 +146,8 @@ on_route {world} {M} {P} (ToMake name) h k =
 on_route {world} {M} (ToBegin em) h k = by_name h (begin M) (λ m o. by_begin h (record { no_commit = refl; no_rollback = refl }) m o (manager_at M m).transaction) em
 on_route {world} {M} (ToCommit em) h k = by_name h (commit world M) (λ m o. by_commit h refl refl m o (k m o) (manager_at M m).transaction) em
 on_route {world} {M} (ToRollBack em) h k = by_name h (rollback M) (λ m o. by_rollback h refl m o (manager_at M m).transaction) em
+on_route {world} {M} (ToAsk em question) h k = by_name h (λ m. answered M (question M m)) (λ m o. by_answer h (record { no_commit = refl; no_rollback = refl }) (question M m)) em
+on_route {world} {M} (ToClear em) h k = by_name h (λ m. accepted [] Answer.Null (cleared M m)) (λ m o. h.clears (record { no_commit = refl; no_rollback = refl }) m o) em
 on_route {world} {M} (ToMark em) h k = by_name h (set_rollback_only M) (λ m o. by_mark h (record { no_commit = refl; no_rollback = refl }) m (manager_at M m).transaction) em
 
 -- ---- of a step

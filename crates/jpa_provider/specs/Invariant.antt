@@ -72,3 +72,6 @@ hands_representable (Call.Commit em) = true
 hands_representable (Call.Rollback em) = true
 hands_representable (Call.SetRollbackOnly em) = true
 hands_representable (Call.Find em name key) = list_all given_representable key
+hands_representable (Call.GetReference em name key) = list_all given_representable key
+hands_representable (Call.Contains em object) = true
+hands_representable (Call.Clear em) = true

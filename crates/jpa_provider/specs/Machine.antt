@@ -111,6 +111,15 @@ rolled_back M m =
       managers = with_manager M m (record x { context = []; transaction = None });
     }
 
+-- cleared: the manager's objects are detached as they are, and its transaction goes on
+abbrev pub cleared : Machine → ℕ → Machine
+cleared M m =
+    let x = manager_at M m in
+    record M {
+      objects = detach_each x.context M.objects;
+      managers = with_manager M m (record x { context = [] });
+    }
+
 abbrev pub is_gone : Work → Entry → Bool
 is_gone w e = is_removed (state_of w e.object)
 

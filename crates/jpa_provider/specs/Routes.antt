@@ -1,7 +1,7 @@
 -- The route of each call, and what is served along it (Jakarta Persistence 3.1, chapter 3.1.1 EntityManager, chapter 7.4
 -- EntityManagerFactory).
 use Rattle.jpa_value.specs.Limits.{most_objects, most_open_managers, most_managers}
-use Rattle.std.specs.Prelude.{ℕ, suc, ℤ, Bool, true, false, nat_lt, ◌&&◌, List, [], ◌∷◌, ◌++◌, length, count_by, Option, Some, None, if◌then◌else◌}
+use Rattle.std.specs.Prelude.{ℕ, suc, ℤ, Bool, true, false, nat_lt, ◌&&◌, List, [], ◌∷◌, ◌++◌, length, count_by, Option, Some, None, Result, Ok, Err, if◌then◌else◌}
 use Rattle.std.specs.List.{list_all}
 use Rattle.jpa_value.specs.declared.refusal.Cause.{Cause}
 use Rattle.jpa_value.specs.declared.refusal.Argument.{Argument}
@@ -9,7 +9,8 @@ use Rattle.jpa_model.specs.Chains.{class_of}
 use Rattle.jpa_behaviour.specs.Behaviour.{World}
 use Rattle.jpa_heap.specs.declared.Life.{Life}
 use Rattle.jpa_heap.specs.Objects.{place_of, object_at, new_object}
-use Rattle.jpa_context.specs.Steps.{◌>>=◌, ◌>>◌, Op, require}
+use Rattle.jpa_context.specs.Work.{is_managed, state_of}
+use Rattle.jpa_context.specs.Steps.{◌>>=◌, ◌>>◌, Op, give, refuse, require}
 use Rattle.jpa_ops.specs.Load.{find}
 use Rattle.jpa_ops.specs.Members.{get, set}
 use Rattle.jpa_ops.specs.States.{persist}
@@ -17,7 +18,7 @@ use Rattle.jpa_protocol.specs.declared.call.Call.{Call}
 use Rattle.jpa_protocol.specs.declared.call.Given.{Given}
 use Rattle.jpa_protocol.specs.declared.reply.Answer.{Answer}
 use Rattle.jpa_protocol.specs.declared.reply.Reply.{Reply}
-use Rattle.jpa_provider.specs.Machine.{Machine, new_manager, manager_at, work_of}
+use Rattle.jpa_provider.specs.Machine.{Machine, new_manager, manager_at, work_of, cleared}
 use Rattle.jpa_provider.specs.Calls.{accepted, because, marks, marks_if_callback, ended, told_as, nothing, object_or_null, got, object_numbered, handed, is_short_given, class_named, key_given}
 use Rattle.jpa_provider.specs.Transactions.{begin, commit, rollback, set_rollback_only}
 
@@ -79,6 +80,30 @@ find_call world name key = do
   values ← key_given world class key
   told_as object_or_null (find world class values)
 
+-- find, with EntityNotFound in place of null
+abbrev pub there_must_be : Answer → Op Answer
+there_must_be Answer.Null = refuse Cause.EntityNotFound
+there_must_be a = give a
+
+abbrev pub get_reference_call : World → List ℕ → List Given → Op Answer
+get_reference_call world name key = do
+  a ← find_call world name key
+  there_must_be a
+
+-- ---- questions, which change nothing
+
+abbrev pub contains_in : Machine → ℕ → Option ℕ → Result Answer Cause
+contains_in M m None = Err Cause.NoSuchObject
+contains_in M m (Some n) = Ok (Answer.Truth (is_managed (state_of (work_of M m) n)))
+
+-- whether an object is managed, written or not
+abbrev pub contains : ℤ → Machine → ℕ → Result Answer Cause
+contains number M m = contains_in M m (place_of (length M.objects) number)
+
+abbrev pub answered : Machine → Result Answer Cause → Reply × Machine
+answered M (Ok a) = accepted [] a M
+answered M (Err r) = because M r
+
 -- ---- routes
 
 -- how a call is served: an operation of a manager, an operation on an object of whoever holds it, or one of those that are none
@@ -91,6 +116,8 @@ pub data Route : Type 0 where
   ToCommit : ℤ → Route
   ToRollBack : ℤ → Route
   ToMark : ℤ → Route
+  ToAsk : ℤ → (Machine → ℕ → Result Answer Cause) → Route
+  ToClear : ℤ → Route
 
 abbrev pub by_route : World → Machine → Route → Reply × Machine
 by_route world M (OfManager em op) = by_manager M em (λ m. ended marks M m (op world (work_of M m)))
@@ -103,6 +130,8 @@ by_route world M (ToBegin em) = by_manager M em (begin M)
 by_route world M (ToCommit em) = by_manager M em (commit world M)
 by_route world M (ToRollBack em) = by_manager M em (rollback M)
 by_route world M (ToMark em) = by_manager M em (set_rollback_only M)
+by_route world M (ToAsk em question) = by_manager M em (λ m. answered M (question M m))
+by_route world M (ToClear em) = by_manager M em (λ m. accepted [] Answer.Null (cleared M m))
 
 -- the route of a call
 abbrev pub route : Call → Route
@@ -116,6 +145,9 @@ route (Call.Commit em) = ToCommit em
 route (Call.Rollback em) = ToRollBack em
 route (Call.SetRollbackOnly em) = ToMark em
 route (Call.Find em name key) = OfManager em (λ world. find_call world name key)
+route (Call.GetReference em name key) = OfManager em (λ world. get_reference_call world name key)
+route (Call.Contains em object) = ToAsk em (contains object)
+route (Call.Clear em) = ToClear em
 
 -- ---- what is told of a call by its route
 
@@ -129,6 +161,8 @@ commits (ToMake name) = false
 commits (ToBegin em) = false
 commits (ToRollBack em) = false
 commits (ToMark em) = false
+commits (ToAsk em question) = false
+commits (ToClear em) = false
 
 abbrev pub rolls_back : Route → Bool
 rolls_back (ToRollBack em) = true
@@ -139,12 +173,16 @@ rolls_back (ToMake name) = false
 rolls_back (ToBegin em) = false
 rolls_back (ToCommit em) = false
 rolls_back (ToMark em) = false
+rolls_back (ToAsk em question) = false
+rolls_back (ToClear em) = false
 
 -- those that take no memory and read no store
 abbrev pub is_free : Route → Bool
 is_free (ToBegin em) = true
 is_free (ToRollBack em) = true
 is_free (ToMark em) = true
+is_free (ToAsk em question) = true
+is_free (ToClear em) = true
 is_free (OfManager em op) = false
 is_free (OfObject number op) = false
 is_free ToCreate = false

@@ -4,7 +4,7 @@ ghost use Rattle.jpa_behaviour.specs.Registered.{world_of};
 ghost use Rattle.jpa_ops.specs.States.{detach_each};
 ghost use Rattle.jpa_protocol.specs.declared.call.Call.{Call};
 ghost use Rattle.jpa_provider.specs.Faults.{tells_fault};
-ghost use Rattle.jpa_provider.specs.Machine.{rolled_back};
+ghost use Rattle.jpa_provider.specs.Machine.{cleared, rolled_back};
 ghost use Rattle.jpa_provider.specs.Serving.{machine_of, manager_in, IsSettled, Serves};
 
 use crate::at_work::{manager_named, mark};
@@ -45,12 +45,13 @@ fn detach_each(alloc: Global, objects: &mut UndoList<LiveObject>, context: &[Ent
     }
 }
 
-/// Ends the manager's transaction: its objects are detached as they are. Takes no memory.
-pub(crate) fn release(alloc: Global, session: &mut Session, manager: usize)
+/// The manager's objects are detached as they are, and leave its context. Takes no memory.
+fn clear(alloc: Global, session: &mut Session, manager: usize)
     requires within { manager < length session.old.managers.items }
     requires settled { IsSettled session.old }
     requires entries { All (λ e. e.object < length session.old.work.objects.now) (manager_in session.old.managers.items manager).context.now }
-    ensures released { machine_of session.new ≡ rolled_back (machine_of session.old) manager }
+    ensures cleared { machine_of session.new ≡ cleared (machine_of session.old) manager }
+    ensures count { length session.new.managers.items ≡ length session.old.managers.items }
     ensures settled { IsSettled session.new }
 {
     detach_each(
@@ -60,6 +61,39 @@ pub(crate) fn release(alloc: Global, session: &mut Session, manager: usize)
     );
     let mut empty = PersistenceContext::new(alloc);
     exchange(&mut session.managers, manager, &mut empty);
+}
+
+/// The call clear (chapter 3.2.7). Takes no memory.
+#[tactic(auto, using(crate::proofs::Asked::clear_alone, crate::proofs::Asked::clear_clears))]
+pub(crate) fn clear_call<B: Behaviour>(
+    alloc: Global,
+    _metamodel: &Metamodel,
+    _registry: &Registry<B>,
+    session: &mut Session,
+    em: i64,
+) -> Reply
+    requires settled { IsSettled session.old }
+    requires entries { (k : ℕ) → All (λ e. e.object < length session.old.work.objects.now) (manager_in session.old.managers.items k).context.now }
+    ensures step { Serves (world_of B.meaning _metamodel.now _registry.now) session.old (Call.Clear em) result session.new }
+    ensures untold { tells_fault result ≡ false }
+    ensures settled { IsSettled session.new }
+{
+    let Some(manager) = manager_named(session, em) else {
+        return because(alloc, Cause::NoSuchManager);
+    };
+    clear(alloc, session, manager);
+    accepted(alloc, Answer::Null)
+}
+
+/// Ends the manager's transaction: its objects are detached as they are. Takes no memory.
+pub(crate) fn release(alloc: Global, session: &mut Session, manager: usize)
+    requires within { manager < length session.old.managers.items }
+    requires settled { IsSettled session.old }
+    requires entries { All (λ e. e.object < length session.old.work.objects.now) (manager_in session.old.managers.items manager).context.now }
+    ensures released { machine_of session.new ≡ rolled_back (machine_of session.old) manager }
+    ensures settled { IsSettled session.new }
+{
+    clear(alloc, session, manager);
     set_status(&mut session.managers, manager, Status::Inactive);
 }
 

@@ -138,6 +138,7 @@ pub(crate) fn hands_representable(call: &Call)
     match call {
         Call::SetValue { value, .. } => given_representable(value),
         Call::Find { key, .. } => key_representable(key.as_slice()),
+        Call::GetReference { key, .. } => key_representable(key.as_slice()),
         _ => {}
     }
 }

@@ -4,6 +4,7 @@
 //! and the machine after it, `Step` adds what a call may answer that gave up, and `Runs` is `Step` over lists of calls.
 #![tactic(auto)]
 
+mod asking;
 mod at_work;
 mod committing;
 mod ending;

@@ -3,12 +3,14 @@
 ghost use Rattle.std.specs.Prelude.{◌≡◌, All};
 ghost use Rattle.jpa_behaviour.specs.Registered.{world_of};
 ghost use Rattle.jpa_context.specs.Steps.{Meets};
+ghost use Rattle.jpa_context.specs.Work.{Work};
 ghost use Rattle.jpa_context.specs.Undo.{now, since, IsPlaced};
 ghost use Rattle.jpa_heap.specs.Shape.{HasShape};
 ghost use Rattle.jpa_lifecycle.specs.Flat.{IsFlat};
 ghost use Rattle.jpa_ops.specs.Members.{IsScalar};
 ghost use Rattle.jpa_ops.specs.declared.getting.Got.{Got};
 ghost use Rattle.jpa_provider.specs.Calls as calls;
+ghost use Rattle.jpa_provider.specs.Routes as routes;
 ghost use Rattle.jpa_provider.specs.Operations as operations;
 ghost use Rattle.jpa_provider.specs.declared.operating.Operation.{Operation};
 
@@ -42,6 +44,11 @@ pub enum Operation {
     },
     /// Finds an object by its entity and the parts of its key (chapter 3.1.1).
     Find {
+        entity: Text,
+        key: Seq<Given>,
+    },
+    /// The same of an object that there must be (chapter 3.1.1).
+    GetReference {
         entity: Text,
         key: Seq<Given>,
     },
@@ -140,6 +147,16 @@ fn persist_numbered<B: Behaviour>(
     Ok(Answer::Null)
 }
 
+/// An answer of find, where it found an object; else `EntityNotFound`.
+fn there_must_be(found: Answer) -> Result<Answer, Cause>
+    ensures { (w : Work) → Meets result w (routes.there_must_be found w) }
+{
+    match found {
+        Answer::Null => Err(Cause::EntityNotFound),
+        found => Ok(found),
+    }
+}
+
 /// Finds an object by the name of its entity and the parts of its key, by slices.
 fn find_slices<B: Behaviour>(
     alloc: Global,
@@ -201,6 +218,28 @@ fn find_by_key<B: Behaviour>(
     )
 }
 
+/// Finds an object by the name of its entity and the parts of its key; where there is none,
+/// `EntityNotFound`.
+fn get_reference_by_key<B: Behaviour>(
+    alloc: Global,
+    metamodel: &Metamodel,
+    registry: &Registry<B>,
+    work: &mut UnitOfWork,
+    entity: &Text,
+    key: &Seq<Given>,
+) -> Result<Answer, Cause>
+    requires flat { IsFlat metamodel.now }
+    requires placed { IsPlaced metamodel.now (now work.old) }
+    ensures meets { let world = world_of B.meaning metamodel.now registry.now in
+        let operation = Operation.GetReference entity.now key.now in
+        Meets result (now work.new) (operations.operation_of operation world (now work.old)) }
+    ensures view { work.new.view ≡ work.old.view }
+    ensures since { since work.new ≡ since work.old }
+{
+    let found = find_by_key(alloc, metamodel, registry, work, entity, key)?;
+    there_must_be(found)
+}
+
 /// Does an operation on the unit of work. Refused as the operation is; what a refused one changed
 /// is undone by
 /// `UnitOfWork::undo`.
@@ -232,6 +271,9 @@ pub(crate) fn operate<B: Behaviour>(
         }
         Operation::Find { entity, key } => {
             find_by_key(alloc, metamodel, registry, work, &entity, &key)
+        }
+        Operation::GetReference { entity, key } => {
+            get_reference_by_key(alloc, metamodel, registry, work, &entity, &key)
         }
     }
 }

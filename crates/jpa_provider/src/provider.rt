@@ -21,8 +21,9 @@ ghost use Rattle.jpa_provider.specs.Provided.{rows_kept, rows_made, world_in, Ru
 ghost use Rattle.jpa_provider.specs.Served.{is_served};
 ghost use Rattle.jpa_provider.specs.Serving.{machine_of, IsPlainMachine, IsServing, IsSettled, Serves};
 
+use crate::asking::contains_call;
 use crate::committing::commit_call;
-use crate::ending::{rollback_call, set_rollback_only_call};
+use crate::ending::{clear_call, rollback_call, set_rollback_only_call};
 use crate::handing::hands_representable;
 use crate::opening::{begin_call, create_call, new_call};
 use crate::operating::Operation;
@@ -234,6 +235,14 @@ fn served<R: RowSource, B: Behaviour>(
             let operation = Operation::Find { entity, key };
             worked(alloc, metamodel, registry, session, em, operation)
         }
+        Call::GetReference { em, entity, key } => {
+            let operation = Operation::GetReference { entity, key };
+            worked(alloc, metamodel, registry, session, em, operation)
+        }
+        Call::Contains { em, object } => {
+            contains_call(alloc, metamodel, registry, session, em, object)
+        }
+        Call::Clear { em } => clear_call(alloc, metamodel, registry, session, em),
     }
 }
 

@@ -4,7 +4,7 @@ use Rattle.jpa_behaviour.specs.Behaviour.{World}
 use Rattle.jpa_behaviour.specs.Registered.{world_of}
 use Rattle.jpa_context.specs.Steps.{Op}
 use Rattle.jpa_protocol.specs.declared.reply.Answer.{Answer}
-use Rattle.jpa_provider.specs.Routes.{OfManager, OfObject, route, get_call, set_call, persist_call, find_call}
+use Rattle.jpa_provider.specs.Routes.{OfManager, OfObject, route, get_call, set_call, persist_call, find_call, get_reference_call}
 use Rattle.jpa_protocol.specs.declared.call.Call.{Call}
 use Rattle.jpa_provider.specs.Provided.{rows_kept, rows_made, RunsAtMost}
 use Rattle.jpa_provider.specs.Serving.{machine_of}
@@ -60,3 +60,12 @@ returns-in-Find-clause-step g c =
     let em = c.in-Find.em in
     let same : to_z w64 (of_z w64 em) ≡ em = search rules in
     c.worked-in-Find.ensures.step c.args.call (ap route c.in-Find.is ∙ ap (λ z. OfManager z (λ world. find_call world c.in-Find.entity c.in-Find.key)) (sym same))
+
+pub returns-in-GetReference-clause-step : goal.returns-in-GetReference-clause-step
+returns-in-GetReference-clause-step g c =
+    let em = c.in-GetReference.em in
+    let same : to_z w64 (of_z w64 em) ≡ em = search rules in
+    c.worked-in-GetReference.ensures.step c.args.call (ap route c.in-GetReference.is ∙ ap (λ z. OfManager z (λ world. get_reference_call world c.in-GetReference.entity c.in-GetReference.key)) (sym same))
+
+pub clear_call-requires-clause-entries : goal.clear_call-requires-clause-entries
+clear_call-requires-clause-entries g c = entries_in c.args.session.now (c.requires.serving).machine
