@@ -39,7 +39,8 @@ class Calls:
         managers = self.machine.managers
         begun = any(manager.is_begun for manager in managers)
         weights = {"createEntityManager": 0.6 if len(managers) > 2 else 9, "new": 9, "set": 26, "get": 8, "begin": 1 if begun else 14, "persist": 14,
-                   "find": 16, "commit": 11 if begun else 0.7, "rollback": 1 if begun else 0.4, "setRollbackOnly": 0.5 if begun else 0.2}
+                   "find": 16, "commit": 11 if begun else 0.7, "rollback": 1 if begun else 0.4, "setRollbackOnly": 0.5 if begun else 0.2,
+                   "getReference": 4, "contains": 5, "clear": 0.7}
         return self.random.choices(list(weights), weights.values())[0]
 
     def written(self, members):
@@ -135,7 +136,13 @@ class Calls:
     def commit(self):
         return {"em": self.em(0.95)}
 
-    rollback = setRollbackOnly = commit
+    rollback = setRollbackOnly = clear = commit
+
+    def contains(self):
+        return {"em": self.em(), "object": self.object(lambda live: True)}
+
+    def getReference(self):
+        return self.find()
 
     def find(self):
         stored = list(self.machine.committed.objects)

@@ -8,11 +8,12 @@ from json.decoder import scanstring
 
 LEAST, GREATEST = -2**63, 2**63 - 1
 LINE, LENGTH, DEPTH, MANAGERS, OBJECTS = 1048576, 65535, 127, 16, 1000000
-NUMBERS = {"BadLine": 3, "NoSuchManager": 4, "NoSuchObject": 5, "IllegalArgument": 6, "IllegalState": 7, "EntityExists": 9,
+NUMBERS = {"BadLine": 3, "NoSuchManager": 4, "NoSuchObject": 5, "IllegalArgument": 6, "IllegalState": 7, "EntityExists": 9, "EntityNotFound": 10,
            "OptimisticLock": 11, "Persistence": 12, "Rollback": 14, "Busy": 18, "Limit": 19}
-MARKING = {"IllegalArgument", "EntityExists", "Persistence", "Limit"}
+MARKING = {"IllegalArgument", "EntityExists", "EntityNotFound", "Persistence", "Limit"}
 MEMBERS = {"createEntityManager": [], "new": ["entity"], "set": ["object", "name", "value"], "get": ["object", "name"], "begin": ["em"],
-           "persist": ["em", "object"], "commit": ["em"], "rollback": ["em"], "setRollbackOnly": ["em"], "find": ["em", "entity", "key"]}
+           "persist": ["em", "object"], "commit": ["em"], "rollback": ["em"], "setRollbackOnly": ["em"], "find": ["em", "entity", "key"],
+           "getReference": ["em", "entity", "key"], "contains": ["em", "object"], "clear": ["em"]}
 
 
 class Refused(Exception):
@@ -453,12 +454,29 @@ class Machine:
         events.append(["PostLoad", found.number])
         return found
 
+    def getReference(self, events, em, name, key):
+        found = self.find(events, em, name, key)
+        if found is None:
+            raise Refused("EntityNotFound")
+        return found
+
+    def contains(self, events, em, number):
+        manager = self.manager(em)
+        return self.object(number).held is manager
+
+    def clear(self, events, em):
+        self.detach_all(self.manager(em))
+
+    def detach_all(self, manager):
+        for live in manager.context:
+            live.held = "detached"
+        manager.context = []
+
     # -- the end of a transaction
 
     def roll_back(self, manager):
-        for live in manager.context:
-            live.held = "detached"
-        manager.context, manager.is_begun = [], False
+        self.detach_all(manager)
+        manager.is_begun = False
 
     def commit(self, events, em):
         manager = self.begun(em)
@@ -513,7 +531,7 @@ class Machine:
         try:
             return reply({"events": events, "ok": shown(getattr(self, word)(events, *members))})
         except Refused as refused:
-            if word in ("persist", "find") and refused.name in MARKING:
+            if word in ("persist", "find", "getReference") and refused.name in MARKING:
                 self.managers[members[0] - 1].is_marked = True
             return reply({"error": told(refused), "events": events})
 

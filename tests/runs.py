@@ -14,7 +14,8 @@ Exit status 0 where all that ran agree.
 """
 import json, os, sqlite3, subprocess, sys, tempfile
 
-SERVED = {"createEntityManager", "new", "set", "get", "begin", "persist", "commit", "rollback", "setRollbackOnly", "find"}
+SERVED = {"createEntityManager", "new", "set", "get", "begin", "persist", "commit", "rollback", "setRollbackOnly", "find",
+          "getReference", "contains", "clear"}
 STAGES = {b"a transaction per manager", b"mapping revision 2"}
 HERE = os.path.dirname(os.path.abspath(__file__))
 FLAT = os.path.join(HERE, "flat.json")

@@ -12,6 +12,7 @@ use Rattle.jpa_context.specs.Work.{is_managed, state_from}
 use Rattle.jpa_ops.specs.States.{detach_each}
 use Rattle.jpa_protocol.specs.declared.call.Call.{Call}
 use Rattle.jpa_protocol.specs.declared.reply.Answer.{Answer}
+use Rattle.jpa_protocol.specs.declared.reply.Reply.{Reply}
 use Rattle.jpa_provider.specs.declared.session.Session.{Session}
 use Rattle.jpa_provider.specs.declared.session.Status.{Status}
 use Rattle.jpa_provider.specs.Machine.{Machine, Manager, manager_at, no_manager, with_manager, cleared, rolled_back}
@@ -25,7 +26,7 @@ use Rattle.jpa_provider.proofs.Worked.{of_manager, of_nobody}
 -- ---- contains
 
 module _ (world : World) (s : Session) (em number : ℤ) where
-  asked : ℕ → _
+  abbrev asked : ℕ → Reply × Machine
   asked m = answered (machine_of s) (contains number (machine_of s) m)
 
   pub contains_alone : place_of (length s.managers.items) em ≡ None → Serves world s (Call.Contains em number) (refusal Cause.NoSuchManager) s
