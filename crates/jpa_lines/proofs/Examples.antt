@@ -14,7 +14,7 @@ use Rattle.jpa_value.specs.declared.event.LifecycleEvent.{LifecycleEvent}
 use Rattle.jpa_protocol.specs.declared.reply.Answer.{Answer}
 use Rattle.jpa_protocol.specs.declared.reply.Item.{Item}
 use Rattle.jpa_json.specs.JsonOf.{text_data}
-use Rattle.jpa_lines.specs.CallOf.{meaning, text_call, call_of, create_of, new_of, set_of, get_of, em_of, persist_of, find_of, given_of, marked_of, hex_of}
+use Rattle.jpa_lines.specs.CallOf.{meaning, text_call, call_of, create_of, new_of, set_of, get_of, em_of, on_object_of, by_key_of, given_of, marked_of, hex_of}
 use Rattle.jpa_lines.specs.ReplyText.{reply_text}
 use Rattle.jpa_lines.specs.Run.{lines_of}
 
@@ -59,8 +59,20 @@ unfolding is_utf8 chars meaning text_call text_data call_of em_of serde_json_on_
 begins = refl
 
 persists : meaning (codes "{\"call\":\"persist\",\"em\":1,\"object\":1}") ≡ Ok (Call.Persist (pos 1) (pos 1))
-unfolding is_utf8 chars meaning text_call text_data call_of persist_of serde_json_on_literals
+unfolding is_utf8 chars meaning text_call text_data call_of on_object_of serde_json_on_literals
 persists = refl
+
+asks : meaning (codes "{\"call\":\"contains\",\"em\":1,\"object\":2}") ≡ Ok (Call.Contains (pos 1) (pos 2))
+unfolding is_utf8 chars meaning text_call text_data call_of on_object_of serde_json_on_literals
+asks = refl
+
+clears : meaning (codes "{\"call\":\"clear\",\"em\":1}") ≡ Ok (Call.Clear (pos 1))
+unfolding is_utf8 chars meaning text_call text_data call_of em_of serde_json_on_literals
+clears = refl
+
+refers : meaning (codes "{\"call\":\"getReference\",\"em\":1,\"entity\":\"Person\",\"key\":[1]}") ≡ Ok (Call.GetReference (pos 1) (codes "Person") (Given.Plain (Value.Int (pos 1)) ∷ []))
+unfolding is_utf8 chars meaning text_call text_data call_of by_key_of given_of serde_json_on_literals
+refers = refl
 
 commits : meaning (codes " {\"call\":\"commit\",\"em\":1}\t") ≡ Ok (Call.Commit (pos 1))
 unfolding is_utf8 chars meaning text_call text_data call_of em_of serde_json_on_literals
@@ -75,7 +87,7 @@ unfolding is_utf8 chars meaning text_call text_data call_of em_of serde_json_on_
 only_rolls_back = refl
 
 finds : meaning (codes "{\"call\":\"find\",\"em\":1,\"entity\":\"Person\",\"key\":[1,null]}") ≡ Ok (Call.Find (pos 1) (codes "Person") (Given.Plain (Value.Int (pos 1)) ∷ Given.Plain Value.Null ∷ []))
-unfolding is_utf8 chars meaning text_call text_data call_of find_of given_of serde_json_on_literals
+unfolding is_utf8 chars meaning text_call text_data call_of by_key_of given_of serde_json_on_literals
 finds = refl
 
 cut_short : meaning (codes "{\"call\":\"find\"") ≡ Err Cause.BadLine
