@@ -1,7 +1,7 @@
 -- What an operation of one manager works on, and what it reads of it: the persistence context and the states of its
 -- objects (Jakarta Persistence 3.1, chapters 3.2 and 3.3).
-use Rattle.std.specs.Prelude.{ℕ, Bool, true, false, ◌==◌, List, [], ◌∷◌, ◌++◌, map, slice_set, Option, Some, None, if◌then◌else◌}
-use Rattle.std.specs.List.{find}
+use Rattle.std.specs.Prelude.{ℕ, Bool, true, false, not, ◌==◌, List, [], ◌∷◌, ◌++◌, map, slice_set, Option, Some, None, if◌then◌else◌}
+use Rattle.std.specs.List.{filter, find}
 use Rattle.jpa_value.specs.declared.value.Identity.{Identity}
 use Rattle.jpa_value.specs.Value.{same_identity}
 use Rattle.jpa_model.specs.declared.unit.PersistenceUnit.{PersistenceUnit}
@@ -93,6 +93,14 @@ with_entry n f w = record w { context = map (λ e. if e.object == n then f e els
 
 abbrev pub with_base : ℕ → Option Base → Work → Work
 with_base n b w = with_entry n (λ e. record e { base = b }) w
+
+-- another lock of the object
+abbrev pub with_lock : ℕ → Lock → Work → Work
+with_lock n l w = with_entry n (λ e. record e { lock = l }) w
+
+-- the object leaves the context
+abbrev pub left : ℕ → Work → Work
+left n w = record w { context = filter (λ e. not (e.object == n)) w.context }
 
 abbrev pub told : Told → Work → Work
 told e w = record w { events = w.events ++ e ∷ [] }

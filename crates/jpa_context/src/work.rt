@@ -1,11 +1,12 @@
 //! A manager at work.
 ghost use Rattle.std.specs.Prelude.{◌≡◌, []};
-ghost use Rattle.jpa_context.specs.Undo.{IsKept, now, since};
+ghost use Rattle.jpa_context.specs.Undo.{IsKept, now, since, view_since};
+ghost use Rattle.jpa_open.specs.Opened as opened;
 
 use crate::PersistenceContext;
 use jpa_heap::LiveObject;
+use jpa_open::OpenSet;
 use jpa_protocol::Told;
-use jpa_stored::OpenSet;
 use jpa_undo::UndoList;
 use jpa_value::Seq;
 use std::alloc::Global;
@@ -31,20 +32,28 @@ pub struct UnitOfWork {
 
 impl UnitOfWork {
     /// Keeps what was changed: from now on it is what undoing leads back to. Takes no memory.
+    ///
+    /// What was written over a set whose layers are hidden is undone.
     pub fn keep(&mut self)
         ensures now { now self.new ≡ now self.old }
         ensures kept { IsKept self.new }
+        ensures view { self.new.view ≡ opened.after_keeping self.old.view }
     {
         self.objects.keep();
         self.context.keep();
         self.numbers.keep();
-        self.view.keep();
+        if self.view.is_shown() {
+            self.view.keep();
+        } else {
+            self.view.undo();
+        }
     }
 
     /// Undoes what was changed since it was last kept; the events are let go. Takes no memory.
     pub fn undo(&mut self, alloc: Global)
-        ensures now { now self.new ≡ record { manager = self.old.manager; objects = (since self.old).objects; context = (since self.old).context; numbers = (since self.old).numbers; view = (since self.old).view; events = [] } }
+        ensures now { now self.new ≡ record { manager = self.old.manager; objects = (since self.old).objects; context = (since self.old).context; numbers = (since self.old).numbers; view = view_since (since self.old); events = [] } }
         ensures kept { IsKept self.new }
+        ensures view { self.new.view ≡ opened.after_undoing self.old.view }
     {
         self.objects.undo();
         self.context.undo();

@@ -37,6 +37,13 @@ with_committed s v = record v { committed = s }
 abbrev pub with_shown : Bool → Opened → Opened
 with_shown b v = record v { is_shown = b }
 
+-- what was written in the call is kept where it is shown, and undone where it is hidden
+abbrev pub after_keeping : Opened → Opened
+after_keeping v = if v.is_shown then with_kept v.seen v else with_seen v.kept v
+
+abbrev pub after_undoing : Opened → Opened
+after_undoing v = with_seen v.kept v
+
 abbrev pub layer : List (Identity × Stored) → List (Identity × Unit {0}) → Layer
 layer puts drops = record { puts = puts; drops = map (λ (e : Identity × Unit {0}). e.0) drops }
 

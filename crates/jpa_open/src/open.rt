@@ -256,6 +256,13 @@ impl OpenSet {
         listed(alloc, ids)
     }
 
+    /// Whether the layers are shown to the manager at work.
+    pub fn is_shown(&self) -> bool
+        ensures { result ≡ self.now.is_shown }
+    {
+        self.is_shown
+    }
+
     /// Shows the layers to the manager at work, or hides them from it. Takes no memory.
     pub fn show(&mut self, is_shown: bool)
         ensures { self.new ≡ opened.with_shown is_shown self.old }

@@ -122,8 +122,8 @@ impl StoredSet {
         place_of(&self.entries, id)
     }
 
-    /// The entries, in rising order of the identities.
-    pub(crate) fn into_entries(self) -> Vec<Boxed<(Identity, Stored)>>
+    /// The entries, in rising order of the identities. Takes no memory.
+    pub fn into_entries(self) -> Vec<Boxed<(Identity, Stored)>>
         ensures all { result.items ≡ self }
         ensures rising { T (is_sorted identity_cmp self) }
     {
@@ -133,10 +133,7 @@ impl StoredSet {
 }
 
 /// Where an identity stands among entries in rising order, or where it would stand.
-pub(crate) fn place_of(
-    entries: &Vec<Boxed<(Identity, Stored)>>,
-    id: &Identity,
-) -> Result<usize, usize>
+fn place_of(entries: &Vec<Boxed<(Identity, Stored)>>, id: &Identity) -> Result<usize, usize>
     requires { T (is_sorted identity_cmp entries.now.items) }
     ensures found { IfOk result (IsAt identity_cmp entries.now.items id.now) }
     ensures absent { IfErr result (IsGap identity_cmp entries.now.items id.now) }
