@@ -25,20 +25,20 @@ use Rattle.jpa_cascade.specs.declared.Operation.{Operation}
 use Rattle.jpa_cascade.specs.declared.Node.{Node}
 use Rattle.jpa_cascade.specs.Waves.{goes_along, goes_from, reaches_unread, nodes_held, live_targets_along, bare_targets_along, bare_targets, targets, most_nodes, waves}
 use Rattle.jpa_cascade.specs.Reached.{IsReachedIn, AreReached, HasTarget, CascadesTo, CascadesReach}
-use Rattle.jpa_cascade.proofs.Members.{in_flat, from_enumerated, to_enumerated, none_in, in_map, from_flat, in_range}
-use Rattle.jpa_cascade.proofs.Waves.{waves_reach}
+use Rattle.jpa_cascade.proofs.Lists.{in_flat, from_enumerated, to_enumerated, none_in, in_map, from_flat, in_range}
+use Rattle.jpa_cascade.proofs.Reaching.{waves_reach}
 
 -- the objects by their places, and the rows by their identities
-abbrev lives : Work → List Node
+abbrev pub lives : Work → List Node
 lives w = map Node.Live (range_with_len 0 (length w.objects))
 
-abbrev names : Work → List Identity
+abbrev pub names : Work → List Identity
 names w = map (λ e. e.0) w.view
 
-abbrev nodes_in : Work → List Node
+abbrev pub nodes_in : Work → List Node
 nodes_in w = lives w ++ map Node.Bare (names w)
 
-nodes_few : (w : Work) → length (nodes_in w) ≡ most_nodes w
+pub nodes_few : (w : Work) → length (nodes_in w) ≡ most_nodes w
 nodes_few w =
     let places : List ℕ = range_with_len 0 (length w.objects) in
     let objects : length (lives w) ≡ length w.objects = length-map places Node.Live ∙ length-range_with_len 0 (length w.objects) in
@@ -58,7 +58,7 @@ bare_there w id x h =
 -- ---- what leads on is there
 
 -- past the last object none holds anything
-held_there : (w : Work) (n r : ℕ) → length w.objects ≤ n → held_at (object w n) r ≡ Held.One Link.None
+pub held_there : (w : Work) (n r : ℕ) → length w.objects ≤ n → held_at (object w n) r ≡ Held.One Link.None
 held_there w n r h = ap (λ x. held_at x r) (get_or_past w.objects n no_object h)
 
 where_true : (b : Bool) (xs : List Node) (y : Node) → Contains (if b then xs else []) y → (b ≡ true) × Contains xs y
@@ -68,8 +68,8 @@ where_true false xs y k = absurd (none_in y k)
 as_true : (b : Bool) (xs : List Node) (y : Node) → b ≡ true → Contains xs y → Contains (if b then xs else []) y
 as_true b xs y e k = subst (λ c. Contains (if c then xs else []) y) (sym e) k
 
-nothing_past : (m : PersistenceUnit) (op : Operation) (w : Work) (n : ℕ) (y : Node) → length w.objects ≤ n → Contains (targets m op w (Node.Live n)) y → ⊥
-nothing_past m op w n y past k =
+never_past : (m : PersistenceUnit) (op : Operation) (w : Work) (n : ℕ) (y : Node) → length w.objects ≤ n → Contains (targets m op w (Node.Live n)) y → ⊥
+never_past m op w n y past k =
     let along = live_targets_along m op w n in
     let relations = enumerate_from 0 (relations_of m (object w n).class) in
     let from = from_flat along relations y (where_true (goes_from op (state_of w n)) (flat_map along relations) y k).1 in
@@ -81,9 +81,9 @@ bare_there_from : (m : PersistenceUnit) (op : Operation) (w : Work) (id : Identi
 bare_there_from m op w id None y e k = absurd (none_in y k)
 bare_there_from m op w id (Some x) y e k = bare_there w id x e
 
-leads_there : (m : PersistenceUnit) (op : Operation) (w : Work) (x y : Node) → Contains (targets m op w x) y → Contains (nodes_in w) x
+pub leads_there : (m : PersistenceUnit) (op : Operation) (w : Work) (x y : Node) → Contains (targets m op w x) y → Contains (nodes_in w) x
 leads_there m op w (Node.Live n) y k =
-    ⊎_elim (λ (l : n < length w.objects). live_there w n l) (λ (l : length w.objects ≤ n). absurd (nothing_past m op w n y l k)) (cases_lt n (length w.objects))
+    ⊎_elim (λ (l : n < length w.objects). live_there w n l) (λ (l : length w.objects ≤ n). absurd (never_past m op w n y l k)) (cases_lt n (length w.objects))
 leads_there m op w (Node.Bare id) y k = bare_there_from m op w id (row w id) y refl k
 
 waves_of_targets : (m : PersistenceUnit) (op : Operation) (w : Work) (start : ℕ) → AreReached (HasTarget (targets m op w)) (Node.Live start) (waves m op w start)

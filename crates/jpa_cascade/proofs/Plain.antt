@@ -9,7 +9,7 @@ use Rattle.jpa_cascade.specs.declared.Operation.{Operation}
 use Rattle.jpa_cascade.specs.declared.Node.{Node}
 use Rattle.jpa_cascade.specs.Waves.{targets, goes_from, live_targets_along, waves, waves_by, unseen, most_nodes}
 
-nothing_more : {X : Type 0} (xs : List X) → xs ++ [] ≡ xs
+pub nothing_more : {X : Type 0} (xs : List X) → xs ++ [] ≡ xs
 nothing_more [] = refl
 nothing_more (x ∷ xs) = ap (λ ys. x ∷ ys) (nothing_more xs)
 
@@ -18,7 +18,7 @@ pub waves_ended : (next : Node → List Node) (k : ℕ) (before : List Node) →
 waves_ended next zero before = nothing_more before
 waves_ended next (suc k) before = refl
 
-either_way : (b : Bool) (xs : List Node) → xs ≡ [] → (if b then xs else []) ≡ []
+pub either_way : (b : Bool) (xs : List Node) → xs ≡ [] → (if b then xs else []) ≡ []
 either_way true xs e = e
 either_way false xs e = refl
 

@@ -18,7 +18,7 @@ use Rattle.jpa_cascade.specs.declared.Node.{Node}
 use Rattle.jpa_cascade.specs.Waves.{same_node, unseen, waves_by}
 use Rattle.jpa_cascade.specs.Reached.{IsReachedIn, IsAsNear, AreReached, HasTarget, HaveAllThatLeadOn, WavesReach}
 use Rattle.jpa_cascade.proofs.Plain.{waves_ended}
-use Rattle.jpa_cascade.proofs.Members.{none_in, first_in, later_in, in_one, in_cases, in_flat, from_flat}
+use Rattle.jpa_cascade.proofs.Lists.{none_in, first_in, later_in, in_one, in_cases, in_flat, from_flat}
 
 -- ---- same nodes
 
@@ -34,7 +34,7 @@ is_live : Node → Bool
 is_live (Node.Live n) = true
 is_live (Node.Bare id) = false
 
-same_decides : (a b : Node) → Decides (same_node a b) (a ≡ b)
+pub same_decides : (a b : Node) → Decides (same_node a b) (a ≡ b)
 unfolding place_of name_of is_live
 same_decides (Node.Live a) (Node.Live b) = (λ h. ap Node.Live (eqb-true a b h), λ e. eq-eqb a b (ap place_of e))
 same_decides (Node.Live a) (Node.Bare y) = (λ h. absurd (false≢true h), λ e. absurd (false≢true (ap is_live (sym e))))
@@ -42,7 +42,7 @@ same_decides (Node.Bare x) (Node.Live b) = (λ h. absurd (false≢true h), λ e.
 same_decides (Node.Bare x) (Node.Bare y) =
     (λ h. ap Node.Bare (identity_exact x y ((Equal-is (identity_cmp x y)).0 h)), λ e. subst (λ u. same_identity x u ≡ true) (ap (name_of x) e) ((eq_by_cmp_equiv identity_total).refl x))
 
-same_laws : IsEquivalence same_node
+pub same_laws : IsEquivalence same_node
 same_laws = record {
   refl = λ x. (same_decides x x).1 refl;
   symm = λ x y. same_from_decides (same_node x y) (same_node y x) (same_decides x y) (λ h. sym ((same_decides y x).0 h), λ e. (same_decides y x).1 (sym e));

@@ -1,0 +1,12 @@
+use Rattle.std.proofs.Common.{◌≡◌, ◌++◌, drop}
+use Rattle.std.specs.List.{flat_map, enumerate_from}
+use Rattle.jpa_model.specs.Chains.{relations_of}
+use Rattle.jpa_context.specs.Undo.{now}
+use Rattle.jpa_cascade.specs.Waves.{bare_targets_along}
+use Rattle.jpa_cascade.proofs.targets.push_bare_targets.Given as goal
+
+abbrev pub invariant-loop-relation : goal.invariant-loop-relation
+invariant-loop-relation l =
+    let along = bare_targets_along l.metamodel l.operation (now l.work) l.id l.row in
+    let relations = relations_of l.metamodel (l.row).class in
+    l.found.items ++ flat_map along (enumerate_from l.relation (drop l.relation relations)) ≡ l.initial.found.items ++ flat_map along (enumerate_from 0 relations)
