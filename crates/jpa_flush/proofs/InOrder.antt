@@ -1,6 +1,6 @@
 -- What one walk along a context and a plan in its order leaves.
 use Rattle.std.proofs.Common.{◌≡◌, ◌∙◌, ℕ, zero, suc, ◌<◌, ◌≤◌, ◌+◌, Bool, true, false, List, [], ◌∷◌, ◌++◌, map, drop, length, get_or, refl, ap, sym, subst, arith}
-use Rattle.std.specs.Prelude.{if◌then◌else◌, ◌==◌, ◌&&◌, ◌||◌, not, slice_get, slice_set, Some}
+use Rattle.std.specs.Prelude.{if◌then◌else◌, ◌==◌, ◌&&◌, ◌||◌, not, slice_get, slice_set, Option, Some, None}
 use Rattle.std.specs.List.{list_any, flat_map}
 use Rattle.std.specs.Option.{option_map, option_to_list}
 use Rattle.std.proofs.lemmas.Bool.{false≢true, both_ways, and_parts, or_parts, not-true, cond-true, cond-false, cond_both, eq-eqb, ne_eqb, eqb-false}
@@ -14,29 +14,28 @@ use Rattle.jpa_context.specs.declared.Entry.{Entry}
 use Rattle.jpa_context.specs.Work.{Work}
 use Rattle.jpa_flush.specs.declared.planning.Planned.{Planned}
 use Rattle.jpa_flush.specs.declared.steps.Step.{Step}
-use Rattle.jpa_flush.specs.Flush.{settled_entry}
 use Rattle.jpa_flush.specs.Order.{is_in_order}
-use Rattle.jpa_flush.specs.Plan.{step_of, insertion, replacement, planned, planned_of, plan_of}
-use Rattle.jpa_flush.proofs.Settled.{settled_if}
+use Rattle.jpa_flush.specs.Plan.{step_of, insertion, replacement, removal, planned, planned_of, plan_of}
+use Rattle.jpa_flush.proofs.Settled.{settled_as, settled_if}
 
 abbrev pub AreDistinct : List Entry → Type 0
 AreDistinct es = all_distinct (λ a b. a.object == b.object) es ≡ true
 
 -- ---- an entry alone changes
 
-others : (n : ℕ) (x : Stored) (es : List Entry) → list_any (λ b. n == b.object) es ≡ false → map (settled_if n x) es ≡ es
+others : (n : ℕ) (x : Option Stored) (es : List Entry) → list_any (λ b. n == b.object) es ≡ false → map (settled_if n x) es ≡ es
 others n x [] h = refl
 others n x (e ∷ es) h =
     let apart = or_parts (n == e.object) (list_any (λ b. n == b.object) es) h in
-    let same : settled_if n x e ≡ e = cond-false (e.object == n) (settled_entry x e) e (ne_eqb e.object n (λ q. eqb-false n e.object (apart.0) (sym q))) in
+    let same : settled_if n x e ≡ e = cond-false (e.object == n) (settled_as x e) e (ne_eqb e.object n (λ q. eqb-false n e.object (apart.0) (sym q))) in
     λ j. same j ∷ others n x es (apart.1) j
 
-pub one_settled : (x : Stored) (es : List Entry) (i : ℕ) (e : Entry) → AreDistinct es → i < length es → e ≡ get_or es i e → slice_set es i (settled_entry x e) ≡ map (settled_if e.object x) es
+pub one_settled : (x : Option Stored) (es : List Entry) (i : ℕ) (e : Entry) → AreDistinct es → i < length es → e ≡ get_or es i e → slice_set es i (settled_as x e) ≡ map (settled_if e.object x) es
 one_settled x [] i e h l read = absurd (omega arith)
 one_settled x (y ∷ ys) zero e h l read =
     let apart = not-true (list_any (λ b. y.object == b.object) ys) ((and_parts (not (list_any (λ b. y.object == b.object) ys)) (all_distinct (λ a b. a.object == b.object) ys) h).0) in
-    let hit : settled_if y.object x y ≡ settled_entry x y = cond-true (y.object == y.object) (settled_entry x y) y (eq-eqb y.object y.object refl) in
-    subst (λ (v : Entry). settled_entry x v ∷ ys ≡ map (settled_if v.object x) (y ∷ ys)) (sym read) (λ j. sym hit j ∷ sym (others y.object x ys apart) j)
+    let hit : settled_if y.object x y ≡ settled_as x y = cond-true (y.object == y.object) (settled_as x y) y (eq-eqb y.object y.object refl) in
+    subst (λ (v : Entry). settled_as x v ∷ ys ≡ map (settled_if v.object x) (y ∷ ys)) (sym read) (λ j. sym hit j ∷ sym (others y.object x ys apart) j)
 one_settled x (y ∷ ys) (suc i) e h l read =
     let parts = and_parts (not (list_any (λ b. y.object == b.object) ys)) (all_distinct (λ a b. a.object == b.object) ys) h in
     let apart = not-true (list_any (λ b. y.object == b.object) ys) (parts.0) in
@@ -44,7 +43,7 @@ one_settled x (y ∷ ys) (suc i) e h l read =
     let other : (y.object ≡ e.object → ⊥) =
     λ q. both_ways (list_any (λ b. y.object == b.object) ys) apart
     (list_any_at (λ (b : Entry). y.object == b.object) ys i e within (eq-eqb y.object (get_or ys i e).object (q ∙ ap (λ (v : Entry). v.object) read))) in
-    let same : settled_if e.object x y ≡ y = cond-false (y.object == e.object) (settled_entry x y) y (ne_eqb y.object e.object other) in
+    let same : settled_if e.object x y ≡ y = cond-false (y.object == e.object) (settled_as x y) y (ne_eqb y.object e.object other) in
     λ j. sym same j ∷ one_settled x ys i e (parts.1) within read j
 
 -- what stands where an object is named
@@ -62,27 +61,31 @@ name_at es i n e within read same =
 
 -- ---- the objects of the entries stay
 
-same_object : (n : ℕ) (x : Stored) (e : Entry) → (settled_if n x e).object ≡ e.object
-same_object n x e = cond_both (e.object == n) (settled_entry x e) e (λ (v : Entry). v.object ≡ e.object) (λ q. refl) (λ q. refl)
+settled_object : (x : Option Stored) (e : Entry) → (settled_as x e).object ≡ e.object
+settled_object None e = refl
+settled_object (Some x) e = refl
 
-any_after : (n : ℕ) (x : Stored) (k : ℕ) (es : List Entry) → list_any (λ (b : Entry). k == b.object) (map (settled_if n x) es) ≡ list_any (λ b. k == b.object) es
+same_object : (n : ℕ) (x : Option Stored) (e : Entry) → (settled_if n x e).object ≡ e.object
+same_object n x e = cond_both (e.object == n) (settled_as x e) e (λ (v : Entry). v.object ≡ e.object) (λ q. settled_object x e) (λ q. refl)
+
+any_after : (n : ℕ) (x : Option Stored) (k : ℕ) (es : List Entry) → list_any (λ (b : Entry). k == b.object) (map (settled_if n x) es) ≡ list_any (λ b. k == b.object) es
 any_after n x k [] = refl
 any_after n x k (e ∷ es) = λ j. (k == same_object n x e j) || any_after n x k es j
 
-pub distinct_after : (n : ℕ) (x : Stored) (es : List Entry) → all_distinct (λ (a b : Entry). a.object == b.object) (map (settled_if n x) es) ≡ all_distinct (λ a b. a.object == b.object) es
+pub distinct_after : (n : ℕ) (x : Option Stored) (es : List Entry) → all_distinct (λ (a b : Entry). a.object == b.object) (map (settled_if n x) es) ≡ all_distinct (λ a b. a.object == b.object) es
 distinct_after n x [] = refl
 distinct_after n x (e ∷ es) =
     (λ j. not (list_any (λ (b : Entry). same_object n x e j == b.object) (map (settled_if n x) es)) && distinct_after n x es j)
     ∙ ap (λ b. not b && all_distinct (λ (a b : Entry). a.object == b.object) es) (any_after n x e.object es)
 
-order_after : (n : ℕ) (x : Stored) (ps : List Planned) (es : List Entry) → is_in_order ps (map (settled_if n x) es) ≡ is_in_order ps es
+order_after : (n : ℕ) (x : Option Stored) (ps : List Planned) (es : List Entry) → is_in_order ps (map (settled_if n x) es) ≡ is_in_order ps es
 order_after n x [] es = refl
 order_after n x (p ∷ ps) [] = refl
 order_after n x (p ∷ ps) (e ∷ es) = λ j. if same_object n x e j == p.object then order_after n x ps es j else order_after n x (p ∷ ps) es j
 
 -- ---- the rest of the plan stands in the rest of the context
 
-pub order_met : (x : Stored) (plan : List Planned) (next : ℕ) (p : Planned) (es : List Entry) (i : ℕ) (e : Entry) → next < length plan → p ≡ get_or plan next p → i < length es → e ≡ get_or es i e → p.object ≡ e.object →
+pub order_met : (x : Option Stored) (plan : List Planned) (next : ℕ) (p : Planned) (es : List Entry) (i : ℕ) (e : Entry) → next < length plan → p ≡ get_or plan next p → i < length es → e ≡ get_or es i e → p.object ≡ e.object →
     is_in_order (drop next plan) (drop i es) ≡ true → is_in_order (drop (next + 1) plan) (drop (i + 1) (map (settled_if p.object x) es)) ≡ true
 order_met x plan next p es i e l planned k read same h =
     let ps = drop (next + 1) plan in
@@ -141,6 +144,7 @@ at_first : (m : PersistenceUnit) (w : Work) (e : Entry) (s : Step) (ps : List Pl
 at_first m w e Step.Keep ps es h = later ps e es h
 at_first m w e Step.Insert ps es h = first_met (insertion m w e.object) e ps es refl h
 at_first m w e (Step.Replace v) ps es h = first_met (replacement m w e.object v) e ps es refl h
+at_first m w e (Step.Drop v) ps es h = first_met (removal m w e.object) e ps es refl h
 
 planned_in_order : (m : PersistenceUnit) (w : Work) (es : List Entry) → is_in_order (flat_map (planned_of m w) es) es ≡ true
 planned_in_order m w [] = refl

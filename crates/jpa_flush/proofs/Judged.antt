@@ -1,25 +1,31 @@
 -- Where classes have no relations, a set is sound where each object has what its class requires; over a sound set, where each
 -- object has it that was written.
-use Rattle.std.proofs.Common.{◌≡◌, ◌∙◌, ◌≤◌, Bool, true, false, List, [], ◌∷◌, ◌++◌, length, refl, ap, sym, T}
-use Rattle.std.specs.Prelude.{◌&&◌, cond, Some, None}
-use Rattle.std.specs.List.{list_all, flat_map, zip}
+use Rattle.std.proofs.Common.{◌≡◌, ◌∙◌, ◌≤◌, Bool, true, false, List, [], ◌∷◌, ◌++◌, length, refl, ap, sym}
+use Rattle.std.specs.Prelude.{◌&&◌, cond, not, Option, Some, None}
+use Rattle.std.specs.List.{list_all, list_any, flat_map, zip}
 use Rattle.std.specs.declared.cmp.Ordering.{Ordering}
 use Rattle.std.specs.declared.cmp.Ordering.TheVariants.{Less, Equal, Greater}
-use Rattle.std.specs.Ordering.{eq_by_cmp}
-use Rattle.std.specs.FinMap.Entries.{by_order, is_sorted}
-use Rattle.std.proofs.lemmas.Bool.{false≢true, and_from}
+use Rattle.std.specs.Cmp.{tied_itself}
+use Rattle.std.specs.Ordering.{eq_by_cmp, is_eq}
+use Rattle.std.specs.FinMap.Entries.{by_order, where_key, find-put}
+use Rattle.std.proofs.lemmas.Bool.{false≢true, and_from, and_parts, not-true}
 use Rattle.jpa_value.specs.declared.value.Identity.{Identity}
-use Rattle.jpa_value.specs.Value.{identity_cmp}
+use Rattle.jpa_value.specs.Value.{identity_cmp, same_identity}
+use Rattle.jpa_value.proofs.Orders.{identity_total}
 use Rattle.jpa_model.specs.declared.unit.PersistenceUnit.{PersistenceUnit}
 use Rattle.jpa_model.specs.declared.unit.Relation.{Relation}
 use Rattle.jpa_model.specs.Chains.{attributes_of, relations_of, entity_at}
 use Rattle.jpa_stored.specs.declared.stored.Stored.{Stored}
-use Rattle.jpa_stored.specs.Sets.{StoredSet, stored_at, with_stored, put_all, values_there, links_there, no_required_null, is_of, one_to_one_column, claims_at, claims, same_claim, all_distinct, first_fault, fault_of, IsSound}
+use Rattle.jpa_stored.specs.Sets.{StoredSet, stored_at, with_stored, values_there, links_there, no_required_null, is_of, one_to_one_column, claims_at, claims, same_claim, all_distinct, first_fault, fault_of, IsSound}
 use Rattle.jpa_stored.proofs.Bridge.{own_chain, outside}
-use Rattle.jpa_stored.proofs.Puts.{over, found, first_found, rest_sorted, later}
 use Rattle.jpa_lifecycle.specs.Flat.{IsFlat}
-use Rattle.jpa_flush.specs.Plan.{has_required}
+use Rattle.jpa_flush.specs.declared.planning.Planned.{Planned}
+use Rattle.jpa_flush.specs.Flush.{listed}
+use Rattle.jpa_flush.specs.Names.{targets, are_apart}
+use Rattle.jpa_flush.specs.Plan.{has_required, put_or_take, write, write_each, fills_at, fills}
+use Rattle.jpa_flush.proofs.Joined.{applied_found, unnamed_done}
 use Rattle.jpa_flush.proofs.Plain.{and_true}
+use Rattle.jpa_flush.proofs.Written.{writes_of, names_of, applied_each}
 
 -- an object of no class of the unit lacks nothing
 pub no_class : (m : PersistenceUnit) (x : Stored) → length m.entities ≤ x.class → true ≡ has_required m x
@@ -86,10 +92,24 @@ module _ (m : PersistenceUnit) where
       placed more Equal = and_from (has_required m x) _ h rest
       placed more Greater = and_from (has_required m e.1) _ first more
 
-  written_whole : (es s : StoredSet) → list_all (is_whole m) es ≡ true → list_all (is_whole m) s ≡ true → list_all (is_whole m) (put_all es s) ≡ true
+  -- nor do they lack anything where others are taken out
+  kept_whole : (p : Identity → Bool) (s : StoredSet) → list_all (is_whole m) s ≡ true → list_all (is_whole m) (where_key identity_cmp p s) ≡ true
+  kept_whole p [] h = refl
+  kept_whole p (e ∷ es) h = by_test (p e.0) (kept_whole p es (t_second (has_required m e.1) (list_all (is_whole m) es) h))
+    where
+      by_test : (b : Bool) → list_all (is_whole m) (where_key identity_cmp p es) ≡ true → list_all (is_whole m) (cond b (e ∷ where_key identity_cmp p es) (where_key identity_cmp p es)) ≡ true
+      by_test true rest = and_from (has_required m e.1) (list_all (is_whole m) (where_key identity_cmp p es)) (t_first (has_required m e.1) (list_all (is_whole m) es) h) rest
+      by_test false rest = rest
+
+  one_whole : (id : Option Identity) (x : Option Stored) (s : StoredSet) → fills_at m id x ≡ true → list_all (is_whole m) s ≡ true → list_all (is_whole m) (put_or_take id x s) ≡ true
+  one_whole None x s h k = k
+  one_whole (Some id) None s h k = kept_whole (λ i. not (list_any (same_identity i) (id ∷ []))) s k
+  one_whole (Some id) (Some x) s h k = put_whole id x s h k
+
+  written_whole : (plan : List Planned) (s : StoredSet) → list_all (fills m) plan ≡ true → list_all (is_whole m) s ≡ true → list_all (is_whole m) (write_each plan s) ≡ true
   written_whole [] s h k = k
-  written_whole (e ∷ es) s h k =
-      written_whole es (with_stored e.0 e.1 s) (t_second (has_required m e.1) _ h) (put_whole e.0 e.1 s (t_first (has_required m e.1) _ h) k)
+  written_whole (p ∷ ps) s h k =
+      written_whole ps (write p s) (t_second (fills m p) (list_all (fills m) ps) h) (one_whole p.id p.stored s (t_first (fills m p) (list_all (fills m) ps) h) k)
 
   -- what is found among objects that lack nothing lacks nothing
   found_whole : (s : StoredSet) (q : Identity) (x : Stored) → list_all (is_whole m) s ≡ true → stored_at s q ≡ Some x → has_required m x ≡ true
@@ -105,15 +125,31 @@ module _ (m : PersistenceUnit) where
           ap (has_required m) (sym same) ∙ t_first (has_required m d.1) _ h
       by_first rest false e = rest e
 
-  -- each of these, in rising order, lacks nothing where what is found of them does
-  each_found : (es : StoredSet) → T (is_sorted identity_cmp es) → ((q : Identity) (x : Stored) → stored_at es q ≡ Some x → has_required m x ≡ true) → list_all (is_whole m) es ≡ true
-  each_found [] sorted h = refl
-  each_found (e ∷ es) sorted h =
-      and_from (has_required m e.1) _ (h e.0 e.1 (first_found e es)) (each_found es (rest_sorted e es sorted) (λ q x k. h q x (later e es sorted q x k)))
+  -- what is written stays, where nothing else is written under its identity
+  still_found : (q : Identity) (x : Stored) (ps : List Planned) (s : StoredSet) → list_any (same_identity q) (targets ps) ≡ false → stored_at (write_each ps (with_stored q x s)) q ≡ Some x
+  still_found q x ps s h =
+      let first : stored_at (with_stored q x s) q ≡ Some x =
+      find-put identity_cmp identity_total q q x s ∙ ap (λ r. cond (is_eq r) (Some x) (stored_at s q)) (tied_itself identity_total q) in
+      ap (λ v. stored_at v q) (sym (applied_each ps (with_stored q x s)))
+      ∙ applied_found q (writes_of ps) (with_stored q x s)
+      ∙ unnamed_done q (writes_of ps) (stored_at (with_stored q x s) q) (ap (list_any (same_identity q)) (names_of ps) ∙ h)
+      ∙ first
 
-  whole_again : (es s : StoredSet) → T (is_sorted identity_cmp es) → list_all (is_whole m) (put_all es s) ≡ true → list_all (is_whole m) es ≡ true
-  whole_again es s sorted h =
-      each_found es sorted (λ q x k. found_whole (put_all es s) q x h (found q es s sorted ∙ ap (λ o. over o (stored_at s q)) k))
+  first_filled : (id : Option Identity) (x : Option Stored) (ps : List Planned) (s : StoredSet) → all_distinct same_identity (listed id ++ targets ps) ≡ true →
+      list_all (is_whole m) (write_each ps (put_or_take id x s)) ≡ true → fills_at m id x ≡ true
+  first_filled None x ps s d h = refl
+  first_filled (Some id) None ps s d h = refl
+  first_filled (Some id) (Some x) ps s d h =
+      let apart = not-true (list_any (same_identity id) (targets ps)) ((and_parts (not (list_any (same_identity id) (targets ps))) (all_distinct same_identity (targets ps)) d).0) in
+      found_whole (write_each ps (with_stored id x s)) id x h (still_found id x ps s apart)
+
+  rest_apart : (id : Option Identity) (ids : List Identity) → all_distinct same_identity (listed id ++ ids) ≡ true → all_distinct same_identity ids ≡ true
+  rest_apart None ids d = d
+  rest_apart (Some id) ids d = (and_parts (not (list_any (same_identity id) ids)) (all_distinct same_identity ids) d).1
+
+  whole_again : (plan : List Planned) (s : StoredSet) → are_apart plan ≡ true → list_all (is_whole m) (write_each plan s) ≡ true → list_all (fills m) plan ≡ true
+  whole_again [] s d h = refl
+  whole_again (p ∷ ps) s d h = and_from (fills m p) (list_all (fills m) ps) (first_filled p.id p.stored ps s d h) (whole_again ps (write p s) (rest_apart p.id (targets ps) d) h)
 
   same_bool : (a b : Bool) → (a ≡ true → b ≡ true) → (b ≡ true → a ≡ true) → a ≡ b
   same_bool true b f g = sym (f refl)
@@ -121,7 +157,8 @@ module _ (m : PersistenceUnit) where
   same_bool false false f g = refl
 
   -- over a sound set: the fault is that of what was written
-  pub fault_over : IsFlat m → (es s : StoredSet) → T (is_sorted identity_cmp es) → IsSound m s → fault_of m (put_all es s) ≡ first_fault (list_all (is_whole m) es) true true
-  fault_over flat es s sorted sound =
-      fault_is m flat (put_all es s)
-      ∙ ap (λ b. first_fault b true true) (same_bool (list_all (is_whole m) (put_all es s)) (list_all (is_whole m) es) (whole_again es s sorted) (λ h. written_whole es s h (all_whole m flat s sound)))
+  pub fault_over : IsFlat m → (plan : List Planned) (s : StoredSet) → are_apart plan ≡ true → IsSound m s → fault_of m (write_each plan s) ≡ first_fault (list_all (fills m) plan) true true
+  fault_over flat plan s apart sound =
+      fault_is m flat (write_each plan s)
+      ∙ ap (λ b. first_fault b true true)
+      (same_bool (list_all (is_whole m) (write_each plan s)) (list_all (fills m) plan) (whole_again plan s apart) (λ h. written_whole plan s h (all_whole m flat s sound)))

@@ -9,9 +9,8 @@ use Rattle.jpa_value.specs.declared.refusal.Cause.{Cause}
 use Rattle.jpa_protocol.specs.declared.event.Told.{Told}
 use Rattle.jpa_model.specs.declared.unit.PersistenceUnit.{PersistenceUnit}
 use Rattle.jpa_behaviour.specs.Behaviour.{World}
-use Rattle.jpa_heap.specs.Objects.{no_object}
 use Rattle.jpa_context.specs.declared.Entry.{Entry}
-use Rattle.jpa_context.specs.Undo.{IsPlain}
+use Rattle.jpa_context.specs.declared.Lock.{Lock}
 use Rattle.jpa_context.specs.Work.{Work}
 use Rattle.jpa_context.specs.Steps.{Outcome, Done, Op, after, each, IsRefusedAs}
 use Rattle.jpa_lifecycle.specs.Flat.{IsFlat}
@@ -19,9 +18,9 @@ use Rattle.jpa_ops.proofs.Refused.{refused_after}
 use Rattle.jpa_flush.specs.declared.steps.Step.{Step}
 use Rattle.jpa_flush.specs.declared.planning.Planned.{Planned}
 use Rattle.jpa_flush.specs.Flush.{pre_update_one, check_one, check_actions}
-use Rattle.jpa_flush.specs.Plan.{step_of, update, check, insertion, replacement, planned, planned_of}
-use Rattle.jpa_flush.proofs.Plain.{IsPlainEntry, plain_check, plain_update}
-use Rattle.jpa_flush.proofs.Updated.{IsUpdated, updated_plain}
+use Rattle.jpa_flush.specs.Plan.{step_of, update, check, insertion, replacement, removal, planned, planned_of}
+use Rattle.jpa_flush.proofs.Plain.{IsUnlocked, plain_check, plain_update}
+use Rattle.jpa_flush.proofs.Updated.{IsUpdated, updated_unlocked}
 
 next : {X : Type 0} (f : X → Op (Unit {0})) (xs : List X) (i : ℕ) (x : X) (w : Work) → i < length xs → x ≡ get_or xs i x → each f (drop i xs) w ≡ after (f x w) (λ _. each f (drop (i + 1) xs))
 next f xs i x w l read = at_drop_more (λ ys. each f ys w) xs i x l ∙ ap (λ y. after (f y w) (λ _. each f (drop (i + 1) xs))) (sym read)
@@ -37,22 +36,24 @@ next_refused f xs i x w r events l read h =
 
 -- ---- entries
 
-pub plain_at : (w : Work) (i : ℕ) (e : Entry) → IsPlain w → i < length w.context → e ≡ get_or w.context i e → e.object < length w.objects → IsPlainEntry w e
-plain_at w i e h l read within = (h.objects e.object no_object within, ap (λ (x : Entry). x.lock) read ∙ h.context i e l)
+abbrev AreUnlocked : Work → Type 0
+AreUnlocked w = All (λ e. e.lock ≡ Lock.Unlocked) w.context
 
-pub check_done : (world : World) → IsFlat world.model → (w : Work) (i : ℕ) (e : Entry) → IsPlain w → i < length w.context → e ≡ get_or w.context i e → e.object < length w.objects →
-    check world e.object (step_of w e) w ≡ Done tt w →
+unlocked_at : (w : Work) (i : ℕ) (e : Entry) → AreUnlocked w → i < length w.context → e ≡ get_or w.context i e → IsUnlocked e
+unlocked_at w i e h l read = ap (λ (x : Entry). x.lock) read ∙ h i e l
+
+pub check_done : (world : World) → IsFlat world.model → (w : Work) (i : ℕ) (e : Entry) → AreUnlocked w → i < length w.context → e ≡ get_or w.context i e → check world e.object (step_of w e) w ≡ Done tt w →
     each (check_one world) (drop (i + 1) w.context) w ≡ each (check_one world) (drop i w.context) w
-check_done world flat w i e plain l read within done =
-    next_done (check_one world) w.context i e w w l read (plain_check world flat w e (plain_at w i e plain l read within) ∙ done)
+check_done world flat w i e unlocked l read done =
+    next_done (check_one world) w.context i e w w l read (plain_check world flat w e (unlocked_at w i e unlocked l read) ∙ done)
 
-pub check_refused : (world : World) → IsFlat world.model → (w : Work) (i : ℕ) (e : Entry) (r : Cause) → IsPlain w → i < length w.context → e ≡ get_or w.context i e → e.object < length w.objects →
+pub check_refused : (world : World) → IsFlat world.model → (w : Work) (i : ℕ) (e : Entry) (r : Cause) → AreUnlocked w → i < length w.context → e ≡ get_or w.context i e →
     each (check_one world) (drop i w.context) w ≡ check_actions world w →
     IsRefusedAs r w.events (check world e.object (step_of w e) w) → IsRefusedAs r w.events (check_actions world w)
-check_refused world flat w i e r plain l read within rest h =
+check_refused world flat w i e r unlocked l read rest h =
     subst (IsRefusedAs r w.events) rest
     (next_refused (check_one world) w.context i e w r w.events l read
-    (subst (IsRefusedAs r w.events) (sym (plain_check world flat w e (plain_at w i e plain l read within))) h))
+    (subst (IsRefusedAs r w.events) (sym (plain_check world flat w e (unlocked_at w i e unlocked l read))) h))
 
 -- the plan by the next entry
 pub plan_round : (m : PersistenceUnit) (w : Work) (i : ℕ) (e : Entry) (plan plan' : List Planned) (o : Option Planned) → i < length w.context → e ≡ get_or w.context i e →
@@ -69,6 +70,7 @@ step_within : (m : PersistenceUnit) (w : Work) (n k : ℕ) (s : Step) → n < k 
 step_within m w n k Step.Keep l = All-nil (λ (p : Planned). p.object < k)
 step_within m w n k Step.Insert l = All-cons (λ (p : Planned). p.object < k) (insertion m w n) [] l (All-nil (λ (p : Planned). p.object < k))
 step_within m w n k (Step.Replace v) l = All-cons (λ (p : Planned). p.object < k) (replacement m w n v) [] l (All-nil (λ (p : Planned). p.object < k))
+step_within m w n k (Step.Drop v) l = All-cons (λ (p : Planned). p.object < k) (removal m w n) [] l (All-nil (λ (p : Planned). p.object < k))
 
 pub within_round : (m : PersistenceUnit) (w : Work) (e : Entry) (plan plan' : List Planned) (o : Option Planned) → e.object < length w.objects → All (λ p. p.object < length w.objects) plan →
     o ≡ planned m w e.object (step_of w e) → plan' ≡ plan ++ option_to_list o → All (λ p. p.object < length w.objects) plan'
@@ -78,18 +80,18 @@ within_round m w e plan plan' o l before this next =
 
 -- ---- PreUpdate
 
-pub update_done : (world : World) → IsFlat world.model → (w0 w w' : Work) (i : ℕ) (e : Entry) → IsPlain w0 → IsUpdated w0 w → i < length w.context → e ≡ get_or w.context i e →
-    e.object < length w.objects → update world e.object (step_of w e) w ≡ Done tt w' →
+pub update_done : (world : World) → IsFlat world.model → (w0 w w' : Work) (i : ℕ) (e : Entry) → AreUnlocked w0 → IsUpdated w0 w → i < length w.context → e ≡ get_or w.context i e →
+    update world e.object (step_of w e) w ≡ Done tt w' →
     each (pre_update_one world) (drop (i + 1) w0.context) w' ≡ each (pre_update_one world) (drop i w0.context) w
-update_done world flat w0 w w' i e plain same l read within done =
+update_done world flat w0 w w' i e unlocked same l read done =
     ap (λ (es : List Entry). each (pre_update_one world) (drop (i + 1) es) w') (sym same.context)
-    ∙ next_done (pre_update_one world) w.context i e w w' l read (plain_update world flat w e (plain_at w i e (updated_plain w0 w same plain) l read within) ∙ done)
+    ∙ next_done (pre_update_one world) w.context i e w w' l read (plain_update world flat w e (unlocked_at w i e (updated_unlocked w0 w same unlocked) l read) ∙ done)
     ∙ ap (λ (es : List Entry). each (pre_update_one world) (drop i es) w) same.context
 
-pub update_refused : (world : World) → IsFlat world.model → (w0 w : Work) (i : ℕ) (e : Entry) (r : Cause) (events : List Told) (o : Outcome (Unit {0})) → IsPlain w0 → IsUpdated w0 w →
-    i < length w.context → e ≡ get_or w.context i e → e.object < length w.objects → each (pre_update_one world) (drop i w0.context) w ≡ o →
+pub update_refused : (world : World) → IsFlat world.model → (w0 w : Work) (i : ℕ) (e : Entry) (r : Cause) (events : List Told) (o : Outcome (Unit {0})) → AreUnlocked w0 → IsUpdated w0 w →
+    i < length w.context → e ≡ get_or w.context i e → each (pre_update_one world) (drop i w0.context) w ≡ o →
     IsRefusedAs r events (update world e.object (step_of w e) w) → IsRefusedAs r events o
-update_refused world flat w0 w i e r events o plain same l read within rest h =
+update_refused world flat w0 w i e r events o unlocked same l read rest h =
     subst (IsRefusedAs r events) (ap (λ (es : List Entry). each (pre_update_one world) (drop i es) w) same.context ∙ rest)
     (next_refused (pre_update_one world) w.context i e w r events l read
-    (subst (IsRefusedAs r events) (sym (plain_update world flat w e (plain_at w i e (updated_plain w0 w same plain) l read within))) h))
+    (subst (IsRefusedAs r events) (sym (plain_update world flat w e (unlocked_at w i e (updated_unlocked w0 w same unlocked) l read))) h))

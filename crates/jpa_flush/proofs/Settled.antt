@@ -1,6 +1,6 @@
 -- What changes an object at a time, and an entry at a time.
 use Rattle.std.proofs.Common.{◌≡◌, ◌∙◌, ℕ, zero, suc, ◌<◌, ◌≤◌, ◌+◌, List, [], ◌∷◌, ◌++◌, map, take, drop, length, get_or, refl, ap, sym, subst, arith, add-one}
-use Rattle.std.specs.Prelude.{ℤ, if◌then◌else◌, ◌==◌, slice_set, Option, Some, All}
+use Rattle.std.specs.Prelude.{ℤ, if◌then◌else◌, ◌==◌, slice_set, Option, Some, None, All}
 use Rattle.std.proofs.lemmas.Bool.{cases_lt, cond_both}
 use Rattle.std.proofs.Common.{inl, inr}
 use Rattle.std.proofs.lemmas.List.{length-set, get_or_past}
@@ -14,8 +14,13 @@ use Rattle.jpa_flush.specs.declared.planning.Planned.{Planned}
 use Rattle.jpa_flush.specs.Flush.{settled_entry, settled}
 use Rattle.jpa_flush.specs.Plan.{settled_by}
 
-abbrev pub settled_if : ℕ → Stored → Entry → Entry
-settled_if n x e = if e.object == n then settled_entry x e else e
+-- an entry of an object of which this was written, or which was taken out
+abbrev pub settled_as : Option Stored → Entry → Entry
+settled_as None e = record e { base = None }
+settled_as (Some x) e = settled_entry x e
+
+abbrev pub settled_if : ℕ → Option Stored → Entry → Entry
+settled_if n o e = if e.object == n then settled_as o e else e
 
 -- the first i items changed, the others not
 abbrev pub partly : {X : Type 0} → (X → X) → ℕ → List X → List X
@@ -62,9 +67,17 @@ changed_whole f w0 w i l same = same ∙ ap {A = List Entry} {B = Work} (λ es. 
 
 -- ---- what a plan leaves of objects and entries
 
+pub one_count : (n : ℕ) (o : Option Stored) (w : Work) → length (settled n o w).objects ≡ length w.objects
+one_count n None w = refl
+one_count n (Some x) w = length-set w.objects n (record (object w n) { version = x.version })
+
 pub same_count : (plan : List Planned) (w : Work) → length (settled_by plan w).objects ≡ length w.objects
 same_count [] w = refl
-same_count (p ∷ ps) w = same_count ps (settled p.object (Some p.stored) w) ∙ length-set w.objects p.object (record (object w p.object) { version = (p.stored).version })
+same_count (p ∷ ps) w = same_count ps (settled p.object p.stored w) ∙ one_count p.object p.stored w
+
+pub one_context : (n : ℕ) (o : Option Stored) (w : Work) → (settled n o w).context ≡ map (settled_if n o) w.context
+one_context n None w = refl
+one_context n (Some x) w = refl
 
 pub any_object : (P : LiveObject → Type 0) → P no_object → (xs : List LiveObject) (n : ℕ) → All P xs → P (get_or xs n no_object)
 any_object P none xs n h = elim (cases_lt n (length xs)) [
@@ -76,15 +89,18 @@ any_object P none xs n h = elim (cases_lt n (length xs)) [
 pub objects_keep : (P : LiveObject → Type 0) → P no_object → ((x : LiveObject) (v : Option ℤ) → P x → P (record x { version = v })) → (plan : List Planned) (w : Work) →
     All P w.objects → All P (settled_by plan w).objects
 objects_keep P none any [] w h = h
-objects_keep P none any (p ∷ ps) w h =
-    objects_keep P none any ps (settled p.object (Some p.stored) w)
-    (All-set P w.objects p.object (record (object w p.object) { version = (p.stored).version }) (any (object w p.object) (p.stored).version (any_object P none w.objects p.object h)) h)
+objects_keep P none any (p ∷ ps) w h = objects_keep P none any ps (settled p.object p.stored w) (one p.object p.stored)
+  where
+    one : (n : ℕ) (o : Option Stored) → All P (settled n o w).objects
+    one n None = h
+    one n (Some x) = All-set P w.objects n (record (object w n) { version = x.version }) (any (object w n) x.version (any_object P none w.objects n h)) h
 
 -- what holds of an entry whatever was written
-pub entries_keep : (P : Entry → Type 0) → ((x : Stored) (e : Entry) → P e → P (settled_entry x e)) → (plan : List Planned) (w : Work) →
+pub entries_keep : (P : Entry → Type 0) → ((o : Option Stored) (e : Entry) → P e → P (settled_as o e)) → (plan : List Planned) (w : Work) →
     All P w.context → All P (settled_by plan w).context
 entries_keep P any [] w h = h
 entries_keep P any (p ∷ ps) w h =
-    entries_keep P any ps (settled p.object (Some p.stored) w)
+    entries_keep P any ps (settled p.object p.stored w)
+    (subst (All P) (sym (one_context p.object p.stored w))
     (All-map P (settled_if p.object p.stored) w.context
-    (λ k d l. cond_both ((get_or w.context k d).object == p.object) (settled_entry p.stored (get_or w.context k d)) (get_or w.context k d) P (λ q. any p.stored (get_or w.context k d) (h k d l)) (λ q. h k d l)))
+    (λ k d l. cond_both ((get_or w.context k d).object == p.object) (settled_as p.stored (get_or w.context k d)) (get_or w.context k d) P (λ q. any p.stored (get_or w.context k d) (h k d l)) (λ q. h k d l))))

@@ -13,7 +13,7 @@ use Rattle.jpa_heap.specs.Shape.{HasShape}
 use Rattle.jpa_context.specs.declared.Lock.{Lock}
 use Rattle.jpa_context.specs.declared.Entry.{Entry}
 use Rattle.jpa_context.specs.Steps.{Outcome, Done, Refused, Op, done, after, each}
-use Rattle.jpa_context.specs.Undo.{IsKeyed, IsPlaced, IsPlain, is_removed_life}
+use Rattle.jpa_context.specs.Undo.{IsKeyed, IsPlaced}
 use Rattle.jpa_context.specs.Work.{Work, object}
 use Rattle.jpa_lifecycle.specs.Callbacks.{callback}
 use Rattle.jpa_lifecycle.proofs.Keeps.{IsRevalued, revalued_none, revalued_twice, revalued_shape, HasHappened, happened}
@@ -105,6 +105,7 @@ module _ (R : Work → Work → Type 0) (none : (w : Work) → R w w) (twice : (
   related_step n Step.Keep w v e = related_none w v e
   related_step n Step.Insert w v e = related_none w v e
   related_step n (Step.Replace version) w v e = happens LifecycleEvent.PreUpdate n w v e
+  related_step n (Step.Drop version) w v e = related_none w v e
 
 pub by_updates : (world : World) (w v : Work) → pre_update world w ≡ Done tt v → IsUpdated w v
 by_updates world w v e = related_updates IsUpdated updated_none updated_twice world (by_callback world) w v e
@@ -143,11 +144,5 @@ updated_places m w v h p =
       view = ap (λ s. all_shaped m s) h.view ∙ p.view;
     }
 
-pub updated_plain : (w v : Work) → IsUpdated w v → IsPlain w → IsPlain v
-updated_plain w v h p =
-    record {
-      objects = λ n d l.
-          let k : n < length w.objects = omega (arith, l, h.count) in
-          ap (λ (x : LiveObject). is_removed_life x.life) (object_is v.objects n d l ∙ (h.objects n).same) ∙ p.objects n no_object k;
-      context = subst (All (λ (e : Entry). e.lock ≡ Lock.Unlocked)) (sym h.context) p.context;
-    }
+pub updated_unlocked : (w v : Work) → IsUpdated w v → All (λ e. e.lock ≡ Lock.Unlocked) w.context → All (λ e. e.lock ≡ Lock.Unlocked) v.context
+updated_unlocked w v h p = subst (All (λ (e : Entry). e.lock ≡ Lock.Unlocked)) (sym h.context) p

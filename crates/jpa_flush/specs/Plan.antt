@@ -1,5 +1,5 @@
--- The flush of a unit without relations, with no object removed and no entry locked: what it does with each
--- entry of the context, and what it writes.
+-- The flush of a unit without relations, with no entry locked: what it does with each entry of the context, and what it
+-- writes.
 use Rattle.std.specs.Prelude.{ℕ, ℤ, Bool, true, false, not, ◌&&◌, is_some, List, [], ◌∷◌, Option, Some, None}
 use Rattle.std.specs.List.{flat_map, zip}
 use Rattle.std.specs.Option.{option_to_list}
@@ -12,7 +12,7 @@ use Rattle.jpa_model.specs.declared.unit.PersistenceUnit.{PersistenceUnit}
 use Rattle.jpa_model.specs.Chains.{attributes_of, is_versioned}
 use Rattle.jpa_behaviour.specs.Behaviour.{World}
 use Rattle.jpa_stored.specs.declared.stored.Stored.{Stored}
-use Rattle.jpa_stored.specs.Sets.{StoredSet, values_there}
+use Rattle.jpa_stored.specs.Sets.{StoredSet, with_stored, without, values_there}
 use Rattle.jpa_heap.specs.declared.LiveObject.{LiveObject}
 use Rattle.jpa_context.specs.declared.Base.{Base}
 use Rattle.jpa_context.specs.declared.Entry.{Entry}
@@ -23,7 +23,6 @@ use Rattle.jpa_lifecycle.specs.Callbacks.{callback}
 use Rattle.jpa_flush.specs.declared.steps.Step.{Step}
 use Rattle.jpa_flush.specs.declared.planning.Planned.{Planned}
 use Rattle.jpa_flush.specs.Flush.{same_values, same_version, can_rise, all_convert, first_version, raised, settled, all_remembered}
-use Rattle.jpa_flush.specs.Writes.{paired}
 
 abbrev pub unless_same : Bool → Option ℤ → Step
 unless_same true version = Step.Keep
@@ -32,8 +31,9 @@ unless_same false version = Step.Replace version
 abbrev pub step_for : EntityState → Option Base → List Value → Step
 step_for EntityState.Managed None values = Step.Insert
 step_for EntityState.Managed (Some b) values = unless_same (same_values values (b.stored).values) (b.stored).version
+step_for EntityState.Removed None values = Step.Keep
+step_for EntityState.Removed (Some b) values = Step.Drop (b.stored).version
 step_for EntityState.New b values = Step.Keep
-step_for EntityState.Removed b values = Step.Keep
 step_for EntityState.Detached b values = Step.Keep
 
 abbrev pub step_of : Work → Entry → Step
@@ -43,6 +43,7 @@ abbrev pub update : World → ℕ → Step → Op (Unit {0})
 update world n Step.Keep = done
 update world n Step.Insert = done
 update world n (Step.Replace version) = callback world LifecycleEvent.PreUpdate n
+update world n (Step.Drop version) = done
 
 -- ---- the values that a class requires are there
 
@@ -70,10 +71,16 @@ check_replacement world n version = do
   convertible ← read (λ w. all_convert world (object w n))
   require convertible (Cause.Persistence Persist.Converter)
 
+abbrev pub check_removal : PersistenceUnit → ℕ → Option ℤ → Op (Unit {0})
+check_removal m n version = do
+  current ← read (λ w. has_version (row_at w (identity_at m w n)) version)
+  require current Cause.OptimisticLock
+
 abbrev pub check : World → ℕ → Step → Op (Unit {0})
 check world n Step.Keep = done
 check world n Step.Insert = check_insertion world n
 check world n (Step.Replace version) = check_replacement world n version
+check world n (Step.Drop version) = check_removal world.model n version
 
 -- ---- what is written
 
@@ -86,7 +93,7 @@ insertion m w n =
       object = n;
       id = identity_at m w n;
       event = LifecycleEvent.PostPersist;
-      stored = plain_stored (object w n) (first_version (is_versioned m (object w n).class));
+      stored = Some (plain_stored (object w n) (first_version (is_versioned m (object w n).class)));
     }
 
 abbrev pub replacement : PersistenceUnit → Work → ℕ → Option ℤ → Planned
@@ -95,13 +102,17 @@ replacement m w n version =
       object = n;
       id = identity_at m w n;
       event = LifecycleEvent.PostUpdate;
-      stored = plain_stored (object w n) (raised version);
+      stored = Some (plain_stored (object w n) (raised version));
     }
+
+abbrev pub removal : PersistenceUnit → Work → ℕ → Planned
+removal m w n = record { object = n; id = identity_at m w n; event = LifecycleEvent.PostRemove; stored = None }
 
 abbrev pub planned : PersistenceUnit → Work → ℕ → Step → Option Planned
 planned m w n Step.Keep = None
 planned m w n Step.Insert = Some (insertion m w n)
 planned m w n (Step.Replace version) = Some (replacement m w n version)
+planned m w n (Step.Drop version) = Some (removal m w n)
 
 abbrev pub planned_of : PersistenceUnit → Work → Entry → List Planned
 planned_of m w e = option_to_list (planned m w e.object (step_of w e))
@@ -111,15 +122,31 @@ plan_of m w = flat_map (planned_of m w) w.context
 
 -- ---- what becomes of a plan
 
-abbrev pub written_of : Planned → List (Identity × Stored)
-written_of p = paired p.id (Some p.stored)
+-- what the set has under an identity afterwards, if anything
+abbrev pub put_or_take : Option Identity → Option Stored → StoredSet → StoredSet
+put_or_take None x s = s
+put_or_take (Some id) None s = without (id ∷ []) s
+put_or_take (Some id) (Some x) s = with_stored id x s
 
-abbrev pub writes_of : List Planned → List (Identity × Stored)
-writes_of plan = flat_map written_of plan
+abbrev pub write : Planned → StoredSet → StoredSet
+write p s = put_or_take p.id p.stored s
+
+abbrev pub write_each : List Planned → StoredSet → StoredSet
+write_each [] s = s
+write_each (p ∷ ps) s = write_each ps (write p s)
+
+-- what is written has the values that its class requires
+abbrev pub fills_at : PersistenceUnit → Option Identity → Option Stored → Bool
+fills_at m None x = true
+fills_at m (Some id) None = true
+fills_at m (Some id) (Some x) = has_required m x
+
+abbrev pub fills : PersistenceUnit → Planned → Bool
+fills m p = fills_at m p.id p.stored
 
 abbrev pub settled_by : List Planned → Work → Work
 settled_by [] w = w
-settled_by (p ∷ ps) w = settled_by ps (settled p.object (Some p.stored) w)
+settled_by (p ∷ ps) w = settled_by ps (settled p.object p.stored w)
 
 -- whether the base of a managed object has members
 abbrev pub has_members : Option Base → Bool

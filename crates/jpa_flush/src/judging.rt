@@ -1,16 +1,19 @@
 //! Whether the set is sound after a write.
-ghost use Rattle.std.specs.Prelude.{◌≡◌, ◌&&◌, not, Some, option_map, IfErr, OnOk};
+ghost use Rattle.std.specs.Prelude.{◌≡◌, ◌&&◌, not, true, Some, option_map, IfErr, OnOk};
 ghost use Rattle.std.specs.List.{list_all, zip};
 ghost use Rattle.jpa_lifecycle.specs.Flat.{IsFlat};
-ghost use Rattle.jpa_model.specs.Chains as chains;
 ghost use Rattle.jpa_stored.specs.Sets as sets;
+ghost use Rattle.jpa_stored.specs.Sets.{StoredSet, IsSound, fault_of};
 ghost use Rattle.jpa_value.specs.declared.refusal.Cause.{Cause};
 ghost use Rattle.jpa_value.specs.Value.{is_null};
-ghost use Rattle.jpa_flush.specs.Plan.{has_required};
+ghost use Rattle.jpa_flush.specs.Names.{are_apart};
+ghost use Rattle.jpa_flush.specs.Plan.{has_required, write_each};
+ghost use Rattle.jpa_flush.specs.Plan as plans;
 
+use crate::planning::Planned;
 use jpa_model::{Attribute, Metamodel};
-use jpa_stored::{OpenSet, Stored};
-use jpa_value::{Boxed, Cause, Identity, Persist, Value};
+use jpa_stored::Stored;
+use jpa_value::{Cause, Persist, Value};
 
 /// Whether a value is there, where its attribute requires one.
 fn is_there(attribute: &Attribute, value: &Value) -> bool
@@ -44,27 +47,39 @@ fn is_filled(metamodel: &Metamodel, stored: &Stored) -> bool
     )
 }
 
-/// Whether each object has the values that its class requires.
-fn all_filled(metamodel: &Metamodel, written: &[Boxed<(Identity, Stored)>]) -> bool
-    ensures { result ≡ list_all (λ e. has_required metamodel.now e.1) written.now }
+/// Whether what a plan writes of an object has the values that its class requires.
+fn fills(metamodel: &Metamodel, planned: &Planned) -> bool
+    ensures { result ≡ plans.fills metamodel.now planned.now }
 {
-    for entry in written {
-        if !is_filled(metamodel, &entry.get().1) {
+    match (&planned.id, &planned.stored) {
+        (Some(_), Some(stored)) => is_filled(metamodel, stored),
+        _ => true,
+    }
+}
+
+/// Whether all that a plan writes has the values that its class requires.
+fn all_fill(metamodel: &Metamodel, plan: &[Planned]) -> bool
+    ensures { result ≡ list_all (plans.fills metamodel.now) plan.now }
+{
+    for planned in plan {
+        if !fills(metamodel, planned) {
             return false;
         }
     }
     true
 }
 
-/// Whether the set that a manager sees is sound (chapter 3.2.4) after writes over a sound one, in a unit without relations:
-/// `Persistence(null)` where a value is not there that its class requires. Looks at what was written alone.
-pub fn judge(metamodel: &Metamodel, view: &OpenSet) -> Result<(), Cause>
+/// Whether the set that a manager sees stays sound (chapter 3.2.4) by a plan, in a unit without relations:
+/// `Persistence(null)` where a value is not there that its class requires. Looks at what is written alone.
+pub fn judge(metamodel: &Metamodel, plan: &[Planned]) -> Result<(), Cause>
     requires flat { IsFlat metamodel.now }
-    requires sound { sets.IsSound metamodel.now view.now.since }
-    ensures sound { OnOk result (sets.IsSound metamodel.now view.now.now) }
-    ensures fault { IfErr result (λ cause. option_map Cause.Persistence (sets.fault_of metamodel.now view.now.now) ≡ Some cause) }
+    requires distinct { are_apart plan.now ≡ true }
+    ensures sound { OnOk result
+        ((s : StoredSet) → IsSound metamodel.now s → IsSound metamodel.now (write_each plan.now s)) }
+    ensures fault { IfErr result (λ cause. (s : StoredSet) → IsSound metamodel.now s →
+        option_map Cause.Persistence (fault_of metamodel.now (write_each plan.now s)) ≡ Some cause) }
 {
-    if !all_filled(metamodel, view.written()) {
+    if !all_fill(metamodel, plan) {
         return Err(Cause::Persistence(Persist::Null));
     }
     Ok(())

@@ -2,7 +2,8 @@
 ghost use Rattle.std.specs.Prelude.{◌≡◌, ◌<◌, All, length, IfOk, IfErr};
 ghost use Rattle.jpa_behaviour.specs.Registered.{world_of};
 ghost use Rattle.jpa_context.specs.Steps.{Ends};
-ghost use Rattle.jpa_context.specs.Undo.{now, IsPlaced, IsPlain};
+ghost use Rattle.jpa_context.specs.declared.Lock.{Lock};
+ghost use Rattle.jpa_context.specs.Undo.{now, IsPlaced};
 ghost use Rattle.jpa_lifecycle.specs.Flat.{IsFlat};
 ghost use Rattle.jpa_value.specs.declared.refusal.Cause.{Cause};
 ghost use Rattle.jpa_flush.specs.Flush as flushes;
@@ -24,7 +25,8 @@ pub struct Planned {
     pub object: usize,
     pub id: Option<Identity>,
     pub event: LifecycleEvent,
-    pub stored: Stored,
+    /// What stands under its identity afterwards; nothing where the object was removed.
+    pub stored: Option<Stored>,
 }
 
 /// What is written of an object of a class without relations.
@@ -70,7 +72,7 @@ fn insertion<B: Behaviour>(
         object,
         id,
         event: LifecycleEvent::PostPersist,
-        stored: stored_of(alloc, live, version)?,
+        stored: Some(stored_of(alloc, live, version)?),
     })
 }
 
@@ -103,7 +105,33 @@ fn replacement<B: Behaviour>(
         object,
         id,
         event: LifecycleEvent::PostUpdate,
-        stored: stored_of(alloc, live, raised(version))?,
+        stored: Some(stored_of(alloc, live, raised(version))?),
+    })
+}
+
+/// A removed object, which was loaded with this version.
+fn removal(
+    metamodel: &Metamodel,
+    work: &UnitOfWork,
+    object: usize,
+    loaded: Option<i64>,
+) -> Result<Planned, Cause>
+    requires placed { IsPlaced metamodel.now (now work.now) }
+    requires object { object < length work.now.objects.now }
+    ensures planned { IfOk result
+        (λ planned. planned ≡ plans.removal metamodel.now (now work.now) object) }
+    ensures ends { Ends result (now work.now)
+        (plans.check_removal metamodel.now object loaded (now work.now)) }
+{
+    let id = identity_of(metamodel, &work.objects.as_slice()[object])?;
+    if !is_current(work, &id, loaded) {
+        return Err(Cause::OptimisticLock);
+    }
+    Ok(Planned {
+        object,
+        id,
+        event: LifecycleEvent::PostRemove,
+        stored: None,
     })
 }
 
@@ -127,6 +155,7 @@ fn plan_one<B: Behaviour>(
         Step::Replace(version) => {
             Ok(Some(replacement(alloc, metamodel, registry, work, object, version)?))
         }
+        Step::Drop(version) => Ok(Some(removal(metamodel, work, object, version)?)),
     }
 }
 
@@ -139,7 +168,7 @@ pub fn plan<B: Behaviour>(
 ) -> Result<Seq<Planned>, Cause>
     requires flat { IsFlat metamodel.now }
     requires placed { IsPlaced metamodel.now (now work.now) }
-    requires plain { IsPlain (now work.now) }
+    requires unlocked { All (λ e. e.lock ≡ Lock.Unlocked) (now work.now).context }
     ensures planned { IfOk result (λ plan. plan ≡ plans.plan_of metamodel.now (now work.now)) }
     ensures objects { IfOk result (λ plan. All (λ p. p.object < length work.now.objects.now) plan) }
     ensures ends { Ends result (now work.now) (flushes.check_actions (world_of B.meaning metamodel.now registry.now) (now work.now)) }

@@ -1,5 +1,5 @@
 //! The objects and their bases after a write.
-ghost use Rattle.std.specs.Prelude.{◌≡◌, ◌<◌, ◌==◌, true, Some, [], All, length, map, slice_get, IfOk, IfErr, OnOk};
+ghost use Rattle.std.specs.Prelude.{◌≡◌, ◌<◌, ◌==◌, true, Some, None, [], All, length, map, slice_get, IfOk, IfErr, OnOk};
 ghost use Rattle.jpa_context.specs.Undo.{now, since};
 ghost use Rattle.jpa_context.specs.Work as works;
 ghost use Rattle.jpa_stored.specs.Sets.{all_distinct};
@@ -24,6 +24,19 @@ fn lowered(lock: Lock) -> Lock
         Lock::Write | Lock::Read => Lock::Read,
         Lock::Unlocked => Lock::Unlocked,
     }
+}
+
+/// The entry of an object that was taken out: it has no base.
+fn without_base(entry: &Entry) -> Result<Entry, Cause>
+    ensures ok { IfOk result (λ settled. settled ≡ record entry.now { base = None }) }
+    ensures err { IfErr result (λ cause. cause ≡ Cause.OutOfMemory) }
+{
+    Ok(Entry {
+        object: entry.object,
+        key: entry.key.try_copy()?,
+        lock: entry.lock,
+        base: None,
+    })
 }
 
 /// The entry of an object that was written.
@@ -56,6 +69,40 @@ fn settle_version(work: &mut UnitOfWork, object: usize, version: Option<i64>) ->
 }
 
 /// An object that was written takes the version, and the entry at its place in the context what was written as its base.
+fn settle_written(
+    alloc: Global,
+    work: &mut UnitOfWork,
+    place: usize,
+    object: usize,
+    stored: &Stored,
+) -> Result<(), Cause>
+    requires object { object < length work.old.objects.now }
+    requires place { slice_get (map (λ e. e.object) work.old.context.now) place ≡ Some object }
+    requires distinct { all_distinct (λ a b. a.object == b.object) work.old.context.now ≡ true }
+    ensures ok { OnOk result (now work.new ≡ flushes.settled object (Some stored.now) (now work.old)) }
+    ensures err { IfErr result (λ cause. cause ≡ Cause.OutOfMemory) }
+    ensures since { since work.new ≡ since work.old }
+{
+    settle_version(work, object, stored.version)?;
+    let settled = settled_entry(alloc, &work.context.as_slice()[place], stored)?;
+    work.context.set(place, settled)?;
+    Ok(())
+}
+
+/// The entry at the place in the context of an object that was taken out has no base.
+fn settle_taken(work: &mut UnitOfWork, place: usize, _object: usize) -> Result<(), Cause>
+    requires place { slice_get (map (λ e. e.object) work.old.context.now) place ≡ Some _object }
+    requires distinct { all_distinct (λ a b. a.object == b.object) work.old.context.now ≡ true }
+    ensures ok { OnOk result (now work.new ≡ flushes.settled _object None (now work.old)) }
+    ensures err { IfErr result (λ cause. cause ≡ Cause.OutOfMemory) }
+    ensures since { since work.new ≡ since work.old }
+{
+    let settled = without_base(&work.context.as_slice()[place])?;
+    work.context.set(place, settled)?;
+    Ok(())
+}
+
+/// What becomes of an object of a plan and of the entry at its place in the context.
 fn settle_at(
     alloc: Global,
     work: &mut UnitOfWork,
@@ -63,20 +110,22 @@ fn settle_at(
     planned: &Planned,
 ) -> Result<(), Cause>
     requires object { planned.now.object < length work.old.objects.now }
-    requires place { slice_get (map (λ e. e.object) work.old.context.now) place ≡ Some planned.now.object }
+    requires place { slice_get (map (λ e. e.object) work.old.context.now) place
+        ≡ Some planned.now.object }
     requires distinct { all_distinct (λ a b. a.object == b.object) work.old.context.now ≡ true }
-    ensures ok { OnOk result (now work.new ≡ flushes.settled planned.now.object (Some planned.now.stored) (now work.old)) }
+    ensures ok { OnOk result (now work.new
+        ≡ flushes.settled planned.now.object planned.now.stored (now work.old)) }
     ensures err { IfErr result (λ cause. cause ≡ Cause.OutOfMemory) }
     ensures since { since work.new ≡ since work.old }
 {
-    settle_version(work, planned.object, planned.stored.version)?;
-    let settled = settled_entry(alloc, &work.context.as_slice()[place], &planned.stored)?;
-    work.context.set(place, settled)?;
-    Ok(())
+    match &planned.stored {
+        None => settle_taken(work, place, planned.object),
+        Some(stored) => settle_written(alloc, work, place, planned.object, stored),
+    }
 }
 
-/// Each object of a plan takes the version that was written, and its base is what was written. The plan has its objects in
-/// the order of the context, so one walk along both meets each.
+/// Each object of a plan takes the version that was written, and its base is what was written; one that was taken out has
+/// no base. The plan has its objects in the order of the context, so one walk along both meets each.
 pub fn settle(alloc: Global, work: &mut UnitOfWork, plan: &[Planned]) -> Result<(), Cause>
     requires objects { All (λ p. p.object < length work.old.objects.now) plan.now }
     requires distinct { all_distinct (λ a b. a.object == b.object) work.old.context.now ≡ true }

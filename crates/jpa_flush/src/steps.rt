@@ -16,6 +16,8 @@ pub enum Step {
     Insert,
     /// In place of the row with the version that the object was loaded with.
     Replace(Option<i64>),
+    /// The row with the version that the object was loaded with is taken out.
+    Drop(Option<i64>),
 }
 
 /// Whether two lists hold the same values.
@@ -26,7 +28,7 @@ fn are_same(a: &[Value], b: &[Value]) -> bool
 }
 
 /// What the flush does with an entry: a managed object that was not written yet is inserted, one whose values are not
-/// those of its base replaces its row.
+/// those of its base replaces its row, and the row of a removed object is taken out, if it has one.
 pub fn step_of(work: &UnitOfWork, entry: &Entry) -> Step
     requires { entry.now.object < length work.now.objects.now }
     ensures { result ≡ plans.step_of (now work.now) entry.now }
@@ -39,6 +41,10 @@ pub fn step_of(work: &UnitOfWork, entry: &Entry) -> Step
                 Step::Keep
             }
             Some(base) => Step::Replace(base.stored.version),
+        },
+        Life::Removed(manager) if manager == work.manager => match &entry.base {
+            None => Step::Keep,
+            Some(base) => Step::Drop(base.stored.version),
         },
         _ => Step::Keep,
     }

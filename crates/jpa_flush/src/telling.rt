@@ -2,7 +2,8 @@
 ghost use Rattle.std.specs.Prelude.{◌≡◌, ◌<◌, All, length};
 ghost use Rattle.jpa_behaviour.specs.Registered.{world_of};
 ghost use Rattle.jpa_context.specs.Steps.{Meets};
-ghost use Rattle.jpa_context.specs.Undo.{now, since, IsPlaced, IsPlain};
+ghost use Rattle.jpa_context.specs.declared.Lock.{Lock};
+ghost use Rattle.jpa_context.specs.Undo.{now, since, IsPlaced};
 ghost use Rattle.jpa_context.specs.Work as works;
 ghost use Rattle.jpa_heap.specs.Shape.{HasShape};
 ghost use Rattle.jpa_lifecycle.specs.Flat.{IsFlat};
@@ -33,7 +34,7 @@ fn tell_update<B: Behaviour>(
     ensures since { since work.new ≡ since work.old }
 {
     match step {
-        Step::Keep | Step::Insert => Ok(()),
+        Step::Keep | Step::Insert | Step::Drop(_) => Ok(()),
         Step::Replace(_) => {
             let event = LifecycleEvent::PreUpdate;
             callback(alloc, metamodel, registry, work, event, object)
@@ -51,7 +52,7 @@ pub fn tell_updates<B: Behaviour>(
 ) -> Result<(), Cause>
     requires flat { IsFlat metamodel.now }
     requires placed { IsPlaced metamodel.now (now work.old) }
-    requires plain { IsPlain (now work.old) }
+    requires unlocked { All (λ e. e.lock ≡ Lock.Unlocked) (now work.old).context }
     ensures meets { Meets result (now work.new) (flushes.pre_update (world_of B.meaning metamodel.now registry.now) (now work.old)) }
     ensures since { since work.new ≡ since work.old }
 {

@@ -1,5 +1,5 @@
 -- What persist does to a work, in units without relations.
-use Rattle.std.proofs.Common.{◌≡◌, ◌≢◌, ◌<◌, ◌⊎◌, inl, inr, ℕ, true, List, [], ◌∷◌, length, refl, ap, sym, subst, ◌∙◌, arith}
+use Rattle.std.proofs.Common.{◌≡◌, ◌≢◌, ◌<◌, ◌⊎◌, inl, inr, ℕ, true, List, [], ◌∷◌, length, ap, sym, subst, ◌∙◌, arith}
 use Rattle.std.specs.Prelude.{All, not, slice_set}
 use Rattle.std.specs.List.{list_all}
 use Rattle.std.proofs.lemmas.Bool.{true≢false, and_parts, cases_eq}
@@ -9,21 +9,15 @@ use Rattle.jpa_value.specs.declared.value.Value.{Value}
 use Rattle.jpa_value.specs.Value.{is_null}
 use Rattle.jpa_model.specs.declared.unit.PersistenceUnit.{PersistenceUnit}
 use Rattle.jpa_model.specs.Chains.{root_of}
-use Rattle.jpa_behaviour.specs.Behaviour.{World}
 use Rattle.jpa_heap.specs.declared.LiveObject.{LiveObject}
 use Rattle.jpa_heap.specs.Objects.{no_object, object_at, is_whole}
 use Rattle.jpa_heap.specs.Shape.{HasShape}
 use Rattle.jpa_context.specs.declared.Entry.{Entry}
-use Rattle.jpa_context.specs.declared.EntityState.{EntityState}
-use Rattle.jpa_context.specs.Steps.{Outcome, Done, Refused, after, each}
 use Rattle.jpa_context.specs.Undo.{IsKeyed, IsPlaced}
-use Rattle.jpa_context.specs.Work.{Work, object, state_of}
-use Rattle.jpa_cascade.specs.declared.Node.{Node}
-use Rattle.jpa_cascade.specs.declared.Operation.{Operation}
-use Rattle.jpa_cascade.proofs.Plain.{plain_waves}
+use Rattle.jpa_context.specs.Work.{Work, object}
 use Rattle.jpa_lifecycle.specs.Flat.{IsFlat}
 use Rattle.jpa_ops.proofs.Fitting.{each_fits_length}
-use Rattle.jpa_ops.specs.States.{number_part, persist, persist_node, persist_one}
+use Rattle.jpa_ops.specs.States.{number_part}
 
 -- ---- a work whose object took a number as its key
 
@@ -69,14 +63,3 @@ numbered_places m w n k x y objects numbers flat h l g unset own e set same =
       numbers = same ∙ h.numbers;
       view = h.view;
     }
-
--- ---- persist is of the object alone
-
-nothing_else : (o : Outcome (Unit {0})) → after o (λ _. each {A = Node} (λ x w. Done tt w) []) ≡ o
-nothing_else (Done u w) = refl
-nothing_else (Refused r events) = refl
-
-pub persists_alone : (world : World) (n : ℕ) (w : Work) (s : EntityState) → IsFlat world.model → s ≡ state_of w n → persist_one world n s w ≡ persist world n w
-persists_alone world n w s flat e =
-    ap (λ t. persist_one world n t w) e
-    ∙ sym (ap (λ ns. each (persist_node world) ns w) (plain_waves world.model Operation.Persist w n (flat.relations (object w n).class)) ∙ nothing_else (persist_one world n (state_of w n) w))

@@ -1,11 +1,13 @@
--- What get and set do (Jakarta Persistence 3.1, chapters 2.2: an object's state is read and changed through its members, and
--- 3.2.7: what of a detached object was not read stays unread).
-use Rattle.std.specs.Prelude.{ℕ, Bool, true, false, List, [], ◌∷◌, slice_index_or, slice_set, Option, Some, None, Result, Ok, Err}
+-- What get, set, add and take_out do (Jakarta Persistence 3.1, chapters 2.2: an object's state is read and changed through its
+-- members, 2.2.2: its collections, and 3.2.7: what of a detached object was not read stays unread).
+use Rattle.std.specs.Prelude.{ℕ, Bool, true, false, ◌==◌, List, [], ◌∷◌, ◌++◌, slice_index_or, slice_set, Option, Some, None, Result, Ok, Err, if◌then◌else◌}
+use Rattle.std.specs.List.{list_any}
 use Rattle.jpa_value.specs.declared.value.Value.{Value}
 use Rattle.jpa_value.specs.declared.value.Identity.{Identity}
 use Rattle.jpa_value.specs.declared.refusal.Cause.{Cause}
 use Rattle.jpa_value.specs.declared.refusal.Argument.{Argument}
 use Rattle.jpa_value.specs.declared.refusal.State.{State}
+use Rattle.jpa_model.specs.declared.unit.PersistenceUnit.{PersistenceUnit}
 use Rattle.jpa_model.specs.declared.unit.Member.{Member}
 use Rattle.jpa_model.specs.Chains.{relation_at, is_to_one, member_of}
 use Rattle.jpa_behaviour.specs.Behaviour.{World}
@@ -15,7 +17,7 @@ use Rattle.jpa_heap.specs.declared.Held.{Held}
 use Rattle.jpa_heap.specs.declared.LiveObject.{LiveObject}
 use Rattle.jpa_heap.specs.declared.Handed.{Handed}
 use Rattle.jpa_heap.specs.Objects.{held_at, with_held, version_value}
-use Rattle.jpa_heap.specs.Assign.{set_in}
+use Rattle.jpa_heap.specs.Assign.{fits_link, set_in}
 use Rattle.jpa_context.specs.declared.Base.{Base}
 use Rattle.jpa_context.specs.declared.EntityState.{EntityState}
 use Rattle.jpa_context.specs.Work.{Work, object, state_of, with_object, with_entry}
@@ -134,3 +136,44 @@ placed n (Err r) w = Refused r w.events
 -- a member of an object, by its name, takes what was handed in
 abbrev pub set : World → ℕ → List ℕ → Handed → Op (Unit {0})
 set world n name v w = placed n (set_in world.model w.objects n name v) w
+
+-- ---- add and take_out
+
+-- the relation at which a class has a collection of this name
+abbrev pub collection_in : PersistenceUnit → ℕ → Option Member → Option ℕ
+collection_in m class None = None
+collection_in m class (Some (Member.KeyPart i)) = None
+collection_in m class (Some Member.Version) = None
+collection_in m class (Some (Member.Attribute i)) = None
+collection_in m class (Some (Member.Relation r)) = if is_to_one (relation_at m class r).side then None else Some r
+
+-- the collection with what it holds, once it is read; the other object is to be one of its kind
+abbrev pub read_for : World → ℕ → ℕ → Option ℕ → Op (ℕ × List ℕ)
+read_for world n k None = refuse (Cause.IllegalArgument Argument.Name)
+read_for world n k (Some r) = do
+  fit ← read (λ w. fits_link world.model w.objects (relation_at world.model (object w n).class r).target (Handed.Object k))
+  require fit (Cause.IllegalArgument Argument.Type)
+  ks ← fetch world n r
+  give (r, ks)
+
+abbrev pub read_named : World → ℕ → List ℕ → ℕ → Op (ℕ × List ℕ)
+read_named world n name k = do
+  r ← read (λ w. collection_in world.model (object w n).class (member_of world.model (object w n).class name))
+  read_for world n k r
+
+-- the object stands last in the collection
+abbrev pub add : World → ℕ → List ℕ → ℕ → Op (Unit {0})
+add world n name k = do
+  c ← read_named world n name k
+  change (with_relation n c.0 (Held.Many (Collection.Fetched (c.1 ++ k ∷ []))))
+
+abbrev pub without_first : ℕ → List ℕ → List ℕ
+without_first k [] = []
+without_first k (x ∷ xs) = if x == k then xs else x ∷ without_first k xs
+
+-- the first place at which the object stands goes; whether there was one
+abbrev pub take_out : World → ℕ → List ℕ → ℕ → Op Bool
+take_out world n name k = do
+  c ← read_named world n name k
+  change (with_relation n c.0 (Held.Many (Collection.Fetched (without_first k c.1))))
+  give (list_any (λ x. x == k) c.1)

@@ -1,6 +1,6 @@
--- persist and remove, and what detaches objects (Jakarta Persistence 3.1, chapters 3.2.2 persist, 3.2.3 remove, 3.2.7 detached
--- entities, 2.4 generated keys).
-use Rattle.std.specs.Prelude.{ℕ, suc, pos, is_some, Bool, true, false, not, nat_lt, List, [], ◌∷◌, slice_index_or, slice_set, Option, Some, None}
+-- persist, remove, refresh and detach, and what detaches objects (Jakarta Persistence 3.1, chapters 3.2.2 persist, 3.2.3 remove,
+-- 3.2.5 refresh, 3.2.6 detach, 3.2.7 detached entities, 3.4.4 lock modes, 2.4 generated keys).
+use Rattle.std.specs.Prelude.{ℕ, suc, pos, is_some, Bool, true, false, not, nat_lt, ◌==◌, List, [], ◌∷◌, slice_index_or, slice_set, Option, Some, None}
 use Rattle.std.specs.List.{list_all}
 use Rattle.jpa_value.specs.declared.value.Value.{Value}
 use Rattle.jpa_value.specs.declared.value.Identity.{Identity}
@@ -16,16 +16,17 @@ use Rattle.jpa_heap.specs.declared.Life.{Life}
 use Rattle.jpa_heap.specs.declared.LiveObject.{LiveObject}
 use Rattle.jpa_context.specs.declared.Base.{Base}
 use Rattle.jpa_context.specs.declared.Entry.{Entry}
+use Rattle.jpa_context.specs.declared.Lock.{Lock}
 use Rattle.jpa_context.specs.Steps.{◌>>=◌, ◌>>◌, Done, Op, done, refuse, require, read, change, each}
-use Rattle.jpa_model.specs.Chains.{root_of, root_class}
+use Rattle.jpa_model.specs.Chains.{root_of, root_class, is_versioned}
 use Rattle.jpa_heap.specs.Objects.{is_whole, with_life, object_at}
-use Rattle.jpa_context.specs.Work.{Work, object, state_of, instance, row, identity_at, entered, with_life_of, with_object, base_of}
+use Rattle.jpa_context.specs.Work.{Work, object, state_of, is_managed, entry_of, left, with_lock, instance, row, row_at, identity_at, entered, with_life_of, with_object, with_base, base_of}
 use Rattle.jpa_context.specs.declared.EntityState.{EntityState}
 use Rattle.jpa_lifecycle.specs.Callbacks.{callback}
 use Rattle.jpa_cascade.specs.declared.Operation.{Operation}
 use Rattle.jpa_cascade.specs.declared.Node.{Node}
 use Rattle.jpa_cascade.specs.Waves.{waves}
-use Rattle.jpa_ops.specs.Load.{load}
+use Rattle.jpa_ops.specs.Load.{load, object_loaded, base_loaded}
 
 -- each node of the cascade from the object, in order; the nodes are those of the work as the operation begins
 abbrev pub cascaded : World → Operation → (Node → Op (Unit {0})) → ℕ → Op (Unit {0})
@@ -109,23 +110,96 @@ remove_one world n EntityState.Detached = refuse (Cause.IllegalArgument Argument
 abbrev pub remove_live : World → ℕ → Op (Unit {0})
 remove_live world n w = remove_one world n (state_of w n) w
 
--- an identity without an instance is loaded, then removed
-abbrev pub remove_row : World → Identity → Option Stored → Op (Unit {0})
-remove_row world id None = done
-remove_row world id (Some x) = do
+-- an identity means its instance by then; without one its row is loaded, then removed
+abbrev pub remove_under : World → Identity → Option ℕ → Option Stored → Op (Unit {0})
+remove_under world id (Some n) x = remove_live world n
+remove_under world id None None = done
+remove_under world id None (Some x) = do
   n ← load world id x
   remove_live world n
 
 abbrev pub remove_node : World → Node → Op (Unit {0})
 remove_node world (Node.Live n) w = remove_live world n w
-remove_node world (Node.Bare id) w = remove_row world id (row w id) w
+remove_node world (Node.Bare id) w = remove_under world id (instance world.model w id) (row w id) w
 
 abbrev pub remove : World → ℕ → Op (Unit {0})
 remove world n = cascaded world Operation.Remove (remove_node world) n
 
+-- ---- refresh
+
+-- the object as its row has it now, which is its new base; the entry keeps its place and its lock
+abbrev pub reloaded : World → ℕ → Identity → Stored → Work → Work
+reloaded world n id x w = with_base n (Some (base_loaded world.model w.view id x)) (with_object n (object_loaded world.model w.manager w.view id x) w)
+
+-- a row must be there, and of the object's class
+abbrev pub refresh_row : World → ℕ → Option Identity → Option Stored → Op (Unit {0})
+refresh_row world n None x = refuse Cause.EntityNotFound
+refresh_row world n (Some id) None = refuse Cause.EntityNotFound
+refresh_row world n (Some id) (Some x) = do
+  same ← read (λ w. (object w n).class == x.class)
+  require same Cause.EntityNotFound
+  change (reloaded world n id x)
+  callback world LifecycleEvent.PostLoad n
+
+abbrev pub refresh_managed : World → ℕ → Op (Unit {0})
+refresh_managed world n w = refresh_row world n (identity_at world.model w n) (row_at w (identity_at world.model w n)) w
+
+abbrev pub refresh_one : World → ℕ → EntityState → Op (Unit {0})
+refresh_one world n EntityState.New = refuse (Cause.IllegalArgument Argument.State)
+refresh_one world n EntityState.Managed = refresh_managed world n
+refresh_one world n EntityState.Removed = refuse (Cause.IllegalArgument Argument.State)
+refresh_one world n EntityState.Detached = refuse (Cause.IllegalArgument Argument.State)
+
+abbrev pub refresh_node : World → Node → Op (Unit {0})
+refresh_node world (Node.Live n) w = refresh_one world n (state_of w n) w
+refresh_node world (Node.Bare id) w = Done tt w
+
+abbrev pub refresh : World → ℕ → Op (Unit {0})
+refresh world n = cascaded world Operation.Refresh (refresh_node world) n
+
 -- ---- detach
+
+-- the object is detached, with its state as it is, and its entry leaves
+abbrev pub let_go : ℕ → Work → Work
+let_go n w = left n (with_life_of n Life.Detached w)
+
+abbrev pub detach_one : ℕ → EntityState → Op (Unit {0})
+detach_one n EntityState.New = done
+detach_one n EntityState.Managed = change (let_go n)
+detach_one n EntityState.Removed = change (let_go n)
+detach_one n EntityState.Detached = done
+
+abbrev pub detach_node : Node → Op (Unit {0})
+detach_node (Node.Live n) w = detach_one n (state_of w n) w
+detach_node (Node.Bare id) w = Done tt w
+
+abbrev pub detach : World → ℕ → Op (Unit {0})
+detach world n = cascaded world Operation.Detach detach_node n
 
 -- the objects of the entries are detached, with their state as it is
 abbrev pub detach_each : List Entry → List LiveObject → List LiveObject
 detach_each [] objects = objects
 detach_each (e ∷ es) objects = detach_each es (slice_set objects e.object (with_life (object_at objects e.object) Life.Detached))
+
+-- ---- lock
+
+-- a lock that raises the version stays where one is asked that does not
+abbrev pub locked : Lock → Lock → Lock
+locked Lock.Write Lock.Read = Lock.Write
+locked Lock.Write Lock.Write = Lock.Write
+locked Lock.Write Lock.Unlocked = Lock.Unlocked
+locked Lock.Read mode = mode
+locked Lock.Unlocked mode = mode
+
+abbrev pub lock_in : Option Entry → Lock
+lock_in None = Lock.Unlocked
+lock_in (Some e) = e.lock
+
+-- a managed object of an entity with a version
+abbrev pub lock : World → ℕ → Lock → Op (Unit {0})
+lock world n mode = do
+  managed ← read (λ w. is_managed (state_of w n))
+  require managed (Cause.IllegalArgument Argument.State)
+  versioned ← read (λ w. is_versioned world.model (object w n).class)
+  require versioned (Cause.Persistence Persist.Version)
+  change (λ w. with_lock n (locked (lock_in (entry_of w n)) mode) w)

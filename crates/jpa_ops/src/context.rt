@@ -1,18 +1,19 @@
-//! What an operation reads of the persistence context.
-ghost use Rattle.std.specs.Prelude.{◌≡◌, ◌<◌, All, length, IfOk, IfErr, IfSome, is_some};
+//! What an operation reads of the persistence context, and the lives of objects.
+ghost use Rattle.std.specs.Prelude.{◌≡◌, ◌<◌, All, length, IfOk, IfErr, IfSome, is_some, option_copied};
 ghost use Rattle.std.specs.List.{find};
 ghost use Rattle.jpa_value.specs.declared.refusal.Cause.{Cause};
-ghost use Rattle.jpa_context.specs.Undo.{now, IsPlaced};
+ghost use Rattle.jpa_context.specs.Steps.{Meets, Done};
+ghost use Rattle.jpa_context.specs.Undo.{now, since, IsPlaced};
 ghost use Rattle.jpa_context.specs.Near.{places_near};
 ghost use Rattle.jpa_context.specs.Work as works;
 ghost use Rattle.jpa_heap.specs.Objects.{identity_of, object_at};
 ghost use Rattle.jpa_heap.specs.Shape.{HasShape};
 ghost use Rattle.jpa_ops.specs.States as states;
 
-use jpa_context::{EntityState, UnitOfWork};
+use jpa_context::{EntityState, Entry, UnitOfWork, place_laws};
 use jpa_heap::{Life, LiveObject, identity_of, is_whole};
 use jpa_model::Metamodel;
-use jpa_value::{Cause, Identity, Value, order_keys};
+use jpa_value::{Cause, Identity, TryCopy, Value, order_keys};
 use std::cmp::Ordering;
 
 /// Whether an object has this identity. Takes no memory.
@@ -92,14 +93,38 @@ pub fn state_of(work: &UnitOfWork, object: usize) -> EntityState
     }
 }
 
-/// Whether an object was loaded or written: whether its entry has a base.
+/// The entry of an object, found by the object. Takes no memory, and looks at no other entry.
+fn entry_of(work: &UnitOfWork, object: usize) -> Option<&Entry>
+    ensures { option_copied result ≡ works.entry_of (now work.now) object }
+{
+    place_laws();
+    match work.context.place_of(object) {
+        Some(place) => work.context.as_slice().get(place),
+        None => None,
+    }
+}
+
+/// Whether an object was loaded or written: whether its entry has a base. Takes no memory.
 pub fn has_base(work: &UnitOfWork, object: usize) -> bool
     ensures { result ≡ is_some (works.base_of (now work.now) object) }
 {
-    for entry in work.context.as_slice() {
-        if entry.object == object {
-            return entry.base.is_some();
-        }
+    match entry_of(work, object) {
+        Some(entry) => entry.base.is_some(),
+        None => false,
     }
-    false
+}
+
+/// An object lives otherwise. Fails for want of memory alone, with `OutOfMemory`.
+pub fn set_life(work: &mut UnitOfWork, object: usize, life: Life) -> Result<(), Cause>
+    requires { object < length work.old.objects.now }
+    ensures meets { Meets result (now work.new)
+        (Done tt (works.with_life_of object life (now work.old))) }
+    ensures count { length work.new.objects.now ≡ length work.old.objects.now }
+    ensures view { work.new.view ≡ work.old.view }
+    ensures since { since work.new ≡ since work.old }
+{
+    let mut live = work.objects.as_slice()[object].try_copy()?;
+    live.life = life;
+    work.objects.set(object, live)?;
+    Ok(())
 }

@@ -20,7 +20,7 @@ use jpa_value::{Cause, Identity, Key, LifecycleEvent, MOST_OBJECTS, Seq, TryCopy
 use std::alloc::Global;
 
 /// A row of an entity without relations as an object of a manager.
-fn object_loaded(
+pub fn object_loaded(
     alloc: Global,
     manager: usize,
     id: Identity,

@@ -15,7 +15,7 @@ ghost use Rattle.jpa_context.specs.declared.EntityState.{EntityState};
 ghost use Rattle.jpa_lifecycle.specs.Flat.{IsFlat};
 ghost use Rattle.jpa_ops.specs.States as states;
 
-use crate::context::{has_base, has_instance, state_of};
+use crate::context::{has_base, has_instance, set_life, state_of};
 use jpa_behaviour::{Behaviour, Registry};
 use jpa_context::{EntityState, Entry, Lock, UnitOfWork};
 use jpa_heap::{Life, LiveObject, is_whole};
@@ -112,20 +112,6 @@ fn give_key(
     Ok(())
 }
 
-/// An object is the manager's. Fails for want of memory alone, with `OutOfMemory`.
-fn manage(work: &mut UnitOfWork, object: usize) -> Result<(), Cause>
-    requires { object < length work.old.objects.now }
-    ensures meets { Meets result (now work.new) (Done tt (works.with_life_of object (Life.Managed (now work.old).manager) (now work.old))) }
-    ensures count { length work.new.objects.now ≡ length work.old.objects.now }
-    ensures view { work.new.view ≡ work.old.view }
-    ensures since { since work.new ≡ since work.old }
-{
-    let mut managed = work.objects.as_slice()[object].try_copy()?;
-    managed.life = Life::Managed(work.manager);
-    work.objects.set(object, managed)?;
-    Ok(())
-}
-
 /// A new object becomes managed: its key is there or given, and no other object of the context has its identity.
 /// Refused as `persist` is.
 fn become_managed(
@@ -147,7 +133,7 @@ fn become_managed(
     if has_instance(metamodel, work, object)? {
         return Err(Cause::EntityExists);
     }
-    manage(work, object)?;
+    set_life(work, object, Life::Managed(work.manager))?;
     let key = work.objects.as_slice()[object].key.try_copy()?;
     work.context.push(Entry {
         object,
@@ -200,7 +186,7 @@ fn persist_removed<B: Behaviour>(
     ensures view { work.new.view ≡ work.old.view }
     ensures since { since work.new ≡ since work.old }
 {
-    manage(work, object)?;
+    set_life(work, object, Life::Managed(work.manager))?;
     if has_base(work, object) {
         return Ok(());
     }

@@ -1,13 +1,14 @@
 use Rattle.std.proofs.Common.{◌≡◌, ◌∙◌, ◌<◌, ap, sym, subst, length}
 use Rattle.std.specs.Prelude.{All}
 use Rattle.jpa_context.specs.declared.Entry.{Entry}
-use Rattle.jpa_context.specs.Undo.{now, IsPlain}
+use Rattle.jpa_context.specs.declared.Lock.{Lock}
+use Rattle.jpa_context.specs.Undo.{now}
 use Rattle.jpa_context.specs.Work.{Work}
 use Rattle.jpa_flush.specs.declared.planning.Planned.{Planned}
 use Rattle.jpa_flush.specs.Flush.{all_remembered}
 use Rattle.jpa_flush.specs.Plan.{settled_by}
-use Rattle.jpa_flush.proofs.Applied.{entries_after, bare_after, shaped_after, plain_after, view_kept}
-use Rattle.jpa_flush.proofs.Updated.{by_told, updated_plain}
+use Rattle.jpa_flush.proofs.Applied.{entries_after, bare_after, shaped_after, unlocked_after}
+use Rattle.jpa_flush.proofs.Updated.{by_told, updated_unlocked}
 use Rattle.jpa_behaviour.specs.Registered.{world_of}
 use Rattle.jpa_heap.specs.Shape.{HasShape}
 use Rattle.jpa_flush.proofs.Remembered.{AreBare}
@@ -36,20 +37,11 @@ tell_written-requires-clause-shaped g c =
     let w = now c.args.work.now in
     subst (λ (v : Work). All (HasShape m) v.objects) (sym (c.in_ok-remember.ensures.ok ∙ ap (all_remembered m) c.in_ok-settle.ensures.ok)) (shaped_after m c.args.plan.now w c.requires.objects c.requires.shaped)
 
-pub returns-clause-plain : goal.returns-clause-plain
-returns-clause-plain g c =
+pub returns-clause-unlocked : goal.returns-clause-unlocked
+returns-clause-unlocked g c =
     let m = c.args.metamodel.now in
     let world = world_of g.B.Behaviour.meaning m c.args.registry.now in
     let w = now c.args.work.now in
     let remembered : now c.remember.new.work ≡ all_remembered m (settled_by c.args.plan.now w) = c.in_ok-remember.ensures.ok ∙ ap (all_remembered m) c.in_ok-settle.ensures.ok in
-    updated_plain (now c.remember.new.work) (now c.tell_written.new.work) (by_told world c.args.plan.now (now c.remember.new.work) (now c.tell_written.new.work) c.in_ok-tell_written.ensures.meets)
-    (subst IsPlain (sym remembered) (plain_after m c.args.plan.now w c.requires.plain))
-
-pub returns-clause-view : goal.returns-clause-view
-returns-clause-view g c =
-    let m = c.args.metamodel.now in
-    let world = world_of g.B.Behaviour.meaning m c.args.registry.now in
-    (by_told world c.args.plan.now (now c.remember.new.work) (now c.tell_written.new.work) c.in_ok-tell_written.ensures.meets).view
-    ∙ ap (λ (v : Work). v.view) c.in_ok-remember.ensures.ok
-    ∙ ap (λ (v : Work). v.view) c.in_ok-settle.ensures.ok
-    ∙ view_kept c.args.plan.now (now c.args.work.now)
+    updated_unlocked (now c.remember.new.work) (now c.tell_written.new.work) (by_told world c.args.plan.now (now c.remember.new.work) (now c.tell_written.new.work) c.in_ok-tell_written.ensures.meets)
+    (subst (λ (v : Work). All (λ e. e.lock ≡ Lock.Unlocked) v.context) (sym remembered) (unlocked_after m c.args.plan.now w c.requires.unlocked))

@@ -23,11 +23,10 @@ returns-in_err-planned-clause-ends g c =
     let e = c.entry-item.result in
     let read : e ≡ get_or w.context i e = c.entry-item.is ∙ ap (λ es. get_or es i e) c.as_slice-entry-items.ensures in
     let l : i < length w.context = rw c.as_slice-entry-items.ensures at c.loop-entry-test.true in
-    let within = subst (λ (x : Entry). x.object < length w.objects) (sym read) (c.requires.placed.entries i e l) in
     let r = c.in_err-planned.field-0.0 in
     let p = err_from_is_err_and c.from_residual.result c.from_residual.ensures.1 in
     rw (p.1, p.2)
-    (check_refused world c.requires.flat w i e r c.requires.plain l read within c.loop-entry.invariant.rest
+    (check_refused world c.requires.flat w i e r c.requires.unlocked l read c.loop-entry.invariant.rest
     (subst (λ (s : Step). IsRefusedAs r w.events (check world e.object s w)) c.step_of-step.ensures c.in_err-planned.ensures.ends))
 
 pub loop-entry-preserved : goal.loop-entry-preserved
@@ -53,5 +52,5 @@ loop-entry-preserved g c =
     record {
       planned = plan_round m w i e before c.match-branch-2.plan o l read c.loop-entry.invariant.planned this more;
       objects = within_round m w e before c.match-branch-2.plan o within c.loop-entry.invariant.objects this more;
-      rest = check_done world c.requires.flat w i e c.requires.plain l read within done ∙ c.loop-entry.invariant.rest;
+      rest = check_done world c.requires.flat w i e c.requires.unlocked l read done ∙ c.loop-entry.invariant.rest;
     }

@@ -1,16 +1,16 @@
 use Rattle.std.proofs.Common.{◌≡◌, ◌∙◌, ◌<◌, ◌≤◌, ◌+◌, true, List, ◌∷◌, drop, map, length, get_or, ap, sym, subst, arith}
-use Rattle.std.specs.Prelude.{◌==◌, Some}
-use Rattle.std.proofs.lemmas.List.{length-map, length-set, drop_more, get_or_default}
+use Rattle.std.specs.Prelude.{◌==◌}
+use Rattle.std.proofs.lemmas.List.{length-map, drop_more, get_or_default}
 use Rattle.jpa_stored.specs.Sets.{all_distinct}
 use Rattle.jpa_context.specs.declared.Entry.{Entry}
 use Rattle.jpa_context.specs.Undo.{now, since}
-use Rattle.jpa_context.specs.Work.{Work, object}
+use Rattle.jpa_context.specs.Work.{Work}
 use Rattle.jpa_flush.specs.declared.planning.Planned.{Planned}
 use Rattle.jpa_flush.specs.Flush.{settled}
 use Rattle.jpa_flush.specs.Order.{is_in_order}
 use Rattle.jpa_flush.specs.Plan.{settled_by}
 use Rattle.jpa_flush.proofs.InOrder.{name_at, distinct_after, order_met, order_passed, order_done, all_met}
-use Rattle.jpa_flush.proofs.Settled.{settled_if}
+use Rattle.jpa_flush.proofs.Settled.{settled_if, one_count, one_context}
 use Rattle.jpa_flush.proofs.settling.settle.Goals as goal
 use Rattle.jpa_flush.proofs.settling.settle.Goals.{then-next-plan+then-plan-next+in_ok-settle_at, else-next-plan, else-next-plan-via-then-next-plan+else-plan-next, else-next-plan-via-else-next-plan}
 
@@ -65,15 +65,15 @@ loop-i-preserved c =
           ap (λ (q : Planned). q.object) (planned ∙ get_or_default plan next p v.index-plan-next.result l)
           ∙ v.if-plan-next.true
           ∙ ap (λ (u : Entry). u.object) (sym v.index-as_slice-i.is) in
-          let is : now c.if-next-plan.work ≡ settled n (Some x) w1 = ap now v.work-is ∙ v.in_ok-settle_at.ensures.ok in
+          let is : now c.if-next-plan.work ≡ settled n x w1 = ap now v.work-is ∙ v.in_ok-settle_at.ensures.ok in
           let first : drop next plan ≡ p ∷ drop (next + 1) plan = drop_more plan next p l ∙ ap (λ q. q ∷ drop (next + 1) plan) (sym planned) in
-          let entries : (now c.if-next-plan.work).context ≡ map (settled_if n x) es = ap (λ (u : Work). u.context) is in
+          let entries : (now c.if-next-plan.work).context ≡ map (settled_if n x) es = ap (λ (u : Work). u.context) is ∙ one_context n x w1 in
           record {
             rest = (λ j. settled_by (drop (v.next-is j) plan) (is j)) ∙ ap (λ ps. settled_by ps w1) (sym first) ∙ before.rest;
             order = (λ j. is_in_order (drop (v.next-is j) plan) (drop (i + 1) (entries j))) ∙ order_met x plan next p es i e l planned within read same before.order;
             distinct = ap (all_distinct (λ (a b : Entry). a.object == b.object)) entries ∙ distinct_after n x es ∙ before.distinct;
             entries = ap (λ (us : List Entry). length us) entries ∙ length-map es (settled_if n x) ∙ before.entries;
-            objects = ap (λ (u : Work). length u.objects) is ∙ length-set w1.objects n (record (object w1 n) { version = x.version }) ∙ before.objects;
+            objects = ap (λ (u : Work). length u.objects) is ∙ one_count n x w1 ∙ before.objects;
             since = ap since v.work-is ∙ v.settle_at.ensures.since ∙ before.since;
           }
       | else-next-plan v ↦

@@ -1,11 +1,10 @@
 use Rattle.std.proofs.Common.{◌≡◌, ◌∙◌, ◌<◌, ap, sym, length, get_or, arith}
 use Rattle.jpa_behaviour.specs.Registered.{world_of}
-use Rattle.jpa_context.specs.declared.Entry.{Entry}
 use Rattle.jpa_context.specs.Steps.{Done}
 use Rattle.jpa_context.specs.Undo.{now}
 use Rattle.jpa_flush.specs.Plan.{step_of, update}
 use Rattle.jpa_flush.proofs.Rounds.{update_done}
-use Rattle.jpa_flush.proofs.Updated.{by_step, updated_twice, updated_within}
+use Rattle.jpa_flush.proofs.Updated.{by_step, updated_twice}
 use Rattle.jpa_flush.proofs.telling.tell_updates.Goals as goal
 
 pub loop-i-preserved : goal.loop-i-preserved
@@ -20,11 +19,9 @@ loop-i-preserved g c =
     let read : e ≡ get_or w.context i e = c.index-as_slice-i.is ∙ ap (λ (es : _). get_or es i e) c.as_slice.ensures in
     let many : length w.context ≡ length w0.context = ap (λ (es : _). length es) same.context in
     let l : i < length w.context = omega (arith, c.loop-i-test.true, c.len-i-end.ensures, many) in
-    let within : (get_or w.context i e).object < length w.objects = updated_within w0 w same c.requires.placed.entries i e l in
-    let own : e.object < length w.objects = rw read within in
     let done : update world e.object (step_of w e) w ≡ Done tt w' = ap (λ s. update world e.object s w) (sym c.step_of-step.ensures) ∙ c.in_ok-tell_update.ensures.meets in
     record {
-      rest = update_done world c.requires.flat w0 w w' i e c.requires.plain same l read own done ∙ c.loop-i.invariant.rest;
+      rest = update_done world c.requires.flat w0 w w' i e c.requires.unlocked same l read done ∙ c.loop-i.invariant.rest;
       same = updated_twice w0 w w' same (by_step world e.object (step_of w e) w w' done);
       since = c.tell_update.ensures.since ∙ c.loop-i.invariant.since;
     }

@@ -1,5 +1,4 @@
-use Rattle.std.proofs.Common.{◌≡◌, ◌∙◌, true, ap, sym, subst}
-use Rattle.std.specs.Prelude.{Some}
+use Rattle.std.proofs.Common.{◌≡◌, ◌∙◌, true, sym, subst}
 use Rattle.std.proofs.lemmas.Result.{err_from_is_err_and}
 use Rattle.jpa_behaviour.specs.Registered.{world_of}
 use Rattle.jpa_model.specs.Chains.{is_kind_of}
@@ -13,7 +12,7 @@ use Rattle.jpa_ops.proofs.finding.found_row.Goals as goal
 
 -- the set is shaped
 pub is_kind_of-requires-clause-class : goal.is_kind_of-requires-clause-class
-is_kind_of-requires-clause-class g c = row_class c.args.metamodel.now c.args.work.now.view.now c.args.id c.in-Some.row.now c.requires.placed.view (sym c.in-Some.ensures)
+is_kind_of-requires-clause-class g c = row_class c.args.metamodel.now (now c.args.work.now).view c.args.id c.in-Some.row.now c.requires.placed.view (sym c.in-Some.ensures)
 
 -- who hears PostLoad refused
 pub returns-in_err-load-clause-meets : goal.returns-in_err-load-clause-meets

@@ -3,7 +3,7 @@ use Rattle.jpa_behaviour.specs.Registered.{world_of}
 use Rattle.jpa_context.specs.Steps.{Meets}
 use Rattle.jpa_context.specs.Undo.{now}
 use Rattle.jpa_context.specs.declared.EntityState.{EntityState}
-use Rattle.jpa_ops.proofs.Persisted.{persists_alone}
+use Rattle.jpa_ops.proofs.Alone.{persists_alone}
 use Rattle.jpa_ops.proofs.persisting.persist.Goals as goal
 
 pub returns-in-New-clause-meets : goal.returns-in-New-clause-meets

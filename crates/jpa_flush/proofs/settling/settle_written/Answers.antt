@@ -1,19 +1,19 @@
 use Rattle.std.proofs.Common.{◌≡◌, ◌∙◌, ap, get_or, map, List}
-use Rattle.std.specs.Prelude.{slice_set}
+use Rattle.std.specs.Prelude.{slice_set, Some}
 use Rattle.jpa_context.specs.declared.Entry.{Entry}
 use Rattle.jpa_context.specs.Undo.{now}
 use Rattle.jpa_context.specs.Work.{Work}
 use Rattle.jpa_flush.specs.Flush.{settled_entry}
 use Rattle.jpa_flush.proofs.InOrder.{named_at, one_settled}
 use Rattle.jpa_flush.proofs.Settled.{settled_if}
-use Rattle.jpa_flush.proofs.settling.settle_at.Goals as goal
+use Rattle.jpa_flush.proofs.settling.settle_written.Goals as goal
 
 pub returns-clause-ok : goal.returns-clause-ok
 returns-clause-ok c =
     let w0 = now c.args.work.now in
     let v = now c.settle_version.new.work in
-    let n = c.args.planned.now.object in
-    let x = c.args.planned.now.stored in
+    let n = c.args.object in
+    let x = c.args.stored.now in
     let i = c.args.place in
     let e = c.index-as_slice-place.result in
     let y = c.in_ok-settled.settled in
@@ -22,10 +22,10 @@ returns-clause-ok c =
     let read : e ≡ get_or w0.context i e = c.index-as_slice-place.is ∙ ap (λ (us : List Entry). get_or us i e) (c.as_slice.ensures ∙ es) in
     let named = named_at w0.context i n e c.requires.place read in
     let settled : y ≡ settled_entry x e = c.in_ok-settled.ensures.ok in
-    let put : c.set.new.self.now ≡ map (settled_if n x) w0.context =
+    let put : c.set.new.self.now ≡ map (settled_if n (Some x)) w0.context =
     c.in_ok-set.ensures.changed
     ∙ (λ j. slice_set (es j) i (settled j))
-    ∙ one_settled x w0.context i e c.requires.distinct (named.0) read
-    ∙ ap (λ k. map (settled_if k x) w0.context) (named.1) in
+    ∙ one_settled (Some x) w0.context i e c.requires.distinct (named.0) read
+    ∙ ap (λ k. map (settled_if k (Some x)) w0.context) (named.1) in
     (λ j. record v { context = put j })
-    ∙ ap {A = Work} {B = Work} (λ u. record u { context = map (settled_if n x) w0.context }) raised
+    ∙ ap {A = Work} {B = Work} (λ u. record u { context = map (settled_if n (Some x)) w0.context }) raised

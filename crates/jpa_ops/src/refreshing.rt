@@ -1,0 +1,156 @@
+//! Loading an object again.
+ghost use Rattle.std.specs.Prelude.{◌≡◌, ◌<◌, ◌==◌, true, length, IfOk, IfErr, OnOk, Some};
+ghost use Rattle.jpa_value.specs.declared.refusal.Cause.{Cause};
+ghost use Rattle.jpa_behaviour.specs.Behaviour.{World};
+ghost use Rattle.jpa_behaviour.specs.Registered.{world_of};
+ghost use Rattle.jpa_stored.specs.Sets.{all_distinct};
+ghost use Rattle.jpa_context.specs.Steps.{IsRefusedAs, Meets};
+ghost use Rattle.jpa_context.specs.Undo.{now, since, IsPlaced};
+ghost use Rattle.jpa_context.specs.Work as works;
+ghost use Rattle.jpa_lifecycle.specs.Flat.{IsFlat};
+ghost use Rattle.jpa_ops.specs.States as states;
+
+use crate::context::state_of;
+use crate::finding::object_loaded;
+use jpa_behaviour::{Behaviour, Registry};
+use jpa_context::{Base, EntityState, Entry, UnitOfWork};
+use jpa_heap::identity_of;
+use jpa_lifecycle::callback;
+use jpa_model::Metamodel;
+use jpa_stored::Stored;
+use jpa_value::{Argument, Cause, Identity, LifecycleEvent, Seq, TryCopy};
+use std::alloc::Global;
+
+/// An object's entry has a new base. Fails for want of memory alone, with `OutOfMemory`.
+fn set_base(work: &mut UnitOfWork, object: usize, base: Base) -> Result<(), Cause>
+    requires distinct { all_distinct (λ a b. a.object == b.object) work.old.context.now ≡ true }
+    ensures ok { OnOk result (now work.new ≡ works.with_base object (Some base) (now work.old)) }
+    ensures err { IfErr result (λ cause. cause ≡ Cause.OutOfMemory) }
+    ensures others { work.new ≡ record work.old { context = work.new.context } }
+    ensures since { since work.new ≡ since work.old }
+{
+    let Some(place) = work.context.place_of(object) else {
+        return Ok(());
+    };
+    let entry = &work.context.as_slice()[place];
+    let based = Entry {
+        object: entry.object,
+        key: entry.key.try_copy()?,
+        lock: entry.lock,
+        base: Some(base),
+    };
+    work.context.set(place, based)?;
+    Ok(())
+}
+
+/// An object takes the values and the version of its row, which is its new base. Fails for want of memory alone, with
+/// `OutOfMemory`.
+fn reload(
+    alloc: Global,
+    _metamodel: &Metamodel,
+    work: &mut UnitOfWork,
+    object: usize,
+    id: Identity,
+    row: Stored,
+) -> Result<(), Cause>
+    requires flat { IsFlat _metamodel.now }
+    requires object { object < length work.old.objects.now }
+    requires distinct { all_distinct (λ a b. a.object == b.object) work.old.context.now ≡ true }
+    ensures ok { (world : World) → OnOk result (now work.new
+        ≡ states.reloaded (record world { model = _metamodel.now }) object id row (now work.old)) }
+    ensures err { IfErr result (λ cause. cause ≡ Cause.OutOfMemory) }
+    ensures count { length work.new.objects.now ≡ length work.old.objects.now }
+    ensures view { work.new.view ≡ work.old.view }
+    ensures since { since work.new ≡ since work.old }
+{
+    let live = object_loaded(alloc, work.manager, id, &row)?;
+    work.objects.set(object, live)?;
+    let base = Base {
+        stored: row,
+        members: Seq::new(alloc),
+    };
+    set_base(work, object, base)
+}
+
+/// A copy of the row under an object's identity. `EntityNotFound` where there is none, or one of another class; and
+/// `OutOfMemory`.
+fn row_of(work: &UnitOfWork, object: usize, id: &Identity) -> Result<Stored, Cause>
+    requires { object < length work.now.objects.now }
+    ensures row { IfOk result (λ row. works.row (now work.now) id.now ≡ Some row) }
+    ensures class { IfOk result (λ row. (works.object (now work.now) object).class ≡ row.class) }
+    ensures err { let w = now work.now in
+        (world : World) → IfErr result (λ cause. IsRefusedAs cause w.events
+        (states.refresh_row world object (Some id.now) (works.row w id.now) w)) }
+{
+    let Some(row) = work.view.get(id) else {
+        return Err(Cause::EntityNotFound);
+    };
+    if work.objects.as_slice()[object].class != row.class {
+        return Err(Cause::EntityNotFound);
+    }
+    row.try_copy()
+}
+
+/// A managed object is loaded again, and PostLoad happens to it (chapter 3.5.2). Refused as `refresh` is.
+fn refresh_managed<B: Behaviour>(
+    alloc: Global,
+    metamodel: &Metamodel,
+    registry: &Registry<B>,
+    work: &mut UnitOfWork,
+    object: usize,
+) -> Result<(), Cause>
+    requires flat { IsFlat metamodel.now }
+    requires placed { IsPlaced metamodel.now (now work.old) }
+    requires object { object < length work.old.objects.now }
+    requires distinct { all_distinct (λ a b. a.object == b.object) work.old.context.now ≡ true }
+    ensures meets { let world = world_of B.meaning metamodel.now registry.now in
+        Meets result (now work.new) (states.refresh_managed world object (now work.old)) }
+    ensures view { work.new.view ≡ work.old.view }
+    ensures since { since work.new ≡ since work.old }
+{
+    let Some(id) = identity_of(metamodel, &work.objects.as_slice()[object])? else {
+        return Err(Cause::EntityNotFound);
+    };
+    let row = row_of(work, object, &id)?;
+    reload(alloc, metamodel, work, object, id, row)?;
+    callback(
+        alloc,
+        metamodel,
+        registry,
+        work,
+        LifecycleEvent::PostLoad,
+        object,
+    )
+}
+
+/// Loads a managed object of a unit without relations again: it takes the values and the version of its row, which is
+/// what it is compared with at the next flush, and PostLoad happens to it (Jakarta Persistence 3.1, chapters 3.2.5 and
+/// 3.5.2). What was changed of it and not written is lost.
+///
+/// `IllegalArgument(state)` for an object that is not managed; `EntityNotFound` where the manager sees no row under its
+/// identity, or one of another class; `Listener` with its text where a listener or callback throws, and
+/// `Persistence(callback)` where one assigns what is not allowed; `OutOfMemory` where a growth was refused. What a refused
+/// call changed is undone by `UnitOfWork::undo`.
+pub fn refresh<B: Behaviour>(
+    alloc: Global,
+    metamodel: &Metamodel,
+    registry: &Registry<B>,
+    work: &mut UnitOfWork,
+    object: usize,
+) -> Result<(), Cause>
+    requires flat { IsFlat metamodel.now }
+    requires placed { IsPlaced metamodel.now (now work.old) }
+    requires object { object < length work.old.objects.now }
+    requires distinct { all_distinct (λ a b. a.object == b.object) work.old.context.now ≡ true }
+    ensures meets { let world = world_of B.meaning metamodel.now registry.now in
+        Meets result (now work.new) (states.refresh world object (now work.old)) }
+    ensures view { work.new.view ≡ work.old.view }
+    ensures since { since work.new ≡ since work.old }
+{
+    match state_of(work, object) {
+        EntityState::New => Err(Cause::IllegalArgument(Argument::State)),
+        EntityState::Managed => refresh_managed(alloc, metamodel, registry, work, object),
+        EntityState::Removed => Err(Cause::IllegalArgument(Argument::State)),
+        EntityState::Detached => Err(Cause::IllegalArgument(Argument::State)),
+    }
+}
