@@ -5,7 +5,7 @@ use Rattle.jpa_value.specs.declared.value.Identity.{Identity}
 use Rattle.jpa_value.specs.declared.value.Value.{Value}
 use Rattle.jpa_stored.specs.declared.stored.Stored.{Stored}
 use Rattle.jpa_stored.specs.Sets.{StoredSet}
-use Rattle.jpa_object_store.specs.Written.{set_after}
+use Rattle.jpa_object_store.specs.Written.{entries_of, set_after}
 
 numbered : ℕ → Identity
 numbered n = record { table = 1; key = Value.Int (pos n) ∷ [] }
@@ -32,3 +32,11 @@ module _ (ada grace edith new : Stored) where
   nothing_changes : set_after [] three ≡ three
   unfolding three
   nothing_changes = refl
+
+  -- what a transaction sees under the identities that it wrote or removed: one goes, one comes, one is written as it was
+  seen : StoredSet
+  seen = (numbered 1, ada) ∷ (numbered 3, edith) ∷ (numbered 4, new) ∷ []
+
+  becomes_seen : set_after (entries_of seen (numbered 1 ∷ numbered 2 ∷ numbered 4 ∷ [])) three ≡ seen
+  unfolding numbered three seen
+  becomes_seen = refl

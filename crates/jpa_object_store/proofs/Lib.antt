@@ -1,6 +1,7 @@
 pub mod Over
 pub mod Replaced
 pub mod Written
+pub mod Seen
 pub mod Stepped
 pub mod Stood
 pub mod StoodObjects

@@ -1,5 +1,5 @@
 -- What is to stand under identities, one by one: each is put, or taken out, where the committed set has what it had.
-use Rattle.std.specs.Prelude.{◌≡◌, ℕ, zero, suc, ◌<◌, ◌+◌, Bool, true, false, not, ◌&&◌, ◌||◌, List, [], ◌∷◌, ◌++◌, length, map, Option, Some, None}
+use Rattle.std.specs.Prelude.{◌≡◌, ℕ, zero, suc, ◌<◌, ◌+◌, Bool, true, false, not, List, [], ◌∷◌, ◌++◌, length, Option, Some, None}
 use Rattle.std.proofs.Common.{refl, sym, ap, subst, ◌∙◌, arith, get_or, take}
 use Rattle.std.proofs.lemmas.List.{take_more, length-map, get_or-map}
 use Rattle.std.specs.List.{list_any, AllByRecursion}
@@ -8,8 +8,7 @@ use Rattle.jpa_value.specs.declared.value.Identity.{Identity}
 use Rattle.jpa_value.specs.Value.{same_identity}
 use Rattle.jpa_behaviour.specs.Behaviour.{World}
 use Rattle.jpa_stored.specs.declared.stored.Stored.{Stored}
-use Rattle.jpa_stored.specs.Sets.{StoredSet, stored_at, with_stored, put_all, all_distinct}
-use Rattle.jpa_view.specs.View.{is_storable}
+use Rattle.jpa_stored.specs.Sets.{StoredSet, stored_at, all_distinct}
 use Rattle.jpa_row_laws.proofs.Facts.{and_first, and_second, true_false}
 use Rattle.jpa_row_laws.proofs.Elements.{Has}
 use Rattle.jpa_row_laws.proofs.Lists.{has_any, all_each}
@@ -32,37 +31,10 @@ pub after_more : (es : List Entry) (i : ℕ) (e : Entry) (set : StoredSet) → i
 after_more es i e set l is =
     ap (λ ds. set_after ds set) (take_more es i e l ∙ ap (λ d. take i es ++ d ∷ []) (sym is)) ∙ after_last (take i es) e set
 
--- ---- objects that are put, and none that goes
-
-abbrev pub as_put : Identity × Stored → Entry
-as_put e = (e.0, Some e.1)
-
-pub puts_after : (es : List (Identity × Stored)) (set : StoredSet) → set_after (map as_put es) set ≡ put_all es set
-puts_after [] set = refl
-puts_after (e ∷ es) set = puts_after es (with_stored e.0 e.1 set)
-
-pub puts_storable : (world : World) (es : List (Identity × Stored)) → AllByRecursion (λ (e : Identity × Stored). is_storable world e.0 e.1 ≡ true) es
-    → AllByRecursion (λ (e : Entry). is_storable_if_any world e.0 e.1 ≡ true) (map as_put es)
-puts_storable world [] h = tt
-puts_storable world (e ∷ es) h = (h.0, puts_storable world es h.1)
-
-same_any : (id : Identity) (es : List (Identity × Stored)) → list_any (λ (b : Entry). same_identity id b.0) (map as_put es) ≡ list_any (λ (b : Identity × Stored). same_identity id b.0) es
-same_any id [] = refl
-same_any id (e ∷ es) = ap (λ b. same_identity id e.0 || b) (same_any id es)
-
-pub puts_distinct : (es : List (Identity × Stored)) → all_distinct (λ (a : Entry) (b : Entry). same_identity a.0 b.0) (map as_put es) ≡ all_distinct (λ (a : Identity × Stored) (b : Identity × Stored). same_identity a.0 b.0) es
-puts_distinct [] = refl
-puts_distinct (e ∷ es) = λ i. not (same_any e.0 es i) && puts_distinct es i
-
-pub none_put : (cs : List ObjectChange) (es : List (Identity × Stored)) → entries_in cs ≡ map as_put es → es ≡ [] → cs ≡ []
-none_put [] es h none = refl
-none_put (c ∷ cs) [] h none = cc
-none_put (c ∷ cs) (e ∷ es) h none = cc
-
 -- ---- one after another
 
 -- what is to stand under another identity leaves what stands under this one
-other_left : (q id : Identity) (x : Option Stored) (set : StoredSet) → same_identity q id ≡ false → stored_at (with_or_without id x set) q ≡ stored_at set q
+pub other_left : (q id : Identity) (x : Option Stored) (set : StoredSet) → same_identity q id ≡ false → stored_at (with_or_without id x set) q ≡ stored_at set q
 other_left q id None set apart = ap (λ s. stored_at s q) (sym (is_without id set)) ∙ dropped_other identities q id set apart
 other_left q id (Some x) set apart = found_other identities q id x set apart
 

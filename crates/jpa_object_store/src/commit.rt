@@ -1,30 +1,27 @@
 //! What a commit writes.
-ghost use Rattle.std.specs.Prelude.{◌≡◌, ◌⊎◌, ◌+◌, ◌≤◌, List, [], true, nat_le, sum_by, Ok, OnOk, OnErr, IfOk, IfErr};
+ghost use Rattle.std.specs.Prelude.{◌≡◌, ◌⊎◌, true, nat_le, OnOk, OnErr, IfOk, IfErr};
 ghost use Rattle.std.specs.List.{AllByRecursion};
 ghost use Rattle.jpa_value.specs.declared.refusal.Cause.{Cause};
 ghost use Rattle.jpa_value.specs.Value.{same_identity};
 ghost use Rattle.jpa_behaviour.specs.Registered.{world_of};
-ghost use Rattle.jpa_stored.specs.Sets.{all_distinct, each_fits, put_all};
+ghost use Rattle.jpa_stored.specs.Sets.{all_distinct, each_fits};
 ghost use Rattle.jpa_rows.specs.Cells.{are_numbers, CanBeHeld};
 ghost use Rattle.jpa_rows.specs.Faults.{faults_after};
-ghost use Rattle.jpa_rows.specs.declared.row.RowChange.{RowChange};
 ghost use Rattle.jpa_rows.specs.Rows.{Rows, AreChanges};
-ghost use Rattle.jpa_rows.specs.Statements.{statements_of, up_to_greatest};
 ghost use Rattle.jpa_rows.specs.Tables.{schema_of};
-ghost use Rattle.jpa_view.specs.View.{is_storable};
 ghost use Rattle.jpa_object_rows.specs.Sets.{rows_of};
-ghost use Rattle.jpa_object_store.specs.Written.{IsDifference, entries_in, is_storable_if_any, set_after};
+ghost use Rattle.jpa_object_store.specs.Written.{IsDifference, RunsDifference, RunsAtMost, entries_in, is_storable_if_any, set_after};
 
 use crate::numbers::change_numbers;
-use crate::object_change::{ObjectChange, puts_of};
+use crate::object_change::{ObjectChange, changes_of};
 use crate::objects::change_objects;
 use jpa_behaviour::{Behaviour, Registry};
 use jpa_mapper::discriminator_law;
 use jpa_model::Metamodel;
+use jpa_open::OpenSet;
 use jpa_overlay::Overlay;
 use jpa_rows::{RowChange, RowSource};
-use jpa_stored::{OpenSet, Stored};
-use jpa_value::{Cause, Identity, Seq};
+use jpa_value::{Cause, Seq};
 use std::alloc::Global;
 
 /// The difference of the rows of a view's committed objects and their next numbers from those with what is to stand under some
@@ -38,12 +35,16 @@ fn difference_of<B: Behaviour>(
     objects: &[ObjectChange<'_>],
     next: &[u64],
 ) -> Result<Seq<RowChange>, Cause>
-    requires committed { CanBeHeld (world_of B.meaning metamodel.now registry.now) view.now.since before.now }
-    requires storable { AllByRecursion (λ e. is_storable_if_any (world_of B.meaning metamodel.now registry.now) e.0 e.1 ≡ true) (entries_in objects.now) }
+    requires committed { CanBeHeld (world_of B.meaning metamodel.now registry.now)
+        view.now.committed before.now }
+    requires storable { let world = world_of B.meaning metamodel.now registry.now in
+        AllByRecursion (λ e. is_storable_if_any world e.0 e.1 ≡ true) (entries_in objects.now) }
     requires distinct { all_distinct (λ a b. same_identity a.0 b.0) (entries_in objects.now) ≡ true }
     requires numbers { are_numbers metamodel.now next.now ≡ true }
     requires rising { each_fits nat_le before.now next.now ≡ true }
-    ensures ok { IfOk result (λ changes. IsDifference (rows_of (world_of B.meaning metamodel.now registry.now) view.now.since before.now) (rows_of (world_of B.meaning metamodel.now registry.now) (set_after (entries_in objects.now) view.now.since) next.now) changes) }
+    ensures ok { let world = world_of B.meaning metamodel.now registry.now in
+        IfOk result (IsDifference (rows_of world view.now.committed before.now)
+        (rows_of world (set_after (entries_in objects.now) view.now.committed) next.now)) }
     ensures whole { IfOk result (AreChanges (schema_of metamodel.now)) }
     ensures err { IfErr result (λ cause. cause ≡ Cause.OutOfMemory) }
 {
@@ -66,19 +67,10 @@ fn difference_of<B: Behaviour>(
     overlay.into_difference(&stood)
 }
 
-/// Writes what is to stand under some identities, none of which comes twice, over the view's committed objects, which the store
-/// holds, and the next numbers of generated keys in the place of those before, none of which falls: all or nothing, as one
-/// transaction of the store (Jakarta Persistence 3.1, chapters 2.4, 2.10, 2.12, 3.2.3 and 3.2.4).
-///
-/// An object of an identity that is committed takes the place of the old one, whose pairs go with it. Where no object is to stand,
-/// the one that is committed goes, its row and its pairs. What is written is exactly the difference of the rows: none that stands
-/// as it is to stand, so nothing where no row changes. The view says what stands, so nothing is read.
-///
-/// It refuses with `OutOfMemory`, and with `StoreFault` as the store does. Then the store holds what it held, and is as it was
-/// where no commit was tried; where one was, the statements that it ran are at most those of the difference.
-///
-/// However it ends, a crash leaves what it could leave before, or the rows of the set and the next numbers that it writes.
-pub fn write_changes<R: RowSource, B: Behaviour>(
+/// Writes what is to stand under some identities, none of which comes twice, over the view's committed objects, and the next
+/// numbers of generated keys in the place of those before. An object of an identity that is committed takes the place of the old
+/// one, whose pairs go with it. Where no object is to stand, the one that is committed goes, its row and its pairs.
+fn write_changes<R: RowSource, B: Behaviour>(
     alloc: Global,
     metamodel: &Metamodel,
     registry: &Registry<B>,
@@ -89,35 +81,56 @@ pub fn write_changes<R: RowSource, B: Behaviour>(
     next: &[u64],
 ) -> Result<(), Cause>
     requires schema { R.schema source.old ≡ schema_of metamodel.now }
-    requires committed { CanBeHeld (world_of B.meaning metamodel.now registry.now) view.now.since before.now }
-    requires storable { AllByRecursion (λ e. is_storable_if_any (world_of B.meaning metamodel.now registry.now) e.0 e.1 ≡ true) (entries_in objects.now) }
+    requires committed { CanBeHeld (world_of B.meaning metamodel.now registry.now)
+        view.now.committed before.now }
+    requires storable { let world = world_of B.meaning metamodel.now registry.now in
+        AllByRecursion (λ e. is_storable_if_any world e.0 e.1 ≡ true) (entries_in objects.now) }
     requires distinct { all_distinct (λ a b. same_identity a.0 b.0) (entries_in objects.now) ≡ true }
     requires numbers { are_numbers metamodel.now next.now ≡ true }
     requires rising { each_fits nat_le before.now next.now ≡ true }
-    ensures ok { OnOk result (R.holds source.old (rows_of (world_of B.meaning metamodel.now registry.now) view.now.since before.now) → R.holds source.new (rows_of (world_of B.meaning metamodel.now registry.now) (set_after (entries_in objects.now) view.now.since) next.now)) }
+    ensures ok { let world = world_of B.meaning metamodel.now registry.now in
+        OnOk result (R.holds source.old (rows_of world view.now.committed before.now)
+        → R.holds source.new (rows_of world (set_after (entries_in objects.now) view.now.committed) next.now)) }
     ensures err { OnErr result ((rows : Rows) → R.holds source.old rows → R.holds source.new rows) }
     ensures cause { IfErr result (λ cause. (cause ≡ Cause.OutOfMemory) ⊎ (cause ≡ Cause.StoreFault)) }
     ensures told { R.faults source.new ≡ faults_after result (R.faults source.old) }
     ensures was_clean { R.clean source.new → R.clean source.old }
     ensures schema { R.schema source.new ≡ R.schema source.old }
     ensures unread { R.reads source.new ≡ R.reads source.old }
-    ensures crash { R.holds source.old (rows_of (world_of B.meaning metamodel.now registry.now) view.now.since before.now) → R.endures source.old source.new (λ left. left ≡ rows_of (world_of B.meaning metamodel.now registry.now) (set_after (entries_in objects.now) view.now.since) next.now) }
-    ensures counted { OnOk result ((changes : List RowChange) × IsDifference (rows_of (world_of B.meaning metamodel.now registry.now) view.now.since before.now) (rows_of (world_of B.meaning metamodel.now registry.now) (set_after (entries_in objects.now) view.now.since) next.now) changes × (R.writes source.new ≡ up_to_greatest (R.writes source.old + sum_by statements_of changes))) }
-    ensures bounded { OnErr result ((source.new ≡ source.old) ⊎ ((changes : List RowChange) × IsDifference (rows_of (world_of B.meaning metamodel.now registry.now) view.now.since before.now) (rows_of (world_of B.meaning metamodel.now registry.now) (set_after (entries_in objects.now) view.now.since) next.now) changes × (R.writes source.old ≤ R.writes source.new) × (R.writes source.new ≤ up_to_greatest (R.writes source.old + sum_by statements_of changes)))) }
-    ensures unchanged { rows_of (world_of B.meaning metamodel.now registry.now) view.now.since before.now ≡ rows_of (world_of B.meaning metamodel.now registry.now) (set_after (entries_in objects.now) view.now.since) next.now → source.new ≡ source.old }
-    ensures nothing { objects.now ≡ [] → next.now ≡ before.now → (result ≡ Ok tt) × (source.new ≡ source.old) }
+    ensures crash { let world = world_of B.meaning metamodel.now registry.now in
+        R.holds source.old (rows_of world view.now.committed before.now)
+        → R.endures source.old source.new (λ left. left
+        ≡ rows_of world (set_after (entries_in objects.now) view.now.committed) next.now) }
+    ensures counted { let world = world_of B.meaning metamodel.now registry.now in
+        OnOk result (RunsDifference (rows_of world view.now.committed before.now)
+        (rows_of world (set_after (entries_in objects.now) view.now.committed) next.now)
+        (R.writes source.old) (R.writes source.new)) }
+    ensures bounded { let world = world_of B.meaning metamodel.now registry.now in
+        OnErr result ((source.new ≡ source.old)
+        ⊎ RunsAtMost (rows_of world view.now.committed before.now)
+        (rows_of world (set_after (entries_in objects.now) view.now.committed) next.now)
+        (R.writes source.old) (R.writes source.new)) }
+    ensures unchanged { let world = world_of B.meaning metamodel.now registry.now in
+        rows_of world view.now.committed before.now
+        ≡ rows_of world (set_after (entries_in objects.now) view.now.committed) next.now
+        → source.new ≡ source.old }
 {
-    if objects.is_empty() && before == next {
-        // takes no memory
-        return source.commit(&[]);
-    }
     let changes = difference_of(alloc, metamodel, registry, view, before, objects, next)?;
     source.commit(changes.as_slice())
 }
 
-/// Writes the objects that a flush wrote, each under its identity and no identity twice, over the view's committed objects, and no
-/// committed object goes: `write_changes` of these objects, with its refusals, and the same of a crash (Jakarta Persistence 3.1,
-/// chapters 2.4, 2.10, 2.12 and 3.2.4).
+/// Writes what the view's transaction wrote or removed, over the committed objects, which the store holds, and the next numbers of
+/// generated keys in the place of those before, none of which falls: all or nothing, as one transaction of the store (Jakarta
+/// Persistence 3.1, chapters 2.4, 2.10, 2.12, 3.2.3, 3.2.4 and 7.5).
+///
+/// An object takes the place of the one that is committed under its identity, whose pairs go with it; one that was removed goes,
+/// its row and its pairs. What is written is exactly the difference of the rows: none that stands as it is to stand, so nothing
+/// where no row changes. The view says what stands, so nothing is read.
+///
+/// It refuses with `OutOfMemory`, and with `StoreFault` as the store does. Then the store holds what it held, and is as it was
+/// where no commit was tried; where one was, the statements that it ran are at most those of the difference.
+///
+/// However it ends, a crash leaves what it could leave before, or the rows of what the transaction sees and the next numbers.
 pub fn write<R: RowSource, B: Behaviour>(
     alloc: Global,
     metamodel: &Metamodel,
@@ -125,29 +138,40 @@ pub fn write<R: RowSource, B: Behaviour>(
     source: &mut R,
     view: &OpenSet,
     before: &[u64],
-    written: &[(Identity, Stored)],
     next: &[u64],
 ) -> Result<(), Cause>
     requires schema { R.schema source.old ≡ schema_of metamodel.now }
-    requires committed { CanBeHeld (world_of B.meaning metamodel.now registry.now) view.now.since before.now }
-    requires storable { AllByRecursion (λ e. is_storable (world_of B.meaning metamodel.now registry.now) e.0 e.1 ≡ true) written.now }
-    requires distinct { all_distinct (λ a b. same_identity a.0 b.0) written.now ≡ true }
-    requires numbers { are_numbers metamodel.now next.now ≡ true }
+    requires committed { CanBeHeld (world_of B.meaning metamodel.now registry.now)
+        view.now.committed before.now }
+    requires seen { CanBeHeld (world_of B.meaning metamodel.now registry.now)
+        view.now.seen next.now }
+    requires shown { view.now.is_shown ≡ true }
     requires rising { each_fits nat_le before.now next.now ≡ true }
-    ensures ok { OnOk result (R.holds source.old (rows_of (world_of B.meaning metamodel.now registry.now) view.now.since before.now) → R.holds source.new (rows_of (world_of B.meaning metamodel.now registry.now) (put_all written.now view.now.since) next.now)) }
+    ensures ok { let world = world_of B.meaning metamodel.now registry.now in
+        OnOk result (R.holds source.old (rows_of world view.now.committed before.now)
+        → R.holds source.new (rows_of world view.now.seen next.now)) }
     ensures err { OnErr result ((rows : Rows) → R.holds source.old rows → R.holds source.new rows) }
     ensures cause { IfErr result (λ cause. (cause ≡ Cause.OutOfMemory) ⊎ (cause ≡ Cause.StoreFault)) }
     ensures told { R.faults source.new ≡ faults_after result (R.faults source.old) }
     ensures was_clean { R.clean source.new → R.clean source.old }
     ensures schema { R.schema source.new ≡ R.schema source.old }
     ensures unread { R.reads source.new ≡ R.reads source.old }
-    ensures crash { R.holds source.old (rows_of (world_of B.meaning metamodel.now registry.now) view.now.since before.now) → R.endures source.old source.new (λ left. left ≡ rows_of (world_of B.meaning metamodel.now registry.now) (put_all written.now view.now.since) next.now) }
-    ensures counted { OnOk result ((changes : List RowChange) × IsDifference (rows_of (world_of B.meaning metamodel.now registry.now) view.now.since before.now) (rows_of (world_of B.meaning metamodel.now registry.now) (put_all written.now view.now.since) next.now) changes × (R.writes source.new ≡ up_to_greatest (R.writes source.old + sum_by statements_of changes))) }
-    ensures bounded { OnErr result ((source.new ≡ source.old) ⊎ ((changes : List RowChange) × IsDifference (rows_of (world_of B.meaning metamodel.now registry.now) view.now.since before.now) (rows_of (world_of B.meaning metamodel.now registry.now) (put_all written.now view.now.since) next.now) changes × (R.writes source.old ≤ R.writes source.new) × (R.writes source.new ≤ up_to_greatest (R.writes source.old + sum_by statements_of changes)))) }
-    ensures unchanged { rows_of (world_of B.meaning metamodel.now registry.now) view.now.since before.now ≡ rows_of (world_of B.meaning metamodel.now registry.now) (put_all written.now view.now.since) next.now → source.new ≡ source.old }
-    ensures nothing { written.now ≡ [] → next.now ≡ before.now → (result ≡ Ok tt) × (source.new ≡ source.old) }
+    ensures crash { let world = world_of B.meaning metamodel.now registry.now in
+        R.holds source.old (rows_of world view.now.committed before.now)
+        → R.endures source.old source.new (λ left. left ≡ rows_of world view.now.seen next.now) }
+    ensures counted { let world = world_of B.meaning metamodel.now registry.now in
+        OnOk result (RunsDifference (rows_of world view.now.committed before.now)
+        (rows_of world view.now.seen next.now) (R.writes source.old) (R.writes source.new)) }
+    ensures bounded { let world = world_of B.meaning metamodel.now registry.now in
+        OnErr result ((source.new ≡ source.old)
+        ⊎ RunsAtMost (rows_of world view.now.committed before.now)
+        (rows_of world view.now.seen next.now) (R.writes source.old) (R.writes source.new)) }
+    ensures unchanged { let world = world_of B.meaning metamodel.now registry.now in
+        rows_of world view.now.committed before.now ≡ rows_of world view.now.seen next.now
+        → source.new ≡ source.old }
 {
-    let puts = puts_of(alloc, written)?;
+    let ids = view.changed()?;
+    let objects = changes_of(alloc, view, ids.as_slice())?;
     write_changes(
         alloc,
         metamodel,
@@ -155,7 +179,7 @@ pub fn write<R: RowSource, B: Behaviour>(
         source,
         view,
         before,
-        puts.as_slice(),
+        objects.as_slice(),
         next,
     )
 }

@@ -19,9 +19,10 @@ use crate::rows::{drop_rows, put_rows};
 use jpa_behaviour::{Behaviour, Registry};
 use jpa_mapper::{discriminator_law, to_rows};
 use jpa_model::Metamodel;
+use jpa_open::OpenSet;
 use jpa_overlay::Overlay;
 use jpa_rows::{Row, RowId};
-use jpa_stored::{OpenSet, Stored};
+use jpa_stored::Stored;
 use jpa_value::{Cause, Identity, Seq};
 use std::alloc::Global;
 
@@ -50,9 +51,9 @@ fn drop_old<B: Behaviour>(
     view: &OpenSet,
     id: &Identity,
 ) -> Result<(), Cause>
-    requires { AreStorable (world_of B.meaning metamodel.now registry.now) view.now.since }
-    ensures ok { OnOk result (overlay.new ≡ with_drops (entries_at (world_of B.meaning metamodel.now registry.now) id.now (sets.stored_at view.now.since id.now)) overlay.old) }
-    ensures noted { OnOk result (stood.new ≡ with_puts (entries_at (world_of B.meaning metamodel.now registry.now) id.now (sets.stored_at view.now.since id.now)) stood.old) }
+    requires { AreStorable (world_of B.meaning metamodel.now registry.now) view.now.committed }
+    ensures ok { OnOk result (overlay.new ≡ with_drops (entries_at (world_of B.meaning metamodel.now registry.now) id.now (sets.stored_at view.now.committed id.now)) overlay.old) }
+    ensures noted { OnOk result (stood.new ≡ with_puts (entries_at (world_of B.meaning metamodel.now registry.now) id.now (sets.stored_at view.now.committed id.now)) stood.old) }
     ensures err { IfErr result (λ cause. cause ≡ Cause.OutOfMemory) }
 {
     match view.committed(id) {
@@ -98,10 +99,10 @@ fn change_object<B: Behaviour>(
     id: &Identity,
     object: Option<&Stored>,
 ) -> Result<(), Cause>
-    requires committed { AreStorable (world_of B.meaning metamodel.now registry.now) view.now.since }
+    requires committed { AreStorable (world_of B.meaning metamodel.now registry.now) view.now.committed }
     requires storable { is_storable_if_any (world_of B.meaning metamodel.now registry.now) id.now (option_copied object) ≡ true }
-    ensures ok { OnOk result ((base : Rows) (set : sets.StoredSet) (numbers : List ℕ) → sets.stored_at set id.now ≡ sets.stored_at view.now.since id.now → Show (world_of B.meaning metamodel.now registry.now) base overlay.old set numbers → Show (world_of B.meaning metamodel.now registry.now) base overlay.new (with_or_without id.now (option_copied object.entry) set) numbers) }
-    ensures noted { OnOk result ((before : List ℕ) → CanBeHeld (world_of B.meaning metamodel.now registry.now) view.now.since before → Recall (set_rows.rows_of (world_of B.meaning metamodel.now registry.now) view.now.since before) stood.old overlay.old → Recall (set_rows.rows_of (world_of B.meaning metamodel.now registry.now) view.now.since before) stood.new overlay.new) }
+    ensures ok { OnOk result ((base : Rows) (set : sets.StoredSet) (numbers : List ℕ) → sets.stored_at set id.now ≡ sets.stored_at view.now.committed id.now → Show (world_of B.meaning metamodel.now registry.now) base overlay.old set numbers → Show (world_of B.meaning metamodel.now registry.now) base overlay.new (with_or_without id.now (option_copied object.entry) set) numbers) }
+    ensures noted { OnOk result ((before : List ℕ) → CanBeHeld (world_of B.meaning metamodel.now registry.now) view.now.committed before → Recall (set_rows.rows_of (world_of B.meaning metamodel.now registry.now) view.now.committed before) stood.old overlay.old → Recall (set_rows.rows_of (world_of B.meaning metamodel.now registry.now) view.now.committed before) stood.new overlay.new) }
     ensures err { IfErr result (λ cause. cause ≡ Cause.OutOfMemory) }
 {
     // what the rows of a unit rest on
@@ -122,11 +123,11 @@ pub(crate) fn change_objects<B: Behaviour>(
     view: &OpenSet,
     changes: &[ObjectChange<'_>],
 ) -> Result<(), Cause>
-    requires committed { AreStorable (world_of B.meaning metamodel.now registry.now) view.now.since }
+    requires committed { AreStorable (world_of B.meaning metamodel.now registry.now) view.now.committed }
     requires storable { AllByRecursion (λ e. is_storable_if_any (world_of B.meaning metamodel.now registry.now) e.0 e.1 ≡ true) (entries_in changes.now) }
     requires distinct { sets.all_distinct (λ a b. same_identity a.0 b.0) (entries_in changes.now) ≡ true }
-    ensures ok { OnOk result ((base : Rows) (numbers : List ℕ) → Show (world_of B.meaning metamodel.now registry.now) base overlay.old view.now.since numbers → Show (world_of B.meaning metamodel.now registry.now) base overlay.new (set_after (entries_in changes.now) view.now.since) numbers) }
-    ensures noted { OnOk result ((before : List ℕ) → CanBeHeld (world_of B.meaning metamodel.now registry.now) view.now.since before → Recall (set_rows.rows_of (world_of B.meaning metamodel.now registry.now) view.now.since before) stood.old overlay.old → Recall (set_rows.rows_of (world_of B.meaning metamodel.now registry.now) view.now.since before) stood.new overlay.new) }
+    ensures ok { OnOk result ((base : Rows) (numbers : List ℕ) → Show (world_of B.meaning metamodel.now registry.now) base overlay.old view.now.committed numbers → Show (world_of B.meaning metamodel.now registry.now) base overlay.new (set_after (entries_in changes.now) view.now.committed) numbers) }
+    ensures noted { OnOk result ((before : List ℕ) → CanBeHeld (world_of B.meaning metamodel.now registry.now) view.now.committed before → Recall (set_rows.rows_of (world_of B.meaning metamodel.now registry.now) view.now.committed before) stood.old overlay.old → Recall (set_rows.rows_of (world_of B.meaning metamodel.now registry.now) view.now.committed before) stood.new overlay.new) }
     ensures err { IfErr result (λ cause. cause ≡ Cause.OutOfMemory) }
 {
     for change in changes {

@@ -19,7 +19,7 @@ use Rattle.jpa_object_store.proofs.commit.difference_of.Goals as goal
 pub change_objects-requires-clause-committed : goal.change_objects-requires-clause-committed
 change_objects-requires-clause-committed g c =
     let world = world_of g.B.Behaviour.meaning c.args.metamodel.now c.args.registry.now in
-    held_storable world c.args.view.now.since c.args.before.now c.requires.committed
+    held_storable world c.args.view.now.committed c.args.before.now c.requires.committed
 
 -- the difference from rows that are recalled
 recalled : {E : Type 0} (r : Result (List RowChange) E) (base new : Rows) (stood changes : Changes) → AreRising base → Recalls stood changes base → rows_under changes base ≡ new
@@ -32,7 +32,7 @@ pub returns-clause-ok : goal.returns-clause-ok
 returns-clause-ok g c =
     let m = c.args.metamodel.now in
     let world = world_of g.B.Behaviour.meaning m c.args.registry.now in
-    let committed = c.args.view.now.since in
+    let committed = c.args.view.now.committed in
     let before = c.args.before.now in
     let base = rows_of world committed before in
     let set = set_after (entries_in c.args.objects.now) committed in
@@ -56,7 +56,7 @@ pub returns-clause-whole : goal.returns-clause-whole
 returns-clause-whole g c =
     let m = c.args.metamodel.now in
     let world = world_of g.B.Behaviour.meaning m c.args.registry.now in
-    let committed = c.args.view.now.since in
+    let committed = c.args.view.now.committed in
     let before = c.args.before.now in
     let base = rows_of world committed before in
     let set = set_after (entries_in c.args.objects.now) committed in

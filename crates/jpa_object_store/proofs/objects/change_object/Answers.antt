@@ -24,13 +24,13 @@ returns-clause-ok g c =
     then_so c.put_new.result c.put_new.ensures.ok (λ put base set numbers at s.
     subst (λ changes. Show world base changes (with_or_without id new set) numbers) (sym (put ∙ (λ i. with_puts (entries_at world id new) (c.in_ok-drop_old.ensures.ok i))))
     (replaced world (described_mapped m c.unit.ensures.described) (c.laws.ensures.regular m) c.discriminator_law.ensures base c.args.overlay.now set numbers s id new c.requires.storable
-    (stored_at c.args.view.now.since id) at))
+    (stored_at c.args.view.now.committed id) at))
 
 pub returns-clause-noted : goal.returns-clause-noted
 returns-clause-noted g c =
     let m = c.args.metamodel.now in
     let world = world_of g.B.Behaviour.meaning m c.args.registry.now in
-    let committed = c.args.view.now.since in
+    let committed = c.args.view.now.committed in
     let id = c.args.id.now in
     let new = option_copied c.args.object in
     let old = stored_at committed id in

@@ -13,7 +13,7 @@ change_object-requires-clause-storable g c =
 pub loop-change-preserved : goal.loop-change-preserved
 loop-change-preserved g c =
     let world = world_of g.B.Behaviour.meaning c.args.metamodel.now c.args.registry.now in
-    let committed = c.args.view.now.since in
+    let committed = c.args.view.now.committed in
     let changes = c.args.changes.now in
     let i = c.loop-change.change-index in
     let change = c.change-item.result in

@@ -11,6 +11,6 @@ abbrev pub invariant-loop-change : goal.invariant-loop-change
 invariant-loop-change g l =
     let world = world_of g.B.Behaviour.meaning l.metamodel l.registry in
     record {
-      shown : (base : Rows) (numbers : List ℕ) → Show world base l.fn.overlay l.view.since numbers → Show world base l.overlay (set_after (take l.change-index (entries_in l.changes)) l.view.since) numbers;
-      noted : (before : List ℕ) → CanBeHeld world l.view.since before → Recall (rows_of world l.view.since before) l.fn.stood l.fn.overlay → Recall (rows_of world l.view.since before) l.stood l.overlay;
+      shown : (base : Rows) (numbers : List ℕ) → Show world base l.fn.overlay l.view.committed numbers → Show world base l.overlay (set_after (take l.change-index (entries_in l.changes)) l.view.committed) numbers;
+      noted : (before : List ℕ) → CanBeHeld world l.view.committed before → Recall (rows_of world l.view.committed before) l.fn.stood l.fn.overlay → Recall (rows_of world l.view.committed before) l.stood l.overlay;
     }
