@@ -1,82 +1,70 @@
--- What a commit of an open transaction stands on, and what it leaves.
-use Rattle.std.proofs.Common.{◌≡◌, ◌<◌, ◌⊎◌, inl, inr, ℕ, true, List, length, ap, sym, subst, ◌∙◌}
-use Rattle.std.specs.Prelude.{◌==◌, All, nat_le}
-use Rattle.jpa_value.specs.declared.value.Identity.{Identity}
-use Rattle.jpa_value.specs.declared.refusal.Cause.{Cause}
-use Rattle.jpa_value.specs.Value.{same_identity}
+-- What a flush of the manager at work stands on, and what it leaves.
+use Rattle.std.proofs.Common.{◌≡◌, ◌<◌, ℕ, true, List, length, ap, sym, subst, ◌∙◌}
+use Rattle.std.specs.Prelude.{◌==◌, All, T, nat_le}
+use Rattle.std.specs.FinMap.Entries.{is_sorted}
+use Rattle.jpa_value.specs.Value.{identity_cmp}
+use Rattle.std.proofs.lemmas.List.Elements.{All-weaker}
 use Rattle.jpa_behaviour.specs.Behaviour.{World}
-use Rattle.jpa_stored.specs.declared.stored.Stored.{Stored}
-use Rattle.jpa_stored.specs.Sets.{all_distinct, each_fits}
-use Rattle.jpa_rows.specs.Cells.{are_numbers}
-use Rattle.jpa_view.specs.View.{AreStorable}
-use Rattle.jpa_protocol.specs.declared.event.Told.{Told}
-use Rattle.jpa_protocol.specs.declared.reply.Reply.{Reply}
+use Rattle.jpa_stored.specs.Sets.{IsSound, all_distinct, each_fits}
+use Rattle.jpa_rows.specs.Cells.{CanBeHeld}
 use Rattle.jpa_context.specs.declared.Entry.{Entry}
 use Rattle.jpa_context.specs.Work.{Work}
 use Rattle.jpa_context.specs.Steps.{Done}
-use Rattle.jpa_context.specs.Undo.{IsPlain, Since}
+use Rattle.jpa_context.specs.Undo.{since, Since}
 use Rattle.jpa_flush.specs.Flush.{flush}
-use Rattle.jpa_flush.specs.Writes.{AreWritesOf}
-use Rattle.jpa_provider.specs.declared.session.Status.{Status}
+use Rattle.jpa_flush.specs.Names.{has_distinct_entries}
+use Rattle.jpa_flush.proofs.Names.{distinct_objects}
 use Rattle.jpa_provider.specs.declared.session.Session.{Session}
-use Rattle.jpa_provider.specs.Machine.{Machine, Manager, manager_at, is_begun, work_of}
-use Rattle.jpa_provider.specs.Invariant.{IsMachine, context_of}
-use Rattle.jpa_provider.specs.Serving.{transaction_in, manager_in, machine_of, since_of, IsPlainMachine, IsServing, Refuses, Stores}
-use Rattle.jpa_provider.proofs.AtWork.{IsAtWork, taken}
+use Rattle.jpa_provider.specs.Machine.{Machine, manager_at, is_begun, work_of}
+use Rattle.jpa_provider.specs.Invariant.{IsMachine, HasOneTransaction, context_of}
+use Rattle.jpa_provider.specs.Serving.{machine_of, manager_in, is_begun_status, EndsAlone, IsCommitting, IsServing, IsSettled, IsWorking}
+use Rattle.jpa_provider.proofs.AtWork.{IsAtWork, each_manager, taken}
 use Rattle.jpa_provider.proofs.AfterFlush.{still_at_work, numbers_rise}
-use Rattle.jpa_consistent.proofs.DistinctObjects.{distinct_objects}
-use Rattle.jpa_provider.proofs.Opened.{transaction_there}
-use Rattle.jpa_provider.proofs.Plain.{committed_plain}
+use Rattle.jpa_consistent.specs.Consistent.{IsEntry}
 use Rattle.jpa_provider.proofs.Serving.{entries_in}
-use Rattle.jpa_provider.proofs.Sessions.{manager_there, managers_count}
-use Rattle.jpa_provider.proofs.Steady.{same, rolled_steady, free_set, IsSteady}
-use Rattle.jpa_consistent.proofs.StorableWrites.{storable_writes, single_writes}
-
-pub begun_active : (s : Session) (m : ℕ) → m < length s.managers.items → (manager_in s.managers.items m).status ≡ Status.Active → is_begun (manager_at (machine_of s) m).transaction ≡ true
-begun_active s m l active = ap is_begun (transaction_there s m l) ∙ ap (λ (st : Status). is_begun (transaction_in st s.work.view.now)) active
+use Rattle.jpa_provider.proofs.Sessions.{manager_there, begun_there}
 
 -- the entries that undoing gives back
-pub entries_since : {world : World} (s : Session) (m : ℕ) (x : Since) → m < length s.managers.items → IsMachine world (machine_of s) → x ≡ since_of (machine_of s) m → All (λ (e : Entry). e.object < length x.objects) x.context
-entries_since s m x l h e =
-    subst (λ (y : Since). All (λ (e' : Entry). e'.object < length y.objects) y.context) (sym e)
-    (subst (λ (y : Manager). All (λ (e' : Entry). e'.object < length s.work.objects.now) y.context) (sym (manager_there s m l)) (entries_in s h m))
+pub entries_since : {world : World} (s : Session) (m : ℕ) (x : Since) → IsMachine world (machine_of s) → x.objects ≡ (machine_of s).objects → x.context ≡ context_of (machine_of s) m →
+    All (λ (e : Entry). e.object < length x.objects) x.context
+entries_since s m x h o c =
+    subst (λ (p : List Entry × ℕ). All (λ (e : Entry). e.object < p.1) p.0) (λ i. ((sym (c ∙ ap (λ y. y.context) (manager_there s m))) i, length (sym o i))) (entries_in s h m)
 
--- each object stands once in the manager's context
-pub objects_once : (world : World) (s : Session) (m : ℕ) → m < length s.managers.items → IsServing world s → all_distinct (λ (a b : Entry). a.object == b.object) (context_of (machine_of s) m) ≡ true
-objects_once world s m l h =
-    distinct_objects world.model (machine_of s).objects (context_of (machine_of s) m) ((h.machine).managers m (subst (λ n. m < n) (sym (managers_count s)) l)).distinct
+-- each identity stands once in the manager's context
+pub entries_apart : (world : World) (s : Session) (m : ℕ) → IsServing world s → has_distinct_entries world.model (work_of (machine_of s) m) ≡ true
+entries_apart world s m h = (each_manager h.machine m).distinct
 
--- what a flush wrote, of the same work otherwise named
-pub writes_from : {world : World} {u v : Work} {es : List (Identity × Stored)} → u ≡ v → AreWritesOf world u es → AreWritesOf world v es
-writes_from {world} {u} {v} {es} e h = subst (λ w. AreWritesOf world w es) e h
+pub objects_once : (world : World) (s : Session) (m : ℕ) → IsServing world s → all_distinct (λ (a b : Entry). a.object == b.object) (work_of (machine_of s) m).context ≡ true
+objects_once world s m h = distinct_objects world.model (work_of (machine_of s) m) (entries_apart world s m h)
 
-module _ (world : World) (s : Session) (m : ℕ) (l : m < length s.managers.items) (h : IsServing world s) (w : Work) (e : flush world (work_of (machine_of s) m) ≡ Done tt w) where
-  within : m < length (machine_of s).managers
-  within = subst (λ n. m < n) (sym (managers_count s)) l
+-- what the manager sees is sound
+pub view_sound : (world : World) (s : Session) (m : ℕ) → IsServing world s → IsSound world.model (work_of (machine_of s) m).view
+view_sound world s m h = ((taken m h.machine).view).sound
 
-  before : IsAtWork world (machine_of s) m (work_of (machine_of s) m)
-  before = taken m h.machine
+pub view_rises : (world : World) (s : Session) (m : ℕ) → IsServing world s → T (is_sorted identity_cmp (work_of (machine_of s) m).view)
+view_rises world s m h = ((taken m h.machine).view).rising
 
-  after_it : IsAtWork world (machine_of s) m w
-  after_it = still_at_work (machine_of s) w h.flat h.regular before e
+pub committing : {world : World} (s t : Session) (m : ℕ) → IsServing world s → is_begun_status (manager_in s.managers.items m).status ≡ true → IsWorking (machine_of s) m t → IsCommitting (machine_of s) m t
+committing s t m h begun working = record { working = working; one = h.one; begun = begun_there s m ∙ begun }
 
-  pub flushed_storable : {es : List (Identity × Stored)} → AreWritesOf world (work_of (machine_of s) m) es → AreStorable world es
-  flushed_storable ws = storable_writes w h.flat h.regular before e ws
+-- undone, the transaction is still the one that is open
+pub ends_alone : {M : Machine} (t : Session) (m : ℕ) → IsSettled t → machine_of t ≡ M → HasOneTransaction M → is_begun (manager_at M m).transaction ≡ true → EndsAlone m t
+ends_alone t m settled same one begun =
+    record {
+      settled = settled;
+      one = subst HasOneTransaction (sym same) one;
+      begun = sym (begun_there t m) ∙ ap (λ (N : Machine). is_begun (manager_at N m).transaction) same ∙ begun;
+    }
 
-  pub flushed_distinct : {es : List (Identity × Stored)} → AreWritesOf world (work_of (machine_of s) m) es → all_distinct (λ (a b : Identity × Stored). same_identity a.0 b.0) es ≡ true
-  flushed_distinct ws = single_writes w h.flat h.regular before e ws
+module _ (world : World) (s : Session) (m : ℕ) (h : IsServing world s) (w : Work) (e : flush world (work_of (machine_of s) m) ≡ Done tt w) where
+  pub after_it : IsAtWork world (machine_of s) m w
+  after_it = still_at_work (machine_of s) w h.flat h.regular (taken m h.machine) e
 
-  pub flushed_numbers : are_numbers world.model w.numbers ≡ true
-  flushed_numbers = after_it.numbered
+  pub flushed_held : CanBeHeld world w.view w.numbers
+  flushed_held = after_it.view
 
   pub flushed_rising : each_fits nat_le (machine_of s).stored_numbers w.numbers ≡ true
   flushed_rising = numbers_rise h.machine after_it
 
-pub refused_steady : {M N : Machine} (m : ℕ) (r : Cause) (events : List Told) (reply : Reply) → IsPlainMachine M → Refuses M m events r reply N → IsSteady M N
-refused_steady {M} m r events reply h (inl g) = subst (IsSteady M) (sym g.2) (same h)
-refused_steady {M} m r events reply h (inr g) = subst (IsSteady M) (sym g.2) (rolled_steady h m)
-
-pub stored_plain : {M N : Machine} (m : ℕ) (w : Work) (reply : Reply) → IsPlainMachine M → IsPlain w → Stores M m w reply N → IsPlainMachine N
-stored_plain {M} m w reply h p (inl g) =
-    subst IsPlainMachine (sym (g.1 ∙ committed_plain M m w p)) (record { objects = p.objects; contexts = free_set M.managers m _ p.context h.contexts })
-stored_plain m w reply h p (inr g) = subst IsPlainMachine (sym g.1) h
+  pub flushed_within : All (λ (x : Entry). x.object < length w.objects) w.context
+  flushed_within = All-weaker (IsEntry world.model w.objects w.numbers m) (λ (x : Entry). x.object < length w.objects) (λ x i. i.within) w.context after_it.entries

@@ -14,10 +14,11 @@ use Rattle.jpa_consistent.specs.Going.{HoldsAfter}
 use Rattle.jpa_provider.proofs.AtWork.{IsAtWork}
 use Rattle.jpa_consistent.proofs.Flushed.{flush_goes}
 use Rattle.jpa_consistent.proofs.Going.{More}
+use Rattle.jpa_consistent.proofs.Orderly.{flat_orderly}
 
 pub still_at_work : {world : World} (M : Machine) {m : ℕ} {w : Work} (w' : Work) → IsFlat world.model → IsRegular world → IsAtWork world M m w → flush world w ≡ Done tt w' →
     IsAtWork world M m w'
-still_at_work {world} M {m} {w} w' flat regular h e = (subst (HoldsAfter (λ u v. IsAtWork world M m v × More w v)) e (flush_goes flat regular h)).0
+still_at_work {world} M {m} {w} w' flat regular h e = (subst (HoldsAfter (λ u v. IsAtWork world M m v × More w v)) e (flush_goes (flat_orderly flat) regular h)).0
 
 -- no next number falls below the stored one
 pub numbers_rise : {world : World} {M : Machine} {m : ℕ} {w : Work} → IsMachine world M → IsAtWork world M m w → each_fits nat_le M.stored_numbers w.numbers ≡ true

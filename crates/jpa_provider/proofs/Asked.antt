@@ -1,24 +1,22 @@
 -- How contains and clear step.
 use Rattle.std.proofs.Common.{◌≡◌, ◌<◌, inl, ℕ, ℤ, Bool, List, [], length, refl, ap, sym, ◌∙◌}
 use Rattle.std.specs.Prelude.{slice_set, Option, Some, None}
-use Rattle.std.proofs.lemmas.List.{set-set, get_or-set_same}
 use Rattle.jpa_value.specs.declared.refusal.Cause.{Cause}
 use Rattle.jpa_behaviour.specs.Behaviour.{World}
 use Rattle.jpa_heap.specs.Objects.{place_of, object_at}
 use Rattle.jpa_undo.specs.Undo.{Changes}
 use Rattle.jpa_context.specs.declared.Entry.{Entry}
-use Rattle.jpa_context.specs.declared.work.UnitOfWork.{UnitOfWork}
 use Rattle.jpa_context.specs.Work.{is_managed, state_from}
 use Rattle.jpa_ops.specs.States.{detach_each}
 use Rattle.jpa_protocol.specs.declared.call.Call.{Call}
 use Rattle.jpa_protocol.specs.declared.reply.Answer.{Answer}
 use Rattle.jpa_protocol.specs.declared.reply.Reply.{Reply}
 use Rattle.jpa_provider.specs.declared.session.Session.{Session}
-use Rattle.jpa_provider.specs.declared.session.Status.{Status}
-use Rattle.jpa_provider.specs.Machine.{Machine, Manager, manager_at, no_manager, with_manager, cleared, rolled_back}
+use Rattle.jpa_provider.specs.Machine.{Machine, Manager, with_manager, cleared}
 use Rattle.jpa_provider.specs.Calls.{accepted}
 use Rattle.jpa_provider.specs.Routes.{answered, contains, contains_in}
-use Rattle.jpa_provider.specs.Serving.{manager_in, machine_of, Serves}
+use Rattle.jpa_open.specs.Opened.{Opened}
+use Rattle.jpa_provider.specs.Serving.{manager_in, machine_of, named, Serves}
 use Rattle.jpa_provider.proofs.Opened.{told, refusal, replaced}
 use Rattle.jpa_provider.proofs.Sessions.{manager_there}
 use Rattle.jpa_provider.proofs.Worked.{of_manager, of_nobody}
@@ -29,57 +27,35 @@ module _ (world : World) (s : Session) (em number : ℤ) where
   abbrev asked : ℕ → Reply × Machine
   asked m = answered (machine_of s) (contains number (machine_of s) m)
 
-  pub contains_alone : place_of (length s.managers.items) em ≡ None → Serves world s (Call.Contains em number) (refusal Cause.NoSuchManager) s
+  pub contains_alone : named s em ≡ None → Serves world s (Call.Contains em number) (refusal Cause.NoSuchManager) s
   contains_alone e = inl (of_nobody s asked em e)
 
-  pub contains_unknown : (m : ℕ) → place_of (length s.managers.items) em ≡ Some m → m < length s.managers.items → place_of (length s.work.objects.now) number ≡ None →
+  pub contains_unknown : (m : ℕ) → named s em ≡ Some m → place_of (length s.work.objects.now) number ≡ None →
       Serves world s (Call.Contains em number) (refusal Cause.NoSuchObject) s
-  contains_unknown m e l place = inl (of_manager s asked em m e l ∙ ap (λ o. answered (machine_of s) (contains_in (machine_of s) m o)) place)
+  contains_unknown m e place = inl (of_manager s asked em m e ∙ ap (λ o. answered (machine_of s) (contains_in (machine_of s) m o)) place)
 
-  pub contains_told : (m n : ℕ) (b : Bool) → place_of (length s.managers.items) em ≡ Some m → m < length s.managers.items → place_of (length s.work.objects.now) number ≡ Some n →
+  pub contains_told : (m n : ℕ) (b : Bool) → named s em ≡ Some m → place_of (length s.work.objects.now) number ≡ Some n →
       b ≡ is_managed (state_from m (object_at s.work.objects.now n).life) → Serves world s (Call.Contains em number) (told (Answer.Truth b)) s
-  contains_told m n b e l place same =
-      inl (of_manager s asked em m e l ∙ ap (λ o. answered (machine_of s) (contains_in (machine_of s) m o)) place ∙ ap (λ c. (told (Answer.Truth c), machine_of s)) (sym same))
+  contains_told m n b e place same =
+      inl (of_manager s asked em m e ∙ ap (λ o. answered (machine_of s) (contains_in (machine_of s) m o)) place ∙ ap (λ c. (told (Answer.Truth c), machine_of s)) (sym same))
 
 -- ---- clear
 
-pub clear_alone : (world : World) (s : Session) (em : ℤ) → place_of (length s.managers.items) em ≡ None → Serves world s (Call.Clear em) (refusal Cause.NoSuchManager) s
+pub clear_alone : (world : World) (s : Session) (em : ℤ) → named s em ≡ None → Serves world s (Call.Clear em) (refusal Cause.NoSuchManager) s
 clear_alone world s em e = inl (of_nobody s (λ m. accepted [] Answer.Null (cleared (machine_of s) m)) em e)
 
-pub clear_clears : (world : World) (s t : Session) (em : ℤ) (m : ℕ) → place_of (length s.managers.items) em ≡ Some m → m < length s.managers.items → machine_of t ≡ cleared (machine_of s) m →
+pub clear_clears : (world : World) (s t : Session) (em : ℤ) (m : ℕ) → named s em ≡ Some m → machine_of t ≡ cleared (machine_of s) m →
     Serves world s (Call.Clear em) (told Answer.Null) t
-clear_clears world s t em m e l f =
-    inl (of_manager s (λ k. accepted [] Answer.Null (cleared (machine_of s) k)) em m e l ∙ (λ i. (told Answer.Null, sym f i)))
+clear_clears world s t em m e f =
+    inl (of_manager s (λ k. accepted [] Answer.Null (cleared (machine_of s) k)) em m e ∙ (λ i. (told Answer.Null, sym f i)))
 
-pub cleared_there : (s t : Session) (m : ℕ) (c : Changes Entry) → m < length s.managers.items → t.managers.items ≡ slice_set s.managers.items m (record (manager_in s.managers.items m) { context = c }) → c.now ≡ [] →
-    t.work.objects.now ≡ detach_each (manager_in s.managers.items m).context.now s.work.objects.now → t.work.view.now ≡ s.work.view.now → t.work.numbers.now ≡ s.work.numbers.now → t.stored ≡ s.stored →
+pub cleared_there : (s t : Session) (m : ℕ) (c : Changes Entry) → t.managers.items ≡ slice_set s.managers.items m (record (manager_in s.managers.items m) { context = c }) → c.now ≡ [] →
+    t.work.objects.now ≡ detach_each (manager_in s.managers.items m).context.now s.work.objects.now → t.work.view ≡ s.work.view → t.work.numbers.now ≡ s.work.numbers.now → t.stored ≡ s.stored →
     machine_of t ≡ cleared (machine_of s) m
-cleared_there s t m c l f e o v n k =
-    let there = manager_there s m l in
-    replaced s t m (record (manager_in s.managers.items m) { context = c }) f v n k
+cleared_there s t m c f e o v n k =
+    let there = manager_there s m in
+    replaced s t m (record (manager_in s.managers.items m) { context = c }) f (ap (λ (w : Opened). w.committed) v) (ap (λ (w : Opened). w.kept) v) n k
     ∙ (λ i. record (machine_of s) {
       objects = (o ∙ ap (λ (x : Manager). detach_each x.context s.work.objects.now) (sym there)) i;
       managers = with_manager (machine_of s) m (record (sym there i) { context = e i });
     })
-
--- ---- a manager's transaction ends
-
-abbrev pub without_transaction : Machine → ℕ → Machine
-without_transaction M m = record M { managers = with_manager M m (record (manager_at M m) { transaction = None }) }
-
-pub stopped_there : (s t : Session) (m : ℕ) → m < length s.managers.items → t.managers.items ≡ slice_set s.managers.items m (record (manager_in s.managers.items m) { status = Status.Inactive }) → t.work ≡ s.work → t.stored ≡ s.stored →
-    machine_of t ≡ without_transaction (machine_of s) m
-stopped_there s t m l f w k =
-    replaced s t m (record (manager_in s.managers.items m) { status = Status.Inactive }) f (ap (λ (u : UnitOfWork). u.view.now) w) (ap (λ (u : UnitOfWork). u.numbers.now) w) k
-    ∙ (λ i. record (machine_of s) {
-      objects = (w i).objects.now;
-      managers = with_manager (machine_of s) m (record (sym (manager_there s m l) i) { transaction = None });
-    })
-
-pub rolled_so : (M : Machine) (m : ℕ) → m < length M.managers → without_transaction (cleared M m) m ≡ rolled_back M m
-rolled_so M m l =
-    let x : Manager = record (manager_at M m) { context = [] } in
-    let ys = with_manager M m x in
-    λ i. record (cleared M m) {
-      managers = (ap (λ (y : Manager). slice_set ys m (record y { transaction = None })) (get_or-set_same M.managers m x no_manager l) ∙ set-set M.managers m x (record x { transaction = None })) i;
-    }

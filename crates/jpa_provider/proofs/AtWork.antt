@@ -1,14 +1,13 @@
 -- What holds while a manager is at work, and how the machine gives the work and takes it back.
-use Rattle.jpa_value.specs.Limits.{most_managers, most_objects}
+use Rattle.jpa_value.specs.Limits.{most_managers}
 use Rattle.std.proofs.Common.{◌≡◌, ◌≢◌, ◌<◌, ◌≤◌, ◌⊎◌, inl, inr, ℕ, zero, suc, Bool, true, false, List, [], ◌∷◌, length, refl, ap, sym, subst, ◌∙◌, arith}
 use Rattle.std.specs.Prelude.{slice_index_or, slice_set, nat_le, Option, Some, None, ◌==◌, if◌then◌else◌}
-use Rattle.std.specs.List.{All, list_any}
+use Rattle.std.specs.List.{list_any}
 use Rattle.std.proofs.lemmas.Bool.{false≢true, cases_eq, eqb-true, eq-eqb, ne_eqb}
 use Rattle.std.proofs.lemmas.List.{get_or-set_same, get_or-set_other, length-set, set_past}
 use Rattle.std.proofs.lemmas.List.Elements.{All-nil}
-use Rattle.jpa_value.specs.declared.refusal.Cause.{Cause}
 use Rattle.jpa_behaviour.specs.Behaviour.{World}
-use Rattle.jpa_stored.specs.Sets.{StoredSet, each_fits, all_distinct}
+use Rattle.jpa_stored.specs.Sets.{StoredSet, each_fits}
 use Rattle.jpa_rows.specs.Cells.{CanBeHeld, are_numbers}
 use Rattle.jpa_heap.specs.declared.Life.{Life}
 use Rattle.jpa_heap.specs.declared.LiveObject.{LiveObject}
@@ -16,7 +15,6 @@ use Rattle.jpa_heap.specs.Objects.{object_at}
 use Rattle.jpa_context.specs.declared.Entry.{Entry}
 use Rattle.jpa_context.specs.Undo.{IsPlaced}
 use Rattle.jpa_context.specs.Work.{Work, object}
-use Rattle.jpa_context.specs.Steps.{Outcome, Done, Refused, Op, after, require}
 use Rattle.jpa_consistent.specs.Consistent.{Others, IsContext, IsConsistent, contexts, IsEntry, stands_in}
 use Rattle.jpa_consistent.proofs.Going.{stands_same}
 use Rattle.jpa_consistent.proofs.Placed.{placed_at_work}

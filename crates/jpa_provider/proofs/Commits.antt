@@ -1,35 +1,39 @@
 -- How a commit steps.
-use Rattle.std.proofs.Common.{◌≡◌, ◌≢◌, ◌<◌, ◌⊎◌, inl, inr, ℕ, zero, suc, ℤ, Bool, true, false, List, [], ◌∷◌, length, refl, ap, sym, ◌∙◌, arith}
-use Rattle.std.specs.Prelude.{Some, None, Err, slice_index_or, slice_set}
-use Rattle.std.proofs.lemmas.Bool.{false≢true, true≢false}
+use Rattle.std.proofs.Common.{◌≡◌, ◌<◌, ◌⊎◌, inl, inr, ℕ, ℤ, Bool, true, false, List, [], ◌∷◌, map, refl, ap, sym, subst, ◌∙◌}
+use Rattle.std.specs.Prelude.{All, not, Some, None, Err, slice_set, if◌then◌else◌}
+use Rattle.std.specs.List.{AllByRecursion, filter}
+use Rattle.std.proofs.lemmas.Bool.{false≢true, true≢false, cond_both}
+use Rattle.std.proofs.lemmas.List.Elements.{recursion_from_All, All-from_recursion}
 use Rattle.jpa_value.specs.declared.refusal.Cause.{Cause}
 use Rattle.jpa_value.specs.declared.refusal.Refusal.{Refusal}
 use Rattle.jpa_value.specs.declared.refusal.State.{State}
 use Rattle.jpa_behaviour.specs.Behaviour.{World}
-use Rattle.jpa_stored.specs.Sets.{StoredSet}
 use Rattle.jpa_undo.specs.Undo.{Changes}
 use Rattle.jpa_protocol.specs.declared.call.Call.{Call}
 use Rattle.jpa_protocol.specs.declared.event.Told.{Told}
 use Rattle.jpa_protocol.specs.declared.reply.Answer.{Answer}
 use Rattle.jpa_protocol.specs.declared.reply.Reply.{Reply}
-use Rattle.jpa_heap.specs.Objects.{place_of}
+use Rattle.jpa_heap.specs.declared.LiveObject.{LiveObject}
+use Rattle.jpa_open.specs.Opened.{Opened, with_kept, with_seen, after_keeping}
 use Rattle.jpa_context.specs.declared.Entry.{Entry}
+use Rattle.jpa_context.specs.declared.Lock.{Lock}
 use Rattle.jpa_context.specs.Work.{Work}
 use Rattle.jpa_context.specs.Steps.{Outcome, Done, Refused, IsRefusedAs}
-use Rattle.jpa_context.specs.Undo.{now, IsPlain}
+use Rattle.jpa_context.specs.Undo.{now}
+use Rattle.jpa_ops.specs.States.{detach_each}
 use Rattle.jpa_flush.specs.Flush.{flush}
 use Rattle.jpa_provider.specs.declared.session.Status.{Status}
 use Rattle.jpa_provider.specs.declared.session.EntityManager.{EntityManager}
 use Rattle.jpa_provider.specs.declared.session.Session.{Session}
-use Rattle.jpa_provider.specs.Machine.{Machine, Manager, manager_at, no_manager, has_transaction, is_begun, with_manager, work_of, committed_after, rolled_back}
+use Rattle.jpa_provider.specs.Machine.{Machine, manager_at, is_begun, with_manager, work_of, is_gone, unlocked, committed_after, rolled_back, IsStoredAs}
 use Rattle.jpa_provider.specs.Calls.{accepted}
 use Rattle.jpa_provider.specs.Transactions.{commit, commit_in, commit_of}
 use Rattle.jpa_provider.specs.Step.{outcome, gives_up}
-use Rattle.jpa_provider.specs.Invariant.{HasOneTransaction}
-use Rattle.jpa_provider.specs.Serving.{transaction_in, manager_of, managers_of, manager_in, machine_of, gave_up, Refuses, Stores, IsWorking, Serves}
-use Rattle.jpa_provider.proofs.AtWork.{manager_set}
-use Rattle.jpa_provider.proofs.Opened.{refusal, transaction_there}
-use Rattle.jpa_provider.proofs.Plain.{commit_done, commit_refused, committed_plain}
+use Rattle.jpa_provider.specs.Serving.{transaction_in, is_begun_status, managers_of, manager_in, machine_of, named, detached_at, detached_all, gone_objects, gave_up, Refuses, Stores, IsCommitting, Serves}
+use Rattle.jpa_provider.proofs.Counted.{begun_is_open}
+use Rattle.jpa_provider.proofs.Opened.{refusal, transaction_there, none_there}
+use Rattle.jpa_provider.proofs.Plain.{commit_done, commit_refused, part_free}
+use Rattle.jpa_provider.proofs.Sessions.{begun_same, others_shut}
 use Rattle.jpa_provider.proofs.Worked.{of_manager, of_nobody}
 
 -- ---- refusals
@@ -80,21 +84,25 @@ refused_by (Cause.Damaged t row) events o g h = h
 
 -- ---- the call
 
-pub commit_alone : (world : World) (s : Session) (em : ℤ) → place_of (length s.managers.items) em ≡ None → Serves world s (Call.Commit em) (refusal Cause.NoSuchManager) s
+pub commit_alone : (world : World) (s : Session) (em : ℤ) → named s em ≡ None → Serves world s (Call.Commit em) (refusal Cause.NoSuchManager) s
 commit_alone world s em e = inl (of_nobody s (commit world (machine_of s)) em e)
 
-commit_at : (world : World) (s : Session) (em : ℤ) (m : ℕ) (st : Status) → place_of (length s.managers.items) em ≡ Some m → m < length s.managers.items → (manager_in s.managers.items m).status ≡ st →
-    outcome world (machine_of s) (Call.Commit em) ≡ commit_in world (machine_of s) m (transaction_in st s.work.view.now)
-commit_at world s em m st e l is =
-    of_manager s (commit world (machine_of s)) em m e l ∙ ap (commit_in world (machine_of s) m) (transaction_there s m l ∙ ap (λ (x : Status). transaction_in x s.work.view.now) is)
+commit_at : (world : World) (s : Session) (em : ℤ) (m : ℕ) → named s em ≡ Some m → outcome world (machine_of s) (Call.Commit em) ≡ commit_in world (machine_of s) m (manager_at (machine_of s) m).transaction
+commit_at world s em m e = of_manager s (commit world (machine_of s)) em m e
 
-pub commit_inactive : (world : World) (s : Session) (em : ℤ) (m : ℕ) → place_of (length s.managers.items) em ≡ Some m → m < length s.managers.items → (manager_in s.managers.items m).status ≡ Status.Inactive →
+-- in this state
+commit_in_state : (world : World) (s : Session) (em : ℤ) (m : ℕ) (st : Status) → named s em ≡ Some m → (manager_in s.managers.items m).status ≡ st →
+    outcome world (machine_of s) (Call.Commit em) ≡ commit_in world (machine_of s) m (transaction_in st (s.work.view).committed (s.work.view).kept)
+commit_in_state world s em m st e is =
+    commit_at world s em m e ∙ ap (commit_in world (machine_of s) m) (transaction_there s m ∙ ap (λ (x : Status). transaction_in x (s.work.view).committed (s.work.view).kept) is)
+
+pub commit_inactive : (world : World) (s : Session) (em : ℤ) (m : ℕ) → named s em ≡ Some m → is_begun_status (manager_in s.managers.items m).status ≡ false →
     Serves world s (Call.Commit em) (refusal (Cause.IllegalState State.Inactive)) s
-commit_inactive world s em m e l is = inl (commit_at world s em m Status.Inactive e l is)
+commit_inactive world s em m e h = inl (commit_at world s em m e ∙ ap (commit_in world (machine_of s) m) (none_there s m h))
 
-pub commit_marked : (world : World) (s t : Session) (em : ℤ) (m : ℕ) → place_of (length s.managers.items) em ≡ Some m → m < length s.managers.items → (manager_in s.managers.items m).status ≡ Status.RollbackOnly →
-    machine_of t ≡ rolled_back (machine_of s) m → Serves world s (Call.Commit em) (record { events = []; answer = Err Refusal.RollbackMarked }) t
-commit_marked world s t em m e l is f = inl (commit_at world s em m Status.RollbackOnly e l is ∙ (λ i. (record { events = []; answer = Err Refusal.RollbackMarked }, sym f i)))
+pub commit_marked : (world : World) (s t : Session) (em : ℤ) (m : ℕ) → named s em ≡ Some m → (manager_in s.managers.items m).status ≡ Status.RollbackOnly → machine_of t ≡ rolled_back (machine_of s) m →
+    Serves world s (Call.Commit em) (record { events = []; answer = Err Refusal.RollbackMarked }) t
+commit_marked world s t em m e is f = inl (commit_in_state world s em m Status.RollbackOnly e is ∙ (λ i. (record { events = []; answer = Err Refusal.RollbackMarked }, sym f i)))
 
 gives : (r : Cause) (reply : Reply) → gave_up r ≡ true → reply ≡ gives_up r → (reply ≡ gives_up Cause.OutOfMemory) ⊎ (reply ≡ gives_up Cause.StoreFault)
 gives r reply h e = either (gave_cases r h)
@@ -103,79 +111,93 @@ gives r reply h e = either (gave_cases r h)
     either (inl x) = inl (e ∙ ap gives_up x)
     either (inr x) = inr (e ∙ ap gives_up x)
 
--- what a commit makes whose flush was done
-pub stored_outcome : (world : World) (s : Session) (em : ℤ) (m : ℕ) → place_of (length s.managers.items) em ≡ Some m → m < length s.managers.items → (manager_in s.managers.items m).status ≡ Status.Active →
-    (w : Work) → flush world (work_of (machine_of s) m) ≡ Done tt w → IsPlain w → outcome world (machine_of s) (Call.Commit em) ≡ accepted w.events Answer.Null (committed_after (machine_of s) m w)
-stored_outcome world s em m e l active w o p =
-    let M = machine_of s in
-    commit_at world s em m Status.Active e l active ∙ ap (commit_of M m) (commit_done world (work_of M m) w o p)
+abbrev IsFree : Entry → Type 0
+IsFree e = e.lock ≡ Lock.Unlocked
 
-module _ (world : World) (s t : Session) (em : ℤ) (m : ℕ) (e : place_of (length s.managers.items) em ≡ Some m) (l : m < length s.managers.items) (active : (manager_in s.managers.items m).status ≡ Status.Active) where
+-- what a commit makes whose flush was done
+pub stored_outcome : (world : World) (s : Session) (em : ℤ) (m : ℕ) → named s em ≡ Some m → (manager_in s.managers.items m).status ≡ Status.Active → (w : Work) → flush world (work_of (machine_of s) m) ≡ Done tt w →
+    All IsFree w.context → outcome world (machine_of s) (Call.Commit em) ≡ accepted w.events Answer.Null (committed_after (machine_of s) m w)
+stored_outcome world s em m e active w o free =
+    let M = machine_of s in
+    commit_in_state world s em m Status.Active e active ∙ ap (commit_of M m) (commit_done world (work_of M m) w o free)
+
+module _ (world : World) (s t : Session) (em : ℤ) (m : ℕ) (e : named s em ≡ Some m) (active : (manager_in s.managers.items m).status ≡ Status.Active) where
   -- the flush was refused
   pub refused_step : (r : Cause) (events : List Told) (reply : Reply) → IsRefusedAs r events (flush world (work_of (machine_of s) m)) → Refuses (machine_of s) m events r reply (machine_of t) → Serves world s (Call.Commit em) reply t
   refused_step r events reply o (inl g) = inr (refl, gives r reply g.0 g.1, g.2)
   refused_step r events reply o (inr g) =
       let M = machine_of s in
-      inl (commit_at world s em m Status.Active e l active ∙ ap (commit_of M m) (commit_refused world (work_of M m) r events (refused_by r events _ g.0 o)) ∙ (λ i. (sym g.1 i, sym g.2 i)))
+      inl (commit_in_state world s em m Status.Active e active ∙ ap (commit_of M m) (commit_refused world (work_of M m) r events (refused_by r events _ g.0 o)) ∙ (λ i. (sym g.1 i, sym g.2 i)))
 
   -- the flush was done
-  pub stored_step : (w : Work) (reply : Reply) → flush world (work_of (machine_of s) m) ≡ Done tt w → IsPlain w → Stores (machine_of s) m w reply (machine_of t) → Serves world s (Call.Commit em) reply t
-  stored_step w reply o p (inl g) =
-      inl (stored_outcome world s em m e l active w o p ∙ (λ i. (sym g.0 i, sym g.1 i)))
-  stored_step w reply o p (inr g) = inr (refl, g.0, g.1)
+  pub stored_step : (w : Work) (reply : Reply) → flush world (work_of (machine_of s) m) ≡ Done tt w → All IsFree w.context → Stores (machine_of s) m w reply (machine_of t) → Serves world s (Call.Commit em) reply t
+  stored_step w reply o free (inl g) = inl (stored_outcome world s em m e active w o free ∙ (λ i. (sym g.0 i, sym g.1 i)))
+  stored_step w reply o free (inr g) = inr (refl, g.0, g.1)
 
--- ---- the end of a commit: no manager has a transaction, so what was committed is nobody's view
+-- ---- the end of a commit
 
-shut_alike : (st : Status) (V C : StoredSet) → is_begun (transaction_in st C) ≡ false → transaction_in st V ≡ transaction_in st C
-shut_alike Status.Inactive V C h = refl
-shut_alike Status.Active V C h = absurd (true≢false h)
-shut_alike Status.RollbackOnly V C h = absurd (true≢false h)
+-- the objects of entries, detached
+pub detached_entries : (es : List Entry) (os : List LiveObject) → detached_all (map (λ (e : Entry). e.object) es) os ≡ detach_each es os
+detached_entries [] os = refl
+detached_entries (e ∷ es) os = detached_entries es (detached_at e.object os)
 
-alike : (V C : StoredSet) (xs : List EntityManager) → ((k : ℕ) → has_transaction (slice_index_or (managers_of C xs) k no_manager) ≡ false) → managers_of V xs ≡ managers_of C xs
-alike V C [] h = refl
-alike V C (x ∷ xs) h = λ i. record { is_open = true; context = x.context.now; transaction = shut_alike x.status V C (h zero) i } ∷ (alike V C xs (λ k. h (suc k)) i)
-
--- the manager whose transaction was the only one
-none_left : (M : Machine) (m : ℕ) (y : Manager) → m < length M.managers → HasOneTransaction M → has_transaction (manager_at M m) ≡ true → has_transaction y ≡ false →
-    (k : ℕ) → has_transaction (slice_index_or (with_manager M m y) k no_manager) ≡ false
-none_left M m y l one begun none k = by_place (manager_set M.managers m k y l)
-  where
-    not_other : (b : Bool) → has_transaction (manager_at M k) ≡ b → k ≢ m → b ≡ false
-    not_other false e apart = refl
-    not_other true e apart = absurd (apart (sym (one m k begun e)))
-
-    by_place : ((k ≡ m) × (slice_index_or (slice_set M.managers m y) k no_manager ≡ y)) ⊎ ((k ≢ m) × (slice_index_or (slice_set M.managers m y) k no_manager ≡ slice_index_or M.managers k no_manager)) →
-        has_transaction (slice_index_or (slice_set M.managers m y) k no_manager) ≡ false
-    by_place (inl h) = ap has_transaction h.1 ∙ none
-    by_place (inr h) = ap has_transaction h.1 ∙ not_other (has_transaction (manager_at M k)) refl h.0
-
-within_machine : (xs : List Manager) (m : ℕ) → (slice_index_or xs m no_manager).is_open ≡ true → m < length xs
-within_machine [] m h = absurd (false≢true h)
-within_machine (x ∷ xs) zero h = omega arith
-within_machine (x ∷ xs) (suc m) h = let l = within_machine xs m h in omega (arith, l)
-
-pub committed_there : (M : Machine) (s t : Session) (m : ℕ) (c : Changes Entry) → IsWorking M m s → HasOneTransaction M → is_begun (manager_at M m).transaction ≡ true → IsPlain (now s.work) →
-    t.managers.items ≡ slice_set s.managers.items m (record { status = Status.Inactive; context = c }) → c.now ≡ s.work.context.now → t.work.objects.now ≡ s.work.objects.now →
-    t.work.numbers.now ≡ s.work.numbers.now → t.work.view.now ≡ s.work.view.now → t.stored ≡ s.work.numbers.now → machine_of t ≡ committed_after M m (now s.work)
-committed_there M s t m c h one begun plain f e o n v k =
-    let x : EntityManager = record { status = Status.Inactive; context = c } in
-    let V = s.work.view.now in
+pub committed_there : (M : Machine) (s t : Session) (m : ℕ) (c : Changes Entry) → IsCommitting M m s → All IsFree s.work.context.now →
+    t.managers.items ≡ slice_set s.managers.items m (record { status = Status.Inactive; context = c }) → c.now ≡ filter (λ e. not (is_gone (now s.work) e)) s.work.context.now →
+    t.work.objects.now ≡ detach_each (filter (is_gone (now s.work)) s.work.context.now) s.work.objects.now → t.work.numbers.now ≡ s.work.numbers.now → (t.work.view).committed ≡ (now s.work).view →
+    t.stored ≡ s.work.numbers.now → machine_of t ≡ committed_after M m (now s.work)
+committed_there M s t m c h free f e o n v k =
+    let w = now s.work in
+    let away = (h.working).away in
+    let xs = s.managers.items in
     let C = M.committed in
-    let zs = slice_set s.managers.items m x in
-    let idle : (j : ℕ) → has_transaction (slice_index_or (managers_of C zs) j no_manager) ≡ false = λ j.
-    ap (λ (ys : List Manager). has_transaction (slice_index_or ys j no_manager)) (h.managers x) ∙ none_left M m (manager_of C x) (within_machine M.managers m h.is_open) one begun refl j in
+    let K = (s.work.view).kept in
+    let V = w.view in
+    let W = (t.work.view).kept in
+    let x : EntityManager = record { status = Status.Inactive; context = c } in
+    let stay = filter (λ (y : Entry). not (is_gone w y)) s.work.context.now in
+    let context : c.now ≡ map unlocked stay =
+    e ∙ sym (part_free (λ (y : Entry). not (is_gone w y)) s.work.context.now free) in
+    let begun : is_begun_status (manager_in xs m).status ≡ true =
+    sym (begun_same (manager_in xs m).status C K) ∙ ap is_begun away.status ∙ h.begun in
+    let is_open : true ≡ (manager_at M m).is_open = sym (begun_is_open (manager_in xs m) begun) ∙ away.is_open in
     (λ i. record {
       objects = o i;
-      managers = (ap (λ set. managers_of set t.managers.items) v ∙ ap (managers_of V) f ∙ alike V C zs idle ∙ h.managers x) i;
+      managers = ((λ j. managers_of (v j) W (f j)) ∙ others_shut M C K xs m away.managers h.one h.begun V W x) i;
       numbers = n i;
       stored_numbers = k i;
       committed = v i;
     })
     ∙ (λ i. record M {
-      objects = s.work.objects.now;
-      managers = with_manager M m (record { is_open = sym h.is_open i; context = e i; transaction = None });
+      objects = detach_each (filter (is_gone w) s.work.context.now) s.work.objects.now;
+      managers = with_manager M m (record { is_open = is_open i; context = context i; transaction = None });
       numbers = s.work.numbers.now;
       stored_numbers = s.work.numbers.now;
       committed = V;
     })
-    ∙ sym (committed_plain M m (now s.work) plain)
+
+-- ---- what keeping makes of a set
+
+by_shown : (P : Opened → Type 0) (v : Opened) → P (with_kept v.seen v) → P (with_seen v.kept v) → P (after_keeping v)
+by_shown P v h k = cond_both v.is_shown (with_kept v.seen v) (with_seen v.kept v) P (λ _. h) (λ _. k)
+
+-- where all was committed it stays so
+pub committed_then : (v : Opened) → (after_keeping v).committed ≡ v.committed
+committed_then v = by_shown (λ (w : Opened). w.committed ≡ v.committed) v refl refl
+
+pub kept_then : (v : Opened) → v.seen ≡ v.kept → (after_keeping v).kept ≡ v.kept
+kept_then v e = by_shown (λ (w : Opened). w.kept ≡ v.kept) v e refl
+
+-- a commit whose flush was refused changes nothing that is committed
+pub refused_still : {M N : Machine} (m : ℕ) (r : Cause) (events : List Told) (reply : Reply) → Refuses M m events r reply N → IsStoredAs M N
+refused_still {M} m r events reply (inl g) = subst (IsStoredAs M) (sym g.2) (record { committed = refl; numbers = refl })
+refused_still {M} m r events reply (inr g) = subst (IsStoredAs M) (sym g.2) (record { committed = refl; numbers = refl })
+
+-- the objects that leave are within
+within_part : (p : Entry → Bool) (k : ℕ) (es : List Entry) → AllByRecursion (λ (e : Entry). e.object < k) es → AllByRecursion (λ n. n < k) (map (λ (e : Entry). e.object) (filter p es))
+within_part p k [] h = tt
+within_part p k (e ∷ es) h =
+    cond_both (p e) (e ∷ filter p es) (filter p es) (λ xs. AllByRecursion (λ n. n < k) (map (λ (x : Entry). x.object) xs)) (λ _. (h.0, within_part p k es h.1)) (λ _. within_part p k es h.1)
+
+pub gone_within : (w : Work) (k : ℕ) → All (λ (e : Entry). e.object < k) w.context → All (λ n. n < k) (gone_objects w)
+gone_within w k h =
+    All-from_recursion (λ n. n < k) (gone_objects w) (within_part (is_gone w) k w.context (recursion_from_All (λ (e : Entry). e.object < k) w.context h))

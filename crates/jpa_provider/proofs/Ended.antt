@@ -1,9 +1,9 @@
 -- What holds of the machine is kept where a transaction ends: objects are detached, and a context keeps the others.
 use Rattle.jpa_value.specs.Limits.{most_managers, most_objects}
 use Rattle.std.proofs.Common.{◌≡◌, ◌≢◌, ◌<◌, ◌≤◌, ℕ, Bool, true, false, List, [], ◌∷◌, length, map, refl, ap, sym, subst, ◌∙◌, arith}
-use Rattle.std.specs.Prelude.{slice_index_or, slice_set, not, None, ◌==◌, if◌then◌else◌, Option}
+use Rattle.std.specs.Prelude.{slice_index_or, slice_set, not, Some, None, ◌==◌, if◌then◌else◌, Option}
 use Rattle.std.specs.List.{All, AllByRecursion}
-use Rattle.std.proofs.lemmas.Bool.{false≢true}
+use Rattle.std.proofs.lemmas.Bool.{false≢true, true≢false}
 use Rattle.std.proofs.lemmas.List.{length-set, set-set, get_or-set_same}
 use Rattle.std.proofs.lemmas.List.Elements.{recursion_from_All, All-from_recursion}
 use Rattle.jpa_behaviour.specs.Behaviour.{World}
@@ -19,9 +19,9 @@ use Rattle.jpa_consistent.proofs.Facts.{numbers_same}
 use Rattle.jpa_consistent.proofs.Going.{stands_same}
 use Rattle.jpa_consistent.proofs.Kept.{others_kept, distinct_same, HaveNames}
 use Rattle.jpa_consistent.proofs.Detached.{stands, freed, length_detached, detached_at, detached_live, same_object, holds_detached, held_once, stands_held, leaving, staying, leaves_not, stays, staying_each, any_part, distinct_part, any_unlocked, distinct_unlocked, unlocked_entry, entry_stays}
-use Rattle.jpa_provider.specs.Machine.{Machine, Manager, manager_at, no_manager, rolled_back, committed_after, unlocked, cleared, Transaction}
+use Rattle.jpa_provider.specs.Machine.{Machine, Manager, manager_at, no_manager, rolled_back, committed_after, unlocked, cleared, closed, is_begun, has_transaction, Transaction}
 use Rattle.jpa_provider.specs.Invariant.{IsMachine, IsManager, context_of, is_idle}
-use Rattle.jpa_provider.proofs.Settled.{with_transaction}
+use Rattle.jpa_provider.proofs.Settled.{same_context, with_transaction}
 use Rattle.jpa_provider.proofs.AtWork.{IsAtWork, others_of, manager_then, managers_set, taken, contexts_set}
 
 -- ---- a manager lets go of the objects that pass the test
@@ -176,3 +176,19 @@ cleared_holds {world} {M} m l is_open h =
     subst (IsMachine world) same
     (with_transaction m t (subst (λ n. m < n) (sym (length-set M.managers m x)) l) (rolled_back_holds m l is_open h) (h.managers m l).transaction
     (idle_open (manager_at N m).is_open (context_of N m) t (ap (λ (y : Manager). y.is_open) at ∙ is_open)))
+
+-- closed: as rolled back where no transaction is open, and the manager is none from now on
+idle_closed : (t : Option Transaction) → is_begun t ≡ false → is_idle false [] t ≡ true
+idle_closed None none = refl
+idle_closed (Some t) none = absurd (true≢false none)
+
+pub closed_holds : {world : World} {M : Machine} (m : ℕ) → m < length M.managers → (manager_at M m).is_open ≡ true → has_transaction (manager_at M m) ≡ false → IsMachine world M → IsMachine world (closed M m)
+closed_holds {world} {M} m l is_open none h =
+    let t = (manager_at M m).transaction in
+    let N = rolled_back M m in
+    let x : Manager = record (manager_at M m) { context = []; transaction = None } in
+    let y : Manager = record (manager_at M m) { is_open = false; context = [] } in
+    let at : manager_at N m ≡ x = get_or-set_same M.managers m x no_manager l in
+    let same : record N { managers = slice_set N.managers m y } ≡ closed M m = λ i. record N { managers = set-set M.managers m x y i } in
+    subst (IsMachine world) same
+    (same_context m y (subst (λ n. m < n) (sym (length-set M.managers m x)) l) (rolled_back_holds m l is_open h) (sym (ap (λ (z : Manager). z.context) at)) (h.managers m l).transaction (idle_closed t none))

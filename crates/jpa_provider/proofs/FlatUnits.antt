@@ -1,92 +1,103 @@
--- A unit that is served is flat: each class is its own root, and nothing is related.
-use Rattle.std.proofs.Common.{◌≡◌, ℕ, zero, suc, pos, Bool, true, false, List, [], ◌∷◌, ◌++◌, length, refl, ap, sym, subst, ◌∙◌}
-use Rattle.std.specs.Prelude.{not, ◌&&◌, ◌||◌, nat_lt, slice_index_or, if◌then◌else◌}
-use Rattle.std.specs.List.{list_all, list_any, flat_map}
-use Rattle.std.proofs.lemmas.Bool.{false≢true, and_parts, and_from}
+-- A unit that is served is flat: nothing is related, the root of each class is an entity, and a generated key is one integer.
+use Rattle.std.proofs.Common.{◌≡◌, ℕ, zero, suc, ◌<◌, pos, Bool, true, List, [], ◌∷◌, ◌++◌, length, map, refl, ap, sym, subst, ◌∙◌}
+use Rattle.std.specs.Prelude.{All, not, ◌&&◌, ◌||◌, nat_lt, slice_index_or}
+use Rattle.std.specs.List.{list_all, flat_map}
+use Rattle.std.proofs.lemmas.Bool.{false≢true, and_parts, and_from, ltb-true, lt-ltb}
+use Rattle.std.proofs.lemmas.List.Elements.{All-head}
 use Rattle.jpa_value.specs.declared.value.Value.{Value}
 use Rattle.jpa_value.specs.declared.value.Kind.{Kind}
 use Rattle.jpa_value.specs.Value.{fits, is_null}
+use Rattle.jpa_model.specs.declared.draft.Draft.{Draft}
+use Rattle.jpa_model.specs.declared.draft.DraftEntity.{DraftEntity}
+use Rattle.jpa_model.specs.declared.draft.DraftOrigin.{DraftOrigin}
+use Rattle.jpa_model.specs.declared.draft.DraftRoot.{DraftRoot}
 use Rattle.jpa_model.specs.declared.unit.Part.{Part}
 use Rattle.jpa_model.specs.declared.unit.Root.{Root}
-use Rattle.jpa_model.specs.declared.unit.Origin.{Origin}
-use Rattle.jpa_model.specs.declared.unit.Entity.{Entity}
 use Rattle.jpa_model.specs.declared.unit.PersistenceUnit.{PersistenceUnit}
-use Rattle.jpa_model.specs.Chains.{entity_at, no_entity, chain, chain_from, root_of, root_in, root_class, relations_of}
+use Rattle.jpa_model.specs.Chains.{entity_at, no_entity, chain, root_of, root_in, root_class, relations_of}
+use Rattle.jpa_model.specs.WellFormed.{is_well_formed, stands_together, has_roots, has_key, has_key_if_root, is_one_integer}
+use Rattle.jpa_model.specs.Described as of_draft
+use Rattle.jpa_model.specs.Kept.{IsDescribed}
+use Rattle.jpa_model.proofs.Within.{chain-within}
 use Rattle.jpa_stored.specs.Sets.{each_fits, is_key_of}
 use Rattle.jpa_lifecycle.specs.Flat.{IsFlat}
-use Rattle.jpa_provider.specs.Served.{is_served, is_none, is_integer, is_one_integer, is_root_served, is_entity_served}
+use Rattle.jpa_provider.specs.Served.{is_served, is_none, is_entity_served}
 
--- ---- what is known of each entity, also where a number names none
+-- ---- nothing is related, along no chain
 
 nothing_in : {A : Type 0} (xs : List A) → is_none xs ≡ true → xs ≡ []
 nothing_in [] h = refl
 nothing_in (x ∷ xs) h = absurd (false≢true h)
 
+-- also where a number names no entity
 item_holds : {A : Type 0} (p : A → Bool) (xs : List A) (i : ℕ) (d : A) → p d ≡ true → list_all p xs ≡ true → p (slice_index_or xs i d) ≡ true
 item_holds p [] i d h g = h
 item_holds p (x ∷ xs) zero d h g = (and_parts (p x) (list_all p xs) g).0
 item_holds p (x ∷ xs) (suc i) d h g = item_holds p xs i d h (and_parts (p x) (list_all p xs) g).1
 
-record IsAlone (e : Entity) : Type 0 where
-  root : is_root_served e.origin ≡ true
-  relations : e.relations ≡ []
-
-alone : (e : Entity) → is_entity_served e ≡ true → IsAlone e
-alone e h =
-    let a = and_parts (is_root_served e.origin) (is_none e.relations) h in
-    record { root = a.0; relations = nothing_in e.relations a.1 }
-
-entity_alone : (m : PersistenceUnit) → is_served m ≡ true → (class : ℕ) → IsAlone (entity_at m class)
-entity_alone m h class = alone (entity_at m class) (item_holds is_entity_served m.entities class no_entity refl h)
-
--- ---- its chain is the class alone
-
-chain_alone : (m : PersistenceUnit) (n class : ℕ) (o : Origin) → is_root_served o ≡ true → chain_from m n class o ≡ class ∷ []
-chain_alone m zero class o h = refl
-chain_alone m (suc n) class (Origin.Root root) h = refl
-chain_alone m (suc n) class (Origin.Extends parent) h = absurd (false≢true h)
-
-one_chain : (m : PersistenceUnit) → is_served m ≡ true → (class : ℕ) → chain m class ≡ class ∷ []
-one_chain m h class = chain_alone m (length m.entities) class (entity_at m class).origin (entity_alone m h class).root
-
-pub own_root : (m : PersistenceUnit) → is_served m ≡ true → (class : ℕ) → root_class m class ≡ class
-own_root m h class = ap (λ cs. slice_index_or cs 0 class) (one_chain m h class)
-
--- ---- nothing is related
-
-of_one : {A : Type 0} (f : ℕ → List A) (class : ℕ) → f class ≡ [] → flat_map f (class ∷ []) ≡ []
-of_one f class e = ap (λ xs. xs ++ []) e
+none_along : {A B : Type 0} (f : A → List B) → ((x : A) → f x ≡ []) → (xs : List A) → flat_map f xs ≡ []
+none_along f none [] = refl
+none_along f none (x ∷ xs) = ap (λ ys. ys ++ flat_map f xs) (none x) ∙ none_along f none xs
 
 no_relations : (m : PersistenceUnit) → is_served m ≡ true → (class : ℕ) → relations_of m class ≡ []
 no_relations m h class =
-    ap (flat_map (λ c. (entity_at m c).relations)) (one_chain m h class)
-    ∙ of_one (λ c. (entity_at m c).relations) class (entity_alone m h class).relations
+    none_along (λ c. (entity_at m c).relations) (λ c. nothing_in (entity_at m c).relations (item_holds is_entity_served m.entities c no_entity refl h)) (chain m class)
+
+-- ---- the root of a class is an entity
+
+first_holds : (p : ℕ → Type 0) (class : ℕ) (cs : List ℕ) → p class → All p cs → p (slice_index_or cs 0 class)
+first_holds p class [] own all = own
+first_holds p class (c ∷ cs) own all = All-head p c cs all
+
+root_within : (m : PersistenceUnit) → IsDescribed m → (class : ℕ) → nat_lt class (length m.entities) ≡ true → nat_lt (root_class m class) (length m.entities) ≡ true
+root_within m described class l =
+    let within : class < length m.entities = ltb-true class (length m.entities) l in
+    lt-ltb (root_class m class) (length m.entities) (first_holds (λ c. c < length m.entities) class (chain m class) within (chain-within m described class within))
 
 -- ---- a number is a whole generated key
 
-integer_fits : (kind : Kind) (k : ℕ) → is_integer kind ≡ true → fits kind (Value.Int (pos k)) ≡ true
-integer_fits Kind.Int k h = refl
-integer_fits Kind.Text k h = absurd (false≢true h)
-integer_fits Kind.Bytes k h = absurd (false≢true h)
+integer_fits : (part : Part) (kind : Kind) (k : ℕ) → is_one_integer (record part { kind = kind } ∷ []) ≡ true → fits kind (Value.Int (pos k)) ≡ true
+integer_fits part Kind.Int k h = refl
+integer_fits part Kind.Text k h = absurd (false≢true h)
+integer_fits part Kind.Bytes k h = absurd (false≢true h)
 
 number_fits : (ps : List Part) (k : ℕ) → is_one_integer ps ≡ true → each_fits (λ part v. fits part.kind v && not (is_null v)) ps (Value.Int (pos k) ∷ []) ≡ true
 number_fits [] k h = absurd (false≢true h)
-number_fits (p ∷ []) k h = and_from (fits p.kind (Value.Int (pos k)) && true) true (and_from (fits p.kind (Value.Int (pos k))) true (integer_fits p.kind k h) refl) refl
+number_fits (p ∷ []) k h = and_from (fits p.kind (Value.Int (pos k)) && true) true (and_from (fits p.kind (Value.Int (pos k))) true (integer_fits p p.kind k h) refl) refl
 number_fits (p ∷ q ∷ ps) k h = absurd (false≢true h)
 
-number_is_key : (o : Origin) (k : ℕ) → is_root_served o ≡ true → (root_in o).generated ≡ true → is_key_of (root_in o) (Value.Int (pos k) ∷ []) ≡ true
-number_is_key (Origin.Root root) k h g = number_fits root.key k (subst (λ x. (not x || is_one_integer root.key) ≡ true) g h)
-number_is_key (Origin.Extends parent) k h g = absurd (false≢true h)
+-- a number is a whole key of a root that generates its keys
+abbrev IsNumbered : Root → Type 0
+IsNumbered r = (k : ℕ) → r.generated ≡ true → is_key_of r (Value.Int (pos k) ∷ []) ≡ true
 
-whole_number : (m : PersistenceUnit) → is_served m ≡ true → (class k : ℕ) → (root_of m class).generated ≡ true → is_key_of (root_of m class) (Value.Int (pos k) ∷ []) ≡ true
-whole_number m h class k =
-    let same : root_of m class ≡ root_in (entity_at m class).origin = ap (λ c. root_in (entity_at m c).origin) (own_root m h class) in
-    subst (λ (r : Root). r.generated ≡ true → is_key_of r (Value.Int (pos k) ∷ []) ≡ true) (sym same) (number_is_key (entity_at m class).origin k (entity_alone m h class).root)
+root_numbered : (r : DraftRoot) → has_key r ≡ true → IsNumbered (of_draft.root_of r)
+root_numbered r h k g =
+    let generated = (and_parts _ (not r.generated || is_one_integer r.key) h).1 in
+    number_fits r.key k (subst (λ b. (not b || is_one_integer r.key) ≡ true) g generated)
 
-pub flat_of : (m : PersistenceUnit) → is_served m ≡ true → IsFlat m
-flat_of m h =
-    record {
-      relations = no_relations m h;
-      rooted = λ class l. subst (λ c. nat_lt c (length m.entities) ≡ true) (sym (own_root m h class)) l;
-      generated = whole_number m h;
-    }
+origin_numbered : (d : Draft) (e : DraftEntity) (o : DraftOrigin) → has_key_if_root (record e { origin = o }) ≡ true → IsNumbered (root_in (of_draft.origin_of d o))
+origin_numbered d e (DraftOrigin.Root r) h k g = root_numbered r h k g
+origin_numbered d e (DraftOrigin.Extends name) h k g = absurd (false≢true g)
+
+-- also where a number names no entity
+entity_numbered : (d : Draft) (es : List DraftEntity) (class : ℕ) → list_all has_key_if_root es ≡ true → IsNumbered (root_in (slice_index_or (map (of_draft.entity_of d) es) class no_entity).origin)
+entity_numbered d [] class h k g = absurd (false≢true g)
+entity_numbered d (e ∷ es) zero h k g = origin_numbered d e e.origin (and_parts (has_key_if_root e) (list_all has_key_if_root es) h).0 k g
+entity_numbered d (e ∷ es) (suc class) h k g = entity_numbered d es class (and_parts (has_key_if_root e) (list_all has_key_if_root es) h).1 k g
+
+have_keys : (d : Draft) → is_well_formed d ≡ true → list_all has_key_if_root d.entities ≡ true
+have_keys d h =
+    let roots = and_parts (has_roots d) _ (and_parts _ (stands_together d) h).1 in
+    (and_parts _ (list_all has_key_if_root d.entities) roots.0).1
+
+all_numbered : (m : PersistenceUnit) → IsDescribed m → (class : ℕ) → IsNumbered (root_of m class)
+all_numbered m described class =
+    subst (λ u. IsNumbered (root_of u class)) (sym (described.1).1)
+    (let d = described.0 in entity_numbered d d.entities (root_class (of_draft.unit_of d) class) (have_keys d (described.1).0))
+
+pub flat_of : (m : PersistenceUnit) → IsDescribed m → is_served m ≡ true → IsFlat m
+flat_of m described served = record {
+  relations = no_relations m served;
+  rooted = root_within m described;
+  generated = all_numbered m described;
+}

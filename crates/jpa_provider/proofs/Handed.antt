@@ -7,31 +7,29 @@ use Rattle.std.proofs.lemmas.Bool.{true≢false, ltb-true}
 use Rattle.jpa_value.specs.declared.refusal.Argument.{Argument}
 use Rattle.jpa_value.specs.declared.refusal.Cause.{Cause}
 use Rattle.jpa_model.specs.Chains.{root_of, class_of}
-use Rattle.jpa_behaviour.specs.Behaviour.{World, IsRegular, is_short}
+use Rattle.jpa_behaviour.specs.Behaviour.{World, is_short}
 use Rattle.jpa_protocol.specs.declared.call.Given.{Given}
 use Rattle.jpa_protocol.specs.declared.reply.Answer.{Answer}
-use Rattle.jpa_heap.specs.declared.Handed.{Handed}
 use Rattle.jpa_heap.specs.Objects.{place_of}
+use Rattle.jpa_heap.specs.Shape.{IsInHeap}
 use Rattle.jpa_context.specs.Work.{Work}
-use Rattle.jpa_context.specs.Steps.{Outcome, Done, Refused, after, give}
+use Rattle.jpa_context.specs.Steps.{Outcome, Done, Refused, Op, after, give}
 use Rattle.jpa_lifecycle.specs.Flat.{IsFlat}
 use Rattle.jpa_ops.specs.Load.{find}
 use Rattle.jpa_ops.specs.Members.{get, set}
-use Rattle.jpa_ops.specs.States.{persist}
+use Rattle.jpa_ops.specs.States.{persist, remove, refresh, detach}
 use Rattle.jpa_flush.specs.Flush.{flush}
-use Rattle.jpa_provider.specs.Machine.{Machine}
 use Rattle.jpa_provider.specs.Calls.{object_numbered, handed, got, nothing, object_or_null, told_as, give_or, class_named, key_given, is_short_given, whole_key}
 use Rattle.jpa_provider.specs.Transactions.{commit_work, reads_hold}
-use Rattle.jpa_provider.specs.Routes.{get_call, set_call, persist_call, find_call, get_reference_call, there_must_be}
+use Rattle.jpa_provider.specs.Routes.{get_call, set_call, persist_call, remove_call, refresh_call, detach_call, flush_call, find_call, get_reference_call, there_must_be}
 use Rattle.jpa_provider.specs.Invariant.{given_representable}
 use Rattle.jpa_consistent.specs.Going.{HoldsAfter}
+use Rattle.jpa_consistent.specs.Orderly.{IsOrderly}
 use Rattle.jpa_consistent.proofs.Going.{after_holds, require_holds, require_holds_last, More, only}
-use Rattle.jpa_provider.proofs.AtWork.{IsAtWork}
 use Rattle.jpa_consistent.proofs.Setting.{handed_representable}
 use Rattle.jpa_consistent.proofs.Changed.{HasSet, set_holds}
 use Rattle.jpa_consistent.proofs.Got.{get_same}
-use Rattle.jpa_consistent.proofs.Laws.{Steps, persist_goes, find_goes}
-use Rattle.jpa_consistent.proofs.Flushed.{flush_goes}
+use Rattle.jpa_consistent.proofs.Laws.{Steps, persist_goes, remove_goes, refresh_goes, detach_goes, find_goes}
 
 -- ---- what is handed in
 
@@ -56,9 +54,9 @@ place_given (Some k) w h = (h k refl, refl)
 pub numbered_holds : (z : ℤ) (w : Work) → HoldsAfter (InHeap w) (object_numbered z w)
 numbered_holds z w = place_given (place_of (length w.objects) z) w (place_within (length w.objects) z)
 
-handed_holds : (g : Given) (w : Work) → given_representable g ≡ true → HoldsAfter (λ v w'. (handed_representable v ≡ true) × (w' ≡ w)) (handed g w)
-handed_holds (Given.Plain v) w h = require_holds _ (is_short v) Cause.Limit w _ (λ short. (h, refl))
-handed_holds (Given.Object z) w h = after_holds _ (InHeap w) (object_numbered z w) _ (numbered_holds z w) (λ k w' e. (refl, e.1))
+handed_holds : (g : Given) (w : Work) → given_representable g ≡ true → HoldsAfter (λ v w'. ((handed_representable v ≡ true) × IsInHeap w.objects v) × (w' ≡ w)) (handed g w)
+handed_holds (Given.Plain v) w h = require_holds _ (is_short v) Cause.Limit w _ (λ short. ((h, tt), refl))
+handed_holds (Given.Object z) w h = after_holds _ (InHeap w) (object_numbered z w) _ (numbered_holds z w) (λ k w' e. ((refl, e.0), e.1))
 
 -- ---- the operations of calls
 
@@ -67,12 +65,12 @@ pub told_holds : {A : Type 0} (K : Work → Type 0) (f : A → Answer) (o : Outc
 told_holds K f (Done a w) k = k
 told_holds K f (Refused r events) k = tt
 
-pub set_call_holds : (world : World) → IsFlat world.model → (w : Work) (n : ℕ) (name : List ℕ) (g : Given) → n < length w.objects → given_representable g ≡ true →
+pub set_call_holds : (world : World) → IsOrderly world.model → (w : Work) (n : ℕ) (name : List ℕ) (g : Given) → n < length w.objects → given_representable g ≡ true →
     HoldsAfter (λ a w'. HasSet world w w') (set_call world name g n w)
-set_call_holds world flat w n name g l rep =
-    after_holds _ (λ v w'. (handed_representable v ≡ true) × (w' ≡ w)) (handed g w) (λ v. told_as nothing (set world n name v)) (handed_holds g w rep)
+set_call_holds world orderly w n name g l rep =
+    after_holds _ (λ v w'. ((handed_representable v ≡ true) × IsInHeap w.objects v) × (w' ≡ w)) (handed g w) (λ v. told_as nothing (set world n name v)) (handed_holds g w rep)
     (λ v w' h. subst (λ u. HoldsAfter (λ a w''. HasSet world w w'') (told_as nothing (set world n name v) u)) (sym h.1)
-    (told_holds (HasSet world w) nothing (set world n name v w) (set_holds world flat w n name v l h.0)))
+    (told_holds (HasSet world w) nothing (set world n name v w) (set_holds world orderly w n name v l (h.0).0 (h.0).1)))
 
 pub get_call_same : (world : World) → IsFlat world.model → (n : ℕ) (name : List ℕ) (w : Work) → HoldsAfter (λ a w'. w' ≡ w) (get_call world name n w)
 get_call_same world flat n name w = told_holds (λ w'. w' ≡ w) got (get world n name w) (get_same world flat n name w)
@@ -93,10 +91,24 @@ there_holds K (Answer.Rows rows) w k = k
 
 -- with what the steps keep
 module _ {world : World} {P : Work → Type 0} (steps : Steps world P) where
-  pub persist_call_goes : IsFlat world.model → (number : ℤ) (w : Work) → P w → HoldsAfter (λ a v. P v) (persist_call world number w)
-  persist_call_goes flat number w p =
-      after_holds (λ a v. P v) (InHeap w) (object_numbered number w) (λ n. told_as nothing (persist world n)) (numbered_holds number w)
-      (λ n v e. subst (λ v'. HoldsAfter (λ a u. P u) (told_as nothing (persist world n) v')) (sym e.1) (told_holds P nothing (persist world n w) (only P w (persist world n w) (persist_goes steps flat n w p e.0))))
+  -- an operation on an object by its number
+  numbered_goes : (op : ℕ → Op (Unit {0})) → ((n : ℕ) (w : Work) → P w → n < length w.objects → HoldsAfter (λ u v. P v × More w v) (op n w)) →
+      (number : ℤ) (w : Work) → P w → HoldsAfter (λ a v. P v) (after (object_numbered number w) (λ n. told_as nothing (op n)))
+  numbered_goes op goes number w p =
+      after_holds (λ a v. P v) (InHeap w) (object_numbered number w) (λ n. told_as nothing (op n)) (numbered_holds number w)
+      (λ n v e. subst (λ v'. HoldsAfter (λ a u. P u) (told_as nothing (op n) v')) (sym e.1) (told_holds P nothing (op n w) (only P w (op n w) (goes n w p e.0))))
+
+  pub persist_call_goes : (number : ℤ) (w : Work) → P w → HoldsAfter (λ a v. P v) (persist_call world number w)
+  persist_call_goes = numbered_goes (persist world) (persist_goes steps)
+
+  pub remove_call_goes : (number : ℤ) (w : Work) → P w → HoldsAfter (λ a v. P v) (remove_call world number w)
+  remove_call_goes = numbered_goes (remove world) (remove_goes steps)
+
+  pub refresh_call_goes : (number : ℤ) (w : Work) → P w → HoldsAfter (λ a v. P v) (refresh_call world number w)
+  refresh_call_goes = numbered_goes (refresh world) (refresh_goes steps)
+
+  pub detach_call_goes : (number : ℤ) (w : Work) → P w → HoldsAfter (λ a v. P v) (detach_call world number w)
+  detach_call_goes = numbered_goes (detach world) (detach_goes steps)
 
   pub find_call_goes : (name : List ℕ) (key : List Given) (w : Work) → P w → HoldsAfter (λ a v. P v) (find_call world name key w)
   find_call_goes name key w p =
@@ -109,8 +121,12 @@ module _ {world : World} {P : Work → Type 0} (steps : Steps world P) where
   get_reference_call_goes name key w p =
       after_holds (λ a v. P v) (λ a v. P v) (find_call world name key w) there_must_be (find_call_goes name key w p) (λ a v k. there_holds P a v k)
 
-pub commit_work_holds : {world : World} (M : Machine) {m : ℕ} {w : Work} → IsFlat world.model → IsRegular world → IsAtWork world M m w →
-    HoldsAfter (λ u w'. IsAtWork world M m w') (commit_work world w)
-commit_work_holds {world} M {m} {w} flat regular h =
-    after_holds _ (λ u w'. IsAtWork world M m w' × More w w') (flush world w) _ (flush_goes flat regular h)
-    (λ u v k. require_holds_last _ (reads_hold world.model v) Cause.OptimisticLock v (λ hold. k.0))
+-- ---- with what a flush keeps
+
+module _ (world : World) (P : Work → Type 0) (w : Work) (flushes : HoldsAfter (λ u v. P v) (flush world w)) where
+  pub flush_call_goes : HoldsAfter (λ a v. P v) (flush_call world w)
+  flush_call_goes = told_holds P nothing (flush world w) flushes
+
+  pub commit_work_goes : HoldsAfter (λ u v. P v) (commit_work world w)
+  commit_work_goes =
+      after_holds (λ u v. P v) (λ u v. P v) (flush world w) _ flushes (λ u v p. require_holds_last (λ u' v'. P v') (reads_hold world.model v) Cause.OptimisticLock v (λ hold. p))

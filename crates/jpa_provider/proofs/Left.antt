@@ -13,7 +13,7 @@ use Rattle.jpa_lifecycle.specs.Flat.{IsFlat}
 use Rattle.jpa_ops.specs.States.{detach_each}
 use Rattle.jpa_protocol.specs.declared.call.Call.{Call}
 use Rattle.jpa_protocol.specs.declared.reply.Reply.{Reply}
-use Rattle.jpa_provider.specs.Machine.{Machine, Transaction, manager_at, no_manager, marked, marked_in, rolled_back}
+use Rattle.jpa_provider.specs.Machine.{Machine, Transaction, manager_at, no_manager, marked_in, rolled_back}
 use Rattle.jpa_provider.specs.Calls.{marked_if}
 use Rattle.jpa_provider.specs.Routes.{Route, commits, rolls_back, route, is_commit, is_rollback}
 use Rattle.jpa_provider.specs.Step.{Step}
@@ -63,6 +63,7 @@ module _ (M : Machine) where
         marking = λ other m apart h. absurd (false≢true h);
         tells = λ other answer apart h. absurd (false≢true h);
         clears = λ other m o apart h. absurd (false≢true h);
+        closes = λ other m o none apart h. absurd (false≢true h);
         rolls = λ none m o apart h. absurd (false≢true h);
         stores = λ writes none m w o k apart h. absurd (false≢true h);
         undoes = λ writes none m events why o apart h. absurd (true≢false (sym writes ∙ apart));
@@ -100,6 +101,7 @@ module _ (M : Machine) where
         marking = λ other m. neither other;
         tells = λ other answer. neither other;
         clears = λ other m o. neither other;
+        closes = λ other m o none. neither other;
         rolls = λ apart m o h. rolled m;
         stores = λ writes apart m w o k. not_refused r writes apart;
         undoes = λ writes apart m events why o h. rolled m;
@@ -129,6 +131,7 @@ module _ (M : Machine) where
         marking = λ other m. stay;
         tells = λ other answer. stay;
         clears = λ other m o. stay;
+        closes = λ other m o none. stay;
         rolls = λ apart m o. stay;
         stores = λ writes apart m w o k. (k.at).raised;
         undoes = λ writes apart m events why o. stay;

@@ -12,12 +12,14 @@ pub mod Plain
 pub mod Sessions
 pub mod FlatUnits
 pub mod AfterFlush
+pub mod Counted
 pub mod Worked
 pub mod Called
 pub mod Unheld
 pub mod Routed
 pub mod Opened
-pub mod Steady
+pub mod Closing
+pub mod Unlocked
 pub mod Still
 pub mod Left
 pub mod Serving

@@ -1,40 +1,37 @@
 -- How managers and objects are made, and transactions begin, are marked and roll back.
 use Rattle.jpa_value.specs.Limits.{most_managers, most_objects, most_open_managers}
 use Rattle.std.proofs.Common.{◌≡◌, ◌<◌, ◌≤◌, ◌+◌, inl, inr, ℕ, suc, ℤ, drop, get_or, Bool, true, false, List, [], ◌∷◌, ◌++◌, length, refl, ap, sym, ◌∙◌, arith}
-use Rattle.std.specs.Prelude.{Option, Some, None, Ok, Err, if◌then◌else◌, slice_get, slice_set, nat_lt, count_by, ◌&&◌, ◌||◌}
-use Rattle.std.specs.List.{list_any, filter}
+use Rattle.std.specs.Prelude.{Option, Some, None, Ok, Err, if◌then◌else◌, slice_get, slice_set, nat_lt, count_by, ◌&&◌}
 use Rattle.std.proofs.lemmas.Bool.{lt-ltb, le-ltb, false≢true}
-use Rattle.std.proofs.lemmas.List.{map-append, set-set, get_or-set_same, length-map, drop_more}
+use Rattle.std.proofs.lemmas.List.{map-append, set-set, get_or-set_same, drop_more}
 use Rattle.std.proofs.lemmas.Option.{get_or_from_slice_get}
-use Rattle.std.proofs.lemmas.List.Sums.{length-filter}
 use Rattle.jpa_value.specs.declared.refusal.Cause.{Cause}
 use Rattle.jpa_value.specs.declared.refusal.Refusal.{Refusal}
 use Rattle.jpa_value.specs.declared.refusal.State.{State}
 use Rattle.jpa_value.specs.declared.refusal.Argument.{Argument}
 use Rattle.jpa_model.specs.Chains.{class_of}
 use Rattle.jpa_behaviour.specs.Behaviour.{World}
-use Rattle.jpa_stored.specs.Sets.{StoredSet}
-use Rattle.jpa_undo.specs.Undo.{Changes}
 use Rattle.jpa_protocol.specs.declared.call.Call.{Call}
 use Rattle.jpa_protocol.specs.declared.reply.Answer.{Answer}
 use Rattle.jpa_protocol.specs.declared.reply.Reply.{Reply}
 use Rattle.jpa_heap.specs.declared.LiveObject.{LiveObject}
 use Rattle.jpa_heap.specs.declared.Life.{Life}
-use Rattle.jpa_heap.specs.Objects.{new_object, no_object, object_at, place_of}
+use Rattle.jpa_heap.specs.Objects.{new_object, no_object, object_at}
 use Rattle.jpa_context.specs.declared.Entry.{Entry}
 use Rattle.jpa_context.specs.declared.work.UnitOfWork.{UnitOfWork}
 use Rattle.jpa_ops.specs.States.{detach_each}
 use Rattle.jpa_provider.specs.declared.session.Status.{Status}
 use Rattle.jpa_provider.specs.declared.session.EntityManager.{EntityManager}
 use Rattle.jpa_provider.specs.declared.session.Session.{Session}
-use Rattle.jpa_provider.specs.Machine.{Machine, Manager, manager_at, new_manager, is_begun, has_transaction, marked, rolled_back, with_manager}
+use Rattle.jpa_provider.specs.Machine.{Machine, Manager, Transaction, manager_at, new_manager, is_begun, marked, rolled_back, cleared, with_manager}
 use Rattle.jpa_provider.specs.Calls.{because}
 use Rattle.jpa_provider.specs.Transactions.{begin, begin_in, begun, rollback, rollback_in, set_rollback_only, only_rollback_in}
 use Rattle.jpa_provider.specs.Routes.{by_manager, made_new}
 use Rattle.jpa_provider.specs.Step.{outcome}
-use Rattle.jpa_provider.specs.Serving.{transaction_in, manager_of, managers_of, manager_in, nobody, machine_of, Serves}
-use Rattle.jpa_provider.proofs.Sessions.{manager_there, managers_changed, managers_count}
-use Rattle.jpa_provider.proofs.Worked.{of_manager, of_nobody}
+use Rattle.jpa_provider.specs.Serving.{transaction_in, is_open_status, is_begun_status, manager_of, managers_of, manager_in, nobody, machine_of, named, detached_at, detached_all, EndsAlone, IsCounted, Serves}
+use Rattle.jpa_provider.proofs.Counted.{open_count, busy_there, begun_is_open}
+use Rattle.jpa_provider.proofs.Sessions.{manager_there, managers_changed, managers_count, none_begun, begun_there, others_shut, own_others}
+use Rattle.jpa_provider.proofs.Worked.{of_manager, of_nobody, named_open}
 
 abbrev pub told : Answer → Reply
 told a = record { events = []; answer = Ok a }
@@ -44,167 +41,186 @@ refusal r = record { events = []; answer = Err (Refusal.Because r) }
 
 -- ---- createEntityManager
 
-none_closed : (set : StoredSet) (xs : List EntityManager) → filter (λ (x : Manager). x.is_open) (managers_of set xs) ≡ managers_of set xs
-none_closed set [] = refl
-none_closed set (x ∷ xs) = ap (λ ys. manager_of set x ∷ ys) (none_closed set xs)
-
-all_open : (set : StoredSet) (xs : List EntityManager) → count_by (λ (x : Manager). x.is_open) (managers_of set xs) ≡ length xs
-all_open set xs = sym (length-filter (λ (x : Manager). x.is_open) (managers_of set xs)) ∙ ap length (none_closed set xs) ∙ length-map xs (manager_of set)
-
 abbrev may_open : ℕ → ℕ → Bool
 may_open opened made = nat_lt opened most_open_managers && nat_lt made most_managers
 
-may_create : (s : Session) → may_open (count_by (λ (x : Manager). x.is_open) (machine_of s).managers) (length (machine_of s).managers) ≡ may_open (length s.managers.items) (length s.managers.items)
-may_create s = λ i. may_open (all_open s.work.view.now s.managers.items i) (managers_count s i)
+may_create : (s : Session) → IsCounted s → may_open (count_by (λ (x : Manager). x.is_open) (machine_of s).managers) (length (machine_of s).managers) ≡ may_open s.open_managers (length s.managers.items)
+may_create s h = λ i. may_open ((open_count (s.work.view).committed (s.work.view).kept s.managers.items ∙ sym h.opened) i) (managers_count s i)
 
-few : (n : ℕ) → n < 16 → may_open n n ≡ true
-few n l = ap (λ b. b && nat_lt n most_managers) (lt-ltb n 16 l) ∙ lt-ltb n 1000000 (omega (arith, l))
+few : (opened made : ℕ) → opened < most_open_managers → made < most_managers → may_open opened made ≡ true
+few opened made k l = ap (λ b. b && nat_lt made most_managers) (lt-ltb opened most_open_managers k) ∙ lt-ltb made most_managers l
 
-many : (n : ℕ) → 16 ≤ n → may_open n n ≡ false
-many n l = ap (λ b. b && nat_lt n most_managers) (le-ltb n 16 l)
+-- as many are open as may be
+pub many_open : (opened made : ℕ) → most_open_managers ≤ opened → may_open opened made ≡ false
+many_open opened made l = ap (λ b. b && nat_lt made most_managers) (le-ltb opened most_open_managers l)
 
-pub not_created : (world : World) (s : Session) → 16 ≤ length s.managers.items → Serves world s Call.CreateEntityManager (refusal Cause.Limit) s
-not_created world s l =
+-- or as many were made
+pub many_made : (opened made : ℕ) → most_managers ≤ made → may_open opened made ≡ false
+many_made opened made l = ap (λ b. nat_lt opened most_open_managers && b) (le-ltb made most_managers l) ∙ and_false (nat_lt opened most_open_managers)
+  where
+    and_false : (b : Bool) → (b && false) ≡ false
+    and_false true = refl
+    and_false false = refl
+
+pub not_created : (world : World) (s : Session) → IsCounted s → may_open s.open_managers (length s.managers.items) ≡ false → Serves world s Call.CreateEntityManager (refusal Cause.Limit) s
+not_created world s h l =
     let M = machine_of s in
-    inl (ap (λ b. if b then (told (Answer.Number (suc (length M.managers))), record M { managers = M.managers ++ new_manager ∷ [] }) else because M Cause.Limit) (may_create s ∙ many (length s.managers.items) l))
+    inl (ap (λ b. if b then (told (Answer.Number (suc (length M.managers))), record M { managers = M.managers ++ new_manager ∷ [] }) else because M Cause.Limit) (may_create s h ∙ l))
 
 pub create_gives_up : (world : World) (s t : Session) → machine_of t ≡ machine_of s → Serves world s Call.CreateEntityManager (refusal Cause.OutOfMemory) t
 create_gives_up world s t e = inr (refl, inl refl, e)
 
-pub created : (world : World) (s t : Session) (x : EntityManager) → length s.managers.items < 16 → t.managers.items ≡ s.managers.items ++ x ∷ [] → x.status ≡ Status.Inactive → x.context.now ≡ [] → t.work ≡ s.work →
-    t.stored ≡ s.stored → Serves world s Call.CreateEntityManager (told (Answer.Number (suc (length s.managers.items)))) t
-created world s t x l e st c w k =
+pub created : (world : World) (s t : Session) (x : EntityManager) → IsCounted s → s.open_managers < most_open_managers → length s.managers.items < most_managers → t.managers.items ≡ s.managers.items ++ x ∷ [] →
+    x.status ≡ Status.Inactive → x.context.now ≡ [] → t.work ≡ s.work → t.stored ≡ s.stored → Serves world s Call.CreateEntityManager (told (Answer.Number (suc (length s.managers.items)))) t
+created world s t x h l k e st c w d =
     let M = machine_of s in
-    let set = s.work.view.now in
-    inl (ap (λ b. if b then (told (Answer.Number (suc (length M.managers))), record M { managers = M.managers ++ new_manager ∷ [] }) else because M Cause.Limit) (may_create s ∙ few (length s.managers.items) l)
+    inl (ap (λ b. if b then (told (Answer.Number (suc (length M.managers))), record M { managers = M.managers ++ new_manager ∷ [] }) else because M Cause.Limit)
+    (may_create s h ∙ few s.open_managers (length s.managers.items) l k)
     ∙ (λ i. (told (Answer.Number (suc (managers_count s i))), sym same i)))
   where
-    fresh : manager_of s.work.view.now x ≡ new_manager
-    fresh = λ i. record { is_open = true; context = c i; transaction = transaction_in (st i) s.work.view.now }
+    fresh : manager_of (s.work.view).committed (s.work.view).kept x ≡ new_manager
+    fresh = λ i. record { is_open = is_open_status (st i); context = c i; transaction = transaction_in (st i) (s.work.view).committed (s.work.view).kept }
 
-    same : machine_of t ≡ record (machine_of s) { managers = managers_of s.work.view.now s.managers.items ++ new_manager ∷ [] }
+    same : machine_of t ≡ record (machine_of s) { managers = (machine_of s).managers ++ new_manager ∷ [] }
     same =
-        (λ i. record { objects = (w i).objects.now; managers = managers_of (w i).view.now (e i); numbers = (w i).numbers.now; stored_numbers = k i; committed = (w i).view.now })
-        ∙ (λ i. record (machine_of s) { managers = (map-append (manager_of s.work.view.now) s.managers.items (x ∷ []) ∙ ap (λ y. managers_of s.work.view.now s.managers.items ++ y ∷ []) fresh) i })
+        (λ i. record {
+          objects = (w i).objects.now;
+          managers = managers_of ((w i).view).committed ((w i).view).kept (e i);
+          numbers = (w i).numbers.now;
+          stored_numbers = d i;
+          committed = ((w i).view).committed;
+        })
+        ∙ (λ i. record (machine_of s) {
+          managers = (map-append (manager_of (s.work.view).committed (s.work.view).kept) s.managers.items (x ∷ []) ∙ ap (λ y. (machine_of s).managers ++ y ∷ []) fresh) i;
+        })
 
 -- ---- the transaction of a manager
 
-pub transaction_there : (s : Session) (m : ℕ) → m < length s.managers.items → (manager_at (machine_of s) m).transaction ≡ transaction_in (manager_in s.managers.items m).status s.work.view.now
-transaction_there s m l = ap (λ (x : Manager). x.transaction) (manager_there s m l)
+pub transaction_there : (s : Session) (m : ℕ) → (manager_at (machine_of s) m).transaction ≡ transaction_in (manager_in s.managers.items m).status (s.work.view).committed (s.work.view).kept
+transaction_there s m = ap (λ (x : Manager). x.transaction) (manager_there s m)
+
+-- none is open
+pub none_there : (s : Session) (m : ℕ) → is_begun_status (manager_in s.managers.items m).status ≡ false → (manager_at (machine_of s) m).transaction ≡ None
+none_there s m h = transaction_there s m ∙ none_begun (manager_in s.managers.items m).status (s.work.view).committed (s.work.view).kept h
 
 -- the manager of another session in a new state
-pub replaced : (s t : Session) (m : ℕ) (x : EntityManager) → t.managers.items ≡ slice_set s.managers.items m x → t.work.view.now ≡ s.work.view.now → t.work.numbers.now ≡ s.work.numbers.now → t.stored ≡ s.stored →
-    machine_of t ≡ record (machine_of s) { objects = t.work.objects.now; managers = with_manager (machine_of s) m (manager_of s.work.view.now x) }
-replaced s t m x e v n k =
+pub replaced : (s t : Session) (m : ℕ) (x : EntityManager) → t.managers.items ≡ slice_set s.managers.items m x → (t.work.view).committed ≡ (s.work.view).committed → (t.work.view).kept ≡ (s.work.view).kept →
+    t.work.numbers.now ≡ s.work.numbers.now → t.stored ≡ s.stored →
+    machine_of t ≡ record (machine_of s) { objects = t.work.objects.now; managers = with_manager (machine_of s) m (manager_of (s.work.view).committed (s.work.view).kept x) }
+replaced s t m x e v k n d =
     λ i. record {
       objects = t.work.objects.now;
-      managers = (ap (λ set. managers_of set t.managers.items) v ∙ ap (managers_of s.work.view.now) e ∙ managers_changed s.work.view.now s.managers.items m x) i;
+      managers = ((λ j. managers_of (v j) (k j) (e j)) ∙ managers_changed (s.work.view).committed (s.work.view).kept s.managers.items m x) i;
       numbers = n i;
-      stored_numbers = k i;
+      stored_numbers = d i;
       committed = v i;
     }
 
 -- ---- begin
 
-pub begin_alone : (world : World) (s : Session) (em : ℤ) → place_of (length s.managers.items) em ≡ None → Serves world s (Call.Begin em) (refusal Cause.NoSuchManager) s
+pub begin_alone : (world : World) (s : Session) (em : ℤ) → named s em ≡ None → Serves world s (Call.Begin em) (refusal Cause.NoSuchManager) s
 begin_alone world s em e = inl (of_nobody s (begin (machine_of s)) em e)
 
-begin_open : (M : Machine) (m : ℕ) (st : Status) (set : StoredSet) → is_begun (transaction_in st set) ≡ true → begin_in M m (transaction_in st set) ≡ because M (Cause.IllegalState State.Active)
-begin_open M m Status.Inactive set h = absurd (false≢true h)
-begin_open M m Status.Active set h = refl
-begin_open M m Status.RollbackOnly set h = refl
+begin_open : (M : Machine) (m : ℕ) (t : Option Transaction) → is_begun t ≡ true → begin_in M m t ≡ because M (Cause.IllegalState State.Active)
+begin_open M m None h = absurd (false≢true h)
+begin_open M m (Some t) h = refl
 
-pub begin_refused : (world : World) (s : Session) (em : ℤ) (m : ℕ) → place_of (length s.managers.items) em ≡ Some m → m < length s.managers.items →
-    is_begun (transaction_in (manager_in s.managers.items m).status s.work.view.now) ≡ true → Serves world s (Call.Begin em) (refusal (Cause.IllegalState State.Active)) s
-begin_refused world s em m e l h =
-    inl (of_manager s (begin (machine_of s)) em m e l ∙ ap (begin_in (machine_of s) m) (transaction_there s m l) ∙ begin_open (machine_of s) m (manager_in s.managers.items m).status s.work.view.now h)
+pub begin_refused : (world : World) (s : Session) (em : ℤ) (m : ℕ) → named s em ≡ Some m → is_begun_status (manager_in s.managers.items m).status ≡ true →
+    Serves world s (Call.Begin em) (refusal (Cause.IllegalState State.Active)) s
+begin_refused world s em m e h =
+    inl (of_manager s (begin (machine_of s)) em m e ∙ begin_open (machine_of s) m (manager_at (machine_of s) m).transaction (begun_there s m ∙ h))
 
-shut : (st : Status) (set : StoredSet) → is_begun (transaction_in st set) ≡ false → transaction_in st set ≡ None
-shut Status.Inactive set h = refl
-shut Status.Active set h = absurd (false≢true (sym h))
-shut Status.RollbackOnly set h = absurd (false≢true (sym h))
-
-begin_shut : (s : Session) (em : ℤ) (m : ℕ) (b : Bool) → place_of (length s.managers.items) em ≡ Some m → m < length s.managers.items →
-    is_begun (transaction_in (manager_in s.managers.items m).status s.work.view.now) ≡ false → list_any has_transaction (machine_of s).managers ≡ b →
+begin_shut : (s : Session) (em : ℤ) (m : ℕ) (b : Bool) → named s em ≡ Some m → is_begun_status (manager_in s.managers.items m).status ≡ false → IsCounted s → s.is_busy ≡ b →
     by_manager (machine_of s) em (begin (machine_of s)) ≡ (if b then because (machine_of s) Cause.Busy else (told Answer.Null, begun (machine_of s) m))
-begin_shut s em m b e l h busy =
+begin_shut s em m b e h counted busy =
     let M = machine_of s in
-    of_manager s (begin M) em m e l ∙ ap (begin_in M m) (transaction_there s m l ∙ shut (manager_in s.managers.items m).status s.work.view.now h)
-    ∙ ap (λ c. if c then because M Cause.Busy else (told Answer.Null, begun M m)) busy
+    of_manager s (begin M) em m e ∙ ap (begin_in M m) (none_there s m h)
+    ∙ ap (λ c. if c then because M Cause.Busy else (told Answer.Null, begun M m)) (busy_there s counted ∙ busy)
 
-pub begin_busy : (world : World) (s : Session) (em : ℤ) (m : ℕ) → place_of (length s.managers.items) em ≡ Some m → m < length s.managers.items →
-    is_begun (transaction_in (manager_in s.managers.items m).status s.work.view.now) ≡ false → list_any has_transaction (machine_of s).managers ≡ true → Serves world s (Call.Begin em) (refusal Cause.Busy) s
-begin_busy world s em m e l h busy = inl (begin_shut s em m true e l h busy)
+pub begin_busy : (world : World) (s : Session) (em : ℤ) (m : ℕ) → named s em ≡ Some m → is_begun_status (manager_in s.managers.items m).status ≡ false → IsCounted s → s.is_busy ≡ true →
+    Serves world s (Call.Begin em) (refusal Cause.Busy) s
+begin_busy world s em m e h counted busy = inl (begin_shut s em m true e h counted busy)
 
-pub begin_begins : (world : World) (s t : Session) (em : ℤ) (m : ℕ) → place_of (length s.managers.items) em ≡ Some m → m < length s.managers.items →
-    is_begun (transaction_in (manager_in s.managers.items m).status s.work.view.now) ≡ false → list_any has_transaction (machine_of s).managers ≡ false →
+-- where no transaction is open nothing is written over what is committed
+pub begin_begins : (world : World) (s t : Session) (em : ℤ) (m : ℕ) → named s em ≡ Some m → is_begun_status (manager_in s.managers.items m).status ≡ false → IsCounted s → s.is_busy ≡ false →
     t.managers.items ≡ slice_set s.managers.items m (record (manager_in s.managers.items m) { status = Status.Active }) → t.work ≡ s.work → t.stored ≡ s.stored → Serves world s (Call.Begin em) (told Answer.Null) t
-begin_begins world s t em m e l h free f w k =
-    inl (begin_shut s em m false e l h free ∙ (λ i. (told Answer.Null, sym same i)))
+begin_begins world s t em m e h counted free f w k =
+    inl (begin_shut s em m false e h counted free ∙ (λ i. (told Answer.Null, sym same i)))
   where
     same : machine_of t ≡ begun (machine_of s) m
     same =
-        replaced s t m (record (manager_in s.managers.items m) { status = Status.Active }) f (ap (λ (u : UnitOfWork). u.view.now) w) (ap (λ (u : UnitOfWork). u.numbers.now) w) k
+        let C = (s.work.view).committed in
+        let at = manager_there s m in
+        let is_open : true ≡ (manager_at (machine_of s) m).is_open = sym (ap (λ (x : Manager). x.is_open) at ∙ named_open s em m e) in
+        replaced s t m (record (manager_in s.managers.items m) { status = Status.Active }) f (ap (λ (u : UnitOfWork). (u.view).committed) w) (ap (λ (u : UnitOfWork). (u.view).kept) w)
+        (ap (λ (u : UnitOfWork). u.numbers.now) w) k
         ∙ (λ i. record (machine_of s) {
           objects = (w i).objects.now;
-          managers = with_manager (machine_of s) m (record (sym (manager_there s m l) i) { transaction = Some (record { begun = s.work.view.now; view = s.work.view.now; is_marked = false }) });
+          managers = with_manager (machine_of s) m (record {
+            is_open = is_open i;
+            context = (sym at i).context;
+            transaction = Some (record { begun = C; view = counted.calm free i; is_marked = false });
+          });
         })
 
 -- ---- setRollbackOnly and rollback
 
-pub mark_alone : (world : World) (s : Session) (em : ℤ) → place_of (length s.managers.items) em ≡ None → Serves world s (Call.SetRollbackOnly em) (refusal Cause.NoSuchManager) s
+pub mark_alone : (world : World) (s : Session) (em : ℤ) → named s em ≡ None → Serves world s (Call.SetRollbackOnly em) (refusal Cause.NoSuchManager) s
 mark_alone world s em e = inl (of_nobody s (set_rollback_only (machine_of s)) em e)
 
-pub rollback_alone : (world : World) (s : Session) (em : ℤ) → place_of (length s.managers.items) em ≡ None → Serves world s (Call.Rollback em) (refusal Cause.NoSuchManager) s
+pub rollback_alone : (world : World) (s : Session) (em : ℤ) → named s em ≡ None → Serves world s (Call.Rollback em) (refusal Cause.NoSuchManager) s
 rollback_alone world s em e = inl (of_nobody s (rollback (machine_of s)) em e)
 
-pub mark_inactive : (world : World) (s : Session) (em : ℤ) (m : ℕ) → place_of (length s.managers.items) em ≡ Some m → m < length s.managers.items →
-    is_begun (transaction_in (manager_in s.managers.items m).status s.work.view.now) ≡ false → Serves world s (Call.SetRollbackOnly em) (refusal (Cause.IllegalState State.Inactive)) s
-mark_inactive world s em m e l h =
-    inl (of_manager s (set_rollback_only (machine_of s)) em m e l ∙ ap (only_rollback_in (machine_of s) m) (transaction_there s m l ∙ shut (manager_in s.managers.items m).status s.work.view.now h))
+pub mark_inactive : (world : World) (s : Session) (em : ℤ) (m : ℕ) → named s em ≡ Some m → is_begun_status (manager_in s.managers.items m).status ≡ false →
+    Serves world s (Call.SetRollbackOnly em) (refusal (Cause.IllegalState State.Inactive)) s
+mark_inactive world s em m e h = inl (of_manager s (set_rollback_only (machine_of s)) em m e ∙ ap (only_rollback_in (machine_of s) m) (none_there s m h))
 
-pub rollback_inactive : (world : World) (s : Session) (em : ℤ) (m : ℕ) → place_of (length s.managers.items) em ≡ Some m → m < length s.managers.items →
-    is_begun (transaction_in (manager_in s.managers.items m).status s.work.view.now) ≡ false → Serves world s (Call.Rollback em) (refusal (Cause.IllegalState State.Inactive)) s
-rollback_inactive world s em m e l h =
-    inl (of_manager s (rollback (machine_of s)) em m e l ∙ ap (rollback_in (machine_of s) m) (transaction_there s m l ∙ shut (manager_in s.managers.items m).status s.work.view.now h))
+pub rollback_inactive : (world : World) (s : Session) (em : ℤ) (m : ℕ) → named s em ≡ Some m → is_begun_status (manager_in s.managers.items m).status ≡ false →
+    Serves world s (Call.Rollback em) (refusal (Cause.IllegalState State.Inactive)) s
+rollback_inactive world s em m e h = inl (of_manager s (rollback (machine_of s)) em m e ∙ ap (rollback_in (machine_of s) m) (none_there s m h))
 
-mark_open : (M : Machine) (m : ℕ) (st : Status) (set : StoredSet) → is_begun (transaction_in st set) ≡ true → only_rollback_in M m (transaction_in st set) ≡ (told Answer.Null, marked M m)
-mark_open M m Status.Inactive set h = absurd (false≢true h)
-mark_open M m Status.Active set h = refl
-mark_open M m Status.RollbackOnly set h = refl
+mark_open : (M : Machine) (m : ℕ) (t : Option Transaction) → is_begun t ≡ true → only_rollback_in M m t ≡ (told Answer.Null, marked M m)
+mark_open M m None h = absurd (false≢true h)
+mark_open M m (Some t) h = refl
 
-rollback_open : (M : Machine) (m : ℕ) (st : Status) (set : StoredSet) → is_begun (transaction_in st set) ≡ true → rollback_in M m (transaction_in st set) ≡ (told Answer.Null, rolled_back M m)
-rollback_open M m Status.Inactive set h = absurd (false≢true h)
-rollback_open M m Status.Active set h = refl
-rollback_open M m Status.RollbackOnly set h = refl
+rollback_open : (M : Machine) (m : ℕ) (t : Option Transaction) → is_begun t ≡ true → rollback_in M m t ≡ (told Answer.Null, rolled_back M m)
+rollback_open M m None h = absurd (false≢true h)
+rollback_open M m (Some t) h = refl
 
-pub mark_marks : (world : World) (s t : Session) (em : ℤ) (m : ℕ) → place_of (length s.managers.items) em ≡ Some m → m < length s.managers.items →
-    is_begun (transaction_in (manager_in s.managers.items m).status s.work.view.now) ≡ true → machine_of t ≡ marked (machine_of s) m → Serves world s (Call.SetRollbackOnly em) (told Answer.Null) t
-mark_marks world s t em m e l h f =
-    inl (of_manager s (set_rollback_only (machine_of s)) em m e l ∙ ap (only_rollback_in (machine_of s) m) (transaction_there s m l)
-    ∙ mark_open (machine_of s) m (manager_in s.managers.items m).status s.work.view.now h ∙ (λ i. (told Answer.Null, sym f i)))
+pub mark_marks : (world : World) (s t : Session) (em : ℤ) (m : ℕ) → named s em ≡ Some m → is_begun_status (manager_in s.managers.items m).status ≡ true → machine_of t ≡ marked (machine_of s) m →
+    Serves world s (Call.SetRollbackOnly em) (told Answer.Null) t
+mark_marks world s t em m e h f =
+    inl (of_manager s (set_rollback_only (machine_of s)) em m e ∙ mark_open (machine_of s) m (manager_at (machine_of s) m).transaction (begun_there s m ∙ h) ∙ (λ i. (told Answer.Null, sym f i)))
 
-pub rollback_rolls : (world : World) (s t : Session) (em : ℤ) (m : ℕ) → place_of (length s.managers.items) em ≡ Some m → m < length s.managers.items →
-    is_begun (transaction_in (manager_in s.managers.items m).status s.work.view.now) ≡ true → machine_of t ≡ rolled_back (machine_of s) m → Serves world s (Call.Rollback em) (told Answer.Null) t
-rollback_rolls world s t em m e l h f =
-    inl (of_manager s (rollback (machine_of s)) em m e l ∙ ap (rollback_in (machine_of s) m) (transaction_there s m l)
-    ∙ rollback_open (machine_of s) m (manager_in s.managers.items m).status s.work.view.now h ∙ (λ i. (told Answer.Null, sym f i)))
+pub rollback_rolls : (world : World) (s t : Session) (em : ℤ) (m : ℕ) → named s em ≡ Some m → is_begun_status (manager_in s.managers.items m).status ≡ true → machine_of t ≡ rolled_back (machine_of s) m →
+    Serves world s (Call.Rollback em) (told Answer.Null) t
+rollback_rolls world s t em m e h f =
+    inl (of_manager s (rollback (machine_of s)) em m e ∙ rollback_open (machine_of s) m (manager_at (machine_of s) m).transaction (begun_there s m ∙ h) ∙ (λ i. (told Answer.Null, sym f i)))
 
 -- a slot that is set twice
 pub twice : (xs : List EntityManager) (m : ℕ) (x : EntityManager) (st : Status) → m < length xs →
     slice_set (slice_set xs m x) m (record (manager_in (slice_set xs m x) m) { status = st }) ≡ slice_set xs m (record x { status = st })
 twice xs m x st l = ap (λ (y : EntityManager). slice_set (slice_set xs m x) m (record y { status = st })) (get_or-set_same xs m x nobody l) ∙ set-set xs m x (record x { status = st })
 
-pub rolled_there : (s t : Session) (m : ℕ) (c : Changes Entry) → m < length s.managers.items → t.managers.items ≡ slice_set s.managers.items m (record { status = Status.Inactive; context = c }) → c.now ≡ [] →
-    t.work.objects.now ≡ detach_each (manager_in s.managers.items m).context.now s.work.objects.now → t.work.view.now ≡ s.work.view.now → t.work.numbers.now ≡ s.work.numbers.now → t.stored ≡ s.stored →
-    machine_of t ≡ rolled_back (machine_of s) m
-rolled_there s t m c l f e o v n k =
-    let there = manager_there s m l in
-    replaced s t m (record { status = Status.Inactive; context = c }) f v n k
-    ∙ (λ i. record (machine_of s) {
-      objects = (o ∙ ap (λ (x : Manager). detach_each x.context s.work.objects.now) (sym there)) i;
-      managers = with_manager (machine_of s) m (record { is_open = ap (λ (x : Manager). x.is_open) (sym there) i; context = e i; transaction = None });
+-- of a session whose manager was cleared: what the transaction wrote is undone with it
+pub rolled_there : (s u t : Session) (m : ℕ) → EndsAlone m s → machine_of u ≡ cleared (machine_of s) m →
+    t.managers.items ≡ slice_set s.managers.items m (record { status = Status.Inactive; context = record { now = []; since = [] } }) → t.work.objects.now ≡ u.work.objects.now →
+    (t.work.view).committed ≡ (s.work.view).committed → t.work.numbers.now ≡ u.work.numbers.now → t.stored ≡ u.stored → machine_of t ≡ rolled_back (machine_of s) m
+rolled_there s u t m h clear f o v n k =
+    let M = machine_of s in
+    let C = (s.work.view).committed in
+    let W = (t.work.view).kept in
+    let x : EntityManager = record { status = Status.Inactive; context = record { now = []; since = [] } } in
+    let begun : is_begun (manager_at M m).transaction ≡ true = begun_there s m ∙ h.begun in
+    let is_open : true ≡ (manager_at M m).is_open = sym (ap (λ (y : Manager). y.is_open) (manager_there s m) ∙ begun_is_open (manager_in s.managers.items m) h.begun) in
+    (λ i. record {
+      objects = (o ∙ ap (λ (N : Machine). N.objects) clear) i;
+      managers = ((λ j. managers_of (v j) W (f j)) ∙ others_shut M C (s.work.view).kept s.managers.items m (own_others s m) h.one begun C W x) i;
+      numbers = (n ∙ ap (λ (N : Machine). N.numbers) clear) i;
+      stored_numbers = (k ∙ ap (λ (N : Machine). N.stored_numbers) clear) i;
+      committed = v i;
     })
+    ∙ (λ i. record (rolled_back M m) { managers = with_manager M m (record { is_open = is_open i; context = []; transaction = None }) })
 
 -- ---- new
 
@@ -226,29 +242,23 @@ pub new_gives_up : (world : World) (s t : Session) (name : List ℕ) → machine
 new_gives_up world s t name e = inr (refl, inl refl, e)
 
 -- another session with these objects
-pub with_objects : (s t : Session) (os : List LiveObject) → t.managers ≡ s.managers → t.stored ≡ s.stored → t.work.objects.now ≡ os → t.work.numbers.now ≡ s.work.numbers.now → t.work.view.now ≡ s.work.view.now →
+pub with_objects : (s t : Session) (os : List LiveObject) → t.managers ≡ s.managers → t.stored ≡ s.stored → t.work.objects.now ≡ os → t.work.numbers.now ≡ s.work.numbers.now → t.work.view ≡ s.work.view →
     machine_of t ≡ record (machine_of s) { objects = os }
-with_objects s t os m k o n v = λ i. record { objects = o i; managers = managers_of (v i) (m i).items; numbers = n i; stored_numbers = k i; committed = v i }
+with_objects s t os m k o n v = λ i. record { objects = o i; managers = managers_of (v i).committed (v i).kept (m i).items; numbers = n i; stored_numbers = k i; committed = (v i).committed }
 
 pub new_serves : (world : World) (s t : Session) (name : List ℕ) (class : ℕ) → length s.work.objects.now < most_objects → class_of world.model name ≡ Some class →
     machine_of t ≡ record (machine_of s) { objects = s.work.objects.now ++ new_object world.model class ∷ [] } → Serves world s (Call.NewObject name) (told (Answer.Object (suc (length s.work.objects.now)))) t
 new_serves world s t name class l e f = inl (new_made world s name (Some class) l e ∙ (λ i. (told (Answer.Object (suc (length s.work.objects.now))), sym f i)))
 
--- ---- the first manager with an open transaction
-
-pub busy_here : (set : StoredSet) (x : EntityManager) (xs : List EntityManager) → is_begun (transaction_in x.status set) ≡ true → list_any has_transaction (managers_of set (x ∷ xs)) ≡ true
-busy_here set x xs h = ap (λ b. b || list_any has_transaction (managers_of set xs)) h
-
-pub busy_later : (set : StoredSet) (x : EntityManager) (xs : List EntityManager) → is_begun (transaction_in x.status set) ≡ false →
-    list_any has_transaction (managers_of set (x ∷ xs)) ≡ list_any has_transaction (managers_of set xs)
-busy_later set x xs h = ap (λ b. b || list_any has_transaction (managers_of set xs)) h
-
 -- ---- an object is detached in place
 
-pub detached_one : (es : List Entry) (os : List LiveObject) (i : ℕ) (e : Entry) (x blank : LiveObject) → i < length es → e ≡ get_or es i e → slice_get os e.object ≡ Some x →
-    detach_each (drop (i + 1) es) (slice_set (slice_set os e.object blank) e.object (record x { life = Life.Detached })) ≡ detach_each (drop i es) os
-detached_one es os i e x blank l is at =
-    let n = e.object in
+pub detached_one : (es : List Entry) (os : List LiveObject) (i : ℕ) (e : Entry) → i < length es → e ≡ get_or es i e → detach_each (drop (i + 1) es) (detached_at e.object os) ≡ detach_each (drop i es) os
+detached_one es os i e l is = sym (ap (λ xs. detach_each xs os) (drop_more es i e l ∙ ap (λ (y : Entry). y ∷ drop (i + 1) es) (sym is)))
+
+pub detached_next : (ns : List ℕ) (os : List LiveObject) (i n : ℕ) → i < length ns → n ≡ get_or ns i n → detached_all (drop (i + 1) ns) (detached_at n os) ≡ detached_all (drop i ns) os
+detached_next ns os i n l is = sym (ap (λ xs. detached_all xs os) (drop_more ns i n l ∙ ap (λ (k : ℕ). k ∷ drop (i + 1) ns) (sym is)))
+
+pub detached_twice : (os : List LiveObject) (n : ℕ) (x blank : LiveObject) → slice_get os n ≡ Some x → slice_set (slice_set os n blank) n (record x { life = Life.Detached }) ≡ detached_at n os
+detached_twice os n x blank at =
     let same : object_at os n ≡ x = get_or_from_slice_get os n x no_object at in
-    ap (detach_each (drop (i + 1) es)) (set-set os n blank (record x { life = Life.Detached }) ∙ ap (λ (y : LiveObject). slice_set os n (record y { life = Life.Detached })) (sym same))
-    ∙ sym (ap (λ xs. detach_each xs os) (drop_more es i e l ∙ ap (λ (y : Entry). y ∷ drop (i + 1) es) (sym is)))
+    set-set os n blank (record x { life = Life.Detached }) ∙ ap (λ (y : LiveObject). slice_set os n (record y { life = Life.Detached })) (sym same)

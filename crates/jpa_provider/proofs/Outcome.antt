@@ -1,6 +1,5 @@
 -- What holds of the machine between calls is kept by each call: here for units without relations.
-use Rattle.std.proofs.Common.{◌≡◌, ℕ, Bool, true, false, List, [], ◌∷◌, refl, sym, subst}
-use Rattle.std.specs.Prelude.{◌&&◌}
+use Rattle.std.proofs.Common.{◌≡◌, ℕ, Bool, true, false, List, [], ◌∷◌, sym, subst}
 use Rattle.std.specs.List.{list_all}
 use Rattle.std.proofs.lemmas.Bool.{and_parts}
 use Rattle.jpa_behaviour.specs.Behaviour.{World, IsRegular}
@@ -15,7 +14,7 @@ use Rattle.jpa_lifecycle.specs.Flat.{IsFlat}
 use Rattle.jpa_provider.proofs.AtWork.{returned}
 use Rattle.jpa_provider.proofs.Settled.{created_holds, begun_holds, marked_holds}
 use Rattle.jpa_provider.proofs.Created.{object_made}
-use Rattle.jpa_provider.proofs.Ended.{cleared_holds, committed_holds, rolled_back_holds}
+use Rattle.jpa_provider.proofs.Ended.{cleared_holds, closed_holds, committed_holds, rolled_back_holds}
 use Rattle.jpa_provider.proofs.Ways.{Ways, on_route, on_step}
 use Rattle.jpa_provider.proofs.Operated.{IsDone, does}
 
@@ -31,6 +30,7 @@ ways {world} {M} r h =
       marking = λ other m. marked_holds m h;
       tells = λ other a. h;
       clears = λ other m o. cleared_holds m o.within o.is_open h;
+      closes = λ other m o none. closed_holds m o.within o.is_open none h;
       rolls = λ apart m o. rolled_back_holds m o.within o.is_open h;
       stores = λ writes apart m w o k. committed_holds o.within o.is_open h k.at;
       undoes = λ writes apart m events why o. rolled_back_holds m o.within o.is_open h;

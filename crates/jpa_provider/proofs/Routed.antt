@@ -1,7 +1,6 @@
 -- How calls step whose route is an operation: of a manager that is named, or of whoever holds an object.
 use Rattle.std.proofs.Common.{◌≡◌, ◌<◌, inl, ℕ, ℤ, Bool, true, false, List, length, refl, ap, sym, subst, ◌∙◌}
-use Rattle.std.specs.Prelude.{Option, Some, None, is_some}
-use Rattle.std.specs.Option.{unwrap_or}
+use Rattle.std.specs.Prelude.{Option, Some, None, is_some, if◌then◌else◌}
 use Rattle.std.proofs.lemmas.Bool.{false≢true, true≢false}
 use Rattle.jpa_value.specs.declared.refusal.Cause.{Cause}
 use Rattle.jpa_behaviour.specs.Behaviour.{World}
@@ -15,30 +14,52 @@ use Rattle.jpa_provider.specs.declared.operating.Operation.{Operation}
 use Rattle.jpa_provider.specs.declared.replies.Rule.{Rule}
 use Rattle.jpa_provider.specs.declared.session.Session.{Session}
 use Rattle.jpa_provider.specs.Machine.{Machine, work_of}
-use Rattle.jpa_provider.specs.Calls.{ended, marks, marks_if_callback, give_or}
-use Rattle.jpa_provider.specs.Routes.{Route, OfManager, OfObject, by_route, holder, holder_in, is_free, route}
+use Rattle.jpa_provider.specs.Calls.{because, ended, marks, marks_if_callback, give_or}
+use Rattle.jpa_provider.specs.Routes.{Route, OfManager, OfObject, by_route, holder, holder_in, if_begun, flush_call, is_free, route}
 use Rattle.jpa_provider.specs.Operations.{on_numbered, operation_of, manager_holding, EndsSo}
 use Rattle.jpa_consistent.specs.Consistent.{stands_in}
 use Rattle.jpa_provider.specs.Invariant.{IsMachine, context_of}
-use Rattle.jpa_provider.specs.Serving.{machine_of, Serves}
+use Rattle.jpa_provider.specs.Serving.{machine_of, manager_in, is_begun_status, named, Serves}
 use Rattle.jpa_provider.proofs.AtWork.{IsOpen, holding_open}
 use Rattle.jpa_provider.proofs.Opened.{refusal}
-use Rattle.jpa_provider.proofs.Worked.{of_manager, of_nobody, ended_step}
-use Rattle.jpa_provider.proofs.Sessions.{managers_count}
+use Rattle.jpa_provider.proofs.Worked.{of_manager, of_nobody, some_same, ended_step}
+use Rattle.jpa_provider.proofs.Sessions.{managers_count, begun_there}
 
 -- ---- of a manager that is named
 
 module _ (world : World) (s : Session) (em : ℤ) (op : World → Op Answer) (call : Call) (e : route call ≡ OfManager em op) where
-  pub worked_alone : place_of (length s.managers.items) em ≡ None → Serves world s call (refusal Cause.NoSuchManager) s
+  pub worked_alone : named s em ≡ None → Serves world s call (refusal Cause.NoSuchManager) s
   worked_alone place =
       let M = machine_of s in
       inl (ap (by_route world M) e ∙ of_nobody s (λ m. ended marks M m (op world (work_of M m))) em place)
 
-  pub worked_so : (t : Session) (m : ℕ) (reply : Reply) → place_of (length s.managers.items) em ≡ Some m → m < length s.managers.items →
+  pub worked_so : (t : Session) (m : ℕ) (reply : Reply) → named s em ≡ Some m →
       EndsSo Rule.OfManager (machine_of s) m (op world (work_of (machine_of s) m)) reply (machine_of t) → Serves world s call reply t
-  worked_so t m reply place l h =
+  worked_so t m reply place h =
       let M = machine_of s in
-      ended_step world call Rule.OfManager m (op world (work_of M m)) (ap is_free e) (ap (by_route world M) e ∙ of_manager s (λ k. ended marks M k (op world (work_of M k))) em m place l) h
+      ended_step world call Rule.OfManager m (op world (work_of M m)) (ap is_free e) (ap (by_route world M) e ∙ of_manager s (λ k. ended marks M k (op world (work_of M k))) em m place) h
+
+-- ---- of a manager's open transaction
+
+module _ (world : World) (s : Session) (em : ℤ) where
+  abbrev flushing : ℕ → Reply × Machine
+  flushing m = if_begun (machine_of s) m (ended marks (machine_of s) m (flush_call world (work_of (machine_of s) m)))
+
+  pub flush_alone : named s em ≡ None → Serves world s (Call.Flush em) (refusal Cause.NoSuchManager) s
+  flush_alone place = inl (of_nobody s flushing em place)
+
+  pub flush_idle : (m : ℕ) → named s em ≡ Some m → is_begun_status (manager_in s.managers.items m).status ≡ false → Serves world s (Call.Flush em) (refusal Cause.TransactionRequired) s
+  flush_idle m place h =
+      let M = machine_of s in
+      inl (of_manager s flushing em m place
+      ∙ ap (λ b. if b then ended marks M m (flush_call world (work_of M m)) else because M Cause.TransactionRequired) (begun_there s m ∙ h))
+
+  pub flush_so : (t : Session) (m : ℕ) (reply : Reply) → named s em ≡ Some m → is_begun_status (manager_in s.managers.items m).status ≡ true →
+      EndsSo Rule.OfManager (machine_of s) m (flush_call world (work_of (machine_of s) m)) reply (machine_of t) → Serves world s (Call.Flush em) reply t
+  flush_so t m reply place begun h =
+      let M = machine_of s in
+      ended_step world (Call.Flush em) Rule.OfManager m (flush_call world (work_of M m)) refl
+      (of_manager s flushing em m place ∙ ap (λ b. if b then ended marks M m (flush_call world (work_of M m)) else because M Cause.TransactionRequired) (begun_there s m ∙ begun)) h
 
 -- ---- of whoever holds an object
 
@@ -63,9 +84,6 @@ module _ (world : World) (s : Session) (number : ℤ) (op : World → ℕ → Op
       ∙ ap (λ (f : World → Op Answer). ended marks_if_callback M m (f world (work_of M m))) (sym same)) h
 
 -- ---- who holds it
-
-some_same : (a b : ℕ) → Some a ≡ Some b → a ≡ b
-some_same a b e = ap (λ o. unwrap_or o a) e
 
 pub holds : (M : Machine) (life : Life) (m : ℕ) → manager_holding life ≡ Some m → holder_in M life ≡ m
 holds M Life.New m e = absurd (false≢true (ap is_some e))

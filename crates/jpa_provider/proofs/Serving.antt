@@ -1,15 +1,13 @@
 -- What holds between calls holds after each step.
 use Rattle.std.proofs.Common.{◌≡◌, ◌<◌, ◌≤◌, ◌⊎◌, inl, inr, ℕ, zero, suc, Bool, true, false, List, [], ◌∷◌, length, refl, sym, subst, arith}
 use Rattle.std.specs.Prelude.{All}
-use Rattle.std.proofs.lemmas.Bool.{cases_lt, false≢true}
+use Rattle.std.proofs.lemmas.Bool.{false≢true}
 use Rattle.std.proofs.lemmas.List.Elements.{All-nil, All-weaker}
 use Rattle.jpa_behaviour.specs.Behaviour.{World, IsRegular}
 use Rattle.jpa_stored.specs.Sets.{StoredSet}
 use Rattle.jpa_rows.specs.Cells.{CanBeHeld}
-use Rattle.jpa_heap.specs.Shape.{HasShape}
 use Rattle.jpa_context.specs.declared.Entry.{Entry}
 use Rattle.jpa_lifecycle.specs.Flat.{IsFlat}
-use Rattle.jpa_provider.specs.declared.session.EntityManager.{EntityManager}
 use Rattle.jpa_protocol.specs.declared.call.Call.{Call}
 use Rattle.jpa_protocol.specs.declared.reply.Reply.{Reply}
 use Rattle.jpa_provider.specs.declared.session.Session.{Session}
@@ -17,41 +15,29 @@ use Rattle.jpa_provider.specs.Machine.{Manager, manager_at, opened, IsStoredAs}
 use Rattle.jpa_consistent.specs.Consistent.{IsEntry}
 use Rattle.jpa_provider.specs.Invariant.{HasOneTransaction, IsMachine, hands_representable}
 use Rattle.jpa_provider.specs.Routes.{is_commit}
-use Rattle.jpa_provider.specs.Serving.{machine_of, manager_in, nobody, IsPlainMachine, IsServing, IsSettled, Serves}
+use Rattle.jpa_provider.specs.Serving.{machine_of, manager_in, IsUnlocked, IsServing, IsSettled, Serves}
 use Rattle.jpa_provider.proofs.OneTransaction.{step_one}
-use Rattle.jpa_provider.proofs.AtWork.{work_placed}
-use Rattle.jpa_provider.proofs.Sessions.{manager_there, managers_count}
+use Rattle.jpa_provider.proofs.AtWork.{each_manager}
+use Rattle.jpa_provider.proofs.Sessions.{manager_there}
 use Rattle.jpa_provider.proofs.Settled.{opened_holds}
 use Rattle.jpa_provider.proofs.Outcome.{step_keeps}
-use Rattle.jpa_provider.proofs.Steady.{step_plain}
+use Rattle.jpa_provider.proofs.Unlocked.{step_unlocked}
 use Rattle.jpa_provider.proofs.Still.{step_still}
 
-pub serves_on : (world : World) (s t : Session) (call : Call) (reply : Reply) → IsServing world s → hands_representable call ≡ true → Serves world s call reply t → IsPlainMachine (machine_of t) → IsSettled t → IsServing world t
-serves_on world s t call reply h rep step plain settled =
+-- whichever call it was
+pub serves_on : (world : World) (s t : Session) (call : Call) (reply : Reply) → IsServing world s → hands_representable call ≡ true → Serves world s call reply t → IsSettled t → IsServing world t
+serves_on world s t call reply h rep step settled =
     record {
       flat = h.flat;
       regular = h.regular;
       machine = step_keeps h.flat h.regular call rep h.machine step;
       one = step_one world call h.one step;
-      plain = plain;
+      unlocked = step_unlocked world h.flat h.regular call rep h.machine h.unlocked step;
       settled = settled;
     }
 
--- after each call but commit
-pub serves_other : (world : World) (s t : Session) (call : Call) (reply : Reply) → IsServing world s → hands_representable call ≡ true → is_commit call ≡ false → Serves world s call reply t → IsSettled t → IsServing world t
-serves_other world s t call reply h rep other step settled = serves_on world s t call reply h rep step (step_plain world h.flat h.regular call rep other h.machine h.plain step) settled
-
 pub stored_other : (world : World) (s t : Session) (call : Call) (reply : Reply) → IsServing world s → is_commit call ≡ false → Serves world s call reply t → IsStoredAs (machine_of s) (machine_of t)
 stored_other world s t call reply h other step = step_still (machine_of s) world call reply (machine_of t) step (inl other)
-
--- whichever call it was
-pub serves_all : (world : World) (s t : Session) (call : Call) (reply : Reply) → IsServing world s → hands_representable call ≡ true → Serves world s call reply t → IsSettled t →
-    (is_commit call ≡ true → IsPlainMachine (machine_of t)) → IsServing world t
-serves_all world s t call reply h rep step settled plain = by_case (is_commit call) refl
-  where
-    by_case : (b : Bool) → is_commit call ≡ b → IsServing world t
-    by_case true e = serves_on world s t call reply h rep step (plain e) settled
-    by_case false e = serves_other world s t call reply h rep e step settled
 
 pub stores_all : (world : World) (s t : Session) (call : Call) (reply : Reply) (P : StoredSet → List ℕ → Type 0) → IsServing world s → Serves world s call reply t →
     (is_commit call ≡ true → P (machine_of t).committed (machine_of t).stored_numbers) → (is_commit call ≡ false → P (machine_of s).committed (machine_of s).stored_numbers) →
@@ -66,23 +52,13 @@ stores_all world s t call reply P h step stored kept = by_case (is_commit call) 
 
 -- ---- what calls stand on
 
-past : (xs : List EntityManager) (k : ℕ) → length xs ≤ k → manager_in xs k ≡ nobody
-past [] k l = refl
-past (x ∷ xs) zero l = absurd (omega (arith, l))
-past (x ∷ xs) (suc k) l = past xs k (omega (arith, l))
-
 abbrev IsWithin : Session → Entry → Type 0
 IsWithin s e = e.object < length s.work.objects.now
 
 pub entries_in : {world : World} (s : Session) → IsMachine world (machine_of s) → (k : ℕ) → All (λ (e : Entry). e.object < length s.work.objects.now) (manager_in s.managers.items k).context.now
-entries_in {world} s h k = by_place (cases_lt k (length s.managers.items))
-  where
-    by_place : (k < length s.managers.items) ⊎ (length s.managers.items ≤ k) → All (IsWithin s) (manager_in s.managers.items k).context.now
-    by_place (inl l) =
-        subst (λ (x : Manager). All (IsWithin s) x.context) (manager_there s k l)
-        (All-weaker (IsEntry world.model s.work.objects.now s.work.numbers.now k) (IsWithin s) (λ e i. i.within) (manager_at (machine_of s) k).context
-        (h.managers k (subst (λ n. k < n) (sym (managers_count s)) l)).entries)
-    by_place (inr l) = subst (λ (x : EntityManager). All (IsWithin s) x.context.now) (sym (past s.managers.items k l)) (All-nil (IsWithin s))
+entries_in {world} s h k =
+    subst (λ (x : Manager). All (IsWithin s) x.context) (manager_there s k)
+    (All-weaker (IsEntry world.model s.work.objects.now s.work.numbers.now k) (IsWithin s) (λ e i. i.within) (manager_at (machine_of s) k).context (each_manager h k).entries)
 
 -- ---- as it is opened
 
@@ -93,6 +69,6 @@ opened_serving world s set numbers flat regular held e settled =
       regular = regular;
       machine = subst (IsMachine world) (sym e) (opened_holds held);
       one = subst HasOneTransaction (sym e) (λ m k a b. absurd (false≢true a));
-      plain = subst IsPlainMachine (sym e) (record { objects = All-nil _; contexts = λ k. All-nil _ });
+      unlocked = subst IsUnlocked (sym e) (λ k. All-nil _);
       settled = settled;
     }

@@ -1,19 +1,19 @@
 -- What holds of the machine is kept by what begins, marks and ends transactions, and by what makes managers and objects.
 use Rattle.jpa_value.specs.Limits.{most_managers}
 use Rattle.std.proofs.Common.{◌≡◌, ◌≢◌, ◌<◌, ◌≤◌, ◌⊎◌, inl, inr, ℕ, zero, suc, Bool, true, false, List, [], ◌∷◌, ◌++◌, length, refl, ap, sym, subst, ◌∙◌, arith}
-use Rattle.std.specs.Prelude.{slice_index_or, slice_set, Option, Some, None}
+use Rattle.std.specs.Prelude.{slice_index_or, slice_set, All, Option, Some, None}
 use Rattle.std.proofs.lemmas.Bool.{false≢true, cases_lt}
 use Rattle.std.proofs.lemmas.List.{length-set, length-append, get_or_append_left, get_or_push, set_past}
 use Rattle.std.proofs.lemmas.List.Elements.{All-nil}
 use Rattle.jpa_behaviour.specs.Behaviour.{World}
-use Rattle.jpa_stored.specs.Sets.{StoredSet}
+use Rattle.jpa_stored.specs.Sets.{StoredSet, all_distinct}
 use Rattle.jpa_rows.specs.Cells.{CanBeHeld}
 use Rattle.jpa_heap.specs.declared.LiveObject.{LiveObject}
 use Rattle.jpa_heap.specs.Objects.{object_at}
 use Rattle.jpa_context.specs.declared.Entry.{Entry}
 use Rattle.jpa_provider.specs.Machine.{Machine, Manager, Transaction, opened, manager_at, no_manager, new_manager, marked, marked_in}
 use Rattle.jpa_provider.specs.Transactions.{begun}
-use Rattle.jpa_consistent.specs.Consistent.{IsLive, IsEntry}
+use Rattle.jpa_consistent.specs.Consistent.{IsLive, IsEntry, are_one}
 use Rattle.jpa_provider.specs.Invariant.{IsMachine, IsManager, IsTransaction, is_idle, context_of}
 use Rattle.jpa_consistent.proofs.Facts.{held_more, numbers_same}
 use Rattle.jpa_consistent.proofs.Going.{stands_same}
@@ -47,24 +47,32 @@ context_kept M m k x l e = by_cases (manager_set M.managers m k x l)
     by_cases (inl h) = ap (context_of M) h.0 ∙ sym e ∙ sym (ap (λ (y : Manager). y.context) h.1)
     by_cases (inr h) = sym (ap (λ (y : Manager). y.context) h.1)
 
--- another transaction of a manager
-pub with_transaction : {world : World} {M : Machine} (m : ℕ) (t : Option Transaction) → m < length M.managers → IsMachine world M →
-    IsTransaction world M.numbers t → is_idle (manager_at M m).is_open (context_of M m) t ≡ true →
-    IsMachine world (record M { managers = slice_set M.managers m (record (manager_at M m) { transaction = t }) })
-with_transaction {world} {M} m t l h s idle =
-    let x : Manager = record (manager_at M m) { transaction = t } in
+pub same_context : {world : World} {M : Machine} (m : ℕ) (x : Manager) → m < length M.managers → IsMachine world M → x.context ≡ context_of M m →
+    IsTransaction world M.numbers x.transaction → is_idle x.is_open x.context x.transaction ≡ true → IsMachine world (record M { managers = slice_set M.managers m x })
+same_context {world} {M} m x l h e s idle =
     record {
       objects = h.objects;
       managers = managers_set M.managers m x l
-          (record { entries = (h.managers m l).entries; distinct = (h.managers m l).distinct; transaction = s; idle = idle })
+          (record {
+            entries = subst (All (IsEntry world.model M.objects M.numbers m)) (sym e) (h.managers m l).entries;
+            distinct = ap (all_distinct (are_one world.model M.objects)) e ∙ (h.managers m l).distinct;
+            transaction = s;
+            idle = idle;
+          })
           (λ k l' apart. h.managers k l');
-      placed = λ n l'. stands_same (context_of M) _ n (object_at M.objects n).life (λ k. context_kept M m k x l refl) (h.placed n l');
+      placed = λ n l'. stands_same (context_of M) _ n (object_at M.objects n).life (λ k. context_kept M m k x l e) (h.placed n l');
       committed = h.committed;
       numbered = h.numbered;
       stored = h.stored;
       objects_few = h.objects_few;
       managers_few = subst (λ n. n ≤ most_managers) (sym (length-set M.managers m x)) h.managers_few;
     }
+
+-- another transaction of a manager
+pub with_transaction : {world : World} {M : Machine} (m : ℕ) (t : Option Transaction) → m < length M.managers → IsMachine world M →
+    IsTransaction world M.numbers t → is_idle (manager_at M m).is_open (context_of M m) t ≡ true →
+    IsMachine world (record M { managers = slice_set M.managers m (record (manager_at M m) { transaction = t }) })
+with_transaction {world} {M} m t l h s idle = same_context m (record (manager_at M m) { transaction = t }) l h refl s idle
 
 open_idle : (b : Bool) (es : List Entry) (t s : Option Transaction) → b ≡ true → is_idle b es s ≡ true
 open_idle true es t s e = refl

@@ -3,7 +3,6 @@ use Rattle.std.proofs.Common.{◌≡◌, ◌⊎◌, inl, inr, ℕ, Bool, true, f
 use Rattle.std.specs.Prelude.{IsErr}
 use Rattle.std.proofs.lemmas.Bool.{false≢true, true≢false}
 use Rattle.jpa_behaviour.specs.Behaviour.{World}
-use Rattle.jpa_context.specs.Work.{Work}
 use Rattle.jpa_protocol.specs.declared.call.Call.{Call}
 use Rattle.jpa_protocol.specs.declared.reply.Reply.{Reply}
 use Rattle.jpa_provider.specs.Machine.{Machine, IsStoredAs}
@@ -37,6 +36,7 @@ ways world M r =
       begins = λ other m o free h. record { committed = refl; numbers = refl };
       tells = λ other a h. still M;
       clears = λ other m o h. record { committed = refl; numbers = refl };
+      closes = λ other m o none h. record { committed = refl; numbers = refl };
       marking = λ other m h. record { committed = refl; numbers = refl };
       rolls = λ apart m o h. record { committed = refl; numbers = refl };
       stores = λ writes apart m w o k. neither r writes;

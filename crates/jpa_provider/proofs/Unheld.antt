@@ -2,6 +2,7 @@
 use Rattle.std.proofs.Common.{◌≡◌, ◌≤◌, ℕ, Bool, true, false, List, [], ◌∷◌, length, refl, ap, sym, ◌∙◌, arith}
 use Rattle.std.specs.Prelude.{slice_index_or}
 use Rattle.std.proofs.lemmas.List.{set_past}
+use Rattle.jpa_open.specs.Opened.{Opened, with_seen, with_shown, after_keeping}
 use Rattle.jpa_context.specs.Work.{Work}
 use Rattle.jpa_provider.specs.declared.session.Session.{Session}
 use Rattle.jpa_provider.specs.Machine.{Machine, Manager, manager_at, no_manager, work_of, kept, marked_in, view_in}
@@ -22,7 +23,7 @@ nobody_counts s = let e = managers_count s in omega (arith, e)
 
 -- in an empty context it sees what is committed
 pub nobody_works : (s : Session) (w : Work) → IsSettled s →
-    w ≡ record { manager = length s.managers.items; objects = s.work.objects.now; context = []; numbers = s.work.numbers.now; view = s.work.view.now; events = s.work.events } →
+    w ≡ record { manager = length s.managers.items; objects = s.work.objects.now; context = []; numbers = s.work.numbers.now; view = (s.work.view).committed; events = s.work.events } →
     w ≡ work_of (machine_of s) (length s.managers.items)
 nobody_works s w h e =
     let there = nobody_there s in
@@ -31,26 +32,30 @@ nobody_works s w h e =
       objects = s.work.objects.now;
       context = (sym there i).context;
       numbers = s.work.numbers.now;
-      view = view_in (sym there i).transaction s.work.view.now;
+      view = view_in (sym there i).transaction (s.work.view).committed;
       events = (h.quiet) i;
     })
 
--- a session with the same managers, objects and numbers
-machine_with : (s t : Session) (w : Work) → t.managers.items ≡ s.managers.items → t.stored ≡ s.stored → t.work.view.now ≡ s.work.view.now → t.work.objects.now ≡ w.objects → t.work.numbers.now ≡ w.numbers →
-    machine_of t ≡ record (machine_of s) { objects = w.objects; numbers = w.numbers }
-machine_with s t w m k v o n = λ i. record { objects = o i; managers = managers_of (v i) (m i); numbers = n i; stored_numbers = k i; committed = v i }
+-- what was written over a hidden set is undone
+pub hidden_keep : (v w x : Opened) → w ≡ with_shown false v → x ≡ after_keeping w → x ≡ with_seen v.kept (with_shown false v)
+hidden_keep v w x e f = f ∙ ap after_keeping e
 
-pub nobody_keeps : (s t : Session) (w : Work) → t.managers.items ≡ s.managers.items → t.stored ≡ s.stored → t.work.view.now ≡ s.work.view.now → t.work.objects.now ≡ w.objects → t.work.numbers.now ≡ w.numbers →
-    machine_of t ≡ kept (machine_of s) (length s.managers.items) w
-nobody_keeps s t w m k v o n = machine_with s t w m k v o n ∙ sym (no_manager_kept (machine_of s) (length s.managers.items) w (nobody_counts s))
+-- a session with the same managers, over the same sets
+module _ (s t : Session) (m : t.managers.items ≡ s.managers.items) (k : t.stored ≡ s.stored) (c : (t.work.view).committed ≡ (s.work.view).committed) (v : (t.work.view).kept ≡ (s.work.view).kept) where
+  machine_with : machine_of t ≡ record (machine_of s) { objects = t.work.objects.now; numbers = t.work.numbers.now }
+  machine_with = λ i. record { objects = t.work.objects.now; managers = managers_of (c i) (v i) (m i); numbers = t.work.numbers.now; stored_numbers = k i; committed = c i }
 
--- nobody's transaction is marked
-marks_nothing : (M : Machine) (m : ℕ) (b : Bool) → length M.managers ≤ m → M ≡ marked_if b M m
-marks_nothing M m false l = refl
-marks_nothing M m true l = λ i. record M { managers = sym (set_past M.managers m (record (manager_at M m) { transaction = marked_in (manager_at M m).transaction }) l) i }
+  pub nobody_keeps : (w : Work) → t.work.objects.now ≡ w.objects → t.work.numbers.now ≡ w.numbers → machine_of t ≡ kept (machine_of s) (length s.managers.items) w
+  nobody_keeps w o n =
+      machine_with ∙ (λ i. record (machine_of s) { objects = o i; numbers = n i }) ∙ sym (no_manager_kept (machine_of s) (length s.managers.items) w (nobody_counts s))
 
-pub nobody_restores : (s t : Session) (b : Bool) → t.managers.items ≡ s.managers.items → t.stored ≡ s.stored → t.work.view.now ≡ s.work.view.now → t.work.objects.now ≡ s.work.objects.now → t.work.numbers.now ≡ s.work.numbers.now →
-    machine_of t ≡ marked_if b (machine_of s) (length s.managers.items)
-nobody_restores s t b m k v o n =
-    (λ i. record { objects = o i; managers = managers_of (v i) (m i); numbers = n i; stored_numbers = k i; committed = v i })
-    ∙ marks_nothing (machine_of s) (length s.managers.items) b (nobody_counts s)
+  -- nobody's transaction is marked
+  marks_nothing : (b : Bool) → machine_of s ≡ marked_if b (machine_of s) (length s.managers.items)
+  marks_nothing false = refl
+  marks_nothing true =
+      let M = machine_of s in
+      let n = length s.managers.items in
+      λ i. record M { managers = sym (set_past M.managers n (record (manager_at M n) { transaction = marked_in (manager_at M n).transaction }) (nobody_counts s)) i }
+
+  pub nobody_restores : (b : Bool) → t.work.objects.now ≡ s.work.objects.now → t.work.numbers.now ≡ s.work.numbers.now → machine_of t ≡ marked_if b (machine_of s) (length s.managers.items)
+  nobody_restores b o n = machine_with ∙ (λ i. record (machine_of s) { objects = o i; numbers = n i }) ∙ marks_nothing b

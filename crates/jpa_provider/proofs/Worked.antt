@@ -1,6 +1,8 @@
 -- How the calls that work on a manager's context step.
-use Rattle.std.proofs.Common.{◌≡◌, ◌<◌, ◌⊎◌, inl, inr, ℕ, ℤ, true, false, List, [], length, refl, ap, sym, ◌∙◌}
-use Rattle.std.specs.Prelude.{Option, Some, None, Result, Ok, Err, if◌then◌else◌}
+use Rattle.std.proofs.Common.{◌≡◌, ◌<◌, ◌⊎◌, inl, inr, ℕ, ℤ, Bool, true, false, List, [], length, refl, ap, sym, ◌∙◌}
+use Rattle.std.specs.Prelude.{slice_set, Option, Some, None, is_some, Result, Ok, Err, OnErr, if◌then◌else◌}
+use Rattle.std.specs.Option.{unwrap_or}
+use Rattle.std.proofs.lemmas.Bool.{false≢true, true≢false}
 use Rattle.jpa_value.specs.declared.refusal.Cause.{Cause}
 use Rattle.jpa_value.specs.declared.refusal.Refusal.{Refusal}
 use Rattle.jpa_behaviour.specs.Behaviour.{World}
@@ -12,15 +14,16 @@ use Rattle.jpa_heap.specs.Objects.{place_of}
 use Rattle.jpa_context.specs.declared.work.UnitOfWork.{UnitOfWork}
 use Rattle.jpa_context.specs.Work.{Work}
 use Rattle.jpa_context.specs.Steps.{Outcome, Refused, IsRefusedAs, Meets}
-use Rattle.jpa_context.specs.Undo.{since}
+use Rattle.jpa_context.specs.Undo.{since, Since}
 use Rattle.jpa_provider.specs.declared.session.Session.{Session}
+use Rattle.jpa_provider.specs.declared.session.EntityManager.{EntityManager}
 use Rattle.jpa_provider.specs.declared.replies.Rule.{Rule}
-use Rattle.jpa_provider.specs.Machine.{Machine, Manager, manager_at}
+use Rattle.jpa_provider.specs.Machine.{Machine, Manager, manager_at, with_manager}
 use Rattle.jpa_provider.specs.Calls.{because, ended, marks, marks_if_callback, marked_if}
 use Rattle.jpa_provider.specs.Routes.{by_manager, if_open, takes_nothing}
 use Rattle.jpa_provider.specs.Step.{Step, IsGivenUp, gives_up, outcome}
 use Rattle.jpa_provider.specs.Operations.{told_of, is_marked_by, Concludes, EndsSo}
-use Rattle.jpa_provider.specs.Serving.{machine_of, IsWorking}
+use Rattle.jpa_provider.specs.Serving.{machine_of, manager_in, manager_of, managers_of, transaction_in, is_open_status, if_named, named, IsAway, IsWorking}
 use Rattle.jpa_provider.proofs.Sessions.{manager_there, managers_count}
 
 -- ---- refusals
@@ -53,29 +56,91 @@ ends (Cause.Damaged t row) events o h = inr (h, refl)
 
 -- ---- the manager that a number names
 
-pub by_open : (M : Machine) (next : ℕ → Reply × Machine) (em : ℤ) (m : ℕ) → place_of (length M.managers) em ≡ Some m → (manager_at M m).is_open ≡ true → by_manager M em next ≡ next m
-by_open M next em m e o = ap (λ p. if_open M p next) e ∙ ap (λ b. if b then next m else because M Cause.NoSuchManager) o
+pub some_same : (a b : ℕ) → Some a ≡ Some b → a ≡ b
+some_same a b e = ap (λ o. unwrap_or o a) e
 
-pub by_nobody : (M : Machine) (next : ℕ → Reply × Machine) (em : ℤ) → place_of (length M.managers) em ≡ None → by_manager M em next ≡ because M Cause.NoSuchManager
-by_nobody M next em e = ap (λ p. if_open M p next) e
+module _ (s : Session) (next : ℕ → Reply × Machine) (em : ℤ) where
+  abbrev M : Machine
+  M = machine_of s
 
-pub named_in : (s : Session) (em : ℤ) (o : Option ℕ) → place_of (length s.managers.items) em ≡ o → place_of (length (machine_of s).managers) em ≡ o
-named_in s em o e = ap (λ n. place_of n em) (managers_count s) ∙ e
+  abbrev xs : List EntityManager
+  xs = s.managers.items
 
-pub open_in : (s : Session) (m : ℕ) → m < length s.managers.items → (manager_at (machine_of s) m).is_open ≡ true
-open_in s m l = ap (λ (x : Manager). x.is_open) (manager_there s m l)
+  by_number : by_manager M em next ≡ if_open M (place_of (length xs) em) next
+  by_number = ap (λ n. if_open M (place_of n em) next) (managers_count s)
 
--- a call of this manager
-pub of_manager : (s : Session) (next : ℕ → Reply × Machine) (em : ℤ) (m : ℕ) → place_of (length s.managers.items) em ≡ Some m → m < length s.managers.items → by_manager (machine_of s) em next ≡ next m
-of_manager s next em m e l = by_open (machine_of s) next em m (named_in s em (Some m) e) (open_in s m l)
+  open_there : (k : ℕ) → (manager_at M k).is_open ≡ is_open_status (manager_in xs k).status
+  open_there k = ap (λ (x : Manager). x.is_open) (manager_there s k)
 
-pub of_nobody : (s : Session) (next : ℕ → Reply × Machine) (em : ℤ) → place_of (length s.managers.items) em ≡ None → by_manager (machine_of s) em next ≡ because (machine_of s) Cause.NoSuchManager
-of_nobody s next em e = by_nobody (machine_of s) next em (named_in s em None e)
+  -- a call of this manager
+  pub of_manager : (m : ℕ) → named s em ≡ Some m → by_manager M em next ≡ next m
+  of_manager m e = by_number ∙ by_place (place_of (length xs) em) e
+    where
+      by_flag : (k : ℕ) (b : Bool) → is_open_status (manager_in xs k).status ≡ b → (if b then Some k else None) ≡ Some m → if_open M (Some k) next ≡ next m
+      by_flag k true o q = ap (λ c. if c then next k else because M Cause.NoSuchManager) (open_there k ∙ o) ∙ ap next (some_same k m q)
+      by_flag k false o q = absurd (false≢true (ap is_some q))
+
+      by_place : (o : Option ℕ) → if_named xs o ≡ Some m → if_open M o next ≡ next m
+      by_place None q = absurd (false≢true (ap is_some q))
+      by_place (Some k) q = by_flag k (is_open_status (manager_in xs k).status) refl q
+
+  pub of_nobody : named s em ≡ None → by_manager M em next ≡ because M Cause.NoSuchManager
+  of_nobody e = by_number ∙ by_place (place_of (length xs) em) e
+    where
+      by_flag : (k : ℕ) (b : Bool) → is_open_status (manager_in xs k).status ≡ b → (if b then Some k else None) ≡ None → if_open M (Some k) next ≡ because M Cause.NoSuchManager
+      by_flag k true o q = absurd (true≢false (ap is_some q))
+      by_flag k false o q = ap (λ c. if c then next k else because M Cause.NoSuchManager) (open_there k ∙ o)
+
+      by_place : (o : Option ℕ) → if_named xs o ≡ None → if_open M o next ≡ because M Cause.NoSuchManager
+      by_place None q = refl
+      by_place (Some k) q = by_flag k (is_open_status (manager_in xs k).status) refl q
+
+-- such a manager is open
+pub named_open : (s : Session) (em : ℤ) (m : ℕ) → named s em ≡ Some m → is_open_status (manager_in s.managers.items m).status ≡ true
+named_open s em m e = by_place (place_of (length s.managers.items) em) e
+  where
+    by_flag : (k : ℕ) (b : Bool) → is_open_status (manager_in s.managers.items k).status ≡ b → (if b then Some k else None) ≡ Some m → is_open_status (manager_in s.managers.items m).status ≡ true
+    by_flag k true o q = ap (λ j. is_open_status (manager_in s.managers.items j).status) (sym (some_same k m q)) ∙ o
+    by_flag k false o q = absurd (false≢true (ap is_some q))
+
+    by_place : (o : Option ℕ) → if_named s.managers.items o ≡ Some m → is_open_status (manager_in s.managers.items m).status ≡ true
+    by_place None q = absurd (false≢true (ap is_some q))
+    by_place (Some k) q = by_flag k (is_open_status (manager_in s.managers.items k).status) refl q
 
 -- ---- while it works
 
+-- the view keeps what is committed, what was written before the call, and to whom it is shown
+pub still_away : {M : Machine} {m : ℕ} (s : Session) (u : UnitOfWork) → IsAway M m s → (u.view).kept ≡ (s.work.view).kept → (u.view).committed ≡ (s.work.view).committed → (u.view).is_shown ≡ (s.work.view).is_shown →
+    IsAway M m (record s { work = u })
+still_away {M} {m} s u h k c b =
+    record {
+      within = h.within;
+      committed = c ∙ h.committed;
+      shown = b ∙ h.shown;
+      stored = h.stored;
+      status = (λ i. transaction_in (manager_in s.managers.items m).status M.committed (k i)) ∙ h.status;
+      managers = λ x. (λ i. managers_of M.committed (k i) (slice_set s.managers.items m x)) ∙ h.managers x ∙ (λ i. with_manager M m (manager_of M.committed (sym k i) x));
+      is_open = h.is_open;
+      counted = record { opened = (h.counted).opened; busy = (h.counted).busy; calm = λ q. k ∙ (h.counted).calm q ∙ sym c };
+    }
+
 pub still_working : {M : Machine} {m : ℕ} (s : Session) (u : UnitOfWork) → IsWorking M m s → since u ≡ since s.work → IsWorking M m (record s { work = u })
-still_working s u h e = record { within = h.within; since = e ∙ h.since; stored = h.stored; status = h.status; managers = h.managers; is_open = h.is_open }
+still_working s u h e =
+    record {
+      away = still_away s u h.away (ap (λ (x : Since). x.kept) e) (ap (λ (x : Since). x.committed) e) (ap (λ (x : Since). x.is_shown) e);
+      objects = ap (λ (x : Since). x.objects) e ∙ h.objects;
+      context = ap (λ (x : Since). x.context) e ∙ h.context;
+      numbers = ap (λ (x : Since). x.numbers) e ∙ h.numbers;
+    }
+
+pub if_refused : {A : Type 0} {P : Type 0} (r : Result A Cause) → P → OnErr r P
+if_refused (Ok a) h = tt
+if_refused (Err e) h = h
+
+-- where it was refused
+pub on_err : {A : Type 0} {P Q : Type 0} (r : Result A Cause) → (P → Q) → OnErr r P → OnErr r Q
+on_err (Ok a) f h = h
+on_err (Err e) f h = f h
 
 -- ---- the end
 

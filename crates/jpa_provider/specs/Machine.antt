@@ -120,6 +120,15 @@ cleared M m =
       managers = with_manager M m (record x { context = [] });
     }
 
+-- closed: the manager's objects are detached as they are, and its number names none from now on
+abbrev pub closed : Machine → ℕ → Machine
+closed M m =
+    let x = manager_at M m in
+    record M {
+      objects = detach_each x.context M.objects;
+      managers = with_manager M m (record x { is_open = false; context = [] });
+    }
+
 abbrev pub is_gone : Work → Entry → Bool
 is_gone w e = is_removed (state_of w e.object)
 

@@ -7,10 +7,8 @@ use Rattle.jpa_behaviour.specs.Registered.{Meaning, Registered, world_of}
 use Rattle.jpa_stored.specs.Sets.{each_fits}
 use Rattle.jpa_object_rows.specs.Sets.{rows_of}
 use Rattle.jpa_rows.specs.Rows.{Rows}
-use Rattle.jpa_rows.specs.Statements.{statements_of, up_to_greatest}
-use Rattle.jpa_rows.specs.declared.row.RowChange.{RowChange}
 use Rattle.jpa_rows.specs.declared.source.RowSource.{Ghosts}
-use Rattle.jpa_object_store.specs.Written.{IsDifference}
+use Rattle.jpa_object_store.specs.Written.{RunsAtMost, RunsDifference}
 use Rattle.jpa_protocol.specs.declared.call.Call.{Call}
 use Rattle.jpa_protocol.specs.declared.reply.Reply.{Reply}
 use Rattle.jpa_provider.specs.Machine.{Machine, IsStoredAs}
@@ -41,15 +39,6 @@ rows_kept world M = rows_of world M.committed M.stored_numbers
 -- the rows of what is committed once the call is served
 abbrev pub rows_made : World → Machine → Call → Rows
 rows_made world M call = rows_kept world (outcome world M call).1
-
--- the statements that write the difference of the rows were run, and no others: for each row that changed one DELETE, and one
--- INSERT for each column of the new one
-abbrev pub RunsDifference : Rows → Rows → ℕ → ℕ → Type 0
-RunsDifference before afterwards old new = (changes : List RowChange) × IsDifference before afterwards changes × (new ≡ up_to_greatest (old + sum_by statements_of changes))
-
--- some of these statements were run, or all, and no others
-abbrev pub RunsAtMost : Rows → Rows → ℕ → ℕ → Type 0
-RunsAtMost before afterwards old new = (changes : List RowChange) × IsDifference before afterwards changes × (old ≤ new) × (new ≤ up_to_greatest (old + sum_by statements_of changes))
 
 -- from the first to the second the reply to the call is that of a step of the machine, and the store holds what is committed
 -- then. Only a commit that is accepted changes what is committed. A refused call leaves all that lives as it was but for marks; a

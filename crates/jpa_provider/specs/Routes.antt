@@ -5,6 +5,7 @@ use Rattle.std.specs.Prelude.{ℕ, suc, ℤ, Bool, true, false, nat_lt, ◌&&◌
 use Rattle.std.specs.List.{list_all}
 use Rattle.jpa_value.specs.declared.refusal.Cause.{Cause}
 use Rattle.jpa_value.specs.declared.refusal.Argument.{Argument}
+use Rattle.jpa_value.specs.declared.refusal.State.{State}
 use Rattle.jpa_model.specs.Chains.{class_of}
 use Rattle.jpa_behaviour.specs.Behaviour.{World}
 use Rattle.jpa_heap.specs.declared.Life.{Life}
@@ -13,12 +14,13 @@ use Rattle.jpa_context.specs.Work.{is_managed, state_of}
 use Rattle.jpa_context.specs.Steps.{◌>>=◌, ◌>>◌, Op, give, refuse, require}
 use Rattle.jpa_ops.specs.Load.{find}
 use Rattle.jpa_ops.specs.Members.{get, set}
-use Rattle.jpa_ops.specs.States.{persist}
+use Rattle.jpa_ops.specs.States.{persist, remove, refresh, detach}
+use Rattle.jpa_flush.specs.Flush.{flush}
 use Rattle.jpa_protocol.specs.declared.call.Call.{Call}
 use Rattle.jpa_protocol.specs.declared.call.Given.{Given}
 use Rattle.jpa_protocol.specs.declared.reply.Answer.{Answer}
 use Rattle.jpa_protocol.specs.declared.reply.Reply.{Reply}
-use Rattle.jpa_provider.specs.Machine.{Machine, new_manager, manager_at, work_of, cleared}
+use Rattle.jpa_provider.specs.Machine.{Machine, new_manager, manager_at, has_transaction, work_of, cleared, closed}
 use Rattle.jpa_provider.specs.Calls.{accepted, because, marks, marks_if_callback, ended, told_as, nothing, object_or_null, got, object_numbered, handed, is_short_given, class_named, key_given}
 use Rattle.jpa_provider.specs.Transactions.{begin, commit, rollback, set_rollback_only}
 
@@ -73,6 +75,24 @@ persist_call world number = do
   n ← object_numbered number
   told_as nothing (persist world n)
 
+abbrev pub remove_call : World → ℤ → Op Answer
+remove_call world number = do
+  n ← object_numbered number
+  told_as nothing (remove world n)
+
+abbrev pub refresh_call : World → ℤ → Op Answer
+refresh_call world number = do
+  n ← object_numbered number
+  told_as nothing (refresh world n)
+
+abbrev pub detach_call : World → ℤ → Op Answer
+detach_call world number = do
+  n ← object_numbered number
+  told_as nothing (detach world n)
+
+abbrev pub flush_call : World → Op Answer
+flush_call world = told_as nothing (flush world)
+
 abbrev pub find_call : World → List ℕ → List Given → Op Answer
 find_call world name key = do
   require (list_all is_short_given key) Cause.Limit
@@ -104,11 +124,21 @@ abbrev pub answered : Machine → Result Answer Cause → Reply × Machine
 answered M (Ok a) = accepted [] a M
 answered M (Err r) = because M r
 
+-- ---- of an open transaction, and of none
+
+abbrev pub if_begun : Machine → ℕ → Reply × Machine → Reply × Machine
+if_begun M m next = if has_transaction (manager_at M m) then next else because M Cause.TransactionRequired
+
+abbrev pub close : Machine → ℕ → Reply × Machine
+close M m = if has_transaction (manager_at M m) then because M (Cause.IllegalState State.Active) else accepted [] Answer.Null (closed M m)
+
 -- ---- routes
 
--- how a call is served: an operation of a manager, an operation on an object of whoever holds it, or one of those that are none
+-- how a call is served: an operation of a manager, one that asks for its open transaction, an operation on an object of
+-- whoever holds it, or one of those that are none
 pub data Route : Type 0 where
   OfManager : ℤ → (World → Op Answer) → Route
+  InTransaction : ℤ → (World → Op Answer) → Route
   OfObject : ℤ → (World → ℕ → Op Answer) → Route
   ToCreate : Route
   ToMake : List ℕ → Route
@@ -118,9 +148,11 @@ pub data Route : Type 0 where
   ToMark : ℤ → Route
   ToAsk : ℤ → (Machine → ℕ → Result Answer Cause) → Route
   ToClear : ℤ → Route
+  ToClose : ℤ → Route
 
 abbrev pub by_route : World → Machine → Route → Reply × Machine
 by_route world M (OfManager em op) = by_manager M em (λ m. ended marks M m (op world (work_of M m)))
+by_route world M (InTransaction em op) = by_manager M em (λ m. if_begun M m (ended marks M m (op world (work_of M m))))
 by_route world M (OfObject number op) =
     let m = holder M (place_of (length M.objects) number) in
     ended marks_if_callback M m ((object_numbered number >>= op world) (work_of M m))
@@ -132,6 +164,7 @@ by_route world M (ToRollBack em) = by_manager M em (rollback M)
 by_route world M (ToMark em) = by_manager M em (set_rollback_only M)
 by_route world M (ToAsk em question) = by_manager M em (λ m. answered M (question M m))
 by_route world M (ToClear em) = by_manager M em (λ m. accepted [] Answer.Null (cleared M m))
+by_route world M (ToClose em) = by_manager M em (close M)
 
 -- the route of a call
 abbrev pub route : Call → Route
@@ -141,6 +174,10 @@ route (Call.Get object name) = OfObject object (λ world. get_call world name)
 route (Call.SetValue object name value) = OfObject object (λ world. set_call world name value)
 route (Call.Begin em) = ToBegin em
 route (Call.Persist em object) = OfManager em (λ world. persist_call world object)
+route (Call.Remove em object) = OfManager em (λ world. remove_call world object)
+route (Call.Refresh em object) = OfManager em (λ world. refresh_call world object)
+route (Call.Detach em object) = OfManager em (λ world. detach_call world object)
+route (Call.Flush em) = InTransaction em flush_call
 route (Call.Commit em) = ToCommit em
 route (Call.Rollback em) = ToRollBack em
 route (Call.SetRollbackOnly em) = ToMark em
@@ -148,6 +185,7 @@ route (Call.Find em name key) = OfManager em (λ world. find_call world name key
 route (Call.GetReference em name key) = OfManager em (λ world. get_reference_call world name key)
 route (Call.Contains em object) = ToAsk em (contains object)
 route (Call.Clear em) = ToClear em
+route (Call.Close em) = ToClose em
 
 -- ---- what is told of a call by its route
 
@@ -155,6 +193,7 @@ route (Call.Clear em) = ToClear em
 abbrev pub commits : Route → Bool
 commits (ToCommit em) = true
 commits (OfManager em op) = false
+commits (InTransaction em op) = false
 commits (OfObject number op) = false
 commits ToCreate = false
 commits (ToMake name) = false
@@ -163,10 +202,12 @@ commits (ToRollBack em) = false
 commits (ToMark em) = false
 commits (ToAsk em question) = false
 commits (ToClear em) = false
+commits (ToClose em) = false
 
 abbrev pub rolls_back : Route → Bool
 rolls_back (ToRollBack em) = true
 rolls_back (OfManager em op) = false
+rolls_back (InTransaction em op) = false
 rolls_back (OfObject number op) = false
 rolls_back ToCreate = false
 rolls_back (ToMake name) = false
@@ -175,6 +216,7 @@ rolls_back (ToCommit em) = false
 rolls_back (ToMark em) = false
 rolls_back (ToAsk em question) = false
 rolls_back (ToClear em) = false
+rolls_back (ToClose em) = false
 
 -- those that take no memory and read no store
 abbrev pub is_free : Route → Bool
@@ -183,7 +225,9 @@ is_free (ToRollBack em) = true
 is_free (ToMark em) = true
 is_free (ToAsk em question) = true
 is_free (ToClear em) = true
+is_free (ToClose em) = true
 is_free (OfManager em op) = false
+is_free (InTransaction em op) = false
 is_free (OfObject number op) = false
 is_free ToCreate = false
 is_free (ToMake name) = false

@@ -1,9 +1,13 @@
--- The machine that live data stand for: managers, at most one of which has an open transaction, which sees the committed set.
-use Rattle.std.specs.Prelude.{◌≡◌, ◌<◌, ◌⊎◌, All, ℕ, Bool, true, false, List, [], ◌∷◌, length, map, Option, Some, None, Result, Ok, Err, slice_index_or, slice_set}
+-- The machine that live data stand for: managers, at most one of which has an open transaction, which sees what it wrote over
+-- the committed set.
+use Rattle.std.specs.Prelude.{◌≡◌, ◌<◌, ◌⊎◌, All, ℕ, ℤ, Bool, true, false, List, [], ◌∷◌, length, map, count_by, Option, Some, None, Result, Ok, Err, slice_index_or, slice_set, if◌then◌else◌}
+use Rattle.std.specs.List.{list_any, filter}
 use Rattle.jpa_value.specs.declared.refusal.Cause.{Cause}
 use Rattle.jpa_value.specs.declared.refusal.Refusal.{Refusal}
 use Rattle.jpa_behaviour.specs.Behaviour.{World, IsRegular}
 use Rattle.jpa_stored.specs.Sets.{StoredSet}
+use Rattle.jpa_rows.specs.Rows.{Rows}
+use Rattle.jpa_object_rows.specs.Sets.{rows_of}
 use Rattle.jpa_protocol.specs.declared.call.Call.{Call}
 use Rattle.jpa_protocol.specs.declared.event.Told.{Told}
 use Rattle.jpa_protocol.specs.declared.reply.Answer.{Answer}
@@ -12,36 +16,61 @@ use Rattle.jpa_context.specs.declared.Entry.{Entry}
 use Rattle.jpa_context.specs.declared.Lock.{Lock}
 use Rattle.jpa_context.specs.Work.{Work}
 use Rattle.jpa_context.specs.Steps.{Outcome, Done, IsRefusedAs}
-use Rattle.jpa_context.specs.Undo.{since, Since, IsKept, is_removed_life}
+use Rattle.jpa_context.specs.Undo.{since, IsKept}
+use Rattle.jpa_heap.specs.declared.Life.{Life}
 use Rattle.jpa_heap.specs.declared.LiveObject.{LiveObject}
+use Rattle.jpa_heap.specs.Objects.{place_of, object_at, with_life}
 use Rattle.jpa_lifecycle.specs.Flat.{IsFlat}
 use Rattle.jpa_provider.specs.declared.session.Status.{Status}
 use Rattle.jpa_provider.specs.declared.session.EntityManager.{EntityManager}
 use Rattle.jpa_provider.specs.declared.session.Session.{Session}
-use Rattle.jpa_provider.specs.Machine.{Machine, Manager, Transaction, manager_at, with_manager, kept, committed_after, rolled_back}
+use Rattle.jpa_provider.specs.Machine.{Machine, Manager, Transaction, manager_at, is_begun, with_manager, kept, is_gone, committed_after, rolled_back}
 use Rattle.jpa_provider.specs.Calls.{marks, marked_if}
 use Rattle.jpa_provider.specs.Step.{Step, gives_up}
 use Rattle.jpa_provider.specs.Invariant.{IsMachine, HasOneTransaction, context_of}
 
 -- ---- managers
 
-abbrev pub transaction_in : Status → StoredSet → Option Transaction
-transaction_in Status.Inactive set = None
-transaction_in Status.Active set = Some (record { begun = set; view = set; is_marked = false })
-transaction_in Status.RollbackOnly set = Some (record { begun = set; view = set; is_marked = true })
+-- the transaction in this state, over the committed set and the one that it wrote so far
+abbrev pub transaction_in : Status → StoredSet → StoredSet → Option Transaction
+transaction_in Status.Closed set written = None
+transaction_in Status.Inactive set written = None
+transaction_in Status.Active set written = Some (record { begun = set; view = written; is_marked = false })
+transaction_in Status.RollbackOnly set written = Some (record { begun = set; view = written; is_marked = true })
 
-abbrev pub manager_of : StoredSet → EntityManager → Manager
-manager_of set x = record { is_open = true; context = x.context.now; transaction = transaction_in x.status set }
+abbrev pub is_open_status : Status → Bool
+is_open_status Status.Closed = false
+is_open_status Status.Inactive = true
+is_open_status Status.Active = true
+is_open_status Status.RollbackOnly = true
+
+-- whether a transaction is open
+abbrev pub is_begun_status : Status → Bool
+is_begun_status Status.Closed = false
+is_begun_status Status.Inactive = false
+is_begun_status Status.Active = true
+is_begun_status Status.RollbackOnly = true
+
+abbrev pub manager_of : StoredSet → StoredSet → EntityManager → Manager
+manager_of set written x = record { is_open = is_open_status x.status; context = x.context.now; transaction = transaction_in x.status set written }
 
 -- what stands where a number names no manager
 abbrev pub nobody : EntityManager
-nobody = record { status = Status.Inactive; context = record { now = []; since = [] } }
+nobody = record { status = Status.Closed; context = record { now = []; since = [] } }
 
 abbrev pub manager_in : List EntityManager → ℕ → EntityManager
 manager_in managers m = slice_index_or managers m nobody
 
-abbrev pub managers_of : StoredSet → List EntityManager → List Manager
-managers_of set managers = map (manager_of set) managers
+-- the manager that a number names, if it is open
+abbrev pub if_named : List EntityManager → Option ℕ → Option ℕ
+if_named managers None = None
+if_named managers (Some m) = if is_open_status (manager_in managers m).status then Some m else None
+
+abbrev pub named : Session → ℤ → Option ℕ
+named s em = if_named s.managers.items (place_of (length s.managers.items) em)
+
+abbrev pub managers_of : StoredSet → StoredSet → List EntityManager → List Manager
+managers_of set written managers = map (manager_of set written) managers
 
 -- ---- the machine
 
@@ -49,21 +78,27 @@ abbrev pub machine_of : Session → Machine
 machine_of s =
     record {
       objects = s.work.objects.now;
-      managers = managers_of s.work.view.now s.managers.items;
+      managers = managers_of (s.work.view).committed (s.work.view).kept s.managers.items;
       numbers = s.work.numbers.now;
       stored_numbers = s.stored;
-      committed = s.work.view.now;
+      committed = (s.work.view).committed;
     }
 
--- no object is removed, and no entry has a lock
-pub record IsPlainMachine (M : Machine) : Type 0 where
-  pub objects : All (λ (x : LiveObject). is_removed_life x.life ≡ false) M.objects
-  pub contexts : (k : ℕ) → All (λ (e : Entry). e.lock ≡ Lock.Unlocked) (context_of M k)
+-- no entry has a lock
+abbrev pub IsUnlocked : Machine → Type 0
+IsUnlocked M = (k : ℕ) → All (λ (e : Entry). e.lock ≡ Lock.Unlocked) (context_of M k)
+
+-- the counts are those of the managers, and where no transaction is open nothing is written over what is committed
+pub record IsCounted (s : Session) : Type 0 where
+  pub opened : s.open_managers ≡ count_by (λ (x : EntityManager). is_open_status x.status) s.managers.items
+  pub busy : s.is_busy ≡ list_any (λ (x : EntityManager). is_begun_status x.status) s.managers.items
+  pub calm : s.is_busy ≡ false → (s.work.view).kept ≡ (s.work.view).committed
 
 -- nothing is left to be undone or told
 pub record IsSettled (s : Session) : Type 0 where
   pub kept : IsKept s.work
   pub quiet : s.work.events ≡ []
+  pub counted : IsCounted s
 
 -- what holds between calls
 pub record IsServing (world : World) (s : Session) : Type 0 where
@@ -71,31 +106,69 @@ pub record IsServing (world : World) (s : Session) : Type 0 where
   pub regular : IsRegular world
   pub machine : IsMachine world (machine_of s)
   pub one : HasOneTransaction (machine_of s)
-  pub plain : IsPlainMachine (machine_of s)
+  pub unlocked : IsUnlocked (machine_of s)
   pub settled : IsSettled s
 
 -- the reply to a call, and what stands afterwards, are those of a step of the machine
 abbrev pub Serves : World → Session → Call → Reply → Session → Type 0
 Serves world old call reply new = Step world (machine_of old) call reply (machine_of new)
 
+-- the one open transaction is this manager's, and ends
+pub record EndsAlone (m : ℕ) (s : Session) : Type 0 where
+  pub settled : IsSettled s
+  pub one : HasOneTransaction (machine_of s)
+  pub begun : is_begun_status (manager_in s.managers.items m).status ≡ true
+
 -- ---- a manager at work
 
-abbrev pub since_of : Machine → ℕ → Since
-since_of M m = record { objects = M.objects; context = context_of M m; numbers = M.numbers; view = M.committed }
-
--- in a call of the machine's manager m: undone, and with the manager's context put back, the session is the machine's again
-pub record IsWorking (M : Machine) (m : ℕ) (s : Session) : Type 0 where
+-- in a call of the machine's manager m, whose context is away: with it put back, the session's managers are the machine's
+pub record IsAway (M : Machine) (m : ℕ) (s : Session) : Type 0 where
   pub within : m < length s.managers.items
-  pub since : since s.work ≡ since_of M m
+  pub committed : (s.work.view).committed ≡ M.committed
+  pub shown : (s.work.view).is_shown ≡ is_begun (manager_at M m).transaction
   pub stored : s.stored ≡ M.stored_numbers
-  pub status : transaction_in (manager_in s.managers.items m).status M.committed ≡ (manager_at M m).transaction
-  pub managers : (x : EntityManager) → managers_of M.committed (slice_set s.managers.items m x) ≡ with_manager M m (manager_of M.committed x)
-  pub is_open : (manager_at M m).is_open ≡ true
+  pub status : transaction_in (manager_in s.managers.items m).status M.committed (s.work.view).kept ≡ (manager_at M m).transaction
+  pub managers : (x : EntityManager) → managers_of M.committed (s.work.view).kept (slice_set s.managers.items m x) ≡ with_manager M m (manager_of M.committed (s.work.view).kept x)
+  pub is_open : is_open_status (manager_in s.managers.items m).status ≡ (manager_at M m).is_open
+  pub counted : IsCounted s
+
+-- and what undoing gives is the machine's
+pub record IsWorking (M : Machine) (m : ℕ) (s : Session) : Type 0 where
+  pub away : IsAway M m s
+  pub objects : (since s.work).objects ≡ M.objects
+  pub context : (since s.work).context ≡ context_of M m
+  pub numbers : (since s.work).numbers ≡ M.numbers
+
+-- the commit of its open transaction is under way
+pub record IsCommitting (M : Machine) (m : ℕ) (s : Session) : Type 0 where
+  pub working : IsWorking M m s
+  pub one : HasOneTransaction M
+  pub begun : is_begun (manager_at M m).transaction ≡ true
+
+-- the rows that stand then, and those of what the manager sees
+abbrev pub rows_before : World → Session → Rows
+rows_before world s = rows_of world (s.work.view).committed s.stored
+
+abbrev pub rows_seen : World → Session → Rows
+rows_seen world s = rows_of world (s.work.view).seen s.work.numbers.now
 
 abbrev pub marked_status : Status → Status
+marked_status Status.Closed = Status.Closed
 marked_status Status.Inactive = Status.Inactive
 marked_status Status.Active = Status.RollbackOnly
 marked_status Status.RollbackOnly = Status.RollbackOnly
+
+-- the objects of the entries that leave with a commit
+abbrev pub gone_objects : Work → List ℕ
+gone_objects w = map (λ (e : Entry). e.object) (filter (is_gone w) w.context)
+
+-- the object at a place is detached, and all at these
+abbrev pub detached_at : ℕ → List LiveObject → List LiveObject
+detached_at n objects = slice_set objects n (with_life (object_at objects n) Life.Detached)
+
+abbrev pub detached_all : List ℕ → List LiveObject → List LiveObject
+detached_all [] objects = objects
+detached_all (n ∷ ns) objects = detached_all ns (detached_at n objects)
 
 -- ---- rolling back
 

@@ -1,13 +1,13 @@
 //! A manager at work: while a call of it is served, its context stands in the session's unit of
 //! work.
-ghost use Rattle.std.specs.Prelude.{◌≡◌, ◌<◌, false, length, IfErr, IfSome};
+ghost use Rattle.std.specs.Prelude.{◌≡◌, ◌<◌, false, length, IfErr, IfSome, OnErr};
 ghost use Rattle.jpa_context.specs.Undo.{now, since, IsKept};
-ghost use Rattle.jpa_heap.specs.Objects.{place_of};
 ghost use Rattle.jpa_provider.specs.Faults.{is_store_fault, tells_fault};
 ghost use Rattle.jpa_provider.specs.Machine.{Machine, kept, marked, work_of};
 ghost use Rattle.jpa_provider.specs.Operations.{Concludes};
+ghost use Rattle.jpa_provider.specs.Invariant.{HasOneTransaction};
 ghost use Rattle.jpa_provider.specs.Serving as serving;
-ghost use Rattle.jpa_provider.specs.Serving.{machine_of, manager_in, IsSettled, IsWorking};
+ghost use Rattle.jpa_provider.specs.Serving.{machine_of, manager_in, named, IsAway, IsCounted, IsSettled, IsWorking};
 
 use crate::handing::place_of;
 use crate::replies::{Rule, is_marked_by, told_of};
@@ -17,34 +17,40 @@ use jpa_value::{Cause, Refusal, Seq};
 use std::alloc::Global;
 use std::mem;
 
-/// The place of the manager that a number names.
+/// The place of the manager that a number names, if it is open. Takes no memory.
 pub(crate) fn manager_named(session: &Session, em: i64) -> Option<usize>
-    ensures named { result ≡ place_of (length session.now.managers.items) em }
+    ensures named { result ≡ named session.now em }
     ensures within { IfSome result (λ manager. manager < length session.now.managers.items) }
 {
-    place_of(session.managers.len(), em)
+    let place = place_of(session.managers.len(), em)?;
+    if status_of(&session.managers, place).is_open() {
+        Some(place)
+    } else {
+        None
+    }
 }
 
-/// The manager goes to work on its context. Takes no memory.
+/// The manager goes to work on its context, and sees what its transaction wrote. Takes no memory.
 pub(crate) fn take_work(session: &mut Session, manager: usize)
     requires within { manager < length session.old.managers.items }
     requires settled { IsSettled session.old }
     ensures working { IsWorking (machine_of session.old) manager session.new }
     ensures work { now session.new.work ≡ work_of (machine_of session.old) manager }
-    ensures view { session.new.work.view ≡ session.old.work.view }
 {
+    let shown = status_of(&session.managers, manager).is_begun();
     exchange(&mut session.managers, manager, &mut session.work.context);
     session.work.context.keep();
+    session.work.view.show(shown);
     session.work.manager = manager;
 }
 
 /// The manager's context goes back to it, and what its work changed is kept. Takes no memory.
 pub(crate) fn keep_work(session: &mut Session, manager: usize)
     requires within { manager < length session.old.managers.items }
-    ensures kept { (M : Machine) → IsWorking M manager session.old
-        → session.old.work.view.now ≡ M.committed
+    ensures kept { (M : Machine) → HasOneTransaction M → IsAway M manager session.old
         → machine_of session.new ≡ kept M manager (now session.old.work) }
     ensures work { IsKept session.new.work }
+    ensures counted { (M : Machine) → IsAway M manager session.old → IsCounted session.new }
     ensures events { session.new.work.events ≡ session.old.work.events }
 {
     session.work.keep();
@@ -60,7 +66,7 @@ pub(crate) fn restore(alloc: Global, session: &mut Session, manager: usize)
     ensures objects { session.new.work.objects.now ≡ (since session.old.work).objects }
     ensures context { (manager_in session.new.managers.items manager).context.now ≡
         (since session.old.work).context }
-    ensures settled { IsSettled session.new }
+    ensures settled { IsCounted session.old → IsSettled session.new }
 {
     session.work.undo(alloc);
     exchange(&mut session.managers, manager, &mut session.work.context);
@@ -81,7 +87,7 @@ fn marked(status: Status) -> Status
 pub(crate) fn mark(session: &mut Session, manager: usize)
     requires within { manager < length session.old.managers.items }
     ensures marked { machine_of session.new ≡ marked (machine_of session.old) manager }
-    ensures work { session.new.work ≡ session.old.work }
+    ensures settled { IsSettled session.old → IsSettled session.new }
 {
     let status = marked(status_of(&session.managers, manager));
     set_status(&mut session.managers, manager, status);
@@ -97,10 +103,10 @@ pub(crate) fn conclude(
     rule: Rule,
 ) -> Reply
     requires within { manager < length session.old.managers.items }
-    ensures concludes { (M : Machine) → IsWorking M manager session.old
-        → session.old.work.view.now ≡ M.committed
+    ensures concludes { (M : Machine) → HasOneTransaction M → IsAway M manager session.old
+        → OnErr answered (IsWorking M manager session.old)
         → Concludes rule M manager (now session.old.work) answered result (machine_of session.new) }
-    ensures settled { IsSettled session.new }
+    ensures settled { (M : Machine) → IsAway M manager session.old → IsSettled session.new }
     ensures untold { IfErr answered (λ cause. is_store_fault cause ≡ false) → tells_fault result ≡ false }
 {
     let events = mem::replace(&mut session.work.events, Seq::new(alloc));

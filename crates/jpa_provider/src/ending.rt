@@ -1,11 +1,12 @@
 //! The ends of transactions but for commit (Jakarta Persistence 3.1, chapter 7.5).
-ghost use Rattle.std.specs.Prelude.{◌≡◌, ◌<◌, ℕ, All, false, length};
+ghost use Rattle.std.specs.Prelude.{◌≡◌, ◌<◌, [], ℕ, All, false, true, length, slice_set};
 ghost use Rattle.jpa_behaviour.specs.Registered.{world_of};
 ghost use Rattle.jpa_ops.specs.States.{detach_each};
 ghost use Rattle.jpa_protocol.specs.declared.call.Call.{Call};
 ghost use Rattle.jpa_provider.specs.Faults.{tells_fault};
-ghost use Rattle.jpa_provider.specs.Machine.{cleared, rolled_back};
-ghost use Rattle.jpa_provider.specs.Serving.{machine_of, manager_in, IsSettled, Serves};
+ghost use Rattle.jpa_provider.specs.Invariant.{HasOneTransaction};
+ghost use Rattle.jpa_provider.specs.Machine.{cleared, closed, rolled_back};
+ghost use Rattle.jpa_provider.specs.Serving.{machine_of, manager_in, detached_all, detached_at, is_open_status, is_begun_status, EndsAlone, IsSettled, Serves};
 
 use crate::at_work::{manager_named, mark};
 use crate::replies::{accepted, because};
@@ -31,6 +32,17 @@ fn no_object(alloc: Global) -> LiveObject {
     }
 }
 
+/// An object is detached, with its state as it is. Takes no memory.
+fn detach_one(alloc: Global, objects: &mut UndoList<LiveObject>, place: usize)
+    requires { place < length objects.old.now }
+    ensures now { objects.new.now ≡ detached_at place objects.old.now }
+    ensures since { objects.new.since ≡ objects.new.now }
+{
+    let mut object = objects.put(place, no_object(alloc));
+    object.life = Life::Detached;
+    objects.put(place, object);
+}
+
 /// The objects of these entries are detached, with their state as it is (Jakarta Persistence 3.1, chapter 3.2.7). Takes no
 /// memory.
 fn detach_each(alloc: Global, objects: &mut UndoList<LiveObject>, context: &[Entry])
@@ -39,20 +51,33 @@ fn detach_each(alloc: Global, objects: &mut UndoList<LiveObject>, context: &[Ent
     ensures kept { objects.old.since ≡ objects.old.now → objects.new.since ≡ objects.new.now }
 {
     for entry in context {
-        let mut object = objects.put(entry.object, no_object(alloc));
-        object.life = Life::Detached;
-        objects.put(entry.object, object);
+        detach_one(alloc, objects, entry.object);
+    }
+}
+
+/// These objects are detached, with their state as it is. Takes no memory.
+pub(crate) fn detach_objects(alloc: Global, objects: &mut UndoList<LiveObject>, gone: &[usize])
+    requires { All (λ n. n < length objects.old.now) gone.now }
+    ensures now { objects.new.now ≡ detached_all gone.now objects.old.now }
+{
+    for place in gone {
+        detach_one(alloc, objects, *place);
     }
 }
 
 /// The manager's objects are detached as they are, and leave its context. Takes no memory.
 fn clear(alloc: Global, session: &mut Session, manager: usize)
     requires within { manager < length session.old.managers.items }
-    requires settled { IsSettled session.old }
-    requires entries { All (λ e. e.object < length session.old.work.objects.now) (manager_in session.old.managers.items manager).context.now }
+    requires entries { All (λ e. e.object < length session.old.work.objects.now)
+        (manager_in session.old.managers.items manager).context.now }
     ensures cleared { machine_of session.new ≡ cleared (machine_of session.old) manager }
-    ensures count { length session.new.managers.items ≡ length session.old.managers.items }
-    ensures settled { IsSettled session.new }
+    ensures managers { session.new.managers.items
+        ≡ slice_set session.old.managers.items manager
+        (record (manager_in session.old.managers.items manager) { context = record { now = []; since = [] } }) }
+    ensures settled { IsSettled session.old → IsSettled session.new }
+    ensures view { session.new.work.view ≡ session.old.work.view }
+    ensures counts { (session.new.open_managers ≡ session.old.open_managers)
+        × (session.new.is_busy ≡ session.old.is_busy) }
 {
     detach_each(
         alloc,
@@ -85,16 +110,63 @@ pub(crate) fn clear_call<B: Behaviour>(
     accepted(alloc, Answer::Null)
 }
 
-/// Ends the manager's transaction: its objects are detached as they are. Takes no memory.
-pub(crate) fn release(alloc: Global, session: &mut Session, manager: usize)
+/// The call close: the manager's objects are detached as they are, and its number names none from now on (chapter 7.2).
+/// `IllegalState(active)` where its transaction is open. Takes no memory.
+#[tactic(auto, using(crate::proofs::Closing::close_alone, crate::proofs::Closing::close_active, crate::proofs::Closing::close_closes))]
+pub(crate) fn close_call<B: Behaviour>(
+    alloc: Global,
+    _metamodel: &Metamodel,
+    _registry: &Registry<B>,
+    session: &mut Session,
+    em: i64,
+) -> Reply
+    requires settled { IsSettled session.old }
+    requires entries { (k : ℕ) → All (λ e. e.object < length session.old.work.objects.now)
+        (manager_in session.old.managers.items k).context.now }
+    ensures step { Serves (world_of B.meaning _metamodel.now _registry.now) session.old
+        (Call.Close em) result session.new }
+    ensures untold { tells_fault result ≡ false }
+    ensures settled { IsSettled session.new }
+{
+    let Some(manager) = manager_named(session, em) else {
+        return because(alloc, Cause::NoSuchManager);
+    };
+    if status_of(&session.managers, manager).is_begun() {
+        return because(alloc, Cause::IllegalState(State::Active));
+    }
+    shut(alloc, session, manager);
+    accepted(alloc, Answer::Null)
+}
+
+/// Closes a manager that has no open transaction. Takes no memory.
+fn shut(alloc: Global, session: &mut Session, manager: usize)
     requires within { manager < length session.old.managers.items }
     requires settled { IsSettled session.old }
-    requires entries { All (λ e. e.object < length session.old.work.objects.now) (manager_in session.old.managers.items manager).context.now }
-    ensures released { machine_of session.new ≡ rolled_back (machine_of session.old) manager }
+    requires entries { All (λ e. e.object < length session.old.work.objects.now)
+        (manager_in session.old.managers.items manager).context.now }
+    requires open { is_open_status (manager_in session.old.managers.items manager).status ≡ true }
+    requires idle { is_begun_status (manager_in session.old.managers.items manager).status ≡ false }
+    ensures closed { machine_of session.new ≡ closed (machine_of session.old) manager }
     ensures settled { IsSettled session.new }
 {
     clear(alloc, session, manager);
+    set_status(&mut session.managers, manager, Status::Closed);
+    session.open_managers -= 1;
+}
+
+/// Ends the manager's transaction: its objects are detached as they are, and what it wrote is undone. Takes no memory.
+pub(crate) fn release(alloc: Global, session: &mut Session, manager: usize)
+    requires within { manager < length session.old.managers.items }
+    requires entries { All (λ e. e.object < length session.old.work.objects.now)
+        (manager_in session.old.managers.items manager).context.now }
+    ensures released { EndsAlone manager session.old
+        → machine_of session.new ≡ rolled_back (machine_of session.old) manager }
+    ensures settled { EndsAlone manager session.old → IsSettled session.new }
+{
+    clear(alloc, session, manager);
+    session.work.view.discard();
     set_status(&mut session.managers, manager, Status::Inactive);
+    session.is_busy = false;
 }
 
 /// The call rollback. Takes no memory.
@@ -107,6 +179,7 @@ pub(crate) fn rollback_call<B: Behaviour>(
     em: i64,
 ) -> Reply
     requires settled { IsSettled session.old }
+    requires one { HasOneTransaction (machine_of session.old) }
     requires entries { (k : ℕ) → All (λ e. e.object < length session.old.work.objects.now) (manager_in session.old.managers.items k).context.now }
     ensures step { Serves (world_of B.meaning _metamodel.now _registry.now) session.old (Call.Rollback em) result session.new }
     ensures untold { tells_fault result ≡ false }
@@ -115,7 +188,7 @@ pub(crate) fn rollback_call<B: Behaviour>(
     let Some(manager) = manager_named(session, em) else {
         return because(alloc, Cause::NoSuchManager);
     };
-    if !status_of(&session.managers, manager).is_open() {
+    if !status_of(&session.managers, manager).is_begun() {
         return because(alloc, Cause::IllegalState(State::Inactive));
     }
     release(alloc, session, manager);
@@ -139,7 +212,7 @@ pub(crate) fn set_rollback_only_call<B: Behaviour>(
     let Some(manager) = manager_named(session, em) else {
         return because(alloc, Cause::NoSuchManager);
     };
-    if !status_of(&session.managers, manager).is_open() {
+    if !status_of(&session.managers, manager).is_begun() {
         return because(alloc, Cause::IllegalState(State::Inactive));
     }
     mark(session, manager);

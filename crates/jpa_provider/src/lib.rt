@@ -8,6 +8,7 @@ mod asking;
 mod at_work;
 mod committing;
 mod ending;
+mod flushing;
 mod handing;
 mod opening;
 mod operating;

@@ -1,12 +1,9 @@
 //! Calls that make managers and objects, and begin transactions (Jakarta Persistence 3.1, chapters 3.1.1 and 7.5).
 ghost use Rattle.std.specs.Prelude.{◌≡◌, false};
-ghost use Rattle.std.specs.List.{list_any};
-ghost use Rattle.jpa_stored.specs.Sets.{StoredSet};
 ghost use Rattle.jpa_behaviour.specs.Registered.{world_of};
 ghost use Rattle.jpa_protocol.specs.declared.call.Call.{Call};
 ghost use Rattle.jpa_provider.specs.Faults.{tells_fault};
-ghost use Rattle.jpa_provider.specs.Machine.{has_transaction};
-ghost use Rattle.jpa_provider.specs.Serving.{managers_of, IsSettled, Serves};
+ghost use Rattle.jpa_provider.specs.Serving.{IsSettled, Serves};
 
 use crate::at_work::manager_named;
 use crate::replies::{accepted, because};
@@ -19,7 +16,10 @@ use jpa_protocol::{Answer, Reply};
 use jpa_value::{Argument, Cause, MOST_OBJECTS, MOST_OPEN_MANAGERS, State};
 use std::alloc::Global;
 
-/// The call createEntityManager.
+/// The most entity managers that one run makes.
+const MOST_MANAGERS: usize = 1_000_000;
+
+/// The call createEntityManager. `Limit` where as many are open as may be, or as many were made.
 #[tactic(auto, using(crate::proofs::Opened::not_created, crate::proofs::Opened::create_gives_up, crate::proofs::Opened::created))]
 pub(crate) fn create_call<B: Behaviour>(
     alloc: Global,
@@ -27,34 +27,25 @@ pub(crate) fn create_call<B: Behaviour>(
     _registry: &Registry<B>,
     session: &mut Session,
 ) -> Reply
-    ensures step { Serves (world_of B.meaning _metamodel.now _registry.now) session.old Call.CreateEntityManager result session.new }
+    requires settled { IsSettled session.old }
+    ensures step { Serves (world_of B.meaning _metamodel.now _registry.now) session.old
+        Call.CreateEntityManager result session.new }
     ensures untold { tells_fault result ≡ false }
-    ensures work { session.new.work ≡ session.old.work }
+    ensures settled { IsSettled session.new }
 {
     let count = session.managers.len();
-    if count >= MOST_OPEN_MANAGERS {
+    if session.open_managers >= MOST_OPEN_MANAGERS || count >= MOST_MANAGERS {
         return because(alloc, Cause::Limit);
     }
     let manager = EntityManager {
         status: Status::Inactive,
         context: PersistenceContext::new(alloc),
     };
-    match session.managers.push(manager) {
-        Err(_) => because(alloc, Cause::OutOfMemory),
-        Ok(()) => accepted(alloc, Answer::Number(count as u64 + 1)),
+    if let Err(_) = session.managers.push(manager) {
+        return because(alloc, Cause::OutOfMemory);
     }
-}
-
-/// Whether a manager has an open transaction. Takes no memory.
-fn is_busy(managers: &[EntityManager]) -> bool
-    ensures { (set : StoredSet) → result ≡ list_any has_transaction (managers_of set managers.now) }
-{
-    for manager in managers {
-        if manager.status.is_open() {
-            return true;
-        }
-    }
-    false
+    session.open_managers += 1;
+    accepted(alloc, Answer::Number(count as u64 + 1))
 }
 
 /// The call begin. Takes no memory.
@@ -66,20 +57,23 @@ pub(crate) fn begin_call<B: Behaviour>(
     session: &mut Session,
     em: i64,
 ) -> Reply
-    ensures step { Serves (world_of B.meaning _metamodel.now _registry.now) session.old (Call.Begin em) result session.new }
+    requires settled { IsSettled session.old }
+    ensures step { Serves (world_of B.meaning _metamodel.now _registry.now) session.old
+        (Call.Begin em) result session.new }
     ensures untold { tells_fault result ≡ false }
-    ensures work { session.new.work ≡ session.old.work }
+    ensures settled { IsSettled session.new }
 {
     let Some(manager) = manager_named(session, em) else {
         return because(alloc, Cause::NoSuchManager);
     };
-    if status_of(&session.managers, manager).is_open() {
+    if status_of(&session.managers, manager).is_begun() {
         return because(alloc, Cause::IllegalState(State::Active));
     }
-    if is_busy(session.managers.as_slice()) {
+    if session.is_busy {
         return because(alloc, Cause::Busy);
     }
     set_status(&mut session.managers, manager, Status::Active);
+    session.is_busy = true;
     accepted(alloc, Answer::Null)
 }
 

@@ -1,6 +1,7 @@
 //! Operations on a unit of work, with what their calls hand in (Jakarta Persistence 3.1, chapters
 //! 2.2 and 3.1.1).
-ghost use Rattle.std.specs.Prelude.{◌≡◌, All};
+ghost use Rattle.std.specs.Prelude.{◌≡◌, ◌==◌, All, OnErr, true};
+ghost use Rattle.jpa_stored.specs.Sets.{all_distinct};
 ghost use Rattle.jpa_behaviour.specs.Registered.{world_of};
 ghost use Rattle.jpa_context.specs.Steps.{Meets};
 ghost use Rattle.jpa_context.specs.Work.{Work};
@@ -19,7 +20,7 @@ use jpa_behaviour::{Behaviour, Registry};
 use jpa_context::UnitOfWork;
 use jpa_heap::assign;
 use jpa_model::Metamodel;
-use jpa_ops::{Got, find, get, persist};
+use jpa_ops::{Got, detach, find, get, persist, refresh, remove};
 use jpa_protocol::{Answer, Given};
 use jpa_value::{Argument, Cause, Seq, Text, Value};
 use std::alloc::Global;
@@ -40,6 +41,18 @@ pub enum Operation {
     },
     /// Makes an object managed (chapter 3.2.2).
     Persist {
+        object: i64,
+    },
+    /// Removes an object (chapter 3.2.3).
+    Remove {
+        object: i64,
+    },
+    /// Gives an object the state that is stored (chapter 3.2.5).
+    Refresh {
+        object: i64,
+    },
+    /// Detaches an object (chapter 3.2.7).
+    Detach {
         object: i64,
     },
     /// Finds an object by its entity and the parts of its key (chapter 3.1.1).
@@ -147,6 +160,76 @@ fn persist_numbered<B: Behaviour>(
     Ok(Answer::Null)
 }
 
+/// Removes an object, by its number.
+fn remove_numbered<B: Behaviour>(
+    alloc: Global,
+    metamodel: &Metamodel,
+    registry: &Registry<B>,
+    work: &mut UnitOfWork,
+    object: i64,
+) -> Result<Answer, Cause>
+    requires flat { IsFlat metamodel.now }
+    requires placed { IsPlaced metamodel.now (now work.old) }
+    ensures meets { let world = world_of B.meaning metamodel.now registry.now in
+        Meets result (now work.new) (operations.operation_of (Operation.Remove object) world
+        (now work.old)) }
+    ensures view { work.new.view ≡ work.old.view }
+    ensures since { since work.new ≡ since work.old }
+{
+    let Some(place) = place_of(work.objects.len(), object) else {
+        return Err(Cause::NoSuchObject);
+    };
+    remove(alloc, metamodel, registry, work, place)?;
+    Ok(Answer::Null)
+}
+
+/// Gives an object, by its number, the state that is stored.
+fn refresh_numbered<B: Behaviour>(
+    alloc: Global,
+    metamodel: &Metamodel,
+    registry: &Registry<B>,
+    work: &mut UnitOfWork,
+    object: i64,
+) -> Result<Answer, Cause>
+    requires flat { IsFlat metamodel.now }
+    requires placed { IsPlaced metamodel.now (now work.old) }
+    requires distinct { all_distinct (λ a b. a.object == b.object) work.old.context.now ≡ true }
+    ensures meets { let world = world_of B.meaning metamodel.now registry.now in
+        Meets result (now work.new) (operations.operation_of (Operation.Refresh object) world
+        (now work.old)) }
+    ensures view { work.new.view ≡ work.old.view }
+    ensures since { since work.new ≡ since work.old }
+{
+    let Some(place) = place_of(work.objects.len(), object) else {
+        return Err(Cause::NoSuchObject);
+    };
+    refresh(alloc, metamodel, registry, work, place)?;
+    Ok(Answer::Null)
+}
+
+/// Detaches an object, by its number.
+fn detach_numbered<B: Behaviour>(
+    alloc: Global,
+    metamodel: &Metamodel,
+    _registry: &Registry<B>,
+    work: &mut UnitOfWork,
+    object: i64,
+) -> Result<Answer, Cause>
+    requires flat { IsFlat metamodel.now }
+    requires placed { IsPlaced metamodel.now (now work.old) }
+    ensures meets { let world = world_of B.meaning metamodel.now _registry.now in
+        Meets result (now work.new) (operations.operation_of (Operation.Detach object) world
+        (now work.old)) }
+    ensures view { work.new.view ≡ work.old.view }
+    ensures since { OnErr result (since work.new ≡ since work.old) }
+{
+    let Some(place) = place_of(work.objects.len(), object) else {
+        return Err(Cause::NoSuchObject);
+    };
+    detach(alloc, metamodel, work, place);
+    Ok(Answer::Null)
+}
+
 /// An answer of find, where it found an object; else `EntityNotFound`.
 fn there_must_be(found: Answer) -> Result<Answer, Cause>
     ensures { (w : Work) → Meets result w (routes.there_must_be found w) }
@@ -241,8 +324,7 @@ fn get_reference_by_key<B: Behaviour>(
 }
 
 /// Does an operation on the unit of work. Refused as the operation is; what a refused one changed
-/// is undone by
-/// `UnitOfWork::undo`.
+/// is undone by `UnitOfWork::undo`.
 pub(crate) fn operate<B: Behaviour>(
     alloc: Global,
     metamodel: &Metamodel,
@@ -252,10 +334,11 @@ pub(crate) fn operate<B: Behaviour>(
 ) -> Result<Answer, Cause>
     requires flat { IsFlat metamodel.now }
     requires placed { IsPlaced metamodel.now (now work.old) }
+    requires distinct { all_distinct (λ a b. a.object == b.object) work.old.context.now ≡ true }
     ensures meets { let world = world_of B.meaning metamodel.now registry.now in
         Meets result (now work.new) (operations.operation_of operation world (now work.old)) }
     ensures view { work.new.view ≡ work.old.view }
-    ensures since { since work.new ≡ since work.old }
+    ensures since { OnErr result (since work.new ≡ since work.old) }
 {
     match operation {
         Operation::Get { object, name } => {
@@ -268,6 +351,15 @@ pub(crate) fn operate<B: Behaviour>(
         } => set_numbered(metamodel, registry, work, object, name.as_str(), value),
         Operation::Persist { object } => {
             persist_numbered(alloc, metamodel, registry, work, object)
+        }
+        Operation::Remove { object } => {
+            remove_numbered(alloc, metamodel, registry, work, object)
+        }
+        Operation::Refresh { object } => {
+            refresh_numbered(alloc, metamodel, registry, work, object)
+        }
+        Operation::Detach { object } => {
+            detach_numbered(alloc, metamodel, registry, work, object)
         }
         Operation::Find { entity, key } => {
             find_by_key(alloc, metamodel, registry, work, &entity, &key)

@@ -10,20 +10,23 @@ ghost use Rattle.jpa_view.specs.Unambiguous.{is_class};
 ghost use Rattle.jpa_protocol.specs.declared.call.Call.{Call};
 ghost use Rattle.jpa_rows.specs.Cells.{CanBeHeld};
 ghost use Rattle.jpa_rows.specs.Tables.{schema_of};
-ghost use Rattle.jpa_stored.specs.Sets.{each_fits};
+ghost use Rattle.jpa_stored.specs.Sets.{StoredSet, each_fits};
+ghost use Rattle.jpa_open.specs.Opened.{unwritten};
 ghost use Rattle.jpa_provider.specs.Faults.{faults_after_reply};
 ghost use Rattle.jpa_provider.specs.Invariant.{HasOneTransaction, IsMachine};
 ghost use Rattle.jpa_provider.specs.Left.{HoldsSameValues, LivesAsBefore};
 ghost use Rattle.jpa_provider.specs.Machine.{opened, IsStoredAs};
 ghost use Rattle.jpa_provider.specs.Step.{IsGivenUp};
 ghost use Rattle.jpa_provider.specs.Routes.{is_commit, is_rollback};
-ghost use Rattle.jpa_provider.specs.Provided.{rows_kept, rows_made, world_in, RunsAtMost, RunsDifference, Stands};
+ghost use Rattle.jpa_object_store.specs.Written.{RunsAtMost, RunsDifference};
+ghost use Rattle.jpa_provider.specs.Provided.{rows_kept, rows_made, world_in, Stands};
 ghost use Rattle.jpa_provider.specs.Served.{is_served};
-ghost use Rattle.jpa_provider.specs.Serving.{machine_of, IsPlainMachine, IsServing, IsSettled, Serves};
+ghost use Rattle.jpa_provider.specs.Serving.{machine_of, IsServing, IsSettled, Serves};
 
 use crate::asking::contains_call;
 use crate::committing::commit_call;
-use crate::ending::{clear_call, rollback_call, set_rollback_only_call};
+use crate::ending::{clear_call, close_call, rollback_call, set_rollback_only_call};
+use crate::flushing::flush_call;
 use crate::handing::hands_representable;
 use crate::opening::{begin_call, create_call, new_call};
 use crate::operating::Operation;
@@ -33,9 +36,10 @@ use jpa_behaviour::{Behaviour, Registry};
 use jpa_context::{PersistenceContext, UnitOfWork};
 use jpa_mapper::discriminator_law;
 use jpa_model::Metamodel;
+use jpa_open::OpenSet;
 use jpa_protocol::{Call, PersistenceProvider, Reply};
 use jpa_rows::RowSource;
-use jpa_stored::{OpenSet, StoredSet};
+use jpa_stored::StoredSet;
 use jpa_undo::UndoList;
 use jpa_value::{Cause, Seq};
 use std::alloc::{AllocError, Global};
@@ -94,11 +98,16 @@ impl<R: RowSource + Drop, B: Behaviour> Provider<R, B> {
         ensures refused { IfErr result (λ e. (e.0 ≡ Cause.OutOfMemory) × (e.1 ≡ rows)) }
     {
         registry.laws();
+        metamodel.unit();
         let next = match noted(alloc, numbers.as_slice()) {
             Ok(next) => next,
             Err(_) => return Err((Cause::OutOfMemory, rows)),
         };
-        let session = opened(alloc, committed, next, numbers);
+        let view = match OpenSet::new(alloc, committed.into_entries()) {
+            Ok(view) => view,
+            Err(cause) => return Err((cause, rows)),
+        };
+        let session = opened(alloc, view, next, numbers);
         Ok(Provider {
             alloc,
             metamodel,
@@ -154,19 +163,23 @@ fn noted(alloc: Global, numbers: &[u64]) -> Result<UndoList<u64>, AllocError>
     Ok(noted)
 }
 
-/// A session without objects and managers.
-fn opened(alloc: Global, committed: StoredSet, next: UndoList<u64>, numbers: Seq<u64>) -> Session
-    ensures machine { next.now ≡ numbers → machine_of result ≡ opened committed numbers }
-    ensures settled { next.since ≡ next.now → IsSettled result }
+/// A session without objects and managers, over a set over which nothing is written.
+fn opened(alloc: Global, view: OpenSet, next: UndoList<u64>, numbers: Seq<u64>) -> Session
+    ensures machine { (committed : StoredSet) → view ≡ unwritten committed → next.now ≡ numbers
+        → machine_of result ≡ opened committed numbers }
+    ensures settled { (committed : StoredSet) → view ≡ unwritten committed → next.since ≡ next.now
+        → IsSettled result }
 {
     Session {
         managers: Vec::new(alloc),
+        open_managers: 0,
+        is_busy: false,
         work: UnitOfWork {
             manager: 0,
             objects: UndoList::new(alloc),
             context: PersistenceContext::new(alloc),
             numbers: next,
-            view: OpenSet::new(committed),
+            view,
             events: Seq::new(alloc),
         },
         stored: numbers,
@@ -188,7 +201,6 @@ fn served<R: RowSource, B: Behaviour>(
     requires holds { R.clean rows.old → R.holds rows.old (rows_of (world_of B.meaning metamodel.now registry.now) (machine_of session.old).committed (machine_of session.old).stored_numbers) }
     ensures step { Serves (world_of B.meaning metamodel.now registry.now) session.old call result session.new }
     ensures settled { IsSettled session.new }
-    ensures plain { is_commit call ≡ true → IsPlainMachine (machine_of session.new) }
     ensures holds { is_commit call ≡ true → R.clean rows.new → R.holds rows.new (rows_of (world_of B.meaning metamodel.now registry.now) (machine_of session.new).committed (machine_of session.new).stored_numbers) }
     ensures others { is_commit call ≡ false → rows.new ≡ rows.old }
     ensures was_clean { R.clean rows.new → R.clean rows.old }
@@ -226,6 +238,19 @@ fn served<R: RowSource, B: Behaviour>(
             let operation = Operation::Persist { object };
             worked(alloc, metamodel, registry, session, em, operation)
         }
+        Call::Remove { em, object } => {
+            let operation = Operation::Remove { object };
+            worked(alloc, metamodel, registry, session, em, operation)
+        }
+        Call::Refresh { em, object } => {
+            let operation = Operation::Refresh { object };
+            worked(alloc, metamodel, registry, session, em, operation)
+        }
+        Call::Detach { em, object } => {
+            let operation = Operation::Detach { object };
+            worked(alloc, metamodel, registry, session, em, operation)
+        }
+        Call::Flush { em } => flush_call(alloc, metamodel, registry, session, em),
         Call::Commit { em } => commit_call(alloc, metamodel, registry, session, rows, em),
         Call::Rollback { em } => rollback_call(alloc, metamodel, registry, session, em),
         Call::SetRollbackOnly { em } => {
@@ -243,6 +268,7 @@ fn served<R: RowSource, B: Behaviour>(
             contains_call(alloc, metamodel, registry, session, em, object)
         }
         Call::Clear { em } => clear_call(alloc, metamodel, registry, session, em),
+        Call::Close { em } => close_call(alloc, metamodel, registry, session, em),
     }
 }
 

@@ -9,6 +9,8 @@ use std::mem;
 /// The resource transaction of an entity manager (Jakarta Persistence 3.1, chapter 7.5).
 #[derive(Clone, Copy)]
 pub enum Status {
+    /// The manager is closed: its number names none.
+    Closed,
     /// None is open.
     Inactive,
     Active,
@@ -18,15 +20,20 @@ pub enum Status {
 
 impl Status {
     ghost use Rattle.std.specs.Prelude.{◌≡◌};
-    ghost use Rattle.jpa_stored.specs.Sets.{StoredSet};
-    ghost use Rattle.jpa_provider.specs.Machine.{is_begun};
-    ghost use Rattle.jpa_provider.specs.Serving.{transaction_in};
+    ghost use Rattle.jpa_provider.specs.Serving.{is_begun_status, is_open_status};
+
+    /// Whether the manager is open.
+    pub fn is_open(self) -> bool
+        ensures { result ≡ is_open_status self }
+    {
+        !matches!(self, Status::Closed)
+    }
 
     /// Whether a transaction is open.
-    pub fn is_open(self) -> bool
-        ensures { (set : StoredSet) → result ≡ is_begun (transaction_in self set) }
+    pub fn is_begun(self) -> bool
+        ensures { result ≡ is_begun_status self }
     {
-        !matches!(self, Status::Inactive)
+        matches!(self, Status::Active | Status::RollbackOnly)
     }
 }
 
@@ -39,9 +46,14 @@ pub struct EntityManager {
 }
 
 /// The managers, what they work on, and the next numbers that were last stored. Contracts see the machine that it stands for.
+///
+/// One transaction is open at a time (`is_busy`); what it wrote is in the view of the unit of work, which shows it to its
+/// manager alone.
 #[derive(Drop)]
 pub struct Session {
     pub managers: Vec<EntityManager>,
+    pub open_managers: usize,
+    pub is_busy: bool,
     pub work: UnitOfWork,
     pub stored: Seq<u64>,
 }

@@ -74,6 +74,7 @@ fn unheld<B: Behaviour>(
 {
     session.work.manager = session.managers.len();
     session.work.context = PersistenceContext::new(alloc);
+    session.work.view.show(false);
     let answered = operate(alloc, metamodel, registry, &mut session.work, operation);
     let events = mem::replace(&mut session.work.events, Seq::new(alloc));
     match answered {

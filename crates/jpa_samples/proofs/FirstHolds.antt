@@ -16,6 +16,7 @@ use Rattle.jpa_provider.specs.Invariant.{IsMachine}
 use Rattle.jpa_lifecycle.specs.Flat.{IsFlat}
 use Rattle.jpa_samples.proofs.Sample.{P1}
 use Rattle.jpa_samples.proofs.FirstRun.{fresh, first_run, after_first, person_cells, first_cells, set_key}
+use Rattle.jpa_samples.proofs.States.{removing, reviving}
 use Rattle.jpa_provider.proofs.Settled.{opened_holds}
 use Rattle.jpa_provider.proofs.Outcome.{machine_after_keeps}
 
@@ -59,6 +60,13 @@ first_holds = machine_after_keeps persons_flat persons_regular fresh first_run (
 
 set_key_holds : IsMachine P1 (machine_after P1 after_first set_key)
 set_key_holds = machine_after_keeps persons_flat persons_regular after_first set_key refl first_holds
+
+-- also where rows leave
+removing_holds : IsMachine P1 (machine_after P1 after_first removing)
+removing_holds = machine_after_keeps persons_flat persons_regular after_first removing refl first_holds
+
+reviving_holds : IsMachine P1 (machine_after P1 after_first reviving)
+reviving_holds = machine_after_keeps persons_flat persons_regular after_first reviving refl first_holds
 
 -- its cells stand for what was committed, whatever stands in tables of others
 abbrev foreign : Cell

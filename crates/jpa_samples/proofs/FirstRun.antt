@@ -38,7 +38,7 @@ first_replies = refl
 abbrev pub after_first : Machine
 after_first = machine_after P1 fresh first_run
 
-abbrev key_one : List ℕ
+abbrev pub key_one : List ℕ
 key_one = 1 ∷ 128 ∷ 0 ∷ 0 ∷ 0 ∷ 0 ∷ 0 ∷ 0 ∷ 1 ∷ []
 
 abbrev pub person_cells : ℕ → List ℕ → List Cell

@@ -7,7 +7,7 @@ use Rattle.jpa_heap.specs.declared.LiveObject.{LiveObject}
 use Rattle.jpa_heap.specs.Objects.{object_at, no_object, place_of}
 use Rattle.jpa_context.specs.Work.{is_managed, state_from}
 use Rattle.jpa_protocol.specs.declared.call.Call.{Call}
-use Rattle.jpa_provider.specs.Serving.{Serves}
+use Rattle.jpa_provider.specs.Serving.{named, Serves}
 use Rattle.jpa_provider.proofs.Asked.{contains_unknown, contains_told}
 use Rattle.jpa_provider.proofs.asking.contains_call.Goals as goal
 
@@ -17,11 +17,11 @@ returns-in_default-place_of-clause-step g c =
     let s = c.args.session.now in
     let em = c.args.em in
     let m = c.in-Some.manager in
-    let named : place_of (length s.managers.items) em ≡ Some m = ap (place_of (length s.managers.items)) (sym (to_z-of_z c.ranges.em)) ∙ sym c.in-Some.ensures.named in
+    let is : named s em ≡ Some m = ap (named s) (sym (to_z-of_z c.ranges.em)) ∙ sym c.in-Some.ensures.named in
     let place : place_of (length s.work.objects.now) c.args.object ≡ None =
     ap (λ k. place_of k c.args.object) (sym c.len.ensures) ∙ ap (place_of c.len.result) (sym (to_z-of_z c.ranges.object)) ∙ sym c.in_default-place_of.ensures.place in
     subst (λ r. Serves world s (Call.Contains em c.args.object) r s) (sym c.because-in_default-place_of.ensures)
-    (contains_unknown world s em c.args.object m named c.in-Some.ensures.within place)
+    (contains_unknown world s em c.args.object m is place)
 
 pub returns-clause-step : goal.returns-clause-step
 returns-clause-step g c =
@@ -37,9 +37,9 @@ returns-clause-step g c =
     let l : n < length os = omega (arith, counted, within) in
     let l' : n < length c.as_slice.result.now = subst (λ (ys : List LiveObject). n < length ys) (sym c.as_slice.ensures) l in
     let read : get_or c.as_slice.result.now n x ≡ object_at os n = get_or_default c.as_slice.result.now n x no_object l' ∙ ap (λ (ys : List LiveObject). object_at ys n) c.as_slice.ensures in
-    let named : place_of (length s.managers.items) em ≡ Some m = ap (place_of (length s.managers.items)) (sym (to_z-of_z c.ranges.em)) ∙ sym c.in-Some.ensures.named in
+    let is : named s em ≡ Some m = ap (named s) (sym (to_z-of_z c.ranges.em)) ∙ sym c.in-Some.ensures.named in
     let place : place_of (length os) c.args.object ≡ Some n =
     ap (λ k. place_of k c.args.object) (sym c.len.ensures) ∙ ap (place_of c.len.result) (sym (to_z-of_z c.ranges.object)) ∙ sym c.in-Some-place_of.ensures.place in
     let same : c.is_managed_by.result ≡ is_managed (state_from m (object_at os n).life) = c.is_managed_by.ensures ∙ ap (λ (y : LiveObject). is_managed (state_from m y.life)) read in
     subst (λ r. Serves world s (Call.Contains em c.args.object) r s) (sym c.accepted.ensures)
-    (contains_told world s em c.args.object m n c.is_managed_by.result named c.in-Some.ensures.within place same)
+    (contains_told world s em c.args.object m n c.is_managed_by.result is place same)

@@ -4,14 +4,29 @@ use Rattle.jpa_provider.specs.declared.session.EntityManager.{EntityManager}
 use Rattle.jpa_provider.specs.declared.session.Session.{Session}
 use Rattle.jpa_provider.specs.declared.session.Status.{Status}
 use Rattle.jpa_provider.specs.Serving.{manager_in, marked_status}
-use Rattle.jpa_provider.proofs.Sessions.{marked_there}
+use Rattle.jpa_provider.proofs.Counted.{counted_same}
+use Rattle.jpa_provider.proofs.Sessions.{marked_there, marked_open, marked_begun}
 use Rattle.jpa_provider.proofs.at_work.mark.Goals as goal
 
 pub returns-clause-marked : goal.returns-clause-marked
 returns-clause-marked c =
     let s = c.args.session.now in
-    let t : Session = record { managers = c.set_status.new.managers; work = s.work; stored = s.stored } in
+    let t : Session = record s { managers = c.set_status.new.managers } in
     let xs : List EntityManager = s.managers.items in
     let x : EntityManager = manager_in xs c.args.manager in
     let with : Status → List EntityManager = λ st. slice_set xs c.args.manager (record x { status = st }) in
-    marked_there s t c.args.manager c.requires.within refl refl (c.set_status.ensures ∙ ap with (c.marked-status.ensures ∙ ap marked_status c.status_of.ensures))
+    marked_there s t c.args.manager refl refl (c.set_status.ensures ∙ ap with (c.marked-status.ensures ∙ ap marked_status c.status_of.ensures))
+
+pub returns-clause-settled : goal.returns-clause-settled
+returns-clause-settled c = λ settled.
+    let s = c.args.session.now in
+    let t : Session = record s { managers = c.set_status.new.managers } in
+    let xs : List EntityManager = s.managers.items in
+    let x : EntityManager = manager_in xs c.args.manager in
+    let with : Status → List EntityManager = λ st. slice_set xs c.args.manager (record x { status = st }) in
+    record {
+      kept = settled.kept;
+      quiet = settled.quiet;
+      counted = counted_same s t c.args.manager (record x { status = marked_status x.status }) c.requires.within settled.counted
+          (c.set_status.ensures ∙ ap with (c.marked-status.ensures ∙ ap marked_status c.status_of.ensures)) (marked_open x.status) (marked_begun x.status) refl refl (settled.counted).calm;
+    }

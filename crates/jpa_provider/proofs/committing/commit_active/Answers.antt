@@ -1,76 +1,102 @@
-use Rattle.std.proofs.Common.{◌≡◌, inl, inr, refl, ap, sym, subst, ◌∙◌}
-use Rattle.std.specs.Prelude.{◌==◌, ◌⊎◌, true, nat_le, OnOk}
-use Rattle.jpa_value.specs.declared.value.Identity.{Identity}
-use Rattle.jpa_value.specs.Value.{same_identity}
+use Rattle.std.proofs.Common.{◌≡◌, ℕ, List, inl, inr, refl, ap, sym, subst, ◌∙◌}
+use Rattle.std.specs.Prelude.{◌⊎◌, T, true, nat_le, All, OnOk, if◌then◌else◌}
+use Rattle.std.specs.FinMap.Entries.{is_sorted}
+use Rattle.jpa_value.specs.Value.{identity_cmp}
 use Rattle.jpa_behaviour.specs.Registered.{world_of}
-use Rattle.jpa_undo.specs.Undo.{Changes}
-use Rattle.jpa_stored.specs.declared.stored.Stored.{Stored}
-use Rattle.jpa_stored.specs.Sets.{StoredSet, IsSound, all_distinct, each_fits, put_all}
+use Rattle.jpa_stored.specs.Sets.{StoredSet, IsSound, each_fits}
+use Rattle.jpa_rows.specs.Cells.{CanBeHeld}
+use Rattle.jpa_rows.specs.Rows.{Rows}
 use Rattle.jpa_object_rows.specs.Sets.{rows_of}
-use Rattle.jpa_view.specs.View.{AreStorable}
 use Rattle.jpa_context.specs.declared.Entry.{Entry}
+use Rattle.jpa_context.specs.declared.Lock.{Lock}
 use Rattle.jpa_context.specs.Work.{Work}
 use Rattle.jpa_context.specs.Steps.{Done, IsRefusedAs}
-use Rattle.jpa_context.specs.Undo.{now, since, IsPlaced, Since}
+use Rattle.jpa_context.specs.Undo.{now, since, IsPlaced}
 use Rattle.jpa_flush.specs.Flush.{flush}
+use Rattle.jpa_flush.specs.Names.{has_distinct_entries}
 use Rattle.jpa_protocol.specs.declared.call.Call.{Call}
-use Rattle.jpa_rows.specs.Rows.{Rows}
-use Rattle.jpa_provider.specs.Provided.{rows_made, RunsAtMost, RunsDifference}
-use Rattle.jpa_provider.specs.Serving.{machine_of}
-use Rattle.jpa_provider.proofs.Active.{begun_active, objects_once, writes_from, flushed_storable, flushed_distinct, flushed_numbers, flushed_rising, refused_steady, stored_plain}
-use Rattle.jpa_provider.proofs.Commits.{refused_step, stored_step}
+use Rattle.jpa_provider.specs.Machine.{Machine}
+use Rattle.jpa_object_store.specs.Written.{RunsAtMost, RunsDifference}
+use Rattle.jpa_provider.specs.Provided.{rows_kept, rows_made}
+use Rattle.jpa_provider.specs.Serving.{machine_of, is_begun_status}
+use Rattle.jpa_provider.proofs.Active.{committing, entries_since, entries_apart, view_sound, view_rises, flushed_held, flushed_rising, flushed_within}
+use Rattle.jpa_provider.proofs.Commits.{refused_step, stored_step, refused_still}
 use Rattle.jpa_provider.proofs.Crashed.{made_by, not_accepted}
 use Rattle.jpa_provider.proofs.AtWork.{work_placed}
+use Rattle.jpa_provider.proofs.Sessions.{begun_there}
 use Rattle.jpa_provider.proofs.Worked.{still_working}
 use Rattle.jpa_provider.proofs.committing.commit_active.Goals as goal
 
 pub flush-requires-clause-placed : goal.flush-requires-clause-placed
 flush-requires-clause-placed g c = subst (IsPlaced c.args.metamodel.now) (sym c.take_work.ensures.work) (work_placed c.args.manager (c.requires.serving).machine)
 
+pub flush-requires-clause-unlocked : goal.flush-requires-clause-unlocked
+flush-requires-clause-unlocked g c =
+    subst (λ (v : Work). All (λ (e : Entry). e.lock ≡ Lock.Unlocked) v.context) (sym c.take_work.ensures.work) ((c.requires.serving).unlocked c.args.manager)
+
+pub flush-requires-clause-shown : goal.flush-requires-clause-shown
+flush-requires-clause-shown g c =
+    ((c.take_work.ensures.working).away).shown ∙ begun_there c.args.session.now c.args.manager ∙ ap is_begun_status c.requires.active
+
 pub flush-requires-clause-sound : goal.flush-requires-clause-sound
 flush-requires-clause-sound g c =
-    subst (λ (set : StoredSet). IsSound c.args.metamodel.now set) (sym (ap (λ (x : Since). x.view) (c.take_work.ensures.working).since)) (((c.requires.serving).machine).committed).sound
+    let world = world_of g.B.Behaviour.meaning c.args.metamodel.now c.args.registry.now in
+    subst (λ (v : Work). IsSound c.args.metamodel.now v.view) (sym c.take_work.ensures.work) (view_sound world c.args.session.now c.args.manager c.requires.serving)
+
+pub flush-requires-clause-rising : goal.flush-requires-clause-rising
+flush-requires-clause-rising g c =
+    let world = world_of g.B.Behaviour.meaning c.args.metamodel.now c.args.registry.now in
+    subst (λ (v : Work). T (is_sorted identity_cmp v.view)) (sym c.take_work.ensures.work) (view_rises world c.args.session.now c.args.manager c.requires.serving)
 
 pub flush-requires-clause-distinct : goal.flush-requires-clause-distinct
 flush-requires-clause-distinct g c =
-    subst (λ (v : Work). all_distinct (λ (a b : Entry). a.object == b.object) v.context ≡ true) (sym c.take_work.ensures.work)
-    (objects_once (world_of g.B.Behaviour.meaning c.args.metamodel.now c.args.registry.now) c.args.session.now c.args.manager c.requires.within c.requires.serving)
-
-pub store_commit-requires-clause-storable : goal.store_commit-requires-clause-storable
-store_commit-requires-clause-storable g c =
-    let s = c.args.session.now in
-    let m = c.args.manager in
-    let model = c.args.metamodel.now in
-    let world = world_of g.B.Behaviour.meaning model c.args.registry.now in
-    let w : Work = now c.flush.new.work in
-    let done = subst (λ (v : Work). flush world v ≡ Done tt w) c.take_work.ensures.work c.in-Ok.ensures.ends in
-    subst (AreStorable world) (sym c.as_slice.ensures)
-    (flushed_storable world s m c.requires.within c.requires.serving w done (writes_from c.take_work.ensures.work c.in-Ok.ensures.written))
-
-pub store_commit-requires-clause-distinct : goal.store_commit-requires-clause-distinct
-store_commit-requires-clause-distinct g c =
-    let s = c.args.session.now in
-    let m = c.args.manager in
-    let model = c.args.metamodel.now in
-    let world = world_of g.B.Behaviour.meaning model c.args.registry.now in
-    let w : Work = now c.flush.new.work in
-    let done = subst (λ (v : Work). flush world v ≡ Done tt w) c.take_work.ensures.work c.in-Ok.ensures.ends in
-    subst (λ ws. all_distinct (λ (a b : Identity × Stored). same_identity a.0 b.0) ws ≡ true) (sym c.as_slice.ensures)
-    (flushed_distinct world s m c.requires.within c.requires.serving w done (writes_from c.take_work.ensures.work c.in-Ok.ensures.written))
-
-pub store_commit-requires-clause-numbers : goal.store_commit-requires-clause-numbers
-store_commit-requires-clause-numbers g c =
     let world = world_of g.B.Behaviour.meaning c.args.metamodel.now c.args.registry.now in
-    let w : Work = now c.flush.new.work in
-    let done = subst (λ (v : Work). flush world v ≡ Done tt w) c.take_work.ensures.work c.in-Ok.ensures.ends in
-    flushed_numbers world c.args.session.now c.args.manager c.requires.within c.requires.serving w done
+    subst (λ (v : Work). has_distinct_entries c.args.metamodel.now v ≡ true) (sym c.take_work.ensures.work) (entries_apart world c.args.session.now c.args.manager c.requires.serving)
+
+pub refuse_commit-requires-clause-entries : goal.refuse_commit-requires-clause-entries
+refuse_commit-requires-clause-entries g c =
+    let u = c.flush.new.work in
+    let working = still_working c.take_work.new.session u c.take_work.ensures.working c.flush.ensures.since in
+    entries_since c.args.session.now c.args.manager (since u) (c.requires.serving).machine working.objects working.context
+
+pub store_commit-requires-clause-committed : goal.store_commit-requires-clause-committed
+store_commit-requires-clause-committed g c =
+    let world = world_of g.B.Behaviour.meaning c.args.metamodel.now c.args.registry.now in
+    let u = c.flush.new.work in
+    let away = (still_working c.take_work.new.session u c.take_work.ensures.working c.flush.ensures.since).away in
+    subst (λ (p : StoredSet × List ℕ). CanBeHeld world p.0 p.1) (λ i. (sym away.committed i, sym away.stored i)) ((c.requires.serving).machine).committed
+
+pub store_commit-requires-clause-seen : goal.store_commit-requires-clause-seen
+store_commit-requires-clause-seen g c =
+    let s = c.args.session.now in
+    let m = c.args.manager in
+    let world = world_of g.B.Behaviour.meaning c.args.metamodel.now c.args.registry.now in
+    let u = c.flush.new.work in
+    let away = (still_working c.take_work.new.session u c.take_work.ensures.working c.flush.ensures.since).away in
+    let shown = away.shown ∙ begun_there s m ∙ ap is_begun_status c.requires.active in
+    let done = subst (λ (v : Work). flush world v ≡ Done tt (now u)) c.take_work.ensures.work c.in-Ok.ensures.meets in
+    subst (λ b. CanBeHeld world (if b then (u.view).seen else (u.view).committed) u.numbers.now) shown (flushed_held world s m c.requires.serving (now u) done)
+
+pub store_commit-requires-clause-shown : goal.store_commit-requires-clause-shown
+store_commit-requires-clause-shown g c =
+    let away = (still_working c.take_work.new.session c.flush.new.work c.take_work.ensures.working c.flush.ensures.since).away in
+    away.shown ∙ begun_there c.args.session.now c.args.manager ∙ ap is_begun_status c.requires.active
 
 pub store_commit-requires-clause-rising : goal.store_commit-requires-clause-rising
 store_commit-requires-clause-rising g c =
     let world = world_of g.B.Behaviour.meaning c.args.metamodel.now c.args.registry.now in
     let w : Work = now c.flush.new.work in
-    let done = subst (λ (v : Work). flush world v ≡ Done tt w) c.take_work.ensures.work c.in-Ok.ensures.ends in
-    subst (λ ns. each_fits nat_le ns w.numbers ≡ true) (sym (c.take_work.ensures.working).stored) (flushed_rising world c.args.session.now c.args.manager c.requires.within c.requires.serving w done)
+    let done = subst (λ (v : Work). flush world v ≡ Done tt w) c.take_work.ensures.work c.in-Ok.ensures.meets in
+    subst (λ ns. each_fits nat_le ns w.numbers ≡ true) (sym ((c.take_work.ensures.working).away).stored) (flushed_rising world c.args.session.now c.args.manager c.requires.serving w done)
+
+pub store_commit-requires-clause-entries : goal.store_commit-requires-clause-entries
+store_commit-requires-clause-entries g c =
+    let world = world_of g.B.Behaviour.meaning c.args.metamodel.now c.args.registry.now in
+    let w : Work = now c.flush.new.work in
+    let done = subst (λ (v : Work). flush world v ≡ Done tt w) c.take_work.ensures.work c.in-Ok.ensures.meets in
+    flushed_within world c.args.session.now c.args.manager c.requires.serving w done
+
+-- ---- a flush that was refused
 
 pub returns-in-Err-clause-step : goal.returns-in-Err-clause-step
 returns-in-Err-clause-step g c = λ em named.
@@ -79,25 +105,47 @@ returns-in-Err-clause-step g c = λ em named.
     let world = world_of g.B.Behaviour.meaning c.args.metamodel.now c.args.registry.now in
     let u = c.flush.new.work in
     let working = still_working c.take_work.new.session u c.take_work.ensures.working c.flush.ensures.since in
-    let refused = subst (λ (v : Work). IsRefusedAs c.in-Err.cause u.events (flush world v)) c.take_work.ensures.work c.in-Err.ensures.ends in
-    refused_step world s c.refuse_commit.new.session em m named c.requires.within c.requires.active c.in-Err.cause u.events c.refuse_commit.result refused (c.refuse_commit.ensures.refuses (machine_of s) working)
+    let refused = subst (λ (v : Work). IsRefusedAs c.in-Err.cause u.events (flush world v)) c.take_work.ensures.work c.in-Err.ensures.meets in
+    refused_step world s c.refuse_commit.new.session em m named c.requires.active c.in-Err.cause u.events c.refuse_commit.result refused
+    (c.refuse_commit.ensures.refuses (machine_of s) (committing s _ m c.requires.serving (ap is_begun_status c.requires.active) working))
 
-pub returns-in-Err-clause-plain : goal.returns-in-Err-clause-plain
-returns-in-Err-clause-plain g c =
+pub returns-in-Err-clause-settled : goal.returns-in-Err-clause-settled
+returns-in-Err-clause-settled g c =
     let s = c.args.session.now in
     let u = c.flush.new.work in
     let working = still_working c.take_work.new.session u c.take_work.ensures.working c.flush.ensures.since in
-    (refused_steady c.args.manager c.in-Err.cause u.events c.refuse_commit.result (c.requires.serving).plain (c.refuse_commit.ensures.refuses (machine_of s) working)).0
+    c.refuse_commit.ensures.settled (machine_of s) (committing s _ c.args.manager c.requires.serving (ap is_begun_status c.requires.active) working)
 
 pub returns-in-Err-clause-holds : goal.returns-in-Err-clause-holds
 returns-in-Err-clause-holds g c = λ clean.
     let s = c.args.session.now in
+    let m = c.args.manager in
     let world = world_of g.B.Behaviour.meaning c.args.metamodel.now c.args.registry.now in
     let u = c.flush.new.work in
     let working = still_working c.take_work.new.session u c.take_work.ensures.working c.flush.ensures.since in
-    let kept = (refused_steady c.args.manager c.in-Err.cause u.events c.refuse_commit.result (c.requires.serving).plain (c.refuse_commit.ensures.refuses (machine_of s) working)).1 in
-    let holds = g.R.RowSource.holds c.args.rows.now in
-    subst (λ (set : StoredSet). holds (rows_of world set c.refuse_commit.new.session.stored)) (sym kept.committed) (subst (λ ns. holds (rows_of world s.work.view.now ns)) (sym kept.numbers) (c.requires.holds clean))
+    let kept = refused_still m c.in-Err.cause u.events c.refuse_commit.result (c.refuse_commit.ensures.refuses (machine_of s) (committing s _ m c.requires.serving (ap is_begun_status c.requires.active) working)) in
+    subst (λ (p : StoredSet × List ℕ). g.R.RowSource.holds c.args.rows.now (rows_of world p.0 p.1)) (λ i. (sym kept.committed i, sym kept.numbers i)) (c.requires.holds clean)
+
+pub returns-in-Err-clause-crash : goal.returns-in-Err-clause-crash
+returns-in-Err-clause-crash g c = λ em named clean.
+    let rows = c.args.rows.now in
+    g.R.RowSource.wider rows rows _ _ (λ left none. absurd none) (g.met.R.RowSource.still rows)
+
+pub returns-in-Err-clause-counted : goal.returns-in-Err-clause-counted
+returns-in-Err-clause-counted g c = λ em named.
+    let s = c.args.session.now in
+    let u = c.flush.new.work in
+    let working = still_working c.take_work.new.session u c.take_work.ensures.working c.flush.ensures.since in
+    not_accepted _ (machine_of s) (machine_of c.refuse_commit.new.session) c.args.manager u.events c.in-Err.cause c.refuse_commit.result
+    (c.refuse_commit.ensures.refuses (machine_of s) (committing s _ c.args.manager c.requires.serving (ap is_begun_status c.requires.active) working))
+
+pub returns-in-Err-clause-bounded : goal.returns-in-Err-clause-bounded
+returns-in-Err-clause-bounded g c = λ em named refused. inl refl
+
+pub returns-in-Err-clause-refused : goal.returns-in-Err-clause-refused
+returns-in-Err-clause-refused g c = λ refused. inr refl
+
+-- ---- a flush that was done
 
 pub returns-in-Ok-clause-step : goal.returns-in-Ok-clause-step
 returns-in-Ok-clause-step g c = λ em named.
@@ -106,32 +154,23 @@ returns-in-Ok-clause-step g c = λ em named.
     let world = world_of g.B.Behaviour.meaning c.args.metamodel.now c.args.registry.now in
     let u = c.flush.new.work in
     let working = still_working c.take_work.new.session u c.take_work.ensures.working c.flush.ensures.since in
-    let done = subst (λ (v : Work). flush world v ≡ Done tt (now u)) c.take_work.ensures.work c.in-Ok.ensures.ends in
-    stored_step world s c.store_commit.new.session em m named c.requires.within c.requires.active (now u) c.store_commit.result done c.in-Ok.ensures.plain
-    (c.store_commit.ensures.stores (machine_of s) working (c.requires.serving).one (begun_active s m c.requires.within c.requires.active))
+    let done = subst (λ (v : Work). flush world v ≡ Done tt (now u)) c.take_work.ensures.work c.in-Ok.ensures.meets in
+    stored_step world s c.store_commit.new.session em m named c.requires.active (now u) c.store_commit.result done c.in-Ok.ensures.unlocked
+    (c.store_commit.ensures.stores (machine_of s) (committing s _ m c.requires.serving (ap is_begun_status c.requires.active) working))
 
-pub returns-in-Ok-clause-plain : goal.returns-in-Ok-clause-plain
-returns-in-Ok-clause-plain g c =
+pub returns-in-Ok-clause-settled : goal.returns-in-Ok-clause-settled
+returns-in-Ok-clause-settled g c =
     let s = c.args.session.now in
-    let m = c.args.manager in
     let u = c.flush.new.work in
     let working = still_working c.take_work.new.session u c.take_work.ensures.working c.flush.ensures.since in
-    stored_plain m (now u) c.store_commit.result (c.requires.serving).plain c.in-Ok.ensures.plain
-    (c.store_commit.ensures.stores (machine_of s) working (c.requires.serving).one (begun_active s m c.requires.within c.requires.active))
+    c.store_commit.ensures.settled (machine_of s) (committing s _ c.args.manager c.requires.serving (ap is_begun_status c.requires.active) working)
 
 pub returns-in-Ok-clause-holds : goal.returns-in-Ok-clause-holds
 returns-in-Ok-clause-holds g c = λ clean.
     let s = c.args.session.now in
-    let m = c.args.manager in
     let u = c.flush.new.work in
     let working = still_working c.take_work.new.session u c.take_work.ensures.working c.flush.ensures.since in
-    let view = c.in-Ok.ensures.view ∙ ap (λ (changes : Changes (Identity × Stored)). put_all c.in-Ok.written changes.now) c.take_work.ensures.view ∙ ap (λ ws. put_all ws s.work.view.now) (sym c.as_slice.ensures) in
-    c.store_commit.ensures.holds (machine_of s) working (c.requires.serving).one (begun_active s m c.requires.within c.requires.active) view (c.requires.holds (c.store_commit.ensures.was_clean clean))
-
-pub returns-in-Err-clause-crash : goal.returns-in-Err-clause-crash
-returns-in-Err-clause-crash g c = λ em named clean.
-    let rows = c.args.rows.now in
-    g.R.RowSource.wider rows rows _ _ (λ left none. absurd none) (g.met.R.RowSource.still rows)
+    c.store_commit.ensures.holds (machine_of s) (committing s _ c.args.manager c.requires.serving (ap is_begun_status c.requires.active) working) (c.requires.holds (c.store_commit.ensures.was_clean clean))
 
 pub returns-in-Ok-clause-crash : goal.returns-in-Ok-clause-crash
 returns-in-Ok-clause-crash g c = λ em named clean.
@@ -140,23 +179,13 @@ returns-in-Ok-clause-crash g c = λ em named clean.
     let world = world_of g.B.Behaviour.meaning c.args.metamodel.now c.args.registry.now in
     let rows = c.args.rows.now in
     let u = c.flush.new.work in
-    let written = c.as_slice.result.now in
-    let working = still_working c.take_work.new.session u c.take_work.ensures.working c.flush.ensures.since in
-    let done = subst (λ (v : Work). flush world v ≡ Done tt (now u)) c.take_work.ensures.work c.in-Ok.ensures.ends in
-    let seen : (since u).view ≡ s.work.view.now = ap (λ (x : Since). x.view) working.since in
-    let view = c.in-Ok.ensures.view ∙ ap (λ (changes : Changes (Identity × Stored)). put_all c.in-Ok.written changes.now) c.take_work.ensures.view ∙ ap (λ ws. put_all ws s.work.view.now) (sym c.as_slice.ensures) in
-    let held = subst (g.R.RowSource.holds rows) (λ i. rows_of world (sym seen i) (sym working.stored i)) (c.requires.holds (c.store_commit.ensures.was_clean clean)) in
-    let made : rows_of world (put_all written (since u).view) (now u).numbers ≡ rows_made world (machine_of s) (Call.Commit em) =
-    ap (λ (set : StoredSet). rows_of world set (now u).numbers) (ap (put_all written) seen ∙ sym view)
-    ∙ sym (made_by world s em m named c.requires.within c.requires.active (now u) done c.in-Ok.ensures.plain) in
+    let away = (still_working c.take_work.new.session u c.take_work.ensures.working c.flush.ensures.since).away in
+    let shown = away.shown ∙ begun_there s m ∙ ap is_begun_status c.requires.active in
+    let done = subst (λ (v : Work). flush world v ≡ Done tt (now u)) c.take_work.ensures.work c.in-Ok.ensures.meets in
+    let held = subst (g.R.RowSource.holds rows) (λ i. rows_of world (sym away.committed i) (sym away.stored i)) (c.requires.holds (c.store_commit.ensures.was_clean clean)) in
+    let made : rows_of world (u.view).seen u.numbers.now ≡ rows_made world (machine_of s) (Call.Commit em) =
+    ap (λ b. rows_of world (if b then (u.view).seen else (u.view).committed) u.numbers.now) (sym shown) ∙ made_by world s em m named c.requires.active (now u) done c.in-Ok.ensures.unlocked in
     subst (λ (stood : Rows). g.R.RowSource.endures rows c.store_commit.new.rows (λ left. left ≡ stood)) made (c.store_commit.ensures.crash held)
-
-pub returns-in-Err-clause-counted : goal.returns-in-Err-clause-counted
-returns-in-Err-clause-counted g c = λ em named.
-    let u = c.flush.new.work in
-    let working = still_working c.take_work.new.session u c.take_work.ensures.working c.flush.ensures.since in
-    let M = machine_of c.args.session.now in
-    not_accepted _ M (machine_of c.refuse_commit.new.session) c.args.manager u.events c.in-Err.cause c.refuse_commit.result (c.refuse_commit.ensures.refuses M working)
 
 pub returns-in-Ok-clause-counted : goal.returns-in-Ok-clause-counted
 returns-in-Ok-clause-counted g c = λ em named.
@@ -164,19 +193,13 @@ returns-in-Ok-clause-counted g c = λ em named.
     let m = c.args.manager in
     let world = world_of g.B.Behaviour.meaning c.args.metamodel.now c.args.registry.now in
     let u = c.flush.new.work in
-    let written = c.as_slice.result.now in
-    let working = still_working c.take_work.new.session u c.take_work.ensures.working c.flush.ensures.since in
-    let done = subst (λ (v : Work). flush world v ≡ Done tt (now u)) c.take_work.ensures.work c.in-Ok.ensures.ends in
-    let seen : (since u).view ≡ s.work.view.now = ap (λ (x : Since). x.view) working.since in
-    let view = c.in-Ok.ensures.view ∙ ap (λ (changes : Changes (Identity × Stored)). put_all c.in-Ok.written changes.now) c.take_work.ensures.view ∙ ap (λ ws. put_all ws s.work.view.now) (sym c.as_slice.ensures) in
-    let made : rows_of world (put_all written (since u).view) (now u).numbers ≡ rows_made world (machine_of s) (Call.Commit em) =
-    ap (λ (set : StoredSet). rows_of world set (now u).numbers) (ap (put_all written) seen ∙ sym view)
-    ∙ sym (made_by world s em m named c.requires.within c.requires.active (now u) done c.in-Ok.ensures.plain) in
+    let away = (still_working c.take_work.new.session u c.take_work.ensures.working c.flush.ensures.since).away in
+    let shown = away.shown ∙ begun_there s m ∙ ap is_begun_status c.requires.active in
+    let done = subst (λ (v : Work). flush world v ≡ Done tt (now u)) c.take_work.ensures.work c.in-Ok.ensures.meets in
+    let made : rows_of world (u.view).seen u.numbers.now ≡ rows_made world (machine_of s) (Call.Commit em) =
+    ap (λ b. rows_of world (if b then (u.view).seen else (u.view).committed) u.numbers.now) (sym shown) ∙ made_by world s em m named c.requires.active (now u) done c.in-Ok.ensures.unlocked in
     subst (λ (p : Rows × Rows). OnOk c.store_commit.result.answer (RunsDifference p.0 p.1 (g.R.RowSource.writes c.args.rows.now) (g.R.RowSource.writes c.store_commit.new.rows)))
-    (λ i. (rows_of world (seen i) (working.stored i), made i)) c.store_commit.ensures.counted
-
-pub returns-in-Err-clause-bounded : goal.returns-in-Err-clause-bounded
-returns-in-Err-clause-bounded g c = λ em named refused. inl refl
+    (λ i. (rows_of world (away.committed i) (away.stored i), made i)) c.store_commit.ensures.counted
 
 pub returns-in-Ok-clause-bounded : goal.returns-in-Ok-clause-bounded
 returns-in-Ok-clause-bounded g c = λ em named refused.
@@ -185,19 +208,13 @@ returns-in-Ok-clause-bounded g c = λ em named refused.
     let world = world_of g.B.Behaviour.meaning c.args.metamodel.now c.args.registry.now in
     let rows = c.args.rows.now in
     let u = c.flush.new.work in
-    let written = c.as_slice.result.now in
-    let working = still_working c.take_work.new.session u c.take_work.ensures.working c.flush.ensures.since in
-    let done = subst (λ (v : Work). flush world v ≡ Done tt (now u)) c.take_work.ensures.work c.in-Ok.ensures.ends in
-    let seen : (since u).view ≡ s.work.view.now = ap (λ (x : Since). x.view) working.since in
-    let view = c.in-Ok.ensures.view ∙ ap (λ (changes : Changes (Identity × Stored)). put_all c.in-Ok.written changes.now) c.take_work.ensures.view ∙ ap (λ ws. put_all ws s.work.view.now) (sym c.as_slice.ensures) in
-    let made : rows_of world (put_all written (since u).view) (now u).numbers ≡ rows_made world (machine_of s) (Call.Commit em) =
-    ap (λ (set : StoredSet). rows_of world set (now u).numbers) (ap (put_all written) seen ∙ sym view)
-    ∙ sym (made_by world s em m named c.requires.within c.requires.active (now u) done c.in-Ok.ensures.plain) in
+    let away = (still_working c.take_work.new.session u c.take_work.ensures.working c.flush.ensures.since).away in
+    let shown = away.shown ∙ begun_there s m ∙ ap is_begun_status c.requires.active in
+    let done = subst (λ (v : Work). flush world v ≡ Done tt (now u)) c.take_work.ensures.work c.in-Ok.ensures.meets in
+    let made : rows_of world (u.view).seen u.numbers.now ≡ rows_made world (machine_of s) (Call.Commit em) =
+    ap (λ b. rows_of world (if b then (u.view).seen else (u.view).committed) u.numbers.now) (sym shown) ∙ made_by world s em m named c.requires.active (now u) done c.in-Ok.ensures.unlocked in
     subst (λ (p : Rows × Rows). (c.store_commit.new.rows ≡ rows) ⊎ RunsAtMost p.0 p.1 (g.R.RowSource.writes rows) (g.R.RowSource.writes c.store_commit.new.rows))
-    (λ i. (rows_of world (seen i) (working.stored i), made i)) (c.store_commit.ensures.bounded refused)
+    (λ i. (rows_of world (away.committed i) (away.stored i), made i)) (c.store_commit.ensures.bounded refused)
 
 pub returns-in-Ok-clause-refused : goal.returns-in-Ok-clause-refused
 returns-in-Ok-clause-refused g c = λ refused. inl (c.store_commit.ensures.refused refused)
-
-pub returns-in-Err-clause-refused : goal.returns-in-Err-clause-refused
-returns-in-Err-clause-refused g c = λ refused. inr refl

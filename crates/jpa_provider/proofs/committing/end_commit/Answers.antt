@@ -1,26 +1,64 @@
-use Rattle.std.proofs.Common.{◌≡◌, List, ap, ◌∙◌}
-use Rattle.std.specs.Prelude.{slice_set}
+use Rattle.std.proofs.Common.{◌≡◌, ◌<◌, false, List, length, refl, ap, sym, subst, ◌∙◌}
+use Rattle.std.specs.Prelude.{slice_set, All, if◌then◌else◌}
+use Rattle.std.specs.List.{filter}
 use Rattle.jpa_undo.specs.Undo.{Changes}
+use Rattle.jpa_open.specs.Opened.{Opened, with_committed, with_kept}
+use Rattle.jpa_heap.specs.declared.LiveObject.{LiveObject}
 use Rattle.jpa_context.specs.declared.Entry.{Entry}
+use Rattle.jpa_context.specs.Places.{without_removed}
+use Rattle.jpa_context.specs.Undo.{now}
 use Rattle.jpa_context.specs.Work.{Work}
 use Rattle.jpa_provider.specs.declared.session.EntityManager.{EntityManager}
 use Rattle.jpa_provider.specs.declared.session.Session.{Session}
 use Rattle.jpa_provider.specs.declared.session.Status.{Status}
-use Rattle.jpa_provider.specs.Serving.{manager_in}
+use Rattle.jpa_provider.specs.Machine.{is_gone}
+use Rattle.jpa_provider.specs.Serving.{manager_in, detached_all}
+use Rattle.jpa_provider.proofs.Counted.{counted_ended, own_begun}
 use Rattle.jpa_provider.proofs.Opened.{twice}
-use Rattle.jpa_provider.proofs.Commits.{committed_there}
+use Rattle.jpa_provider.proofs.Commits.{committed_there, committed_then, kept_then, detached_entries, gone_within}
 use Rattle.jpa_provider.proofs.committing.end_commit.Goals as goal
 
 pub returns-clause-ended : goal.returns-clause-ended
-returns-clause-ended c = λ M working one begun.
+returns-clause-ended c = λ M h.
     let s = c.args.session.now in
     let m = c.args.manager in
+    let u = s.work in
     let xs : List EntityManager = s.managers.items in
-    let kept : Changes Entry = c.keep.new.self.context in
-    let x : EntityManager = record (manager_in xs m) { context = kept } in
-    let t : Session = record { managers = c.set_status.new.managers; work = record c.keep.new.self { context = c.keep-2.new.self }; stored = c.args.next } in
-    let back : c.exchange.new.managers.items ≡ slice_set xs m x = c.exchange.ensures.managers in
+    let context : Changes Entry = c.keep.new.self.context in
+    let x : EntityManager = record (manager_in xs m) { context = context } in
+    let t : Session = record s { managers = c.set_status.new.managers; is_busy = false; work = record c.keep.new.self { context = c.keep-2.new.self }; stored = c.args.next } in
     let status : List EntityManager → List EntityManager = λ ys. slice_set ys m (record (manager_in ys m) { status = Status.Inactive }) in
     let same = c.keep.ensures.now in
-    committed_there M s t m kept working one begun c.requires.plain (c.set_status.ensures ∙ ap status back ∙ twice xs m x Status.Inactive c.requires.within)
-    (ap (λ (w : Work). w.context) same) (ap (λ (w : Work). w.objects) same) (ap (λ (w : Work). w.numbers) same) (ap (λ (w : Work). w.view) same) c.requires.next
+    let stay = ap (λ (w : Work). w.context) same ∙ c.leave_removed.ensures.now ∙ ap (λ (os : List LiveObject). without_removed os u.manager u.context.now) c.as_slice.ensures in
+    let gone = ap (λ (w : Work). w.objects) same ∙ c.detach_objects.ensures.now ∙ ap (λ ns. detached_all ns u.objects.now) c.requires.gone ∙ detached_entries (filter (is_gone (now u)) u.context.now) u.objects.now in
+    let view = ap (λ (v : Opened). v.committed) c.keep.ensures.view ∙ committed_then c.commit.new.self ∙ ap (λ (v : Opened). v.committed) c.commit.ensures
+    ∙ ap (λ b. if b then (u.view).seen else (u.view).committed) (sym c.requires.shown) in
+    committed_there M s t m context h c.requires.unlocked (c.set_status.ensures ∙ ap status c.exchange.ensures.managers ∙ twice xs m x Status.Inactive c.requires.within) stay gone
+    (ap (λ (w : Work). w.numbers) same) view c.requires.next
+
+pub detach_objects-requires : goal.detach_objects-requires
+detach_objects-requires c =
+    subst (λ ns. All (λ n. n < length c.args.session.now.work.objects.now) ns) (sym c.requires.gone) (gone_within (now c.args.session.now.work) (length c.args.session.now.work.objects.now) c.requires.entries)
+
+pub returns-clause-settled : goal.returns-clause-settled
+returns-clause-settled c = λ M h quiet.
+    let s = c.args.session.now in
+    let m = c.args.manager in
+    let u = s.work in
+    let xs : List EntityManager = s.managers.items in
+    let away = (h.working).away in
+    let context : Changes Entry = c.keep.new.self.context in
+    let x : EntityManager = record (manager_in xs m) { context = context } in
+    let t : Session = record s { managers = c.set_status.new.managers; is_busy = false; work = record c.keep.new.self { context = c.keep-2.new.self }; stored = c.args.next } in
+    let status : List EntityManager → List EntityManager = λ ys. slice_set ys m (record (manager_in ys m) { status = Status.Inactive }) in
+    let kept = c.keep.ensures.kept in
+    let done = c.commit.ensures in
+    let even : c.commit.new.self.seen ≡ c.commit.new.self.kept = ap (λ (v : Opened). v.seen) done ∙ sym (ap (λ (v : Opened). v.kept) done) in
+    record {
+      kept = record { objects = kept.objects; context = c.keep-2.ensures.since ∙ sym c.keep-2.ensures.now; numbers = kept.numbers; view = kept.view };
+      quiet = ap (λ (w : Work). w.events) c.keep.ensures.now ∙ quiet;
+      counted = counted_ended M M.committed (s.work.view).kept s t m (record x { status = Status.Inactive }) c.requires.within away.counted away.managers h.one h.begun (own_begun M s m away ∙ c.requires.shown) refl
+          (c.set_status.ensures ∙ ap status c.exchange.ensures.managers ∙ twice xs m x Status.Inactive c.requires.within) refl refl
+          (ap (λ (v : Opened). v.kept) c.keep.ensures.view ∙ kept_then c.commit.new.self even ∙ ap (λ (v : Opened). v.kept) done
+          ∙ sym (ap (λ (v : Opened). v.committed) c.keep.ensures.view ∙ committed_then c.commit.new.self ∙ ap (λ (v : Opened). v.committed) done));
+    }

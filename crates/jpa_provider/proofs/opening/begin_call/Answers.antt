@@ -1,29 +1,45 @@
-use Rattle.std.proofs.Common.{◌≡◌, false, List, refl, ap, sym, subst, ◌∙◌, length}
+use Rattle.std.proofs.Common.{◌≡◌, false, true, refl, ap, sym, subst, ◌∙◌}
 use Rattle.std.specs.Prelude.{Some}
-use Rattle.std.specs.List.{list_any}
 use Rattle.std.proofs.Math.Facts.{to_z-of_z}
 use Rattle.jpa_behaviour.specs.Registered.{world_of}
-use Rattle.jpa_heap.specs.Objects.{place_of}
 use Rattle.jpa_protocol.specs.declared.call.Call.{Call}
-use Rattle.jpa_provider.specs.declared.session.EntityManager.{EntityManager}
 use Rattle.jpa_provider.specs.declared.session.Session.{Session}
 use Rattle.jpa_provider.specs.declared.session.Status.{Status}
-use Rattle.jpa_provider.specs.Machine.{is_begun, has_transaction}
-use Rattle.jpa_provider.specs.Serving.{transaction_in, managers_of, manager_in, Serves}
-use Rattle.jpa_provider.proofs.Opened.{begin_begins}
+use Rattle.jpa_provider.specs.Serving.{is_begun_status, is_open_status, manager_in, named, Serves}
+use Rattle.jpa_provider.proofs.Counted.{counted_begun}
+use Rattle.jpa_provider.proofs.Opened.{begin_begins, begin_busy}
+use Rattle.jpa_provider.proofs.Worked.{named_open}
 use Rattle.jpa_provider.proofs.opening.begin_call.Goals as goal
 
 pub returns-clause-step : goal.returns-clause-step
 returns-clause-step g c =
     let world = world_of g.B.Behaviour.meaning c.args._metamodel.now c.args._registry.now in
     let s = c.args.session.now in
-    let set = s.work.view.now in
     let m = c.in-Some.manager in
-    let t : Session = record { managers = c.set_status.new.managers; work = s.work; stored = s.stored } in
-    let named : place_of (length s.managers.items) c.args.em ≡ Some m = ap (place_of (length s.managers.items)) (sym (to_z-of_z c.ranges.em)) ∙ sym c.in-Some.ensures.named in
-    let shut : is_begun (transaction_in (manager_in s.managers.items m).status set) ≡ false =
-    ap (λ (st : Status). is_begun (transaction_in st set)) (sym c.status_of.ensures) ∙ sym (c.is_open.ensures set) ∙ c.if-is_open.false in
-    let free : list_any has_transaction (managers_of set s.managers.items) ≡ false =
-    ap (λ (xs : List EntityManager). list_any has_transaction (managers_of set xs)) (sym c.as_slice.ensures.value) ∙ sym (c.is_busy.ensures set) ∙ c.if-is_busy.false in
+    let t : Session = record s { managers = c.set_status.new.managers; is_busy = true } in
+    let is : named s c.args.em ≡ Some m = ap (named s) (sym (to_z-of_z c.ranges.em)) ∙ sym c.in-Some.ensures.named in
+    let shut : is_begun_status (manager_in s.managers.items m).status ≡ false = ap is_begun_status (sym c.status_of.ensures) ∙ sym c.is_begun.ensures ∙ c.if-is_begun.false in
     subst (λ r. Serves world s (Call.Begin c.args.em) r t) (sym c.accepted.ensures)
-    (begin_begins world s t c.args.em m named c.in-Some.ensures.within shut free c.set_status.ensures refl refl)
+    (begin_begins world s t c.args.em m is shut (c.requires.settled).counted c.if-session.false c.set_status.ensures refl refl)
+
+pub returns-clause-settled : goal.returns-clause-settled
+returns-clause-settled g c =
+    let s = c.args.session.now in
+    let m = c.in-Some.manager in
+    let t : Session = record s { managers = c.set_status.new.managers; is_busy = true } in
+    let is : named s c.args.em ≡ Some m = ap (named s) (sym (to_z-of_z c.ranges.em)) ∙ sym c.in-Some.ensures.named in
+    let settled = c.requires.settled in
+    record {
+      kept = settled.kept;
+      quiet = settled.quiet;
+      counted = counted_begun s t m (record (manager_in s.managers.items m) { status = Status.Active }) c.in-Some.ensures.within settled.counted c.set_status.ensures (sym (named_open s c.args.em m is)) refl refl refl;
+    }
+
+pub returns-then-session-clause-step : goal.returns-then-session-clause-step
+returns-then-session-clause-step g c =
+    let world = world_of g.B.Behaviour.meaning c.args._metamodel.now c.args._registry.now in
+    let s = c.args.session.now in
+    let m = c.in-Some.manager in
+    let is : named s c.args.em ≡ Some m = ap (named s) (sym (to_z-of_z c.ranges.em)) ∙ sym c.in-Some.ensures.named in
+    let shut : is_begun_status (manager_in s.managers.items m).status ≡ false = ap is_begun_status (sym c.status_of.ensures) ∙ sym c.is_begun.ensures ∙ c.if-is_begun.false in
+    subst (λ r. Serves world s (Call.Begin c.args.em) r s) (sym c.because-then-session.ensures) (begin_busy world s c.args.em m is shut (c.requires.settled).counted c.if-session.true)

@@ -6,15 +6,15 @@ use Rattle.jpa_provider.specs.Provided.{rows_made}
 use Rattle.jpa_provider.specs.Routes.{is_commit}
 use Rattle.jpa_provider.specs.Serving.{machine_of}
 use Rattle.jpa_provider.proofs.Crashed.{either_way}
-use Rattle.jpa_provider.proofs.Serving.{serves_all, stores_all}
+use Rattle.jpa_provider.proofs.Serving.{serves_on, stores_all}
 use Rattle.jpa_provider.proofs.Still.{step_still}
 use Rattle.jpa_provider.proofs.Left.{step_left, step_undone, step_rises}
 use Rattle.jpa_provider.proofs.provider.serve.Goals as goal
 
 pub returns-clause-serving : goal.returns-clause-serving
 returns-clause-serving g c =
-    serves_all (world_of g.B.Behaviour.meaning c.args.metamodel.now c.args.registry.now) c.args.session.now c.served.new.session c.args.call c.served.result c.requires.serving c.hands_representable.ensures c.served.ensures.step
-    c.served.ensures.settled c.served.ensures.plain
+    serves_on (world_of g.B.Behaviour.meaning c.args.metamodel.now c.args.registry.now) c.args.session.now c.served.new.session c.args.call c.served.result c.requires.serving c.hands_representable.ensures c.served.ensures.step
+    c.served.ensures.settled
 
 pub returns-clause-holds : goal.returns-clause-holds
 returns-clause-holds g c = λ clean.

@@ -4,9 +4,10 @@ use Rattle.jpa_behaviour.specs.Behaviour.{World}
 use Rattle.jpa_behaviour.specs.Registered.{world_of}
 use Rattle.jpa_context.specs.Steps.{Op}
 use Rattle.jpa_protocol.specs.declared.reply.Answer.{Answer}
-use Rattle.jpa_provider.specs.Routes.{OfManager, OfObject, route, get_call, set_call, persist_call, find_call, get_reference_call}
+use Rattle.jpa_provider.specs.Routes.{OfManager, OfObject, route, get_call, set_call, persist_call, remove_call, refresh_call, detach_call, find_call, get_reference_call}
 use Rattle.jpa_protocol.specs.declared.call.Call.{Call}
-use Rattle.jpa_provider.specs.Provided.{rows_kept, rows_made, RunsAtMost}
+use Rattle.jpa_object_store.specs.Written.{RunsAtMost}
+use Rattle.jpa_provider.specs.Provided.{rows_kept, rows_made}
 use Rattle.jpa_provider.specs.Serving.{machine_of}
 use Rattle.jpa_provider.proofs.Serving.{entries_in}
 use Rattle.jpa_provider.proofs.provider.served.Goals as goal
@@ -69,3 +70,30 @@ returns-in-GetReference-clause-step g c =
 
 pub clear_call-requires-clause-entries : goal.clear_call-requires-clause-entries
 clear_call-requires-clause-entries g c = entries_in c.args.session.now (c.requires.serving).machine
+
+pub returns-in-Remove-clause-step : goal.returns-in-Remove-clause-step
+returns-in-Remove-clause-step g c =
+    let em = c.in-Remove.em in
+    let object = c.in-Remove.object in
+    let same : to_z w64 (of_z w64 em) ≡ em = search rules in
+    let named : to_z w64 (of_z w64 object) ≡ object = search rules in
+    c.worked-in-Remove.ensures.step c.args.call (ap route c.in-Remove.is ∙ (λ i. OfManager (sym same i) (λ world. remove_call world (sym named i))))
+
+pub returns-in-Refresh-clause-step : goal.returns-in-Refresh-clause-step
+returns-in-Refresh-clause-step g c =
+    let em = c.in-Refresh.em in
+    let object = c.in-Refresh.object in
+    let same : to_z w64 (of_z w64 em) ≡ em = search rules in
+    let named : to_z w64 (of_z w64 object) ≡ object = search rules in
+    c.worked-in-Refresh.ensures.step c.args.call (ap route c.in-Refresh.is ∙ (λ i. OfManager (sym same i) (λ world. refresh_call world (sym named i))))
+
+pub returns-in-Detach-clause-step : goal.returns-in-Detach-clause-step
+returns-in-Detach-clause-step g c =
+    let em = c.in-Detach.em in
+    let object = c.in-Detach.object in
+    let same : to_z w64 (of_z w64 em) ≡ em = search rules in
+    let named : to_z w64 (of_z w64 object) ≡ object = search rules in
+    c.worked-in-Detach.ensures.step c.args.call (ap route c.in-Detach.is ∙ (λ i. OfManager (sym same i) (λ world. detach_call world (sym named i))))
+
+pub close_call-requires-clause-entries : goal.close_call-requires-clause-entries
+close_call-requires-clause-entries g c = entries_in c.args.session.now (c.requires.serving).machine

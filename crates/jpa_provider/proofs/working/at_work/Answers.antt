@@ -1,22 +1,30 @@
-use Rattle.std.proofs.Common.{ap, sym, subst, ◌∙◌}
-use Rattle.jpa_value.specs.declared.value.Identity.{Identity}
-use Rattle.jpa_undo.specs.Undo.{Changes}
-use Rattle.jpa_stored.specs.declared.stored.Stored.{Stored}
+use Rattle.std.proofs.Common.{◌≡◌, true, ap, sym, subst, ◌∙◌}
+use Rattle.std.specs.Prelude.{◌==◌}
+use Rattle.jpa_stored.specs.Sets.{all_distinct}
+use Rattle.jpa_open.specs.Opened.{Opened}
 use Rattle.jpa_behaviour.specs.Registered.{world_of}
+use Rattle.jpa_context.specs.declared.Entry.{Entry}
 use Rattle.jpa_context.specs.Work.{Work}
 use Rattle.jpa_context.specs.Steps.{Meets}
 use Rattle.jpa_context.specs.Undo.{now, IsPlaced}
 use Rattle.jpa_provider.specs.Machine.{work_of}
 use Rattle.jpa_provider.specs.Operations.{operation_of}
 use Rattle.jpa_provider.specs.Serving.{machine_of}
+use Rattle.jpa_provider.proofs.Active.{objects_once}
 use Rattle.jpa_provider.proofs.AtWork.{work_placed}
 use Rattle.jpa_provider.proofs.Told.{no_fault}
-use Rattle.jpa_provider.proofs.Worked.{still_working, ends_so}
+use Rattle.jpa_provider.proofs.Worked.{still_away, still_working, on_err, ends_so}
 use Rattle.jpa_provider.proofs.working.at_work.Goals as goal
 
 pub operate-answered-requires-clause-placed : goal.operate-answered-requires-clause-placed
 operate-answered-requires-clause-placed g c =
     subst (IsPlaced c.args.metamodel.now) (sym c.take_work.ensures.work) (work_placed c.args.manager (c.requires.serving).machine)
+
+pub operate-answered-requires-clause-distinct : goal.operate-answered-requires-clause-distinct
+operate-answered-requires-clause-distinct g c =
+    let world = world_of g.B.Behaviour.meaning c.args.metamodel.now c.args.registry.now in
+    subst (λ (w : Work). all_distinct (λ (a b : Entry). a.object == b.object) w.context ≡ true) (sym c.take_work.ensures.work)
+    (objects_once world c.args.session.now c.args.manager c.requires.serving)
 
 pub returns-clause-ends : goal.returns-clause-ends
 returns-clause-ends g c =
@@ -25,10 +33,19 @@ returns-clause-ends g c =
     let world = world_of g.B.Behaviour.meaning c.args.metamodel.now c.args.registry.now in
     let op = operation_of c.args.operation world in
     let done = c.operate-answered in
-    let working = still_working c.take_work.new.session done.new.work c.take_work.ensures.working done.ensures.since in
+    let s = c.take_work.new.session in
+    let away = still_away s done.new.work (c.take_work.ensures.working).away (ap (λ (w : Opened). w.kept) done.ensures.view) (ap (λ (w : Opened). w.committed) done.ensures.view) (ap (λ (w : Opened). w.is_shown) done.ensures.view) in
+    let working = on_err done.result (still_working s done.new.work c.take_work.ensures.working) done.ensures.since in
     let met = subst (λ (w : Work). Meets done.result (now done.new.work) (op w)) c.take_work.ensures.work done.ensures.meets in
     ends_so c.args.rule M (machine_of c.conclude.new.session) m (op (work_of M m)) done.result (now done.new.work) c.conclude.result met
-    (c.conclude.ensures.concludes M working (ap (λ (v : Changes (Identity × Stored)). v.now) (done.ensures.view ∙ c.take_work.ensures.view)))
+    (c.conclude.ensures.concludes M (c.requires.serving).one away working)
+
+pub returns-clause-settled : goal.returns-clause-settled
+returns-clause-settled g c =
+    let done = c.operate-answered in
+    let s = c.take_work.new.session in
+    c.conclude.ensures.settled (machine_of c.args.session.now)
+    (still_away s done.new.work (c.take_work.ensures.working).away (ap (λ (w : Opened). w.kept) done.ensures.view) (ap (λ (w : Opened). w.committed) done.ensures.view) (ap (λ (w : Opened). w.is_shown) done.ensures.view))
 
 pub returns-clause-untold : goal.returns-clause-untold
 returns-clause-untold g c =

@@ -1,9 +1,9 @@
-use Rattle.std.proofs.Common.{◌≡◌, length, ap, sym, ◌∙◌}
+use Rattle.std.proofs.Common.{◌≡◌, ap, sym, ◌∙◌}
 use Rattle.std.specs.Prelude.{Some}
 use Rattle.std.proofs.Math.Facts.{to_z-of_z}
 use Rattle.jpa_behaviour.specs.Registered.{world_of}
-use Rattle.jpa_heap.specs.Objects.{place_of}
 use Rattle.jpa_provider.specs.Operations.{operation_of}
+use Rattle.jpa_provider.specs.Serving.{named}
 use Rattle.jpa_provider.proofs.Routed.{worked_so}
 use Rattle.jpa_provider.proofs.working.worked.Goals as goal
 
@@ -12,5 +12,5 @@ returns-clause-step g c = λ call e.
     let s = c.args.session.now in
     let world = world_of g.B.Behaviour.meaning c.args.metamodel.now c.args.registry.now in
     let m = c.in-Some.manager in
-    let named : place_of (length s.managers.items) c.args.em ≡ Some m = ap (place_of (length s.managers.items)) (sym (to_z-of_z c.ranges.em)) ∙ sym c.in-Some.ensures.named in
-    worked_so world s c.args.em (operation_of c.args.operation) call e c.at_work.new.session m c.at_work.result named c.in-Some.ensures.within c.at_work.ensures.ends
+    let is : named s c.args.em ≡ Some m = ap (named s) (sym (to_z-of_z c.ranges.em)) ∙ sym c.in-Some.ensures.named in
+    worked_so world s c.args.em (operation_of c.args.operation) call e c.at_work.new.session m c.at_work.result is c.at_work.ensures.ends

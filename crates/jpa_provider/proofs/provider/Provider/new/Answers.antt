@@ -1,5 +1,6 @@
-use Rattle.std.proofs.Common.{◌≡◌, sym, subst, ◌∙◌}
+use Rattle.std.proofs.Common.{◌≡◌, ap, sym, subst, ◌∙◌}
 use Rattle.jpa_behaviour.specs.Registered.{world_of}
+use Rattle.jpa_open.specs.Opened.{unwritten}
 use Rattle.jpa_object_rows.specs.Sets.{rows_of}
 use Rattle.jpa_provider.specs.Machine.{Machine, opened}
 use Rattle.jpa_provider.specs.Serving.{machine_of}
@@ -13,9 +14,15 @@ invariant_of-result g c =
     let world = world_of g.B.Behaviour.meaning m c.args.registry in
     let s = c.opened-session.result in
     let numbers = c.in-Ok.ensures in
-    let e : machine_of s ≡ opened c.args.committed c.args.numbers = c.opened-session.ensures.machine (numbers.0 ∙ c.as_slice.ensures) in
+    let view : c.in-Ok-new.view ≡ unwritten c.args.committed = c.in-Ok-new.ensures.opened ∙ ap unwritten c.into_entries.ensures.all in
+    let e : machine_of s ≡ opened c.args.committed c.args.numbers = c.opened-session.ensures.machine c.args.committed view (numbers.0 ∙ c.as_slice.ensures) in
     record {
-      serving = opened_serving world s c.args.committed c.args.numbers (flat_of m c.requires.served) (c.laws.ensures.regular m) c.requires.held e (c.opened-session.ensures.settled (numbers.1 ∙ sym numbers.0));
+      serving = opened_serving world s c.args.committed c.args.numbers (flat_of m c.unit.ensures.described c.requires.served) (c.laws.ensures.regular m) c.requires.held e (c.opened-session.ensures.settled c.args.committed view (numbers.1 ∙ sym numbers.0));
       schema = c.requires.schema;
       holds = λ clean. subst (λ (M : Machine). g.R.RowSource.holds c.args.rows (rows_of world M.committed M.stored_numbers)) (sym e) (c.requires.holds clean);
     }
+
+pub returns-clause-machine : goal.returns-clause-machine
+returns-clause-machine g c =
+    let numbers = c.in-Ok.ensures in
+    c.opened-session.ensures.machine c.args.committed (c.in-Ok-new.ensures.opened ∙ ap unwritten c.into_entries.ensures.all) (numbers.0 ∙ c.as_slice.ensures)

@@ -1,0 +1,88 @@
+use Rattle.std.proofs.Common.{◌≡◌, false, true, ap, sym, subst, ◌∙◌}
+use Rattle.std.specs.Prelude.{All, T, Some}
+use Rattle.std.specs.FinMap.Entries.{is_sorted}
+use Rattle.std.proofs.Math.Facts.{to_z-of_z}
+use Rattle.jpa_value.specs.Value.{identity_cmp}
+use Rattle.jpa_behaviour.specs.Registered.{world_of}
+use Rattle.jpa_stored.specs.Sets.{IsSound}
+use Rattle.jpa_context.specs.declared.Entry.{Entry}
+use Rattle.jpa_context.specs.declared.Lock.{Lock}
+use Rattle.jpa_context.specs.Work.{Work}
+use Rattle.jpa_context.specs.Steps.{Meets}
+use Rattle.jpa_context.specs.Undo.{now, IsPlaced}
+use Rattle.jpa_flush.specs.Names.{has_distinct_entries}
+use Rattle.jpa_protocol.specs.declared.call.Call.{Call}
+use Rattle.jpa_provider.specs.declared.replies.Rule.{Rule}
+use Rattle.jpa_provider.specs.Machine.{work_of}
+use Rattle.jpa_provider.specs.Routes.{flush_call}
+use Rattle.jpa_provider.specs.Serving.{machine_of, manager_in, is_begun_status, named, Serves}
+use Rattle.jpa_provider.proofs.Active.{entries_apart, view_sound, view_rises}
+use Rattle.jpa_provider.proofs.AtWork.{work_placed}
+use Rattle.jpa_provider.proofs.Routed.{flush_idle, flush_so}
+use Rattle.jpa_provider.proofs.Sessions.{begun_there}
+use Rattle.jpa_provider.proofs.Told.{no_fault}
+use Rattle.jpa_provider.proofs.Worked.{still_working, if_refused, ends_so}
+use Rattle.jpa_provider.proofs.flushing.flush_call.Goals as goal
+
+pub flush_work-answered-requires-clause-placed : goal.flush_work-answered-requires-clause-placed
+flush_work-answered-requires-clause-placed g c = subst (IsPlaced c.args.metamodel.now) (sym c.take_work.ensures.work) (work_placed c.in-Some.manager (c.requires.serving).machine)
+
+pub flush_work-answered-requires-clause-unlocked : goal.flush_work-answered-requires-clause-unlocked
+flush_work-answered-requires-clause-unlocked g c =
+    subst (λ (v : Work). All (λ (e : Entry). e.lock ≡ Lock.Unlocked) v.context) (sym c.take_work.ensures.work) ((c.requires.serving).unlocked c.in-Some.manager)
+
+pub flush_work-answered-requires-clause-shown : goal.flush_work-answered-requires-clause-shown
+flush_work-answered-requires-clause-shown g c =
+    let begun : is_begun_status (manager_in c.args.session.now.managers.items c.in-Some.manager).status ≡ true = ap is_begun_status (sym c.status_of.ensures) ∙ sym c.is_begun.ensures ∙ c.if-not-is_begun.false in
+    ((c.take_work.ensures.working).away).shown ∙ begun_there c.args.session.now c.in-Some.manager ∙ begun
+
+pub flush_work-answered-requires-clause-sound : goal.flush_work-answered-requires-clause-sound
+flush_work-answered-requires-clause-sound g c =
+    let world = world_of g.B.Behaviour.meaning c.args.metamodel.now c.args.registry.now in
+    subst (λ (v : Work). IsSound c.args.metamodel.now v.view) (sym c.take_work.ensures.work) (view_sound world c.args.session.now c.in-Some.manager c.requires.serving)
+
+pub flush_work-answered-requires-clause-rising : goal.flush_work-answered-requires-clause-rising
+flush_work-answered-requires-clause-rising g c =
+    let world = world_of g.B.Behaviour.meaning c.args.metamodel.now c.args.registry.now in
+    subst (λ (v : Work). T (is_sorted identity_cmp v.view)) (sym c.take_work.ensures.work) (view_rises world c.args.session.now c.in-Some.manager c.requires.serving)
+
+pub flush_work-answered-requires-clause-distinct : goal.flush_work-answered-requires-clause-distinct
+flush_work-answered-requires-clause-distinct g c =
+    let world = world_of g.B.Behaviour.meaning c.args.metamodel.now c.args.registry.now in
+    subst (λ (v : Work). has_distinct_entries c.args.metamodel.now v ≡ true) (sym c.take_work.ensures.work) (entries_apart world c.args.session.now c.in-Some.manager c.requires.serving)
+
+pub returns-clause-step : goal.returns-clause-step
+returns-clause-step g c =
+    let s = c.args.session.now in
+    let M = machine_of s in
+    let m = c.in-Some.manager in
+    let world = world_of g.B.Behaviour.meaning c.args.metamodel.now c.args.registry.now in
+    let done = c.flush_work-answered in
+    let is : named s c.args.em ≡ Some m = ap (named s) (sym (to_z-of_z c.ranges.em)) ∙ sym c.in-Some.ensures.named in
+    let begun : is_begun_status (manager_in s.managers.items m).status ≡ true = ap is_begun_status (sym c.status_of.ensures) ∙ sym c.is_begun.ensures ∙ c.if-not-is_begun.false in
+    let working = still_working c.take_work.new.session done.new.work c.take_work.ensures.working done.ensures.since in
+    let met = subst (λ (w : Work). Meets done.result (now done.new.work) (flush_call world w)) c.take_work.ensures.work done.ensures.meets in
+    flush_so world s c.args.em c.conclude.new.session m c.conclude.result is begun
+    (ends_so Rule.OfManager M (machine_of c.conclude.new.session) m (flush_call world (work_of M m)) done.result (now done.new.work) c.conclude.result met
+    (c.conclude.ensures.concludes M (c.requires.serving).one working.away (if_refused done.result working)))
+
+pub returns-clause-settled : goal.returns-clause-settled
+returns-clause-settled g c =
+    let done = c.flush_work-answered in
+    let working = still_working c.take_work.new.session done.new.work c.take_work.ensures.working done.ensures.since in
+    c.conclude.ensures.settled (machine_of c.args.session.now) working.away
+
+pub returns-clause-untold : goal.returns-clause-untold
+returns-clause-untold g c =
+    let world = world_of g.B.Behaviour.meaning c.args.metamodel.now c.args.registry.now in
+    let done = c.flush_work-answered in
+    c.conclude.ensures.untold (no_fault done.result (now done.new.work) (flush_call world (now c.take_work.new.session.work)) done.ensures.meets)
+
+pub returns-then-not-is_begun-clause-step : goal.returns-then-not-is_begun-clause-step
+returns-then-not-is_begun-clause-step g c =
+    let s = c.args.session.now in
+    let m = c.in-Some.manager in
+    let world = world_of g.B.Behaviour.meaning c.args.metamodel.now c.args.registry.now in
+    let is : named s c.args.em ≡ Some m = ap (named s) (sym (to_z-of_z c.ranges.em)) ∙ sym c.in-Some.ensures.named in
+    let idle : is_begun_status (manager_in s.managers.items m).status ≡ false = ap is_begun_status (sym c.status_of.ensures) ∙ sym c.is_begun.ensures ∙ c.if-not-is_begun.true in
+    subst (λ r. Serves world s (Call.Flush c.args.em) r s) (sym c.because-then-not-is_begun.ensures) (flush_idle world s c.args.em m is idle)

@@ -1,0 +1,75 @@
+//! The call flush (Jakarta Persistence 3.1, chapter 3.2.4).
+ghost use Rattle.std.specs.Prelude.{◌≡◌, All, T, false, true};
+ghost use Rattle.std.specs.FinMap.Entries.{is_sorted};
+ghost use Rattle.jpa_behaviour.specs.Registered.{world_of};
+ghost use Rattle.jpa_context.specs.Steps.{Meets};
+ghost use Rattle.jpa_context.specs.Undo.{now, since, IsPlaced};
+ghost use Rattle.jpa_context.specs.declared.Lock.{Lock};
+ghost use Rattle.jpa_flush.specs.Names.{has_distinct_entries};
+ghost use Rattle.jpa_lifecycle.specs.Flat.{IsFlat};
+ghost use Rattle.jpa_protocol.specs.declared.call.Call.{Call};
+ghost use Rattle.jpa_provider.specs.Faults.{tells_fault};
+ghost use Rattle.jpa_provider.specs.Routes as routes;
+ghost use Rattle.jpa_stored.specs.Sets.{IsSound};
+ghost use Rattle.jpa_value.specs.Value.{identity_cmp};
+ghost use Rattle.jpa_provider.specs.Serving.{IsServing, IsSettled, Serves};
+
+use crate::at_work::{conclude, manager_named, take_work};
+use crate::replies::{Rule, because};
+use crate::session::{Session, status_of};
+use jpa_behaviour::{Behaviour, Registry};
+use jpa_context::UnitOfWork;
+use jpa_flush::flush;
+use jpa_model::Metamodel;
+use jpa_protocol::{Answer, Reply};
+use jpa_value::Cause;
+use std::alloc::Global;
+
+/// The flush of a manager at work, and its answer. Refused as the flush is.
+fn flush_work<B: Behaviour>(
+    alloc: Global,
+    metamodel: &Metamodel,
+    registry: &Registry<B>,
+    work: &mut UnitOfWork,
+) -> Result<Answer, Cause>
+    requires flat { IsFlat metamodel.now }
+    requires placed { IsPlaced metamodel.now (now work.old) }
+    requires unlocked { All (λ e. e.lock ≡ Lock.Unlocked) (now work.old).context }
+    requires shown { work.old.view.is_shown ≡ true }
+    requires sound { IsSound metamodel.now (now work.old).view }
+    requires rising { T (is_sorted identity_cmp (now work.old).view) }
+    requires distinct { has_distinct_entries metamodel.now (now work.old) ≡ true }
+    ensures meets { Meets result (now work.new)
+        (routes.flush_call (world_of B.meaning metamodel.now registry.now) (now work.old)) }
+    ensures since { since work.new ≡ since work.old }
+{
+    flush(alloc, metamodel, registry, work)?;
+    Ok(Answer::Null)
+}
+
+/// The call flush: what the manager's objects differ in is written to the set that its transaction sees, and to no store.
+/// `TransactionRequired` where none is open.
+#[tactic(auto, using(crate::proofs::Routed::flush_alone))]
+pub(crate) fn flush_call<B: Behaviour>(
+    alloc: Global,
+    metamodel: &Metamodel,
+    registry: &Registry<B>,
+    session: &mut Session,
+    em: i64,
+) -> Reply
+    requires serving { IsServing (world_of B.meaning metamodel.now registry.now) session.old }
+    ensures step { Serves (world_of B.meaning metamodel.now registry.now) session.old
+        (Call.Flush em) result session.new }
+    ensures untold { tells_fault result ≡ false }
+    ensures settled { IsSettled session.new }
+{
+    let Some(manager) = manager_named(session, em) else {
+        return because(alloc, Cause::NoSuchManager);
+    };
+    if !status_of(&session.managers, manager).is_begun() {
+        return because(alloc, Cause::TransactionRequired);
+    }
+    take_work(session, manager);
+    let answered = flush_work(alloc, metamodel, registry, &mut session.work);
+    conclude(alloc, session, manager, answered, Rule::OfManager)
+}
