@@ -1,0 +1,14 @@
+use Rattle.std.proofs.Common.{rules, ◌≡◌, ◌∙◌, ap, sym, List, map}
+use Rattle.jpql_eval.specs.declared.datum.Datum.{Datum}
+use Rattle.jpql_eval.specs.Seen.{seen}
+use Rattle.jpql_rows.specs.Keys.{data_cmp}
+use Rattle.jpql_rows.proofs.Keys.{by_seen}
+use Rattle.jpql_rows.proofs.key.KeyOrd.cmp.Goals as goal
+
+pub returns : goal.returns
+returns c =
+    let a = c.cmp.ensures in
+    let b = by_seen c.self.inside.data.items c.other.inside.data.items in
+    let d = c.self.view_is in
+    let f = c.other.view_is in
+    first_of (cc, search (rules, a, b, d, f))

@@ -1,0 +1,14 @@
+-- DISTINCT and ORDER BY of rows, as the meaning of a SELECT has them.
+use Rattle.std.specs.Prelude.{Bool, List, if◌then◌else◌}
+use Rattle.jpql_types.specs.declared.typed.TypedKey.{TypedKey}
+use Rattle.jpql_eval.specs.declared.datum.Datum.{Datum}
+use Rattle.jpql_eval.specs.Aggregates.{once}
+use Rattle.jpql_plan.specs.Laws.{is_same_row}
+use Rattle.jpql_plan.specs.Selection.{Row, in_order}
+use Rattle.jpql_rows.specs.Tables.{items_in}
+
+abbrev pub distinct : Bool → List Row → List Row
+distinct is_distinct rows = if is_distinct then once is_same_row rows else rows
+
+abbrev pub ordered : List TypedKey → Bool → List Row → List (List Datum)
+ordered keys is_distinct rows = items_in (in_order keys (distinct is_distinct rows))

@@ -1,0 +1,13 @@
+-- The rows of a table.
+use Rattle.std.specs.Prelude.{List, map}
+use Rattle.std.specs.Global.{Vec}
+use Rattle.jpql_eval.specs.declared.datum.Datum.{Datum}
+use Rattle.jpql_eval.specs.declared.seen.Seen.{Seen}
+use Rattle.jpql_eval.specs.Seen.{seen}
+use Rattle.jpql_plan.specs.Selection.{Row}
+
+abbrev pub rows_in : Vec (Vec Seen) → List (List Datum)
+rows_in table = map (λ (row : Vec Seen). map seen row.items) table.items
+
+abbrev pub items_in : List Row → List (List Datum)
+items_in rows = map (λ (r : Row). r.items) rows

@@ -1,0 +1,76 @@
+//! ORDER BY (chapter 4.9): nulls come first, DESC turns a key round, and rows that tie stay in their order.
+ghost use Rattle.std.specs.Prelude.{◌≡◌, map, IfOk};
+ghost use Rattle.jpql_eval.specs.Seen.{seen};
+ghost use Rattle.jpql_plan.specs.Selection as selection;
+
+use crate::row::Row;
+use jpql_eval::{Seen, order};
+use jpql_types::TypedKey;
+use std::alloc::AllocError;
+use std::cmp::Ordering;
+
+/// By one key.
+fn by_key<'a>(is_descending: bool, left: &Seen<'a>, right: &Seen<'a>) -> Ordering
+    ensures { result ≡ selection.by_key is_descending (seen left.now) (seen right.now) }
+{
+    if is_descending {
+        order(right, left)
+    } else {
+        order(left, right)
+    }
+}
+
+/// By the first of these; of none it is null.
+fn by_first<'a>(is_descending: bool, left: &[Seen<'a>], right: &[Seen<'a>]) -> Ordering
+    ensures { result ≡ selection.by_key is_descending (selection.first (map seen left.now))
+        (selection.first (map seen right.now)) }
+{
+    match (left, right) {
+        ([], []) => by_key(is_descending, &Seen::Null, &Seen::Null),
+        ([], [right, ..]) => by_key(is_descending, &Seen::Null, right),
+        ([left, ..], []) => by_key(is_descending, left, &Seen::Null),
+        ([left, ..], [right, ..]) => by_key(is_descending, left, right),
+    }
+}
+
+/// Those after the first.
+fn rest<'s, 'a>(data: &'s [Seen<'a>]) -> &'s [Seen<'a>]
+    ensures { map seen result.now ≡ selection.rest (map seen data.now) }
+{
+    match data {
+        [] => &[],
+        [_, rest @ ..] => rest,
+    }
+}
+
+/// Key by key.
+fn by_keys<'a>(keys: &[TypedKey], left: &[Seen<'a>], right: &[Seen<'a>]) -> Ordering
+    ensures { result ≡ selection.keys_cmp keys.now (map seen left.now) (map seen right.now) }
+{
+    let [key, others @ ..] = keys else {
+        return Ordering::Equal;
+    };
+    match by_first(key.is_descending, left, right) {
+        Ordering::Equal => by_keys(others, rest(left), rest(right)),
+        order => order,
+    }
+}
+
+/// Row by row.
+fn by_rows<'a>(keys: &[TypedKey], left: &Row<'a>, right: &Row<'a>) -> Ordering
+    ensures { result ≡ selection.keys_cmp keys.now left.now.keys right.now.keys }
+{
+    by_keys(keys, &left.keys, &right.keys)
+}
+
+/// The rows in the order of their keys.
+pub(crate) fn in_order<'a>(
+    keys: &[TypedKey],
+    rows: Vec<Row<'a>>,
+) -> Result<Vec<Row<'a>>, AllocError>
+    ensures { IfOk result (λ sorted. sorted.items ≡ selection.in_order keys.now rows.entry.items) }
+{
+    let mut sorted = rows;
+    sorted.sort_by(|left, right| by_rows(keys, left, right))?;
+    Ok(sorted)
+}
