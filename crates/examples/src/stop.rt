@@ -12,8 +12,6 @@ pub enum Stop {
     Form,
     /// A file can't be read, or nothing can be printed.
     Files,
-    /// What answers broke off.
-    Broken,
 }
 
 impl Stop {
@@ -23,7 +21,6 @@ impl Stop {
             Stop::Refused(cause) => cause.name(),
             Stop::Form => "an example has another form",
             Stop::Files => "a file can't be read",
-            Stop::Broken => "an example broke off",
         }
     }
 }

@@ -1,22 +1,15 @@
-//! Worked examples of mappings, calls and stores, and of whole runs over them (the docs of `examples` tell the form of their
-//! files).
+//! Worked examples of mappings and of stores at their opening (the docs of `examples` tell the form of their files). Whole runs
+//! are folders of `tests/runs`.
 //!
-//! The kinds are `run` (src/runs.rt), `store` (src/stores.rt), `mapping`, `members`, `limit` and `functions`
-//! (src/mappings.rt), `metamodel` (src/metamodels.rt) and `calls` (src/calls.rt).
+//! The kinds are `store` (src/stores.rt), and `mapping`, `members`, `limit` and `functions` (src/mappings.rt).
 #![tactic(auto)]
 
-mod calls;
 mod mappings;
-mod metamodels;
-mod runs;
 mod stores;
 mod texts;
 
-use calls::calls_answer;
 use examples::{Answers, Stop, Unit, tell};
 use mappings::{functions_answer, limit_answer, mapping_answer, members_answer};
-use metamodels::metamodel_answer;
-use runs::run_answer;
 use std::alloc::Global;
 use std::process::ExitCode;
 use stores::store_answer;
@@ -34,14 +27,11 @@ impl Answers for Program {
         given: &str,
     ) -> Result<String, Stop> {
         match kind {
-            "run" => run_answer(alloc, unit, rows, given),
             "store" => store_answer(alloc, unit, rows),
             "mapping" => mapping_answer(alloc, given),
             "members" => members_answer(alloc, rows, given),
             "limit" => limit_answer(alloc, given),
-            "metamodel" => metamodel_answer(alloc, rows, given),
             "functions" => functions_answer(alloc, given),
-            "calls" => calls_answer(alloc, given),
             _ => Err(Stop::Form),
         }
     }

@@ -1,5 +1,5 @@
-//! Runs of the program over a store in memory: input that ends anywhere, reads and writes that fail, and memory that is
-//! refused. What the worked examples answer is told by `jpa_examples`.
+//! Runs of the program over a store in memory: reads and writes that fail, and memory that is refused. Input that ends
+//! anywhere is tried over the built program (tests/input.py).
 ghost use Rattle.std.specs.Prelude.{◌≡◌};
 ghost use Rattle.jpa_cells_meaning.specs.Store.{IsOrderedIfFound};
 
@@ -47,34 +47,6 @@ const FIRST_CELLS: [&str; 4] = [
     "1, 018000000000000001, 1, 018000000000000000",
     "1, 018000000000000001, 2, 02416461",
 ];
-
-// ---- lines that are no calls
-
-const BAD_REPLIES: [&str; 4] = [
-    "{\"events\":[],\"ok\":1}",
-    "{\"error\":{\"name\":\"BadLine\",\"no\":3},\"events\":[]}",
-    "{\"error\":{\"name\":\"BadLine\",\"no\":3},\"events\":[]}",
-    "{\"error\":{\"name\":\"BadLine\",\"no\":3},\"events\":[]}",
-];
-
-// ---- a text of the greatest length, and one byte more
-
-const LENGTHS_REPLIES: [&str; 4] = [
-    "{\"events\":[],\"ok\":1}",
-    "{\"events\":[],\"ok\":{\"object\":1}}",
-    "{\"events\":[],\"ok\":null}",
-    "{\"error\":{\"name\":\"Limit\",\"no\":19},\"events\":[]}",
-];
-
-/// A call that names the first person by a text of so many letters.
-fn naming(alloc: Global, letters: usize) -> Result<Vec<u8>, AllocError> {
-    let mut line = Vec::new(alloc);
-    line.extend_from_slice(b"{\"call\":\"set\",\"object\":1,\"name\":\"name\",\"value\":\"")?;
-    let end = line.len().saturating_add(letters);
-    line.resize(end, b'a')?;
-    line.extend_from_slice(b"\"}\n")?;
-    Ok(line)
-}
 
 // ---- runs
 
@@ -130,15 +102,6 @@ fn run_over<R: Read, W: Write>(
     Ok((ended, cells))
 }
 
-/// What a run over the whole input writes, and the cells that it leaves.
-fn ran(alloc: Global, input: &[u8]) -> Result<(Vec<u8>, String), Fail> {
-    let mut reader = input;
-    let mut writer = Vec::with_capacity(alloc, 4096)?;
-    let (ended, cells) = run_over(alloc, &mut reader, &mut writer)?;
-    ended?;
-    Ok((writer, cells))
-}
-
 /// The lines, each with its line feed.
 fn joined(alloc: Global, lines: &[&str]) -> Result<String, AllocError> {
     let mut text = String::new(alloc);
@@ -149,58 +112,39 @@ fn joined(alloc: Global, lines: &[&str]) -> Result<String, AllocError> {
     Ok(text)
 }
 
-/// The run over the input writes the replies and leaves the cells.
-fn shows(
+// ---- the test
+
+/// The run over the whole input ends well and writes the replies; the statements that the store counts.
+fn see_run<S: Alter + Drop>(
     rt: &impl Abort,
     alloc: Global,
-    input: &[u8],
-    replies: &[&str],
-    cells: &[&str],
+    provider: &mut Provider<RowSpace<S>, ProgramFunctions>,
 ) -> Result<(), Fail> {
-    let (written, left) = ran(alloc, input)?;
-    assert_eq!(rt; written.as_slice(), joined(alloc, replies)?.as_bytes());
-    assert_eq!(rt; left.as_str(), joined(alloc, cells)?.as_str());
+    let input = joined(alloc, &FIRST_CALLS)?;
+    let mut writer = Vec::with_capacity(alloc, 4096)?;
+    run(alloc, &mut input.as_bytes(), &mut writer, provider)?;
+    assert_eq!(rt;
+        writer.as_slice(),
+        joined(alloc, &FIRST_REPLIES)?.as_bytes()
+    );
     Ok(())
 }
-
-// ---- the tests
 
 // The opening makes the table and looks at two tables; the commit writes two rows, the person and the next number.
 #[test]
-fn first_run_counts(rt: HostRuntime) -> Result<(), Fail> {
+fn first_run(rt: HostRuntime) -> Result<(), Fail> {
     let a = rt.alloc();
-    let input = joined(a, &FIRST_CALLS)?;
-    let mut writer = Vec::with_capacity(a, 4096)?;
     let mut provider = opened(a)?;
-    let ended = run(a, &mut input.as_bytes(), &mut writer, &mut provider);
+    let seen = see_run(&rt, a, &mut provider);
     let store = provider.into_rows().store;
-    let counts = [store.selects(), store.writes(), store.statements()];
-    drop(store);
-    ended?;
-    assert_eq!(rt; counts, [2u64, 6, 9]);
+    seen?;
+    assert_eq!(rt;
+        [store.selects(), store.writes(), store.statements()],
+        [2u64, 6, 9]
+    );
+    assert_eq!(rt;
+        cells_in(a, store.into_connection())?,
+        joined(a, &FIRST_CELLS)?
+    );
     Ok(())
-}
-
-#[test]
-fn lines_that_are_no_calls(rt: HostRuntime) -> Result<(), Fail> {
-    let a = rt.alloc();
-    let mut input = Vec::new(a);
-    input.extend_from_slice(b"{\"call\":\"createEntityManager\"}\n{\"call\":\"find\"\n")?;
-    input.push(255)?;
-    input.extend_from_slice(b"\n{\"call\":\"x\"}\n")?;
-    shows(&rt, a, input.as_slice(), &BAD_REPLIES, &[])
-}
-
-#[test]
-fn the_two_lengths_of_a_text(rt: HostRuntime) -> Result<(), Fail> {
-    let a = rt.alloc();
-    let mut input = Vec::new(a);
-    for line in &FIRST_CALLS[..2] {
-        input.extend_from_slice(line.as_bytes())?;
-        input.push(b'\n')?;
-    }
-    for letters in [65_535, 65_536] {
-        input.extend_from_slice(naming(a, letters)?.as_slice())?;
-    }
-    shows(&rt, a, input.as_slice(), &LENGTHS_REPLIES, &[])
 }

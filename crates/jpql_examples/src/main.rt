@@ -1,13 +1,11 @@
 //! Worked examples of queries (the docs of `examples` tell the form of their files).
 //!
-//! The kinds `query` and `repeated` (src/queries.rt) answer trees of texts, `typed` and `places` (src/typed.rt) what the
-//! mapping says of them, and those of src/parts.rt what single readers of the grammar make of a text. Each answers a line
-//! for each that is given; in a given line a backslash and two hexadecimal digits stand for a character (src/given.rt).
+//! The kinds `query` and `repeated` (src/queries.rt) answer trees of texts, and `typed` (src/typed.rt) what the mapping says of
+//! them. Each answers a line for each that is given; in a given line a backslash and two hexadecimal digits stand for a
+//! character (src/given.rt).
 #![tactic(auto)]
 
 mod given;
-mod parts;
-mod places;
 mod queries;
 mod shown;
 mod typed;
@@ -34,8 +32,7 @@ fn add_answer(
         "query" => queries::query_answers(alloc, given, out),
         "repeated" => queries::repeated_answer(alloc, rows, given, out),
         "typed" => typed::typed_answers(alloc, unit, rows, given, out),
-        "places" => places::places_answers(alloc, unit, rows, given, out),
-        _ => parts::part_answers(alloc, kind, rows, given, out),
+        _ => Err(Stop::Form),
     }
 }
 

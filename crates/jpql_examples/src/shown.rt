@@ -63,7 +63,7 @@ fn arithmetic(operation: Arithmetic) -> &'static str {
 }
 
 /// A word for what stands there.
-pub(crate) fn noted(out: &mut Writer, word: &str, is_there: bool) {
+fn noted(out: &mut Writer, word: &str, is_there: bool) {
     if is_there {
         out.add(word);
     }

@@ -20,7 +20,7 @@ fn sort(word: &str) -> Result<ParamType, Stop> {
 }
 
 /// The parameters on lines, each its name and what it is of.
-pub(crate) fn parameters(alloc: Global, rows: &str) -> Result<Seq<(Text, ParamType)>, Stop> {
+fn parameters(alloc: Global, rows: &str) -> Result<Seq<(Text, ParamType)>, Stop> {
     let mut parameters = Seq::new(alloc);
     for line in rows.lines() {
         let Some((name, word)) = line.split_once(' ') else {
@@ -33,7 +33,7 @@ pub(crate) fn parameters(alloc: Global, rows: &str) -> Result<Seq<(Text, ParamTy
 }
 
 /// The typed tree of a text, with these parameters.
-pub(crate) fn typed(
+fn typed(
     alloc: Global,
     metamodel: &Metamodel,
     parameters: &[(Text, ParamType)],

@@ -1,12 +1,10 @@
-//! Input that ends anywhere, and reads and writes that fail.
-use super::{FIRST_CALLS, FIRST_CELLS, FIRST_REPLIES, joined, ran, run_over};
+//! Reads and writes that fail.
+use super::{FIRST_CALLS, FIRST_CELLS, FIRST_REPLIES, joined, run_over};
 use jpa_lines::RunFault;
 use std::alloc::{AllocError, Global};
 use std::io;
 use std::io::{Read, Write};
 use std::test::Fail;
-
-const BAD_LINE: &str = "{\"error\":{\"name\":\"BadLine\",\"no\":3},\"events\":[]}";
 
 const NEVER: u64 = u64::MAX;
 
@@ -97,42 +95,6 @@ fn cells_after(alloc: Global, calls: usize) -> Result<String, AllocError> {
 }
 
 // ---- the tests
-
-// The text of the first run cut after each byte: its whole lines are answered, and what is left of a line is no call.
-#[test]
-fn cut_anywhere(rt: HostRuntime) -> Result<(), Fail> {
-    let a = rt.alloc();
-    let mut input = Vec::new(a);
-    for (number, line) in FIRST_CALLS.iter().enumerate() {
-        for (i, byte) in line.as_bytes().iter().enumerate() {
-            input.push(*byte)?;
-            let is_whole = i + 1 == line.len();
-            let answered = if is_whole { number + 1 } else { number };
-            let mut want = joined(a, &FIRST_REPLIES[..answered])?;
-            if !is_whole {
-                want.push_str(BAD_LINE)?;
-                want.push('\n')?;
-            }
-            let (written, cells) = ran(a, input.as_slice())?;
-            assert_eq!(rt; written.as_slice(), want.as_bytes());
-            assert_eq!(rt; cells, cells_after(a, answered)?);
-        }
-        input.push(b'\n')?;
-    }
-    Ok(())
-}
-
-// Byte by byte, the replies and the cells are the same.
-#[test]
-fn one_byte_at_a_time(rt: HostRuntime) -> Result<(), Fail> {
-    let a = rt.alloc();
-    let text = joined(a, &FIRST_CALLS)?;
-    let (ended, written, cells) = ran_with(a, text.as_bytes(), 1, (NEVER, NEVER))?;
-    assert_eq!(rt; ended, Ok(()));
-    assert_eq!(rt; written.as_slice(), joined(a, &FIRST_REPLIES)?.as_bytes());
-    assert_eq!(rt; cells, joined(a, &FIRST_CELLS)?);
-    Ok(())
-}
 
 // Each read fails in turn: the lines that were read are answered, and what was committed stands.
 #[test]

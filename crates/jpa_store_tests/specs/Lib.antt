@@ -1,0 +1,2 @@
+-- A change that tests make.
+pub mod Samples

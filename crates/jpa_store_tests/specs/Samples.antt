@@ -1,0 +1,7 @@
+-- The drop of person 1.
+use Rattle.std.specs.Prelude.{pos, None}
+use Rattle.jpa_rows.specs.declared.row.RowChange.{RowChange}
+use Rattle.jpa_rowspace.specs.Samples.{key}
+
+abbrev pub drops_person : RowChange
+drops_person = record { id = record { table = 1; key = key (pos 1) }; row = None }

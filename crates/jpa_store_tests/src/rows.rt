@@ -1,0 +1,328 @@
+//! Rows over cells, and changes over rows: example `removing-a-referenced-person`, person 1, to whom order 10 leads.
+ghost use Rattle.std.specs.Prelude.{◌≡◌, ◌∷◌, [], IfOk};
+ghost use Rattle.jpa_value.specs.declared.value.Kind.{Kind};
+ghost use Rattle.jpa_rows.specs.Tables as tables;
+ghost use Rattle.jpa_rowspace.specs.Samples as samples;
+ghost use Rattle.jpa_store_tests.specs.Samples.{drops_person};
+
+use crate::cells::{Changed, Line, ONE, apply, in_memory, shows};
+use jpa_overlay::Overlay;
+use jpa_rows::{
+    ColumnRule, Content, Field, Holds, Row, RowChange, RowId, RowSource, Schema, TableRule,
+};
+use jpa_rowspace::RowSpace;
+use jpa_value::{Cause, Key, Kind, Seq, TryCopy, Value, is_same_identity};
+use sqlite::{Alter, MemStore};
+use std::alloc::{AllocError, Global};
+use std::process::Abort;
+use std::test::Fail;
+
+const TEN: &[u8] = b"\x01\x80\x00\x00\x00\x00\x00\x00\x0a";
+
+/// The cells of the example.
+const WRITTEN: &[Changed] = &[
+    (0, ONE, &[(0, b"\x01\x80\x00\x00\x00\x00\x00\x00\x02")]),
+    (
+        1,
+        ONE,
+        &[
+            (0, b"\x02Person"),
+            (1, b"\x01\x80\x00\x00\x00\x00\x00\x00\x00"),
+        ],
+    ),
+    (
+        2,
+        TEN,
+        &[
+            (0, b"\x02Order"),
+            (2, b"\x04\x01\x80\x00\x00\x00\x00\x00\x00\x01"),
+        ],
+    ),
+];
+
+/// The cells once the person is dropped.
+const DROPPED: &[Line] = &[
+    (0, ONE, 0, b"\x01\x80\x00\x00\x00\x00\x00\x00\x02"),
+    (2, TEN, 0, b"\x02Order"),
+    (2, TEN, 2, b"\x04\x01\x80\x00\x00\x00\x00\x00\x00\x01"),
+];
+
+// ---- the schema
+
+fn rule(column: u32, holds: Holds) -> ColumnRule
+    ensures { result ≡ record { column = column; holds = holds } }
+{
+    ColumnRule { column, holds }
+}
+
+/// A table whose rows are named by one integer.
+fn table(alloc: Global, table: u32, columns: Vec<ColumnRule>) -> Result<TableRule, Cause>
+    ensures { IfOk result (λ rule. rule ≡ record { table = table; key = Kind.Int ∷ []; columns = columns.items }) }
+{
+    Ok(TableRule {
+        table,
+        key: Seq::of(vec![in alloc; Kind::Int]?),
+        columns: Seq::of(columns),
+    })
+}
+
+fn next_numbers(alloc: Global) -> Result<TableRule, Cause>
+    ensures { IfOk result (λ rule. rule ≡ tables.next_numbers) }
+{
+    let columns = vec![in alloc; rule(0, Holds::Kind(Kind::Int))]?;
+    table(alloc, 0, columns)
+}
+
+fn persons(alloc: Global) -> Result<TableRule, Cause>
+    ensures { IfOk result (λ rule. rule ≡ samples.persons) }
+{
+    let columns = vec![in alloc;
+        rule(0, Holds::Kind(Kind::Text)),
+        rule(1, Holds::Kind(Kind::Int)),
+        rule(2, Holds::Kind(Kind::Text)),
+    ]?;
+    table(alloc, 1, columns)
+}
+
+fn orders(alloc: Global) -> Result<TableRule, Cause>
+    ensures { IfOk result (λ rule. rule ≡ samples.orders) }
+{
+    let person = Seq::of(vec![in alloc; Kind::Int]?);
+    let columns = vec![in alloc;
+        rule(0, Holds::Kind(Kind::Text)),
+        rule(1, Holds::Kind(Kind::Int)),
+        rule(2, Holds::Reference(person)),
+    ]?;
+    table(alloc, 2, columns)
+}
+
+fn shop(alloc: Global) -> Result<Schema, Cause>
+    ensures { IfOk result (λ schema. schema ≡ samples.shop) }
+{
+    let mut tables = Seq::new(alloc);
+    tables.push(next_numbers(alloc)?)?;
+    tables.push(persons(alloc)?)?;
+    tables.push(orders(alloc)?)?;
+    Ok(Schema { tables })
+}
+
+fn key(alloc: Global, number: i64) -> Result<Key, Cause>
+    ensures { IfOk result (λ key. key ≡ samples.key number) }
+{
+    let mut key = Seq::new(alloc);
+    key.push(Value::Int(number))?;
+    Ok(key)
+}
+
+fn id(alloc: Global, table: u64, number: i64) -> Result<RowId, Cause>
+    ensures { IfOk result (λ id. id ≡ record { table = table; key = samples.key number }) }
+{
+    Ok(RowId {
+        table,
+        key: key(alloc, number)?,
+    })
+}
+
+/// The rows of the example.
+fn opened(alloc: Global) -> Result<RowSpace<MemStore>, Fail>
+    ensures { IfOk result (λ space. space.schema ≡ samples.shop) }
+{
+    let mut store = in_memory(alloc)?;
+    apply(alloc, &mut store, WRITTEN)?;
+    Ok(RowSpace::new(alloc, store, shop(alloc)?))
+}
+
+// ---- what is seen of rows
+
+/// A field as its column and what it holds.
+fn words_of(alloc: Global, field: &Field) -> Result<String, AllocError> {
+    let column = field.column;
+    match &field.content {
+        Content::Value(Value::Int(number)) => format!(in alloc; "{column}={number};"),
+        Content::Value(Value::Text(text)) => {
+            let text = text.as_str();
+            format!(in alloc; "{column}={text};")
+        }
+        Content::Value(_) => format!(in alloc; "{column} another value;"),
+        Content::Reference(key) => match key.as_slice() {
+            [Value::Int(number)] => format!(in alloc; "{column} to {number};"),
+            _ => format!(in alloc; "{column} to another key;"),
+        },
+    }
+}
+
+/// A row as its columns, one by one.
+fn shown(alloc: Global, row: &Option<Row>) -> Result<String, AllocError> {
+    let Some(row) = row else {
+        return String::from_str(alloc, "none");
+    };
+    let mut out = String::new(alloc);
+    for field in row.as_slice() {
+        let words = words_of(alloc, field)?;
+        out.push_str(words.as_str())?;
+    }
+    Ok(out)
+}
+
+/// The row's columns are these.
+fn see_row(rt: &impl Abort, alloc: Global, row: &Option<Row>, words: &str) -> Result<(), Fail> {
+    assert_eq!(rt; shown(alloc, row)?.as_str(), words);
+    Ok(())
+}
+
+/// A row of the space.
+fn row_of<R: RowSource>(
+    alloc: Global,
+    source: &mut R,
+    table: u64,
+    number: i64,
+) -> Result<Option<Row>, Cause> {
+    let id = id(alloc, table, number)?;
+    source.get(&id)
+}
+
+/// How many rows a table has, by its scan.
+fn count<R: RowSource>(source: &mut R, table: u64) -> Result<usize, Cause> {
+    let rows = source.scan(table)?;
+    Ok(rows.len())
+}
+
+/// The person and the order are seen.
+fn see_rows<R: RowSource>(rt: &impl Abort, alloc: Global, source: &mut R) -> Result<(), Fail> {
+    see_row(rt, alloc, &row_of(alloc, source, 1, 1)?, "0=Person;1=0;")?;
+    see_row(rt, alloc, &row_of(alloc, source, 2, 10)?, "0=Order;2 to 1;")?;
+    assert_eq!(rt; count(source, 1)?, 1);
+    Ok(())
+}
+
+/// How many rows of a table stand before the first that is damaged.
+fn front<S: Alter>(space: &mut RowSpace<S>, table: u64) -> Result<usize, Cause> {
+    let (rows, _) = space.read_table(table)?;
+    Ok(rows.len())
+}
+
+// ---- changes over rows
+
+/// How many rows a table has under the changes.
+fn count_over<R: RowSource>(overlay: &Overlay, source: &mut R, table: u64) -> Result<usize, Cause> {
+    let rows = overlay.scan(source, table)?;
+    Ok(rows.len())
+}
+
+/// The person under the changes.
+fn person_over<R: RowSource>(
+    alloc: Global,
+    overlay: &Overlay,
+    source: &mut R,
+) -> Result<Option<Row>, Cause> {
+    let person = id(alloc, 1, 1)?;
+    overlay.get(source, &person)
+}
+
+/// The changes are one drop of the person.
+fn see_drop(rt: &impl Abort, alloc: Global, changes: &[RowChange]) -> Result<(), Fail> {
+    let person = id(alloc, 1, 1)?;
+    match changes {
+        [change] => assert!(rt; is_same_identity(&change.id, &person) && change.row.is_none()),
+        _ => return Err(Fail::from("the difference is not one drop")),
+    }
+    Ok(())
+}
+
+/// The rows are seen without the person, which is all that is to change.
+fn see_dropped<R: RowSource>(
+    rt: &impl Abort,
+    alloc: Global,
+    overlay: &Overlay,
+    source: &mut R,
+) -> Result<(), Fail> {
+    assert!(rt; person_over(alloc, overlay, source)?.is_none());
+    assert_eq!(rt; count_over(overlay, source, 1)?, 0);
+    see_drop(rt, alloc, overlay.changes(source)?.as_slice())
+}
+
+/// The overlay's copy has its one change, which is its difference from no change.
+fn see_copy(rt: &impl Abort, alloc: Global, overlay: &Overlay) -> Result<(), Fail> {
+    let difference = overlay.try_copy()?.into_difference(&Overlay::new(alloc))?;
+    see_drop(rt, alloc, difference.as_slice())
+}
+
+/// The order's row is put under another id, and then all changes are discarded.
+fn see_put<R: RowSource>(
+    rt: &impl Abort,
+    alloc: Global,
+    overlay: &mut Overlay,
+    source: &mut R,
+) -> Result<(), Fail> {
+    if let Some(row) = row_of(alloc, source, 2, 10)? {
+        overlay.put(id(alloc, 2, 11)?, row)?;
+    }
+    assert_eq!(rt; count_over(overlay, source, 2)?, 2);
+    overlay.discard();
+    assert!(rt; overlay.is_empty());
+    Ok(())
+}
+
+/// The person is dropped over the rows, which stay as they are.
+fn see_overlay<R: RowSource>(rt: &impl Abort, alloc: Global, source: &mut R) -> Result<(), Fail> {
+    let mut overlay = Overlay::new(alloc);
+    overlay.drop_row(id(alloc, 1, 1)?)?;
+    see_dropped(rt, alloc, &overlay, source)?;
+    see_copy(rt, alloc, &overlay)?;
+    see_put(rt, alloc, &mut overlay, source)
+}
+
+// ---- the tests
+
+/// The drop of the person, committed.
+#[tactic(auto, using(crate::proofs::Samples::is_change))]
+fn commit_drop<S: Alter>(space: &mut RowSpace<S>, change: RowChange) -> Result<(), Cause>
+    requires schema { space.old.schema ≡ samples.shop }
+    requires change { change ≡ drops_person }
+{
+    space.commit(&[change])
+}
+
+fn drop_of(alloc: Global) -> Result<RowChange, Cause>
+    ensures { IfOk result (λ change. change ≡ drops_person) }
+{
+    Ok(RowChange {
+        id: id(alloc, 1, 1)?,
+        row: None,
+    })
+}
+
+/// The person's drop is committed, and the store has the other cells.
+fn see_commit<S: Alter>(rt: &impl Abort, alloc: Global, space: &mut RowSpace<S>) -> Result<(), Fail>
+    requires { space.old.schema ≡ samples.shop }
+{
+    commit_drop(space, drop_of(alloc)?)?;
+    assert!(rt; shows(&mut space.store, DROPPED)?);
+    Ok(())
+}
+
+#[test]
+fn a_referenced_person_is_dropped(rt: HostRuntime) -> Result<(), Fail> {
+    let alloc = rt.alloc();
+    let mut space = opened(alloc)?;
+    see_commit(&rt, alloc, &mut space)
+}
+
+/// The rows of the space and of a table of it, and changes over them.
+fn see_space<S: Alter>(
+    rt: &impl Abort,
+    alloc: Global,
+    space: &mut RowSpace<S>,
+) -> Result<(), Fail> {
+    assert_eq!(rt; space.schema().tables.len(), 3);
+    assert_eq!(rt; front(space, 2)?, 1);
+    see_rows(rt, alloc, space)?;
+    see_overlay(rt, alloc, space)
+}
+
+#[test]
+fn a_referenced_person_is_dropped_over_the_space(rt: HostRuntime) -> Result<(), Fail> {
+    let alloc = rt.alloc();
+    let mut space = opened(alloc)?;
+    see_space(&rt, alloc, &mut space)
+}

@@ -1,5 +1,0 @@
-mod Shop
-mod Texts
-mod Samples
-mod StatementSamples
-mod CheckSamples
