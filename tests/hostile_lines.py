@@ -2,10 +2,12 @@
 the cells of a store's file."""
 import json, os, random, re, sqlite3
 
-from hostile_model import DEPTH, GREATEST, LEAST, LENGTH, LINE, Machine, Number, Unit, lines_of
+from hostile_model import LENGTH, Machine, Unit
+from hostile_plots import Plots
+from hostile_reading import DEPTH, GREATEST, LEAST, LINE, Number, lines_of
 
 HERE = os.path.dirname(os.path.abspath(__file__))
-MAPPINGS = [None, "flat.json", "wide.json"]
+MAPPINGS = [None, "flat.json", "wide.json", "heard.json", "sub.json"]
 TABLE = ("CREATE TABLE cell (t INTEGER NOT NULL, r BLOB NOT NULL, c INTEGER NOT NULL,\n"
          "  v BLOB NOT NULL, PRIMARY KEY (t, r, c)) STRICT")
 PERSONS = {"entities": [{"name": "Person", "table": 1, "key": [{"name": "id", "type": "int"}], "generated": True,
@@ -18,29 +20,43 @@ LONG_TEXTS = ["a" * LENGTH, "a" * (LENGTH + 1), "é" * (LENGTH // 2), "é" * (LE
 LONG_BYTES = [b"\0" * LENGTH, b"\xff" * (LENGTH + 1), b"\xab" * (LENGTH // 2), b"\xab" * (LENGTH // 2 + 1)]
 NUMBERS_TEXTS = ["-0", "1.0", "1e0", "0.5", "1e400", "-1e400", "1e308", "01", "+1", "-", "0x1", "9223372036854775808", "-9223372036854775809",
                  "18446744073709551615", "18446744073709551616", "9" * 400, "1e", ".1", "1.", "NaN", "Infinity", "true", "[]", "{}", "null"]
-OTHERS = ["close", "remove", "merge", "flush", "query", "x", "", "Begin", "begin ", "call"]
+OTHERS = ["merge", "lock", "add", "takeOut", "query", "executeUpdate", "setFlushMode", "x", "", "Begin", "begin ", "call", "flush", "close"]
 
 
-class Calls:
+class Calls(Plots):
     """Makes calls over a machine, mostly such as it accepts."""
 
     def __init__(self, random, machine):
-        self.random, self.machine = random, machine
+        self.random, self.machine, self.plot = random, machine, None
 
     def line(self):
-        word = self.word()
-        members = list({"call": word, **getattr(self, word)()}.items())
+        """A line, and whether a plot wants it as it stands."""
+        word, members = self.call()
+        members = list({"call": word, **members}.items())
         if self.random.random() < 0.1:
             self.random.shuffle(members)
-        return self.written(dict(members))
+        return self.written(dict(members)), self.plot is not None
+
+    def call(self):
+        """The next call of the plot, or any other one."""
+        if self.plot is None and self.random.random() < 0.08:
+            self.plot = self.some_plot()
+        if self.plot is not None and self.random.random() < 0.85:
+            call = next(self.plot, None)
+            if call:
+                return call
+            self.plot = None
+        word = self.word()
+        return word, getattr(self, word)()
 
     def word(self):
         """The word of a call, the likelier where it makes sense now."""
-        managers = self.machine.managers
+        managers = [manager for manager in self.machine.managers if manager.is_open]
         begun = any(manager.is_begun for manager in managers)
         weights = {"createEntityManager": 0.6 if len(managers) > 2 else 9, "new": 9, "set": 26, "get": 8, "begin": 1 if begun else 14, "persist": 14,
-                   "find": 16, "commit": 11 if begun else 0.7, "rollback": 1 if begun else 0.4, "setRollbackOnly": 0.5 if begun else 0.2,
-                   "getReference": 4, "contains": 5, "clear": 0.7}
+                   "find": 14, "commit": 6 if begun else 0.7, "rollback": 1 if begun else 0.4, "setRollbackOnly": 0.3 if begun else 0.2,
+                   "getReference": 4, "contains": 5, "clear": 0.7, "flush": 10 if begun else 0.7, "remove": 7, "refresh": 4, "detach": 2,
+                   "close": 0.4 if len(managers) < 4 else 0.8}
         return self.random.choices(list(weights), weights.values())[0]
 
     def written(self, members):
@@ -53,14 +69,14 @@ class Calls:
     # -- members
 
     def em(self, most=0.4):
-        """A manager's number: that of the open transaction so often at least, and rarely none."""
-        count = len(self.machine.managers)
-        if self.random.random() < 0.02 or not count:
-            return self.random.choice([0, -1, count + 1, GREATEST, LEAST])
-        begun = [n for n in range(1, count + 1) if self.machine.managers[n - 1].is_begun]
+        """A manager's number: that of the open transaction so often at least, and rarely none, or a closed one."""
+        open_ones = [n for n, manager in enumerate(self.machine.managers, 1) if manager.is_open]
+        if self.random.random() < 0.02 or not open_ones:
+            return self.random.choice([0, -1, len(self.machine.managers) + 1, 1, 2, GREATEST, LEAST])
+        begun = [n for n in open_ones if self.machine.managers[n - 1].is_begun]
         if begun and self.random.random() < most:
             return begun[0]
-        return self.random.randint(1, min(count, 3) if self.random.random() < 0.9 else count)
+        return self.random.choice(open_ones[:3] if self.random.random() < 0.9 else open_ones)
 
     def object(self, wanted=lambda live: True):
         """An object's number: mostly of one that is wanted, and rarely none."""
@@ -128,7 +144,20 @@ class Calls:
         return {"object": number, "name": name, "value": self.given(self.value(self.kind(live.entity, name)))}
 
     def persist(self):
-        return {"em": self.em(), "object": self.object(lambda live: live.held == "new" and (live.entity.generated or None not in live.key()))}
+        em = self.em(0.7)
+        held = self.held_by(em)
+        can_be = lambda live: live.is_removed if live in held else live.held == "new" and (live.entity.generated or None not in live.key())
+        return {"em": em, "object": self.object(can_be)}
+
+    def held_by(self, em):
+        return self.machine.managers[em - 1].context if 1 <= em <= len(self.machine.managers) else []
+
+    def remove(self):
+        em = self.em(0.7)
+        held = self.held_by(em)
+        return {"em": em, "object": self.object(lambda live: live in held and not live.is_removed)}
+
+    refresh = detach = remove
 
     def begin(self):
         return {"em": self.em()}
@@ -136,7 +165,11 @@ class Calls:
     def commit(self):
         return {"em": self.em(0.95)}
 
-    rollback = setRollbackOnly = clear = commit
+    rollback = setRollbackOnly = clear = flush = commit
+
+    def close(self):
+        idle = [n for n, manager in enumerate(self.machine.managers, 1) if manager.is_open and not manager.is_begun]
+        return {"em": self.random.choice(idle) if idle and self.random.random() < 0.8 else self.em()}
 
     def contains(self):
         return {"em": self.em(), "object": self.object(lambda live: True)}
@@ -145,15 +178,20 @@ class Calls:
         return self.find()
 
     def find(self):
-        stored = list(self.machine.committed.objects)
-        if stored and self.random.random() < 0.75:
+        seen = [manager.seen for manager in self.machine.managers if manager.is_begun]
+        stored = list(self.machine.committed.objects if not seen or self.random.random() < 0.4 else seen[0])
+        held = [live.identity() for live in self.machine.objects[-8:] if live.is_removed or live.held != "new"]
+        if held and self.random.random() < 0.25:
+            stored = held
+        if stored and self.random.random() < 0.8:
             name, key = self.random.choice(stored[-5:] if self.random.random() < 0.7 else stored)
+            name = self.random.choice([other for other, entity in self.machine.unit.entities.items() if entity.root.name == name])
         else:
             name = self.entity()
             entity = self.machine.unit.entities.get(name)
             key = [self.value(kind) for kind in entity.key.values()] if entity else [1]
         key = list(key) + ([1] if self.random.random() < 0.01 else [])
-        return {"em": self.em(), "entity": name, "key": [self.given(part) for part in key]}
+        return {"em": self.em(0.5), "entity": name, "key": [self.given(part) for part in key]}
 
 
 # ---- mutations
@@ -284,16 +322,22 @@ def made(seed, mapping, unit, state, count):
     """A case of so many lines, of which some hold line feeds by mutation."""
     chance, machine, lines = random.Random(seed), Machine(unit, state), []
     calls = Calls(chance, machine)
-    for _ in range(count):
-        line = calls.line()
-        if chance.random() < 0.3:
-            line = mutated(chance, line)
+
+    def take(line):
         lines.append(line + b"\n")
         for each in lines_of(lines[-1]):
             machine.answer(each)
+
+    while len(lines) < count:
+        line, is_wanted = calls.line()
+        is_mutated = chance.random() < 0.3
+        if is_mutated:
+            take(mutated(chance, line))
+        if not is_mutated or (is_wanted and chance.random() < 0.85):
+            take(line)
     if chance.random() < 0.5:
         lines[-1] = lines[-1].removesuffix(b"\n")
-    return Case(mapping, unit, state, lines)
+    return Case(mapping, unit, state, lines[:count])
 
 
 def fill(store, cells):

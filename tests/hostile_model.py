@@ -1,180 +1,19 @@
-"""What the program answers to lines, in plain Python after docs/GUIDE.md and docs/DEFINITIONS.md: the reading of a line as a call, the
-machine that calls change, and the cells of what was committed. It serves what the program serves, and knows nothing of how that is built.
+"""What the program answers to lines, in plain Python after docs/GUIDE.md and docs/DEFINITIONS.md: the call that a line means
+(tests/hostile_reading.py), the machine that calls change, and the cells of what was committed. It serves what the program serves, and
+knows nothing of how that is built.
 
-Values are None, int, str (a text), bytes and Number (the number of an object); an entity's objects go by the key as a tuple.
+Values are None, int, str (a text), bytes and Number (the number of an object); an identity is a root entity's name with the key as a tuple.
 """
 import json, re
-from json.decoder import scanstring
 
-LEAST, GREATEST = -2**63, 2**63 - 1
-LINE, LENGTH, DEPTH, MANAGERS, OBJECTS = 1048576, 65535, 127, 16, 1000000
-NUMBERS = {"BadLine": 3, "NoSuchManager": 4, "NoSuchObject": 5, "IllegalArgument": 6, "IllegalState": 7, "EntityExists": 9, "EntityNotFound": 10,
-           "OptimisticLock": 11, "Persistence": 12, "Rollback": 14, "Busy": 18, "Limit": 19}
-MARKING = {"IllegalArgument", "EntityExists", "EntityNotFound", "Persistence", "Limit"}
-MEMBERS = {"createEntityManager": [], "new": ["entity"], "set": ["object", "name", "value"], "get": ["object", "name"], "begin": ["em"],
-           "persist": ["em", "object"], "commit": ["em"], "rollback": ["em"], "setRollbackOnly": ["em"], "find": ["em", "entity", "key"],
-           "getReference": ["em", "entity", "key"], "contains": ["em", "object"], "clear": ["em"]}
+from hostile_reading import GREATEST, Number, Refused, call_of
 
-
-class Refused(Exception):
-    """A refusal by its name and detail."""
-
-    def __init__(self, name, why=None):
-        super().__init__(name)
-        self.name, self.why = name, why
-
-    def text(self):
-        return f"{self.name}({self.why})" if self.why else self.name
-
-
-class Number:
-    """The number of an object, as a value."""
-
-    def __init__(self, number):
-        self.number = number
-
-
-# ---- JSON, as the program's reader takes it
-
-BLANKS = re.compile("[ \\t\\r\\n]*")
-NUMBER = re.compile(r"-?(?:0|[1-9][0-9]*)(\.[0-9]+)?([eE][+-]?[0-9]+)?", re.ASCII)
-
-
-class Json:
-    """A text of JSON: at most 127 lists and objects in one another, no number past the floats, no half of a surrogate pair."""
-
-    def __init__(self, text):
-        self.text, self.at = text, 0
-
-    def whole(self):
-        value = self.value(0)
-        self.blanks()
-        if self.at != len(self.text):
-            raise ValueError("more")
-        return value
-
-    def blanks(self):
-        self.at = BLANKS.match(self.text, self.at).end()
-
-    def take(self, word):
-        self.blanks()
-        if not self.text.startswith(word, self.at):
-            return False
-        self.at += len(word)
-        return True
-
-    def need(self, word):
-        if not self.take(word):
-            raise ValueError(word)
-
-    def value(self, depth):
-        for word, value in (("null", None), ("true", True), ("false", False)):
-            if self.take(word):
-                return value
-        if self.take('"'):
-            return self.string()
-        if self.take("["):
-            return self.items(depth + 1)
-        if self.take("{"):
-            return self.members(depth + 1)
-        return self.number()
-
-    def string(self):
-        value, self.at = scanstring(self.text, self.at, True)
-        value.encode()
-        return value
-
-    def number(self):
-        found = NUMBER.match(self.text, self.at)
-        if not found:
-            raise ValueError("number")
-        self.at = found.end()
-        digits = found.group()
-        if not (found[1] or found[2]) and digits != "-0" and len(digits) < 21 and LEAST <= int(digits) < 2**64:
-            return int(digits)
-        if float(digits) in (float("inf"), float("-inf")):
-            raise ValueError("too large")
-        return float(digits)
-
-    def items(self, depth):
-        if depth > DEPTH:
-            raise ValueError("deep")
-        values = []
-        while not self.take("]"):
-            if values:
-                self.need(",")
-            values.append(self.value(depth))
-        return values
-
-    def members(self, depth):
-        if depth > DEPTH:
-            raise ValueError("deep")
-        values, first = {}, True
-        while not self.take("}"):
-            if not first:
-                self.need(",")
-            self.need('"')
-            name = self.string()
-            self.need(":")
-            values[name] = self.value(depth)
-            first = False
-        return values
-
-
-# ---- calls
-
-def is_integer(data):
-    return type(data) is int and LEAST <= data <= GREATEST
-
-
-def given(data):
-    """The value that a member gives."""
-    if data is None or isinstance(data, str) or is_integer(data):
-        return data
-    if isinstance(data, dict) and len(data) == 1:
-        if is_integer(data.get("object")):
-            return Number(data["object"])
-        digits = data.get("hex")
-        if isinstance(digits, str) and len(digits) % 2 == 0 and re.fullmatch("[0-9a-fA-F]*", digits):
-            return bytes.fromhex(digits)
-    raise ValueError("value")
-
-
-def member_of(name, data):
-    if name in ("em", "object"):
-        if not is_integer(data):
-            raise ValueError(name)
-        return data
-    if name == "value":
-        return given(data)
-    if name == "key":
-        if not isinstance(data, list):
-            raise ValueError(name)
-        return [given(part) for part in data]
-    if not isinstance(data, str):
-        raise ValueError(name)
-    return data
-
-
-def call_of(line):
-    """The call that a line means: its word and its members in order."""
-    if len(line) > LINE:
-        raise Refused("Limit")
-    try:
-        data = Json(line.decode()).whole()
-        word = data["call"] if isinstance(data, dict) else None
-        members = MEMBERS[word] if isinstance(word, str) else None
-        if members is None or set(data) != {"call", *members}:
-            raise ValueError("members")
-        return word, [member_of(name, data[name]) for name in members]
-    except (ValueError, KeyError):
-        raise Refused("BadLine") from None
-
-
-def lines_of(text):
-    """The lines of an input: a line feed ends each, and a last one that isn't empty may go without."""
-    lines = text.split(b"\n")
-    return lines if lines[-1] else lines[:-1]
+LENGTH, MANAGERS, MADE = 65535, 16, 1000000
+NUMBERS = {"BadLine": 3, "NoSuchManager": 4, "NoSuchObject": 5, "IllegalArgument": 6, "IllegalState": 7, "TransactionRequired": 8,
+           "EntityExists": 9, "EntityNotFound": 10, "OptimisticLock": 11, "Persistence": 12, "Listener": 13, "Rollback": 14, "Busy": 18, "Limit": 19}
+# The calls, and the numbers of the refusals, that mark the manager's transaction.
+MARKED_BY = {"find", "getReference", "persist", "remove", "refresh", "detach", "contains", "clear", "flush"}
+MARKING = {6, 7, 8, 9, 10, 11, 12, 13, 17, 19}
 
 
 # ---- units
@@ -187,16 +26,29 @@ def size(value):
 
 
 class Entity:
-    """An entity of a mapping: the kinds of its members by their names, in order."""
+    """An entity of a mapping: the kinds of its members by their names, in order, the root's first."""
 
-    def __init__(self, described):
-        self.name, self.table = described["name"], described["table"]
+    def __init__(self, described, above=None):
+        self.name, self.above, self.root = described["name"], above, above.root if above else self
         self.discriminator = described.get("discriminator", self.name)
-        before = described["embedded"] + "." if "embedded" in described else ""
-        self.key = {before + part["name"]: KINDS[part["type"]] for part in described["key"]}
-        self.generated = described.get("generated", False)
-        self.version = described.get("version")
-        self.attributes = {each["name"]: each for each in described.get("attributes", [])}
+        if above:
+            self.table, self.key, self.generated, self.version = above.table, above.key, above.generated, above.version
+        else:
+            before = described["embedded"] + "." if "embedded" in described else ""
+            self.table = described["table"]
+            self.key = {before + part["name"]: KINDS[part["type"]] for part in described["key"]}
+            self.generated = described.get("generated", False)
+            self.version = described.get("version")
+        self.attributes = {**(above.attributes if above else {}), **{each["name"]: each for each in described.get("attributes", [])}}
+        self.listeners, self.callbacks = described.get("listeners", []), described.get("callbacks", [])
+        self.excludes_default, self.excludes_super = described.get("excludeDefault", False), described.get("excludeSuper", False)
+
+    def chain(self):
+        """The entities from the root to this one."""
+        return [*self.above.chain(), self] if self.above else [self]
+
+    def is_a(self, other):
+        return other in self.chain()
 
     def kind(self, name):
         """The kind of a member, if the entity has one of this name."""
@@ -214,11 +66,22 @@ def side(data):
 
 
 class Unit:
-    """The entities of a mapping and its converters."""
+    """The entities of a mapping, who listens to them, and the functions of the mapping."""
 
     def __init__(self, mapping):
-        self.entities = {each["name"]: Entity(each) for each in mapping["entities"]}
+        self.described = {each["name"]: each for each in mapping["entities"]}
+        self.entities = {}
+        for name in self.described:
+            self.entity(name)
+        self.entities = {name: self.entities[name] for name in self.described}
         self.functions = {each["name"]: each for each in mapping.get("functions", [])}
+        self.default = mapping.get("listeners", [])
+
+    def entity(self, name):
+        if name not in self.entities:
+            above = self.described[name].get("extends")
+            self.entities[name] = Entity(self.described[name], self.entity(above) if above else None)
+        return self.entities[name]
 
     def column(self, attribute, value):
         """What the attribute's column holds for a value."""
@@ -228,6 +91,36 @@ class Unit:
         if found is None or size(found) > LENGTH:
             raise Refused("Persistence", "converter")
         return found
+
+    def heard_by(self, entity, event):
+        """The functions that hear an event of an entity, in order."""
+        chain, entries = entity.chain(), []
+        if not any(each.excludes_default for each in chain):
+            entries += self.default
+        lowest = max((at for at, each in enumerate(chain) if each.excludes_super), default=0)
+        for each in chain[lowest:]:
+            entries += each.listeners
+        for each in chain:
+            entries += each.callbacks
+        return [self.functions[entry["name"]] for entry in entries if event in entry["events"]]
+
+
+def assigned(function, values):
+    """What a listener assigns when it hears of an object with these values."""
+    make = function["make"]
+    if make == "set_text":
+        return {function["attribute"]: function["value"]}
+    if make == "copy":
+        return {function["to"]: values.get(function["from"])}
+    if make == "count":
+        value = values.get(function["attribute"])
+        value = 0 if value is None else value
+        if not isinstance(value, int) or value == GREATEST:
+            raise Refused("Listener", "count")
+        return {function["attribute"]: value + 1}
+    if make == "require" and values.get(function["attribute"]) is None:
+        raise Refused("Listener", "require " + function["attribute"])
+    return {}
 
 
 def converted(function, value):
@@ -258,22 +151,26 @@ def cell_bytes(value):
 
 
 class Stored:
-    """A committed object."""
+    """A stored object."""
 
-    def __init__(self, version, values):
-        self.version, self.values = version, values
+    def __init__(self, entity, version, values):
+        self.entity, self.version, self.values = entity, version, values
+
+    def lacks(self):
+        """Whether a required value is null."""
+        return any(each.get("required") and self.values[name] is None for name, each in self.entity.attributes.items())
 
 
 class State:
-    """The committed objects, by entity and key, and the next number of each generator."""
+    """The committed objects by their identities, and the next number of each generator by its root."""
 
     def __init__(self, objects=None, numbers=None):
         self.objects, self.numbers = objects or {}, numbers or {}
 
     def cells(self, unit):
         rows = [(0, integer_bytes(unit.entities[name].table), 0, integer_bytes(n)) for name, n in self.numbers.items() if n != 1]
-        for (name, key), stored in self.objects.items():
-            entity, row = unit.entities[name], b"".join(part_bytes(part) for part in key)
+        for (_, key), stored in self.objects.items():
+            entity, row = stored.entity, b"".join(part_bytes(part) for part in key)
             rows.append((entity.table, row, 0, cell_bytes(entity.discriminator)))
             if entity.version:
                 rows.append((entity.table, row, entity.version["column"], integer_bytes(stored.version)))
@@ -287,26 +184,29 @@ class State:
 # ---- the machine
 
 class Live:
-    """A live object: its values by the names of its members; held is new, detached, or the manager that holds it."""
+    """A live object: its values by the names of its members; held is new, detached, or the manager that manages it or has it removed.
+    The base is what was loaded or written last, if anything."""
 
     def __init__(self, entity, number):
         self.entity, self.number = entity, number
         self.values = dict.fromkeys([*entity.key, *([entity.version["name"]] if entity.version else []), *entity.attributes])
-        self.held, self.base = "new", None
+        self.held, self.is_removed, self.base = "new", False, None
 
     def key(self):
         return tuple(self.values[name] for name in self.entity.key)
 
     def identity(self):
-        return self.entity.name, self.key()
+        return self.entity.root.name, self.key()
 
     def attributes(self):
         return {name: self.values[name] for name in self.entity.attributes}
 
-    def load(self, manager, key, stored):
+    def is_managed(self, manager):
+        return self.held is manager and not self.is_removed
+
+    def load(self, key, stored):
         self.values.update(zip(self.entity.key, key), **stored.values)
         self.written(stored)
-        self.held = manager
 
     def written(self, stored):
         if self.entity.version:
@@ -316,12 +216,34 @@ class Live:
     def differs(self):
         return self.base is not None and self.attributes() != self.base.values
 
+    def detach(self):
+        self.held, self.is_removed = "detached", False
+
 
 class Manager:
-    """A manager: what it holds in order of entry, and whether its transaction is open and can only roll back."""
+    """A manager: what it manages or has removed, in order of entry, whether its transaction is open and can only roll back, and the
+    objects that this one sees."""
 
     def __init__(self):
-        self.context, self.is_begun, self.is_marked = [], False, False
+        self.context, self.is_open, self.is_begun, self.is_marked, self.seen = [], True, False, False, None
+
+
+class Before:
+    """What a manager's call may change, as it was."""
+
+    def __init__(self, machine, manager, number):
+        lives = list(manager.context)
+        if 1 <= number <= len(machine.objects):
+            lives.append(machine.objects[number - 1])
+        self.machine, self.manager = machine, manager
+        self.lives = [(live, dict(live.values), live.held, live.is_removed, live.base) for live in lives]
+        self.context, self.seen, self.numbers, self.count = list(manager.context), manager.seen, dict(machine.numbers), len(machine.objects)
+
+    def restore(self):
+        for live, live.values, live.held, live.is_removed, live.base in self.lives:
+            pass
+        self.manager.context, self.manager.seen, self.machine.numbers = self.context, self.seen, self.numbers
+        del self.machine.objects[self.count:]
 
 
 class Machine:
@@ -335,7 +257,7 @@ class Machine:
     # -- what a call hands in
 
     def manager(self, em):
-        if not 1 <= em <= len(self.managers):
+        if not 1 <= em <= len(self.managers) or not self.managers[em - 1].is_open:
             raise Refused("NoSuchManager")
         return self.managers[em - 1]
 
@@ -349,16 +271,25 @@ class Machine:
             raise Refused("IllegalArgument", "entity")
         return self.unit.entities[name]
 
-    # -- calls
+    # -- managers
 
     def createEntityManager(self, events):
-        if len(self.managers) == MANAGERS:
+        if sum(manager.is_open for manager in self.managers) == MANAGERS or len(self.managers) == MADE:
             raise Refused("Limit")
         self.managers.append(Manager())
         return len(self.managers)
 
+    def close(self, events, em):
+        manager = self.manager(em)
+        if manager.is_begun:
+            raise Refused("IllegalState", "active")
+        self.detach_all(manager)
+        manager.is_open = False
+
+    # -- objects
+
     def new(self, events, name):
-        if len(self.objects) == OBJECTS:
+        if len(self.objects) == MADE:
             raise Refused("Limit")
         return self.made(self.entity(name))
 
@@ -383,29 +314,31 @@ class Machine:
             raise Refused("IllegalArgument", "key" if name in live.entity.key else "version")
         live.values[name] = value
 
-    def begin(self, events, em):
-        manager = self.manager(em)
-        if manager.is_begun:
-            raise Refused("IllegalState", "active")
-        if any(each.is_begun for each in self.managers):
-            raise Refused("Busy")
-        manager.is_begun, manager.is_marked = True, False
+    def fire(self, events, event, live):
+        """The listeners and callbacks of the object hear of the event."""
+        names = []
+        events.append([event, live.number, names])
+        for function in self.unit.heard_by(live.entity, event):
+            names.append(function["name"])
+            found = assigned(function, live.values)
+            for name, value in found.items():
+                attribute = live.entity.attributes.get(name)
+                if not attribute or not isinstance(value, (KINDS[attribute["type"]], type(None))) or size(value) > LENGTH:
+                    raise Refused("Persistence", "callback")
+            live.values.update(found)
 
-    def begun(self, em):
-        manager = self.manager(em)
-        if not manager.is_begun:
-            raise Refused("IllegalState", "inactive")
-        return manager
+    # -- what a manager does with objects
 
-    def rollback(self, events, em):
-        self.roll_back(self.begun(em))
-
-    def setRollbackOnly(self, events, em):
-        self.begun(em).is_marked = True
+    def view(self, manager):
+        return manager.seen if manager.is_begun else self.committed.objects
 
     def persist(self, events, em, number):
         manager, live = self.manager(em), self.object(number)
         if live.held is manager:
+            if live.is_removed:
+                live.is_removed = False
+                if live.base is None:
+                    self.fire(events, "PrePersist", live)
             return
         if live.held != "new":
             raise Refused("EntityExists")
@@ -414,10 +347,10 @@ class Machine:
             raise Refused("EntityExists")
         if number is not None:
             live.values[next(iter(live.entity.key))] = number
-            self.numbers[live.entity.name] = number + 1
+            self.numbers[live.entity.root.name] = number + 1
         live.held = manager
         manager.context.append(live)
-        events.append(["PrePersist", live.number])
+        self.fire(events, "PrePersist", live)
 
     def number_for(self, live):
         """The number that the generator gives, or None where the key is whole without."""
@@ -425,13 +358,39 @@ class Machine:
             raise Refused("Persistence", "key")
         if not live.entity.generated:
             return None
-        number = self.numbers.get(live.entity.name, 1)
+        number = self.numbers.get(live.entity.root.name, 1)
         if number == GREATEST:
             raise Refused("Persistence", "generator")
         return number
 
     def instance(self, manager, identity):
         return next((live for live in manager.context if live.identity() == identity), None)
+
+    def remove(self, events, em, number):
+        manager, live = self.manager(em), self.object(number)
+        if live.held == "new":
+            return
+        if live.held is not manager:
+            raise Refused("IllegalArgument", "state")
+        if not live.is_removed:
+            live.is_removed = True
+            self.fire(events, "PreRemove", live)
+
+    def refresh(self, events, em, number):
+        manager, live = self.manager(em), self.object(number)
+        if not live.is_managed(manager):
+            raise Refused("IllegalArgument", "state")
+        row = self.view(manager).get(live.identity())
+        if row is None or row.entity is not live.entity:
+            raise Refused("EntityNotFound")
+        live.load(live.key(), row)
+        self.fire(events, "PostLoad", live)
+
+    def detach(self, events, em, number):
+        manager, live = self.manager(em), self.object(number)
+        if live.held is manager:
+            manager.context.remove(live)
+            live.detach()
 
     def find(self, events, em, name, key):
         manager = self.manager(em)
@@ -440,18 +399,21 @@ class Machine:
         entity = self.entity(name)
         if len(key) != len(entity.key) or not all(isinstance(part, kind) for part, kind in zip(key, entity.key.values())):
             raise Refused("IllegalArgument", "key")
-        identity = (name, tuple(key))
+        identity = (entity.root.name, tuple(key))
         live = self.instance(manager, identity)
         if live:
-            return Number(live.number)
-        if identity not in self.committed.objects:
+            return Number(live.number) if not live.is_removed and live.entity.is_a(entity) else None
+        row = self.view(manager).get(identity)
+        if row is None or not row.entity.is_a(entity):
             return None
-        if len(self.objects) == OBJECTS:
+        if len(self.objects) == MADE:
             raise Refused("Limit")
-        found = self.made(entity)
-        self.objects[-1].load(manager, key, self.committed.objects[identity])
-        manager.context.append(self.objects[-1])
-        events.append(["PostLoad", found.number])
+        found = self.made(row.entity)
+        live = self.objects[-1]
+        live.load(key, row)
+        live.held = manager
+        manager.context.append(live)
+        self.fire(events, "PostLoad", live)
         return found
 
     def getReference(self, events, em, name, key):
@@ -462,62 +424,114 @@ class Machine:
 
     def contains(self, events, em, number):
         manager = self.manager(em)
-        return self.object(number).held is manager
+        return self.object(number).is_managed(manager)
 
     def clear(self, events, em):
         self.detach_all(self.manager(em))
 
     def detach_all(self, manager):
         for live in manager.context:
-            live.held = "detached"
+            live.detach()
         manager.context = []
 
-    # -- the end of a transaction
+    # -- transactions
+
+    def begin(self, events, em):
+        manager = self.manager(em)
+        if manager.is_begun:
+            raise Refused("IllegalState", "active")
+        if any(each.is_begun for each in self.managers):
+            raise Refused("Busy")
+        manager.is_begun, manager.is_marked, manager.seen = True, False, self.committed.objects
+
+    def begun(self, em):
+        manager = self.manager(em)
+        if not manager.is_begun:
+            raise Refused("IllegalState", "inactive")
+        return manager
+
+    def setRollbackOnly(self, events, em):
+        self.begun(em).is_marked = True
+
+    def rollback(self, events, em):
+        self.roll_back(self.begun(em))
 
     def roll_back(self, manager):
         self.detach_all(manager)
-        manager.is_begun = False
+        manager.is_begun, manager.seen = False, None
 
     def commit(self, events, em):
         manager = self.begun(em)
         if manager.is_marked:
             self.roll_back(manager)
             raise Refused("Rollback", "marked")
+        before = Before(self, manager, 0)
         try:
-            written = self.flush(manager, events)
+            self.write(events, manager)
         except Refused as refused:
+            before.restore()
             self.roll_back(manager)
             raise Refused("Rollback", refused.text()) from None
-        objects = dict(self.committed.objects)
-        for live, stored in written:
-            events.append(["PostUpdate" if live.base else "PostPersist", live.number])
-            live.written(stored)
-            objects[live.identity()] = stored
-        self.committed = State(objects, dict(self.numbers))
-        manager.is_begun = False
+        self.committed = State(manager.seen, dict(self.numbers))
+        for live in [live for live in manager.context if live.is_removed]:
+            manager.context.remove(live)
+            live.detach()
+        manager.is_begun, manager.seen = False, None
 
-    def flush(self, manager, events):
-        """What is written for the objects of the manager, in order."""
-        chosen = [live for live in manager.context if live.base is None or live.differs()]
-        events.extend(["PreUpdate", live.number] for live in chosen if live.base)
-        written = [(live, self.to_write(live)) for live in chosen]
-        for live, stored in written:
-            if any(each.get("required") and stored.values[name] is None for name, each in live.entity.attributes.items()):
-                raise Refused("Persistence", "null")
-        return written
+    def flush(self, events, em):
+        manager = self.manager(em)
+        if not manager.is_begun:
+            raise Refused("TransactionRequired")
+        self.write(events, manager)
 
-    def to_write(self, live):
-        row = self.committed.objects.get(live.identity())
-        if not live.base and row:
-            raise Refused("EntityExists")
-        if live.base and (not row or row.version != live.base.version):
+    def write(self, events, manager):
+        """The flush: what the manager's objects say is written to the objects that its transaction sees."""
+        for live in list(manager.context):
+            if not live.is_removed and live.differs():
+                self.fire(events, "PreUpdate", live)
+        done = []
+        for live in manager.context:
+            if live.is_removed and live.base:
+                self.see_current(manager, live)
+                done.append(("PostRemove", live, None))
+            elif not live.is_removed and live.base is None:
+                done.append(("PostPersist", live, self.inserted(manager, live)))
+            elif not live.is_removed and live.differs():
+                done.append(("PostUpdate", live, self.replaced(manager, live)))
+        if any(stored and stored.lacks() for _, _, stored in done):
+            raise Refused("Persistence", "null")
+        seen = dict(manager.seen)
+        for _, live, stored in done:
+            seen.pop(live.identity(), None)
+            if stored:
+                seen[live.identity()] = stored
+                live.written(stored)
+            live.base = stored
+        manager.seen = seen
+        for event, live, _ in done:
+            self.fire(events, event, live)
+
+    def see_current(self, manager, live):
+        """The row that the object's base was is the one that stands."""
+        row = manager.seen.get(live.identity())
+        if row is None or row.version != live.base.version:
             raise Refused("OptimisticLock")
-        if live.base and live.base.version == GREATEST:
+
+    def inserted(self, manager, live):
+        if live.identity() in manager.seen:
+            raise Refused("EntityExists")
+        return self.stored(live, 0)
+
+    def replaced(self, manager, live):
+        self.see_current(manager, live)
+        if live.base.version == GREATEST:
             raise Refused("Persistence", "version")
+        return self.stored(live, live.base.version + 1 if live.entity.version else None)
+
+    def stored(self, live, version):
         for name, attribute in live.entity.attributes.items():
             self.unit.column(attribute, live.values[name])
-        version = None if not live.entity.version else live.base.version + 1 if live.base else 0
-        return Stored(version, live.attributes())
+        return Stored(live.entity, version if live.entity.version else None, live.attributes())
 
     # -- lines
 
@@ -529,16 +543,32 @@ class Machine:
         except Refused as refused:
             return reply({"error": told(refused), "events": []})
         try:
-            return reply({"events": events, "ok": shown(getattr(self, word)(events, *members))})
+            answer = self.answered(events, word, members)
+            return reply({"events": told_events(events), "ok": shown(answer)})
         except Refused as refused:
-            if word in ("persist", "find", "getReference") and refused.name in MARKING:
-                self.managers[members[0] - 1].is_marked = True
-            return reply({"error": told(refused), "events": events})
+            return reply({"error": told(refused), "events": told_events(events)})
+
+    def answered(self, events, word, members):
+        """What a call is answered. A refused one changes nothing, but for the mark; a commit sees to that itself."""
+        marking = word in MARKED_BY and 1 <= members[0] <= len(self.managers)
+        before = Before(self, self.managers[members[0] - 1], members[1] if len(members) == 2 else 0) if marking else None
+        try:
+            return getattr(self, word)(events, *members)
+        except Refused as refused:
+            if marking:
+                before.restore()
+                if NUMBERS[refused.name] in MARKING:
+                    before.manager.is_marked = True
+            raise
 
 
 def told(refused):
     error = {"name": refused.name, "no": NUMBERS[refused.name]}
     return {**error, "why": refused.why} if refused.why else error
+
+
+def told_events(events):
+    return [[event, number, *names] for event, number, names in events]
 
 
 def shown(value):
@@ -618,21 +648,29 @@ def attribute_of(unit, attribute, cell):
     return value
 
 
-def object_of(unit, entity, cells):
+def class_of(classes, cells):
+    """The class that a row's discriminator names."""
+    return next((entity for entity in classes if cells.get(0) == cell_bytes(entity.discriminator)), None)
+
+
+def object_of(unit, classes, cells):
     """The object that the cells of a row, by their columns, say."""
+    entity = class_of(classes, cells)
+    if entity is None:
+        raise ValueError("class")
     columns = {0} | {each["column"] for each in entity.attributes.values()} | ({entity.version["column"]} if entity.version else set())
-    if not set(cells) <= columns or cells.get(0) != cell_bytes(entity.discriminator):
+    if not set(cells) <= columns:
         raise ValueError("columns")
     version = value_of(cells.get(entity.version["column"], b"")) if entity.version else None
     if entity.version and not isinstance(version, int):
         raise ValueError("version")
-    return Stored(version, {name: attribute_of(unit, each, cells.get(each["column"])) for name, each in entity.attributes.items()})
+    return Stored(entity, version, {name: attribute_of(unit, each, cells.get(each["column"])) for name, each in entity.attributes.items()})
 
 
 def number_of(unit, row, cells):
-    """The entity whose next number a row of table 0 is, and the number."""
+    """The root whose next number a row of table 0 is, and the number."""
     table = key_of(Entity({"name": "", "table": 0, "key": [{"name": "table", "type": "int"}]}), row)[0]
-    name = next((name for name, entity in unit.entities.items() if entity.table == table and entity.generated), None)
+    name = next((name for name, each in unit.entities.items() if each.table == table and each.generated and each.root is each), None)
     number = value_of(cells.get(0, b""))
     if name is None or set(cells) != {0} or not isinstance(number, int) or number < 2:
         raise ValueError("number")
@@ -641,17 +679,16 @@ def number_of(unit, row, cells):
 
 def is_sound(unit, state):
     for (name, key), stored in state.objects.items():
-        entity = unit.entities[name]
-        if any(each.get("required") and stored.values[member] is None for member, each in entity.attributes.items()):
-            return False
-        if entity.generated and not 1 <= key[0] < state.numbers.get(name, 1):
+        if stored.lacks() or (stored.entity.generated and not 1 <= key[0] < state.numbers.get(name, 1)):
             return False
     return True
 
 
 def state_of(unit, cells):
     """What cells stand for, or `Damaged`."""
-    tables = {entity.table: entity for entity in unit.entities.values()}
+    tables = {}
+    for entity in unit.entities.values():
+        tables.setdefault(entity.table, []).append(entity)
     rows, state = {}, State()
     for table, row, column, value in cells:
         if table == 0 or table in tables:
@@ -662,7 +699,8 @@ def state_of(unit, cells):
                 name, number = number_of(unit, row, held)
                 state.numbers[name] = number
             else:
-                state.objects[tables[table].name, key_of(tables[table], row)] = object_of(unit, tables[table], held)
+                root = tables[table][0].root
+                state.objects[root.name, key_of(root, row)] = object_of(unit, tables[table], held)
         except ValueError:
             raise Damaged(table, row) from None
     if not is_sound(unit, state):

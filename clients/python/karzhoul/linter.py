@@ -62,8 +62,7 @@ class Report:
         return next((fault for fault in Fault if fault in faults), None)
 
     def verdict_of(self, serves_all: bool) -> Optional[Fault]:
-        """The same of a program that serves all, or only entities without subclasses, relations, listeners and callbacks. A function
-        that isn't there is asked for last."""
+        """The same of a program that serves all, or only entities without relations. A function that isn't there is asked for last."""
         made = self.verdict
         if made is Fault.FUNCTION and self.is_known is False and self.unserved and not serves_all:
             return Fault.MODEL
@@ -666,9 +665,6 @@ def _unknown(teller: _Teller, root: Value, made: _Made) -> bool:
 def _unserved(teller: _Teller, root: Value) -> None:
     """Tells what not every program serves."""
     unit = _Unit(root)
-    parts = [(unit.root, ("listeners",))] + [(entity, ("extends", "relations", "listeners", "callbacks")) for entity in unit.entities]
-    for owner, names in parts:
-        for name in names:
-            if owner.has(name) and owner.at(name).value.data:
-                what = "subclasses" if name == "extends" else name
-                teller.tell_unserved((*owner.path, name), owner.at(name).value, f"{what} may not be served yet")
+    for entity in unit.entities:
+        if entity.has("relations") and entity.at("relations").value.data:
+            teller.tell_unserved((*entity.path, "relations"), entity.at("relations").value, "relations may not be served yet")

@@ -150,6 +150,66 @@ class Transactions(ProgramTest):
 
 
 @needs_program
+class Removal(ProgramTest):
+    def test_a_removed_object_is_dropped_by_the_flush(self) -> None:
+        person = self.committed(name="Ada")
+        other = self.app.create_entity_manager()
+        with self.em.transaction():
+            self.em.remove(person)
+            self.assertFalse(self.em.contains(person))
+            self.em.flush()
+            self.assertIsNone(self.em.find(self.Person, 1))
+            self.assertEqual(other.find(self.Person, 1).name, "Ada")
+        self.assertIsNone(self.app.create_entity_manager().find(self.Person, 1))
+        with self.assertRaises(karzhoul.IllegalArgument) as raised:
+            self.em.remove(person)
+        self.assertEqual(raised.exception.detail, "state")
+
+    def test_a_dropped_object_is_persisted_again(self) -> None:
+        person = self.committed(name="Ada")
+        with self.em.transaction():
+            person.name = "Bob"
+            self.em.flush()
+            self.em.remove(person)
+            self.em.flush()
+            self.em.persist(person)
+        self.assertEqual((person.id, person.version, person.name), (1, 0, "Bob"))
+        self.assertIs(self.em.find(self.Person, 1), person)
+
+    def test_a_flush_is_rolled_back(self) -> None:
+        person = self.committed(name="Ada")
+        transaction = self.em.transaction().begin()
+        person.name = "Bob"
+        self.em.flush()
+        transaction.rollback()
+        self.assertEqual((person.name, person.version), ("Bob", 1))
+        self.assertEqual(self.em.find(self.Person, 1).name, "Ada")
+        with self.assertRaises(karzhoul.TransactionRequired):
+            self.em.flush()
+
+    def test_an_object_is_refreshed_and_let_go(self) -> None:
+        person = self.committed(name="Ada")
+        person.name = "Bob"
+        self.em.refresh(person)
+        self.assertEqual(person.name, "Ada")
+        self.em.detach(person)
+        self.assertFalse(self.em.contains(person))
+        self.assertIsNot(self.em.find(self.Person, 1), person)
+
+    def test_a_closed_manager(self) -> None:
+        person = self.committed(name="Ada")
+        with self.app.create_entity_manager() as other:
+            found = other.find(self.Person, 1)
+        self.assertIsNot(found, person)
+        self.assertEqual(found.name, "Ada")
+        with self.assertRaises(karzhoul.NoSuchManager):
+            other.find(self.Person, 1)
+        self.em.transaction().begin()
+        with self.assertRaises(karzhoul.IllegalState):
+            self.em.close()
+
+
+@needs_program
 class Events(ProgramTest):
     def test_events_come_in_the_order_told(self) -> None:
         told = []

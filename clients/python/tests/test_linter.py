@@ -20,14 +20,12 @@ MUTATIONS = 160
 
 
 def worked_mappings() -> Iterator[Tuple[str, str]]:
-    """The mappings of the worked examples, by title: mappings, limits, functions and metamodels."""
+    """The mappings of the worked examples, by title: mappings, limits and functions."""
     for name in ("mappings", "functions"):
         for example in examples(name):
             yield f"{name}: {example.title}", "\n".join(example.given)
     for example in examples("limits"):
         yield f"limits: {example.title}", long_text(example.given)
-    for example in examples("metamodels"):
-        yield f"metamodels: {example.title}", long_text(example.rows)
 
 
 def verdict(text: str) -> Optional[str]:
@@ -71,11 +69,6 @@ class Examples(unittest.TestCase):
                         self.fail(f"{example.title}: {line} with {value}: {verdict(text)}, and not {word}")
                     count += 1
         self.assertGreater(count, 2000)
-
-    def test_metamodels_are_well_formed(self) -> None:
-        for example in examples("metamodels"):
-            with self.subTest(example.title):
-                self.assertIn(verdict(long_text(example.rows)), (None, "function"))
 
 
 class Places(unittest.TestCase):

@@ -14,7 +14,7 @@ import karzhoul
 from karzhoul import FlushMode, LockMode
 from karzhoul.lines import CALLS, is_call
 
-from .support import HERE, examples, played
+from .support import HERE, RUNS, examples, played
 
 Factory = karzhoul.EntityManagerFactory
 
@@ -226,10 +226,11 @@ class Lines(unittest.TestCase):
                     self.assertTrue(is_call(line[2:].encode()), line)
 
     def test_worked_lines(self) -> None:
-        for example in examples("calls"):
-            for line, wanted in zip(example.given, example.wanted):
+        for run in ("lines-that-mean-no-call", "lines-that-are-no-calls", "members-in-another-order"):
+            lines, replies = ((RUNS / run / f"{name}.jsonl").read_bytes().split(b"\n")[:-1] for name in ("calls", "replies"))
+            for line, reply in zip(lines, replies):
                 with self.subTest(line):
-                    self.assertEqual(is_call(line.encode()), wanted != "BadLine")
+                    self.assertEqual(is_call(line), b'"BadLine"' not in reply)
 
     def test_members_of_calls(self) -> None:
         good = (

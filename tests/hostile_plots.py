@@ -1,0 +1,226 @@
+"""Plots of tests/hostile_lines.py: calls that follow on one another, so that what is rare among calls by chance comes often. A plot gives the
+next call once the last one was answered; other calls may come between.
+"""
+
+
+class Plots:
+    """The plots over a machine. Each is a generator of calls, as their words and members."""
+
+    def some_plot(self):
+        plots = [self.one_object, self.another_writes, self.flushes, self.same_key_again, self.refused_flush, self.many_managers]
+        return self.random.choices(plots, [4, 4, 3, 3, 4, 0.4])[0]()
+
+    # -- what a plot looks at
+
+    def open_ones(self):
+        return [n for n, manager in enumerate(self.machine.managers, 1) if manager.is_open]
+
+    def begun(self):
+        return next((n for n in self.open_ones() if self.machine.managers[n - 1].is_begun), None)
+
+    def newest(self):
+        return len(self.machine.objects)
+
+    def a_value(self, live, name):
+        return self.given(self.value(self.kind(live.entity, name)))
+
+    def some_attribute(self, live):
+        return self.random.choice(list(live.entity.attributes) or ["name"])
+
+    def change(self, live):
+        name = self.some_attribute(live)
+        return "set", {"object": live.number, "name": name, "value": self.a_value(live, name)}
+
+    def finding(self, em, live):
+        key = [self.given(part) for part in live.key()]
+        classes = [name for name, entity in self.machine.unit.entities.items() if entity.root is live.entity.root]
+        name = self.random.choice(classes) if self.random.random() < 0.4 else live.entity.name
+        return self.random.choice(["find", "find", "getReference"]), {"em": em, "entity": name, "key": key}
+
+    def beginning(self, em):
+        """Calls after which the manager has the open transaction, mostly one that can commit."""
+        other = self.begun()
+        if other == em and (not self.machine.managers[em - 1].is_marked or self.random.random() < 0.3):
+            return
+        if other:
+            yield self.random.choice(["commit", "commit", "rollback"]), {"em": other}
+        yield "begin", {"em": em}
+
+    def making(self, em, key=None):
+        """Calls that make an object and persist it; its key is that, if one is given."""
+        if not self.machine.unit.entities:
+            return
+        roots = [entity for entity in self.machine.unit.entities.values() if key is None or list(entity.root.key.values()) == list(map(type, key))]
+        entity = self.random.choice(roots)
+        yield "new", {"entity": entity.name}
+        number = self.newest()
+        if not 1 <= number or self.machine.objects[-1].entity is not entity:
+            return
+        if not entity.generated:
+            for name, part in zip(entity.key, key or [self.value(kind) for kind in entity.key.values()]):
+                yield "set", {"object": number, "name": name, "value": self.given(part)}
+        for name, attribute in entity.attributes.items():
+            if attribute.get("required") or self.random.random() < 0.5:
+                yield "set", {"object": number, "name": name, "value": self.a_value(self.machine.objects[number - 1], name)}
+        if entity.version and self.random.random() < 0.1:
+            yield "set", {"object": number, "name": entity.version["name"], "value": self.random.randint(-1, 3)}
+        yield "persist", {"em": em, "object": number}
+
+    def some_held(self, em):
+        """An object that the manager holds; it is loaded or made where there is none."""
+        held = self.machine.managers[em - 1].context
+        return self.random.choice(held[-6:]) if held else None
+
+    def looking(self, lives):
+        """Calls that get what objects hold."""
+        for live in lives:
+            for name in live.values:
+                if self.random.random() < 0.6:
+                    yield "get", {"object": live.number, "name": name}
+
+    # -- plots
+
+    def refused_flush(self):
+        """Objects are made, changed and removed, one of them so that it may be refused; then what they hold is looked at."""
+        managers = self.open_ones()
+        if not managers:
+            return
+        em = self.random.choice(managers[:4])
+        yield from self.beginning(em)
+        for _ in range(self.random.randint(0, 2)):
+            yield from self.making(em)
+        lives = list(self.machine.managers[em - 1].context)
+        lives = self.random.sample(lives, min(4, len(lives)))
+        for live in lives:
+            yield ("remove", {"em": em, "object": live.number}) if self.random.random() < 0.2 else self.change(live)
+        if lives:
+            live = self.random.choice(lives)
+            yield "set", {"object": live.number, "name": self.some_attribute(live), "value": None}
+        yield self.random.choice(["flush", "commit"]), {"em": em}
+        yield from self.looking(lives)
+        yield self.random.choice(["commit", "rollback", "flush"]), {"em": em}
+        yield from self.looking(lives)
+
+    def flushes(self):
+        """Objects are made and changed, with a flush after each, and all is rolled back or committed."""
+        managers = self.open_ones()
+        if not managers:
+            return
+        em = self.random.choice(managers[:4])
+        yield from self.beginning(em)
+        for _ in range(self.random.randint(1, 4)):
+            live = self.some_held(em)
+            if live is None or self.random.random() < 0.4:
+                yield from self.making(em)
+            elif self.random.random() < 0.3:
+                yield "remove", {"em": em, "object": live.number}
+            else:
+                yield self.change(live)
+            if self.random.random() < 0.9:
+                yield "flush", {"em": em}
+            if self.random.random() < 0.4 and self.machine.objects and None not in self.machine.objects[-1].key():
+                yield self.finding(self.random.choice(self.open_ones()), self.machine.objects[-1])
+        yield self.random.choice(["commit", "commit", "rollback", "clear"]), {"em": em}
+
+    def one_object(self):
+        """An object is removed, persisted, flushed, changed, refreshed and looked for in turns."""
+        managers = self.open_ones()
+        if not managers:
+            return
+        em = self.random.choice(managers[:4])
+        yield from self.beginning(em)
+        live = self.some_held(em)
+        if live is None:
+            yield from self.making(em)
+            live = self.some_held(em)
+        if live is None:
+            return
+        for _ in range(self.random.randint(3, 12)):
+            word = self.random.choices(["remove", "persist", "flush", "set", "refresh", "contains", "find", "other", "get", "detach"],
+                                       [6, 6, 7, 4, 1.5, 2, 1, 1, 1, 0.3])[0]
+            if word == "set":
+                yield self.change(live)
+            elif word == "flush":
+                yield "flush", {"em": em}
+            elif word == "get":
+                yield "get", {"object": live.number, "name": self.random.choice(list(live.values))}
+            elif word in ("find", "other"):
+                yield self.finding(em if word == "find" else self.random.choice(self.open_ones()), live)
+            elif word == "refresh" and (live.is_removed or live.identity() not in (self.machine.managers[em - 1].seen or {})):
+                continue
+            else:
+                yield word, {"em": em, "object": live.number}
+        yield self.random.choice(["commit", "commit", "commit", "rollback"]), {"em": em}
+
+    def another_writes(self):
+        """What a manager holds another one changes or removes, and commits; then the first one writes it, or reads it again."""
+        managers = self.open_ones()
+        if len(managers) < 2:
+            return
+        em, other = self.random.sample(managers[:4], 2)
+        live = self.some_held(em)
+        if live is None or live.is_removed or None in live.key():
+            return
+        if self.random.random() < 0.7:
+            yield self.finding(em, live)
+        yield from self.beginning(other)
+        yield self.finding(other, live)
+        same = next((each for each in self.machine.managers[other - 1].context if each.identity() == live.identity()), None)
+        if same is None:
+            return
+        for _ in range(self.random.randint(1, 2)):
+            yield self.random.choice([("remove", {"em": other, "object": same.number}), self.change(same), self.change(same), ("flush", {"em": other})])
+        if self.random.random() < 0.4:
+            yield self.finding(em, live)
+        yield "commit", {"em": other}
+        if self.random.random() < 0.2 and not live.entity.generated:
+            yield from self.beginning(other)
+            yield from self.making(other, live.key())
+            yield "commit", {"em": other}
+        yield from self.beginning(em)
+        for _ in range(self.random.randint(1, 3)):
+            on_live = {"em": em, "object": live.number}
+            yield self.random.choice([("remove", on_live), self.change(live), self.change(live), ("flush", {"em": em}), ("refresh", on_live),
+                                      ("persist", on_live)])
+        yield self.random.choice(["flush", "commit"]), {"em": em}
+        yield self.random.choice(["commit", "commit", "rollback"]), {"em": em}
+
+    def same_key_again(self):
+        """An object is dropped by a flush, or only removed, and another one of its identity is persisted."""
+        managers = self.open_ones()
+        if not managers:
+            return
+        em = self.random.choice(managers[:4])
+        yield from self.beginning(em)
+        kept = [live for live in self.machine.managers[em - 1].context if not live.entity.generated]
+        if not kept:
+            yield from self.making(em)
+            kept = [live for live in self.machine.managers[em - 1].context[-1:] if not live.entity.generated]
+        if not kept:
+            return
+        live = self.random.choice(kept)
+        if self.random.random() < 0.5:
+            yield "flush", {"em": em}
+        yield "remove", {"em": em, "object": live.number}
+        if self.random.random() < 0.7:
+            yield "flush", {"em": em}
+        leaving = self.random.choice([None, "detach", "detach", "detach", "clear", "commit"])
+        if leaving:
+            yield leaving, {"em": em, "object": live.number} if leaving == "detach" else {"em": em}
+        yield from self.beginning(em)
+        yield from self.making(em, live.key())
+        yield "flush", {"em": em}
+        if self.random.random() < 0.4:
+            yield "persist", {"em": em, "object": live.number}
+            yield "flush", {"em": em}
+        yield self.random.choice(["commit", "commit", "rollback"]), {"em": em}
+
+    def many_managers(self):
+        """Managers are made up to one too many, some are closed, and others made."""
+        for _ in range(self.random.choice([2, 3, 17])):
+            yield "createEntityManager", {}
+        for _ in range(self.random.randint(1, 15)):
+            if len(self.open_ones()) > 2:
+                yield "close", {"em": self.random.choice(self.open_ones())}
+        for _ in range(self.random.randint(0, 3)):
+            yield "createEntityManager", {}
