@@ -19,7 +19,8 @@ use Rattle.jpa_context.specs.declared.Entry.{Entry}
 use Rattle.jpa_context.specs.Work.{Work, object, with_object}
 use Rattle.jpa_ops.specs.Members.{placed, set}
 use Rattle.jpa_consistent.specs.Consistent.{IsLive, IsEntry, is_held_by, stands_in}
-use Rattle.jpa_lifecycle.specs.Flat.{IsFlat}
+use Rattle.jpa_heap.specs.Shape.{IsInHeap}
+use Rattle.jpa_consistent.specs.Orderly.{IsOrderly}
 use Rattle.jpa_consistent.proofs.Facts.{numbers_same}
 use Rattle.jpa_consistent.specs.Going.{HoldsAfter}
 use Rattle.jpa_consistent.specs.Consistent.{IsConsistent, contexts, Others}
@@ -37,7 +38,7 @@ module _ (os : List LiveObject) (n : ℕ) (y : LiveObject) (within : n < length 
       by_cases (inr apart) = inr (apart, get_or-set_other os n k y no_object apart)
 
   -- what holds of each object, at the one replaced and at the others
-  at_each : (P : ℕ → LiveObject → Type 0) (k : ℕ) → P n y → (k ≢ n → P k (object_at os k)) → P k (object_at (slice_set os n y) k)
+  pub at_each : (P : ℕ → LiveObject → Type 0) (k : ℕ) → P n y → (k ≢ n → P k (object_at os k)) → P k (object_at (slice_set os n y) k)
   at_each P k own other = by_cases (object_read k)
     where
       by_cases : ((k ≡ n) × (object_at (slice_set os n y) k ≡ y)) ⊎ ((k ≢ n) × (object_at (slice_set os n y) k ≡ object_at os k)) → P k (object_at (slice_set os n y) k)
@@ -94,7 +95,7 @@ changed_at_work {world} {M} {m} {w} n y l s h =
     let up = numbers_same w.numbers in
     record {
       manager = h.manager;
-      objects = live_set os n y l world.model s.class h.objects (s.live (h.objects n no_object l));
+      objects = live_set os n y l world.model s.class h.objects (s.live h.objects (h.objects n no_object l));
       entries = All-weaker (IsEntry world.model os w.numbers m) (IsEntry world.model (slice_set os n y) w.numbers m) (λ e. entry_kept (keeps m) up) w.context h.entries;
       distinct = distinct_kept w.context (keeps m) h.entries h.distinct;
       others = λ k l' apart. others_kept (keeps k) up (h.others k l' apart);
@@ -116,8 +117,8 @@ placed_holds : (world : World) (w : Work) (n : ℕ) (r : Result LiveObject Cause
 placed_holds world w n (Ok y) l h = (n, y, l, h, refl)
 placed_holds world w n (Err r) l h = tt
 
-pub set_holds : (world : World) → IsFlat world.model → (w : Work) (n : ℕ) (name : List ℕ) (v : Handed) → n < length w.objects → handed_representable v ≡ true →
+pub set_holds : (world : World) → IsOrderly world.model → (w : Work) (n : ℕ) (name : List ℕ) (v : Handed) → n < length w.objects → handed_representable v ≡ true → IsInHeap w.objects v →
     HoldsAfter (λ u w'. HasSet world w w') (set world n name v w)
-set_holds world flat w n name v l rep =
+set_holds world orderly w n name v l rep there =
     placed_holds world w n (set_in world.model w.objects n name v) l
-    (set_is world.model flat w.objects (object w n) v rep (member_of world.model (object w n).class name) (version_named world.model (object w n).class name))
+    (set_is world.model orderly w.objects (object w n) v rep there (member_of world.model (object w n).class name) (version_named world.model (object w n).class name))

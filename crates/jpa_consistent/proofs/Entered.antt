@@ -1,9 +1,10 @@
--- What holds while a manager is at work is kept where an object enters its context, and where a removed one is managed again.
+-- What holds while a manager is at work is kept where an object enters its context, and where one that it holds is removed or
+-- managed again.
 use Rattle.jpa_value.specs.Limits.{most_objects}
 use Rattle.std.proofs.Common.{◌≡◌, ◌≢◌, ◌<◌, ◌≤◌, ℕ, Bool, true, false, List, [], ◌∷◌, ◌++◌, length, refl, ap, sym, subst, ◌∙◌, arith}
 use Rattle.std.specs.Prelude.{slice_set, not, Option, Some, None, ◌==◌, ◌||◌, if◌then◌else◌, is_some}
 use Rattle.std.specs.List.{AllByRecursion, list_any, find}
-use Rattle.std.proofs.lemmas.Bool.{true≢false, eq-eqb, ne_eqb, and_parts, and_from, or_from, or_left, or_right, not-true, not_from_false}
+use Rattle.std.proofs.lemmas.Bool.{true≢false, eqb-true, eq-eqb, ne_eqb, and_parts, and_from, or_from, or_left, or_right, not-true, not_from_false}
 use Rattle.std.proofs.lemmas.List.{length-set}
 use Rattle.std.proofs.lemmas.List.Elements.{All-weaker, All-push, recursion_from_All}
 use Rattle.std.proofs.lemmas.List.Folds.{list_any-append}
@@ -16,19 +17,19 @@ use Rattle.jpa_behaviour.specs.Behaviour.{World}
 use Rattle.jpa_stored.specs.Sets.{all_distinct, is_key_of}
 use Rattle.jpa_heap.specs.declared.Life.{Life}
 use Rattle.jpa_heap.specs.declared.LiveObject.{LiveObject}
-use Rattle.jpa_heap.specs.Objects.{object_at, no_object, is_whole, identity_of}
+use Rattle.jpa_heap.specs.Objects.{object_at, no_object, is_whole, identity_of, with_life}
 use Rattle.jpa_context.specs.declared.Lock.{Lock}
 use Rattle.jpa_context.specs.declared.Entry.{Entry}
 use Rattle.jpa_context.specs.Work.{Work, object, identity_at, instance, has_identity, object_in, with_life_of, entered}
 use Rattle.jpa_ops.specs.States.{become_managed, give_key, has_instance}
 use Rattle.jpa_consistent.specs.Consistent.{IsEntry, is_held_by, stands_in, are_one, name_of}
-use Rattle.jpa_lifecycle.specs.Flat.{IsFlat}
+use Rattle.jpa_consistent.specs.Orderly.{IsOrderly}
 use Rattle.jpa_consistent.proofs.Facts.{numbers_same, key_is_whole}
 use Rattle.jpa_consistent.specs.Going.{HoldsAfter}
-use Rattle.jpa_consistent.proofs.Going.{after_holds, require_holds}
+use Rattle.jpa_consistent.proofs.Going.{More, after_holds, more_on, require_holds}
 use Rattle.jpa_consistent.specs.Consistent.{IsConsistent, contexts, Others}
 use Rattle.jpa_consistent.proofs.Kept.{KeepsHeld, others_kept, entry_kept, distinct_kept, names_kept}
-use Rattle.jpa_consistent.proofs.Changed.{holds_set, holds_apart, live_set, placed_set}
+use Rattle.jpa_consistent.proofs.Changed.{holds_set, holds_apart, keeps_set, live_set, placed_set}
 use Rattle.jpa_rows.specs.Cells.{key_given_by}
 use Rattle.jpa_consistent.proofs.Persisted.{HasKey, give_key_holds, new_apart, at_place}
 
@@ -163,28 +164,47 @@ entered_at_work {world} {M} {m} {n} {w} h free =
 
 -- ---- a new object becomes managed
 
-pub become_holds : {world : World} {M : Others} {m : ℕ} {w : Work} → IsFlat world.model → (n : ℕ) → IsConsistent world M m w → n < length w.objects → (object w n).life ≡ Life.New →
-    HoldsAfter (λ u w'. IsConsistent world M m w' × (length w'.objects ≡ length w.objects)) (become_managed world n w)
-become_holds {world} {M} {m} {w} flat n h l new =
+pub become_holds : {world : World} {M : Others} {m : ℕ} {w : Work} → IsOrderly world.model → (n : ℕ) → IsConsistent world M m w → n < length w.objects → (object w n).life ≡ Life.New →
+    HoldsAfter (λ u w'. IsConsistent world M m w' × More w w') (become_managed world n w)
+become_holds {world} {M} {m} {w} orderly n h l new =
     let b = (root_of world.model (object w n).class).generated in
-    after_holds _ (λ u w'. HasKey world M m n w' × (length w'.objects ≡ length w.objects)) (give_key world n b w) _ (give_key_holds flat n b h l new refl) (λ u v k.
+    after_holds _ (λ u w'. HasKey world M m n w' × More w w') (give_key world n b w) _ (give_key_holds orderly n b h l new refl) (λ u v k.
     require_holds _ (not (has_instance world.model v (identity_at world.model v n))) Cause.EntityExists v _ (λ free. (
       subst (λ j. IsConsistent world M m (entered n (with_life_of n (Life.Managed j) v))) (sym ((k.0).at).manager)
           (entered_at_work k.0 (not-true (has_instance world.model v (identity_at world.model v n)) free)),
-      length-set v.objects n (managed_by v.manager (object v n)) ∙ k.1,
+      more_on w v (with_life_of n (Life.Managed v.manager) v) k.1 (keeps_set v.objects n (managed_by v.manager (object v n)) (k.0).within refl),
     )))
 
--- a removed object is managed again
-pub revived : {world : World} {M : Others} {m : ℕ} {w : Work} (n : ℕ) → IsConsistent world M m w → n < length w.objects → (object w n).life ≡ Life.Removed m →
-    IsConsistent world M m (with_life_of n (Life.Managed m) w)
-revived {world} {M} {m} {w} n h l removed =
+-- ---- an object that the manager holds lives otherwise
+
+pub held_alone : (m k : ℕ) (life : Life) → k ≢ m → is_held_by m life ≡ true → is_held_by k life ≡ false
+held_alone m k Life.New d h = refl
+held_alone m k (Life.Managed j) d h = ne_eqb j k (λ e. d (sym e ∙ eqb-true j m h))
+held_alone m k (Life.Removed j) d h = ne_eqb j k (λ e. d (sym e ∙ eqb-true j m h))
+held_alone m k Life.Detached d h = refl
+
+in_context : (c : ℕ → List Entry) (m n : ℕ) (life : Life) → is_held_by m life ≡ true → stands_in c n life ≡ true → list_any (λ (e : Entry). e.object == n) (c m) ≡ true
+in_context c m n Life.New h s = absurd (true≢false (sym h))
+in_context c m n (Life.Managed k) h s = subst (λ j. list_any (λ (e : Entry). e.object == n) (c j) ≡ true) (eqb-true k m h) s
+in_context c m n (Life.Removed k) h s = subst (λ j. list_any (λ (e : Entry). e.object == n) (c j) ≡ true) (eqb-true k m h) s
+in_context c m n Life.Detached h s = absurd (true≢false (sym h))
+
+from_context : (c : ℕ → List Entry) (m n : ℕ) (life : Life) → is_held_by m life ≡ true → list_any (λ (e : Entry). e.object == n) (c m) ≡ true → stands_in c n life ≡ true
+from_context c m n Life.New h s = refl
+from_context c m n (Life.Managed k) h s = subst (λ j. list_any (λ (e : Entry). e.object == n) (c j) ≡ true) (sym (eqb-true k m h)) s
+from_context c m n (Life.Removed k) h s = subst (λ j. list_any (λ (e : Entry). e.object == n) (c j) ≡ true) (sym (eqb-true k m h)) s
+from_context c m n Life.Detached h s = refl
+
+pub relived : {world : World} {M : Others} {m : ℕ} {w : Work} (n : ℕ) (life : Life) → IsConsistent world M m w → n < length w.objects → is_held_by m (object w n).life ≡ true → is_held_by m life ≡ true →
+    IsConsistent world M m (with_life_of n life w)
+relived {world} {M} {m} {w} n life h l before after =
     let os = w.objects in
     let x = object w n in
-    let y = managed_by m x in
+    let y = with_life x life in
     let ps = slice_set os n y in
     let live = (h.objects) n no_object l in
-    let own : KeepsHeld m os ps = holds_set os n y l m (λ e. (refl, refl, eq-eqb m m refl)) in
-    let apart : (k : ℕ) → k ≢ m → KeepsHeld k os ps = λ k d. holds_apart os n y l k (ap (is_held_by k) removed ∙ ne_eqb m k (λ e. d (sym e))) in
+    let own : KeepsHeld m os ps = holds_set os n y l m (λ e. (refl, refl, after)) in
+    let apart : (k : ℕ) → k ≢ m → KeepsHeld k os ps = λ k d. holds_apart os n y l k (held_alone m k x.life d before) in
     let up = numbers_same w.numbers in
     record {
       manager = h.manager;
@@ -203,9 +223,19 @@ revived {world} {M} {m} {w} n h l removed =
       entries = All-weaker (IsEntry world.model os w.numbers m) (IsEntry world.model ps w.numbers m) (λ e. entry_kept own up) w.context h.entries;
       distinct = distinct_kept w.context own h.entries h.distinct;
       others = λ k l' d. others_kept (apart k d) up (h.others k l' d);
-      placed = placed_set os n y l (contexts M m w) h.placed (subst (λ life. stands_in (contexts M m w) n life ≡ true) removed (h.placed n l));
+      placed = placed_set os n y l (contexts M m w) h.placed (from_context (contexts M m w) m n life after (in_context (contexts M m w) m n x.life before (h.placed n l)));
       view = h.view;
       numbered = h.numbered;
       raised = h.raised;
       few = subst (λ j. j ≤ most_objects) (sym (length-set os n y)) h.few;
     }
+
+-- a removed object is managed again
+pub revived : {world : World} {M : Others} {m : ℕ} {w : Work} (n : ℕ) → IsConsistent world M m w → n < length w.objects → (object w n).life ≡ Life.Removed m →
+    IsConsistent world M m (with_life_of n (Life.Managed m) w)
+revived {m = m} n h l removed = relived n (Life.Managed m) h l (ap (is_held_by m) removed ∙ eq-eqb m m refl) (eq-eqb m m refl)
+
+-- a managed object is removed
+pub removed : {world : World} {M : Others} {m : ℕ} {w : Work} (n : ℕ) → IsConsistent world M m w → n < length w.objects → (object w n).life ≡ Life.Managed m →
+    IsConsistent world M m (with_life_of n (Life.Removed m) w)
+removed {m = m} n h l managed = relived n (Life.Removed m) h l (ap (is_held_by m) managed ∙ eq-eqb m m refl) (eq-eqb m m refl)

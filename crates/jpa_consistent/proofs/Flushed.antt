@@ -1,157 +1,204 @@
--- What holds while a manager is at work is kept by a flush, in units without relations, whoever hears.
+-- What holds while a manager is at work is kept by a flush, whoever hears.
 use Rattle.std.proofs.Common.{◌≡◌, ◌≢◌, ◌<◌, ◌⊎◌, inl, inr, ℕ, Bool, true, false, List, [], ◌∷◌, length, map, refl, ap, sym, subst, ◌∙◌, arith}
-use Rattle.std.specs.Prelude.{slice_set, Option, Some, None, ◌==◌, ◌&&◌, if◌then◌else◌, ℤ}
+use Rattle.std.specs.Prelude.{slice_set, Option, Some, None, ◌==◌, ◌&&◌, if◌then◌else◌}
 use Rattle.std.specs.List.{AllByRecursion, list_all, flat_map, filter, zip}
 use Rattle.std.specs.FinMap.Entries.{is_sorted-where_key}
-use Rattle.std.proofs.lemmas.Bool.{false≢true, eqb-true, and_parts, and_from, cond_both}
+use Rattle.std.proofs.lemmas.Bool.{false≢true, true≢false, eqb-true, and_parts, and_from}
 use Rattle.std.proofs.lemmas.List.{length-set}
 use Rattle.std.proofs.lemmas.List.Elements.{recursion_from_All}
 use Rattle.jpa_value.specs.declared.value.Value.{Value}
 use Rattle.jpa_value.specs.declared.value.Identity.{Identity}
-use Rattle.jpa_value.specs.declared.refusal.Persist.{Persist}
-use Rattle.jpa_value.specs.declared.event.LifecycleEvent.{LifecycleEvent}
 use Rattle.jpa_value.specs.Value.{identity_cmp}
 use Rattle.jpa_model.specs.declared.unit.PersistenceUnit.{PersistenceUnit}
 use Rattle.jpa_model.specs.declared.unit.Attribute.{Attribute}
-use Rattle.jpa_model.specs.declared.unit.Relation.{Relation}
-use Rattle.jpa_model.specs.Chains.{root_of, root_class, attributes_of, relations_of}
+use Rattle.jpa_model.specs.Chains.{root_of, root_class, attributes_of}
 use Rattle.jpa_behaviour.specs.Behaviour.{World, HearsRepresentable, IsRegular}
 use Rattle.jpa_stored.specs.declared.stored.Stored.{Stored}
-use Rattle.jpa_stored.specs.Sets.{StoredSet, without, fault_of, each_fits, is_shaped}
+use Rattle.jpa_stored.specs.Sets.{StoredSet, without, fault_of, is_shaped}
 use Rattle.jpa_rows.specs.Cells.{CanBeHeld, version_representable, holds_representable, names_representable, passes, key_given_by}
 use Rattle.jpa_heap.specs.declared.LiveObject.{LiveObject}
 use Rattle.jpa_heap.specs.Objects.{object_at, no_object, is_whole}
 use Rattle.jpa_context.specs.declared.Base.{Base}
 use Rattle.jpa_context.specs.declared.Entry.{Entry}
-use Rattle.jpa_context.specs.Work.{Work, object, state_of, is_managed, identity_at}
-use Rattle.jpa_context.specs.Steps.{Outcome, Done, Refused, Op, after, each}
-use Rattle.jpa_flush.specs.Flush.{Action, Insert, Replace, Drop, action_of, written, actions, listed, replaces_row, flushed, settled, settled_entry, settled_all, remembered, remembered_in, members_held, all_remembered, after_flush, sound_or, post, post_event, held_now, pre_update_for, pre_update_one, pre_update, check_one, check_actions, write_all, flush}
-use Rattle.jpa_flush.proofs.Flushed.{writing, flat_flush}
-use Rattle.jpa_consistent.specs.Consistent.{IsLive, IsEntry, name_of, base_fits, known_fits, version_fits, held_fits}
-use Rattle.jpa_lifecycle.specs.Flat.{IsFlat}
-use Rattle.jpa_consistent.proofs.Facts.{each_fits_none, list_all_weaker}
+use Rattle.jpa_context.specs.Work.{Work, object, state_from, state_of, is_managed, identity_at}
+use Rattle.jpa_flush.specs.Flush.{Action, written, actions, listed, replaces_row, flushed, settled, settled_entry, settled_all, remembered, remembered_in, members_held, pre_update, flush}
+use Rattle.jpa_consistent.specs.Consistent.{IsConsistent, IsEntry, IsLive, Others, base_fits, name_of, version_fits}
 use Rattle.jpa_consistent.specs.Going.{HoldsAfter}
-use Rattle.jpa_consistent.proofs.Going.{after_holds, More, then_goes, same_many, each_goes}
-use Rattle.jpa_consistent.specs.Consistent.{IsConsistent, Others}
-use Rattle.jpa_consistent.proofs.Persisted.{at_place}
-use Rattle.jpa_consistent.proofs.Heard.{heard_at_work}
+use Rattle.jpa_consistent.specs.Orderly.{IsOrderly}
+use Rattle.jpa_consistent.proofs.Facts.{list_all_weaker}
+use Rattle.jpa_consistent.proofs.Going.{More}
 use Rattle.jpa_consistent.proofs.Changed.{object_read}
+use Rattle.jpa_consistent.proofs.Flushing.{AreChecked, flush_law, pre_update_law, written_in}
+use Rattle.jpa_consistent.proofs.Instances.{at_work, standing}
+use Rattle.jpa_consistent.proofs.Kept.{base_same}
 use Rattle.jpa_consistent.proofs.Loaded.{version_loads}
+use Rattle.jpa_consistent.proofs.Owned.{remembered_known}
+use Rattle.jpa_consistent.proofs.Planned.{Alike, IsPlanned, Writes, alike_at_work, alike_mapped, alike_same, context_planned, new_base, versioned, versioned_at_work}
 use Rattle.jpa_consistent.proofs.Written.{IsFit, all_joined_hold, all_joined_rise, part_holds, name_is}
-use Rattle.jpa_lifecycle.specs.Callbacks.{callback}
-use Rattle.jpa_consistent.proofs.Planned.{Checked, check_action_holds, IsPlanned, Writes, context_planned, mapped_at_work, based_entry, IsBase, new_base, versioned, versioned_at_work}
 
 -- ---- what is written settles
 
--- objects keep class and key, and no number changes
+-- objects keep class, key and life, and no number changes
 record IsSame (before w : Work) : Type 0 where
   many : length w.objects ≡ length before.objects
   class : (k : ℕ) → (object w k).class ≡ (object before k).class
   key : (k : ℕ) → (object w k).key ≡ (object before k).key
+  life : (k : ℕ) → (object w k).life ≡ (object before k).life
+  manager : w.manager ≡ before.manager
   numbers : w.numbers ≡ before.numbers
 
-base_of_writes : {world : World} {before w : Work} {n : ℕ} {x : Stored} → IsSame before w → Writes world before n x → IsBase world.model (object w n) x
-base_of_writes {world} {before} {w} {n} {x} same h =
-    let m = world.model in
-    let c = same.class n in
-    let k = same.key n in
-    let name : name_of m (object before n) ≡ name_of m (object w n) = λ i. record { table = (root_of m (sym c i)).table; key = sym k i } in
-    record {
-      class = h.class ∙ sym c;
-      shaped = subst (λ i. is_shaped m i x ≡ true) name h.shaped;
-      version = subst (λ j. version_fits (root_of m j).version x.version ≡ true) (sym c) (version_loads (root_of m (object before n).class).version x.version h.version);
-      held = h.held;
-    }
+same_itself : (w : Work) → IsSame w w
+same_itself w = record { many = refl; class = λ k. refl; key = λ k. refl; life = λ k. refl; manager = refl; numbers = refl }
 
-same_base : {m : PersistenceUnit} {x : LiveObject} {s : Stored} (v : Option ℤ) → IsBase m x s → IsBase m (versioned x v) s
-same_base v h = record { class = h.class; shaped = h.shaped; version = h.version; held = h.held }
+-- the base that an entry has, but for what it remembers of the relations: that of a managed object is remembered at the end
+record IsAnew (m : PersistenceUnit) (before : Work) (e : Entry) : Type 0 where
+  base : Base
+  has : e.base ≡ Some base
+  managed : is_managed (state_of before e.object) ≡ true
+  class : (base.stored).class ≡ (object before e.object).class
+  shaped : is_shaped m (name_of m (object before e.object)) base.stored ≡ true
+  held : holds_representable base.stored ≡ true
 
-same_if : (b : Bool) (x e : Entry) → x.object ≡ e.object → (if b then x else e).object ≡ e.object
-same_if true x e q = q
-same_if false x e q = refl
+abbrev IsBased : PersistenceUnit → Work → Entry → Type 0
+IsBased m before e = (base_fits m (object before e.object) e.base ≡ true) ⊎ IsAnew m before e
 
-settled_one : {world : World} {M : Others} {m : ℕ} {before w : Work} → IsFlat world.model → (n : ℕ) (x : Option Stored) → n < length before.objects →
-    ((s : Stored) → x ≡ Some s → Writes world before n s) → IsSame before w → IsConsistent world M m w → IsConsistent world M m (settled n x w) × IsSame before (settled n x w)
-settled_one {world} {M} {m} {before} {w} flat n None l h same at = (
-  mapped_at_work (λ e. if e.object == n then record e { base = None } else e) (λ e. same_if (e.object == n) (record e { base = None }) e refl)
-      (λ e k. cond_both (e.object == n) (record e { base = None }) e (IsEntry world.model w.objects w.numbers m) (λ q. based_entry e None refl k) (λ q. k)) at,
-  record { many = same.many; class = same.class; key = same.key; numbers = same.numbers },
-)
-settled_one {world} {M} {m} {before} {w} flat n (Some x) l h same at =
-    let model = world.model in
-    let l' : n < length w.objects = let q = same.many in omega (arith, q, l) in
-    let y = versioned (object w n) x.version in
-    let ps = slice_set w.objects n y in
-    let base = base_of_writes same (h x refl) in
-    let rep : version_representable x.version ≡ true = (and_parts (version_representable x.version) _ base.held).0 in
-    let done = versioned_at_work n x.version l' base.version rep at in
-    let here : (e : Entry) → (e.object == n) ≡ true → y ≡ object_at ps e.object =
-    λ e q. sym (ap (object_at ps) (eqb-true e.object n q) ∙ at_place w.objects n y l') in (
-      mapped_at_work (λ e. if e.object == n then settled_entry x e else e) (λ e. same_if (e.object == n) (settled_entry x e) e refl)
-          (λ e k. cond_both (e.object == n) (settled_entry x e) e (IsEntry model ps w.numbers m)
-          (λ q. record {
-            within = k.within;
-            keyed = k.keyed;
-            held = k.held;
-            whole = k.whole;
-            given = k.given;
-            base = subst (λ (z : LiveObject). base_fits model z (Some (record { stored = x; members = [] })) ≡ true) (here e q) (new_base flat y x (same_base x.version base));
-          })
-          (λ q. k)) done,
+all_mapped : {A : Type 0} (P : A → Type 0) (f : A → A) → ((x : A) → P x → P (f x)) → (xs : List A) → AllByRecursion P xs → AllByRecursion P (map f xs)
+all_mapped P f k [] h = tt
+all_mapped P f k (x ∷ xs) h = (k x h.0, all_mapped P f k xs h.1)
+
+-- what is known as the plan settles: of the objects, beside the entries as they were, and of the entries
+record IsSettling (world : World) (M : Others) (m : ℕ) (before w : Work) : Type 0 where
+  same : IsSame before w
+  at : IsConsistent world M m (record w { context = before.context })
+  alike : Alike before.context w.context
+  based : AllByRecursion (IsBased world.model before) w.context
+
+same_two : (b : Bool) (x e : Entry) → (x.object ≡ e.object) × (x.key ≡ e.key) → ((if b then x else e).object ≡ e.object) × ((if b then x else e).key ≡ e.key)
+same_two true x e q = q
+same_two false x e q = (refl, refl)
+
+based_if : (m : PersistenceUnit) (before : Work) (b : Bool) (x e : Entry) → (b ≡ true → IsBased m before x) → IsBased m before e → IsBased m before (if b then x else e)
+based_if m before true x e k h = k refl
+based_if m before false x e k h = h
+
+module _ {world : World} {M : Others} {m : ℕ} {before : Work} where
+  settled_one : {w : Work} (n : ℕ) (x : Option Stored) → n < length before.objects → ((s : Stored) → x ≡ Some s → Writes world before n s) → IsSettling world M m before w →
+      IsSettling world M m before (settled n x w)
+  settled_one {w} n None l h s =
       record {
-        many = length-set w.objects n y ∙ same.many;
-        class = λ k. read_same (λ (z : LiveObject). z.class) k refl ∙ same.class k;
-        key = λ k. read_same (λ (z : LiveObject). z.key) k refl ∙ same.key k;
-        numbers = same.numbers;
-      },
-    )
-  where
-    read_same : {A : Type 0} (f : LiveObject → A) (k : ℕ) → f (versioned (object w n) x.version) ≡ f (object w n) →
-        f (object_at (slice_set w.objects n (versioned (object w n) x.version)) k) ≡ f (object w k)
-    read_same f k e = by_cases (object_read w.objects n (versioned (object w n) x.version) (let q = same.many in omega (arith, q, l)) k)
-      where
-        by_cases : ((k ≡ n) × (object_at (slice_set w.objects n (versioned (object w n) x.version)) k ≡ versioned (object w n) x.version))
-            ⊎ ((k ≢ n) × (object_at (slice_set w.objects n (versioned (object w n) x.version)) k ≡ object_at w.objects k)) →
-            f (object_at (slice_set w.objects n (versioned (object w n) x.version)) k) ≡ f (object w k)
-        by_cases (inl q) = ap f q.1 ∙ e ∙ sym (ap (λ j. f (object_at w.objects j)) q.0)
-        by_cases (inr q) = ap f q.1
+        same = record { many = (s.same).many; class = (s.same).class; key = (s.same).key; life = (s.same).life; manager = (s.same).manager; numbers = (s.same).numbers };
+        at = s.at;
+        alike = alike_mapped (λ e. if e.object == n then record e { base = None } else e) (λ e. same_two (e.object == n) (record e { base = None }) e (refl, refl)) before.context w.context s.alike;
+        based = all_mapped (IsBased world.model before) (λ e. if e.object == n then record e { base = None } else e)
+            (λ e k. based_if world.model before (e.object == n) (record e { base = None }) e (λ q. inl refl) k) w.context s.based;
+      }
+  settled_one {w} n (Some x) l h s =
+      let model = world.model in
+      let same = s.same in
+      let l' : n < length w.objects = let q = same.many in omega (arith, q, l) in
+      let y = versioned (object w n) x.version in
+      let wrote = h x refl in
+      let rep : version_representable x.version ≡ true = (and_parts (version_representable x.version) _ wrote.held).0 in
+      let fits = subst (λ j. version_fits (root_of model j).version x.version ≡ true) (sym (same.class n)) (version_loads (root_of model (object before n).class).version x.version wrote.version) in
+      record {
+        same =
+            record {
+              many = length-set w.objects n y ∙ same.many;
+              class = λ k. read_same (λ (z : LiveObject). z.class) k l' refl ∙ same.class k;
+              key = λ k. read_same (λ (z : LiveObject). z.key) k l' refl ∙ same.key k;
+              life = λ k. read_same (λ (z : LiveObject). z.life) k l' refl ∙ same.life k;
+              manager = same.manager;
+              numbers = same.numbers;
+            };
+        at = versioned_at_work n x.version l' fits rep s.at;
+        alike = alike_mapped (λ e. if e.object == n then settled_entry x e else e) (λ e. same_two (e.object == n) (settled_entry x e) e (refl, refl)) before.context w.context s.alike;
+        based = all_mapped (IsBased model before) (λ e. if e.object == n then settled_entry x e else e)
+            (λ e k. based_if model before (e.object == n) (settled_entry x e) e (λ q. inr (anew e (eqb-true e.object n q) wrote)) k) w.context s.based;
+      }
+    where
+      anew : (e : Entry) → e.object ≡ n → Writes world before n x → IsAnew world.model before (settled_entry x e)
+      anew e q wrote =
+          let there = sym q in
+          record {
+            base = record { stored = x; members = [] };
+            has = refl;
+            managed = subst (λ j. is_managed (state_of before j) ≡ true) there wrote.managed;
+            class = subst (λ j. x.class ≡ (object before j).class) there wrote.class;
+            shaped = subst (λ j. is_shaped world.model (name_of world.model (object before j)) x ≡ true) there wrote.shaped;
+            held = wrote.held;
+          }
 
-settled_each : {world : World} {M : Others} {m : ℕ} (before w : Work) → IsFlat world.model → (plan : List (ℕ × Action)) → AllByRecursion (IsPlanned world before) plan → IsSame before w →
-    IsConsistent world M m w → IsConsistent world M m (settled_all world.model before plan w) × IsSame before (settled_all world.model before plan w)
-settled_each before w flat [] h same at = (at, same)
-settled_each {world} {M} {m} before w flat (a ∷ as') h same at =
-    let one = settled_one flat a.0 (written world.model before a.0 a.1) (h.0).0 (h.0).1 same at in
-    settled_each before (settled a.0 (written world.model before a.0 a.1) w) flat as' h.1 one.1 one.0
+      read_same : {A : Type 0} (f : LiveObject → A) (k : ℕ) → n < length w.objects → f (versioned (object w n) x.version) ≡ f (object w n) →
+          f (object_at (slice_set w.objects n (versioned (object w n) x.version)) k) ≡ f (object w k)
+      read_same f k l e = by_cases (object_read w.objects n (versioned (object w n) x.version) l k)
+        where
+          by_cases : ((k ≡ n) × (object_at (slice_set w.objects n (versioned (object w n) x.version)) k ≡ versioned (object w n) x.version))
+              ⊎ ((k ≢ n) × (object_at (slice_set w.objects n (versioned (object w n) x.version)) k ≡ object_at w.objects k)) →
+              f (object_at (slice_set w.objects n (versioned (object w n) x.version)) k) ≡ f (object w k)
+          by_cases (inl q) = ap f q.1 ∙ e ∙ sym (ap (λ j. f (object_at w.objects j)) q.0)
+          by_cases (inr q) = ap f q.1
 
--- ---- bases remember the members that were read: none, without relations
+  settled_each : (plan : List (ℕ × Action)) (w : Work) → AllByRecursion (IsPlanned world before) plan → IsSettling world M m before w → IsSettling world M m before (settled_all world.model before plan w)
+  settled_each [] w h s = s
+  settled_each (a ∷ as') w h s =
+      settled_each as' (settled a.0 (written world.model before a.0 a.1) w) h.1 (settled_one a.0 (written world.model before a.0 a.1) (h.0).0 (h.0).1 s)
 
-remembered_base : (m : PersistenceUnit) (x : LiveObject) (ms : List (Option (List Identity))) (b : Option Base) → relations_of m x.class ≡ [] → ms ≡ [] → base_fits m x b ≡ true →
-    base_fits m x (remembered_in ms b) ≡ true
-remembered_base m x ms None flat e h = refl
-remembered_base m x ms (Some b) flat e h =
-    let a = and_parts ((b.stored).class == x.class) _ h in
-    let c = and_parts (is_shaped m (name_of m x) b.stored) _ a.1 in
-    let d = and_parts (holds_representable b.stored) _ c.1 in
-    and_from ((b.stored).class == x.class) _ a.0
-    (and_from (is_shaped m (name_of m x) b.stored) _ c.0
-    (and_from (holds_representable b.stored) _ d.0
-    (subst (λ (rs : List Relation). each_fits known_fits rs ms ≡ true) (sym flat) (subst (λ ks. each_fits known_fits [] ks ≡ true) (sym e) refl))))
+all_based : (model : PersistenceUnit) (before : Work) (os : List LiveObject) (ns : List ℕ) (k : ℕ) (es : List Entry) → os ≡ before.objects → AllByRecursion (IsEntry model os ns k) es → AllByRecursion (IsBased model before) es
+all_based model before os ns k [] e h = tt
+all_based model before os ns k (x ∷ xs) e h = (inl (subst (λ ps. base_fits model (object_at ps x.object) x.base ≡ true) e (h.0).base), all_based model before os ns k xs e h.1)
 
-no_members_held : {m : PersistenceUnit} (w : Work) (n : ℕ) → IsFlat m → IsLive m w.objects (object w n) → members_held m w n ≡ []
-no_members_held {m} w n flat h =
-    ap (map (held_now m w))
-    (each_fits_none (held_fits m w.objects) (object w n).relations
-    (subst (λ (rs : List Relation). each_fits (held_fits m w.objects) rs (object w n).relations ≡ true) (flat.relations (object w n).class) h.relations))
+-- ---- bases remember what the relations that were read hold now
 
-remembered_at_work : {world : World} {M : Others} {m : ℕ} {w : Work} → IsFlat world.model → IsConsistent world M m w → IsConsistent world M m (all_remembered world.model w)
-remembered_at_work {world} {M} {m} {w} flat h =
-    mapped_at_work (remembered world.model w)
-    (λ e. same_if (is_managed (state_of w e.object)) (record e { base = remembered_in (members_held world.model w e.object) e.base }) e refl)
-    (λ e k. cond_both (is_managed (state_of w e.object)) (record e { base = remembered_in (members_held world.model w e.object) e.base }) e (IsEntry world.model w.objects w.numbers m)
-    (λ q. based_entry e (remembered_in (members_held world.model w e.object) e.base)
-    (remembered_base world.model (object w e.object) (members_held world.model w e.object) e.base (flat.relations (object w e.object).class)
-    (no_members_held w e.object flat (h.objects e.object no_object k.within)) k.base) k)
-    (λ q. k)) h
+module _ {world : World} {M : Others} {m : ℕ} {before w : Work} (s : IsSettling world M m before w) where
+  same_state : (k : ℕ) → state_of w k ≡ state_of before k
+  same_state k = λ i. state_from ((s.same).manager i) ((s.same).life k i)
+
+  remembered_stored : (n : ℕ) (b : Base) → (b.stored).class ≡ (object before n).class → is_shaped world.model (name_of world.model (object before n)) b.stored ≡ true → holds_representable b.stored ≡ true →
+      IsLive world.model w.objects (object w n) → base_fits world.model (object w n) (Some (record b { members = members_held world.model w n })) ≡ true
+  remembered_stored n b class shaped held live =
+      let c = (s.same).class n in
+      let k = (s.same).key n in
+      let name : name_of world.model (object before n) ≡ name_of world.model (object w n) = λ i. record { table = (root_of world.model (sym c i)).table; key = sym k i } in
+      new_base world.model (object w n) b.stored (members_held world.model w n) (class ∙ sym c) (subst (λ j. is_shaped world.model j b.stored ≡ true) name shaped) held
+      (remembered_known world.model w n live)
+
+  remembered_known_base : (n : ℕ) (b : Option Base) → base_fits world.model (object before n) b ≡ true → IsLive world.model w.objects (object w n) →
+      base_fits world.model (object w n) (remembered_in (members_held world.model w n) b) ≡ true
+  remembered_known_base n None h live = refl
+  remembered_known_base n (Some b) h live =
+      let x = object before n in
+      let a = and_parts ((b.stored).class == x.class) _ h in
+      let c = and_parts (is_shaped world.model (name_of world.model x) b.stored) _ a.1 in
+      let d = and_parts (holds_representable b.stored) _ c.1 in
+      remembered_stored n b (eqb-true (b.stored).class x.class a.0) c.0 d.0 live
+
+  remembered_base : (e : Entry) → IsBased world.model before e → IsLive world.model w.objects (object w e.object) →
+      (b : Bool) → is_managed (state_of w e.object) ≡ b →
+      base_fits world.model (object w e.object) (if b then record e { base = remembered_in (members_held world.model w e.object) e.base } else e).base ≡ true
+  remembered_base e (inl h) live true t = remembered_known_base e.object e.base h live
+  remembered_base e (inl h) live false t = base_same world.model (object before e.object) (object w e.object) e.base ((s.same).class e.object) ((s.same).key e.object) h
+  remembered_base e (inr h) live true t =
+      subst (λ o. base_fits world.model (object w e.object) (remembered_in (members_held world.model w e.object) o) ≡ true) (sym h.has)
+      (remembered_stored e.object h.base h.class h.shaped h.held live)
+  remembered_base e (inr h) live false t = absurd (true≢false (sym h.managed ∙ sym (ap is_managed (same_state e.object)) ∙ t))
+
+  all_remember : (xs ys : List Entry) → Alike xs ys → AllByRecursion (IsEntry world.model w.objects w.numbers m) xs → AllByRecursion (IsBased world.model before) ys →
+      AllByRecursion (λ (e : Entry). base_fits world.model (object w e.object) e.base ≡ true) (map (remembered world.model w) ys)
+  all_remember [] [] a h g = tt
+  all_remember [] (y ∷ ys) a h g = absurd a
+  all_remember (x ∷ xs) [] a h g = absurd a
+  all_remember (x ∷ xs) (y ∷ ys) a h g = (
+    subst (λ j. base_fits world.model (object w j) (remembered world.model w y).base ≡ true) (sym (same_two (is_managed (state_of w y.object)) (record y { base = remembered_in (members_held world.model w y.object) y.base }) y (refl, refl)).0)
+        (remembered_base y g.0 ((s.at).objects y.object no_object (subst (λ j. j < length w.objects) (sym a.0) (h.0).within)) (is_managed (state_of w y.object)) refl),
+    all_remember xs ys a.2 h.1 g.1,
+  )
+
+  remembered_at_work : IsConsistent world M m (record w { context = map (remembered world.model w) w.context })
+  remembered_at_work =
+      alike_at_work {w = record w { context = before.context }} (map (remembered world.model w) w.context)
+      (alike_mapped (remembered world.model w)
+      (λ e. same_two (is_managed (state_of w e.object)) (record e { base = remembered_in (members_held world.model w e.object) e.base }) e (refl, refl)) before.context w.context s.alike)
+      (all_remember before.context w.context s.alike (recursion_from_All (IsEntry world.model w.objects w.numbers m) before.context (s.at).entries) s.based) s.at
 
 -- ---- the new set can be held
 
@@ -239,85 +286,27 @@ viewed_at_work s v h =
       few = h.few;
     }
 
-same_itself : (w : Work) → IsSame w w
-same_itself w = record { many = refl; class = λ k. refl; key = λ k. refl; numbers = refl }
+-- ---- what is planned is written
 
-flushed_at_work : {world : World} {M : Others} {m : ℕ} {w : Work} → IsFlat world.model → (plan : List (ℕ × Action)) → AllByRecursion (IsPlanned world w) plan →
-    fault_of world.model (flushed world.model w plan) ≡ None → IsConsistent world M m w →
-    IsConsistent world M m (after_flush world.model plan (flushed world.model w plan) w) × (length (after_flush world.model plan (flushed world.model w plan) w).objects ≡ length w.objects)
-flushed_at_work {world} {M} {m} {w} flat plan h sound at =
-    let s = settled_each w w flat plan h (same_itself w) at in (
-      viewed_at_work (flushed world.model w plan)
-          (subst (CanBeHeld world (flushed world.model w plan)) (sym (s.1).numbers) (flushed_held w plan h at.view sound))
-          (remembered_at_work flat s.0),
-      (s.1).many,
+pub written_at_work : {world : World} {M : Others} {m : ℕ} → IsOrderly world.model → IsRegular world → (w : Work) → IsConsistent world M m w → AreChecked world w →
+    fault_of world.model (flushed world.model w (actions world.model w)) ≡ None → IsConsistent world M m (written_in world w) × More w (written_in world w)
+written_at_work {world} {M} {m} orderly regular w h checked sound =
+    let plan = actions world.model w in
+    let entries = recursion_from_All (IsEntry world.model w.objects w.numbers m) w.context h.entries in
+    let planned = context_planned world w m orderly regular.convertible (standing w h) w.context entries checked in
+    let start : IsSettling world M m w w = record { same = same_itself w; at = h; alike = alike_same w.context; based = all_based world.model w w.objects w.numbers m w.context refl entries } in
+    let s = settled_each plan w planned start in
+    let same = s.same in
+    let many = same.many in (
+      viewed_at_work (flushed world.model w plan) (subst (CanBeHeld world (flushed world.model w plan)) (sym same.numbers) (flushed_held w plan planned h.view sound)) (remembered_at_work s),
+      record { more = omega (arith, many); class = λ n l. same.class n },
     )
 
--- ---- the parts of a flush
-
-pre_update_holds : {world : World} {M : Others} {m : ℕ} → HearsRepresentable world → (e : Entry) (a : Option Action) (w : Work) → IsConsistent world M m w → e.object < length w.objects →
-    HoldsAfter (λ u w'. IsConsistent world M m w' × More w w') (pre_update_for world e a w)
-pre_update_holds {world} {M} {m} heard e (Some (Replace b)) w h l = same_many (IsConsistent world M m) w (callback world LifecycleEvent.PreUpdate e.object w) (heard_at_work heard LifecycleEvent.PreUpdate e.object l h)
-pre_update_holds heard e (Some Insert) w h l = (h, omega arith)
-pre_update_holds heard e (Some (Drop b)) w h l = (h, omega arith)
-pre_update_holds heard e None w h l = (h, omega arith)
-
--- the checks change nothing
-pub checks_hold : (world : World) (es : List Entry) (w : Work) →
-    HoldsAfter (λ u w'. (w' ≡ w) × AllByRecursion (λ (e : Entry). Checked world w e.object (action_of world.model w e)) es) (each (check_one world) es w)
-checks_hold world [] w = (refl, tt)
-checks_hold world (e ∷ es) w =
-    after_holds _ (λ u w'. (w' ≡ w) × Checked world w e.object (action_of world.model w e)) (check_one world e w) _ (check_action_holds world w e (action_of world.model w e))
-    (λ u v h. subst (λ v'. HoldsAfter (λ u' w'. (w' ≡ w) × AllByRecursion (λ (e' : Entry). Checked world w e'.object (action_of world.model w e')) (e ∷ es)) (each (check_one world) es v')) (sym h.0)
-    (weaker (each (check_one world) es w) (λ u' w' k. (k.0, (h.1, k.1))) (checks_hold world es w)))
-  where
-    weaker : {P Q : Unit {0} → Work → Type 0} (o : Outcome (Unit {0})) → ((u : Unit {0}) (v : Work) → P u v → Q u v) → HoldsAfter P o → HoldsAfter Q o
-    weaker (Done u v) k h = k u v h
-    weaker (Refused r es) k h = tt
-
-sound_holds : (P : Unit {0} → Work → Type 0) (f : Option Persist) (w : Work) (next : Unit {0} → Op (Unit {0})) → (f ≡ None → HoldsAfter P (next tt w)) → HoldsAfter P (after (sound_or f w) next)
-sound_holds P None w next k = k refl
-sound_holds P (Some fault) w next k = tt
-
-planned_within : (world : World) (w : Work) (k : ℕ) → k ≡ length w.objects → (plan : List (ℕ × Action)) → AllByRecursion (IsPlanned world w) plan → AllByRecursion (λ (a : ℕ × Action). a.0 < k) plan
-planned_within world w k e [] h = tt
-planned_within world w k e (a ∷ as') h = (let l = (h.0).0 in omega (arith, e, l), planned_within world w k e as' h.1)
-
-entries_within : (m : PersistenceUnit) (os : List LiveObject) (ns : List ℕ) (k : ℕ) (es : List Entry) → AllByRecursion (IsEntry m os ns k) es → AllByRecursion (λ (e : Entry). e.object < length os) es
-entries_within m os ns k [] h = tt
-entries_within m os ns k (e ∷ es) h = ((h.0).within, entries_within m os ns k es h.1)
-
-write_holds : {world : World} {M : Others} {m : ℕ} {w : Work} → IsFlat world.model → IsRegular world →
-    AllByRecursion (λ (e : Entry). Checked world w e.object (action_of world.model w e)) w.context → IsConsistent world M m w → HoldsAfter (λ u w'. IsConsistent world M m w' × More w w') (write_all world w)
-write_holds {world} {M} {m} {w} flat regular checked h =
-    let plan = actions world.model w in
-    let set = flushed world.model w plan in
-    let next = after_flush world.model plan set w in
-    let known = context_planned world w m flat regular.convertible w.context (recursion_from_All (IsEntry world.model w.objects w.numbers m) w.context h.entries) h.objects checked in
-    sound_holds (λ u w'. IsConsistent world M m w' × More w w') (fault_of world.model set) w _ (λ sound.
-    let done = flushed_at_work flat plan known sound h in
-    from_next next done.1 (each (post world) plan next)
-    (each_goes (IsConsistent world M m) (λ (a : ℕ × Action). a.0) (post world) (λ a v k l. same_many (IsConsistent world M m) v (callback world (post_event a.1) a.0 v) (heard_at_work regular.heard (post_event a.1) a.0 l k)) plan next done.0
-    (planned_within world w (length next.objects) done.1 plan known)))
-  where
-    from_next : (next : Work) → length next.objects ≡ length w.objects → (o : Outcome (Unit {0})) → HoldsAfter (λ u v. IsConsistent world M m v × More next v) o → HoldsAfter (λ u v. IsConsistent world M m v × More w v) o
-    from_next next e (Done u v) k = let l = k.1 in (k.0, omega (arith, e, l))
-    from_next next e (Refused r events) k = tt
-
--- the flush from its last part back
-writing_holds : {world : World} {M : Others} {m : ℕ} {w : Work} → IsFlat world.model → IsRegular world → IsConsistent world M m w → HoldsAfter (λ u w'. IsConsistent world M m w' × More w w') (writing world w)
-writing_holds {world} {M} {m} {w} flat regular h =
-    after_holds _ (λ u w'. (w' ≡ w) × AllByRecursion (λ (e : Entry). Checked world w e.object (action_of world.model w e)) w.context) (check_actions world w) _ (checks_hold world w.context w)
-    (λ u v k. subst (λ v'. HoldsAfter (λ u' w'. IsConsistent world M m w' × More w w') (write_all world v')) (sym k.0) (write_holds flat regular k.1 h))
-
 -- PreUpdate, of the objects of the context
-pub pre_update_goes : {world : World} {M : Others} {m : ℕ} {w : Work} → HearsRepresentable world → IsConsistent world M m w → HoldsAfter (λ u w'. IsConsistent world M m w' × More w w') (pre_update world w)
-pre_update_goes {world} {M} {m} {w} heard h =
-    each_goes (IsConsistent world M m) (λ (e : Entry). e.object) (pre_update_one world) (λ e v k l. pre_update_holds heard e (action_of world.model v e) v k l) w.context w h
-    (entries_within world.model w.objects w.numbers m w.context (recursion_from_All (IsEntry world.model w.objects w.numbers m) w.context h.entries))
+pub pre_update_goes : {world : World} {M : Others} {m : ℕ} {w : Work} → IsOrderly world.model → HearsRepresentable world → IsConsistent world M m w →
+    HoldsAfter (λ u w'. IsConsistent world M m w' × More w w') (pre_update world w)
+pre_update_goes {world} {M} {m} {w} orderly heard h = pre_update_law (at_work M m orderly heard) w h
 
-pub flush_goes : {world : World} {M : Others} {m : ℕ} {w : Work} → IsFlat world.model → IsRegular world → IsConsistent world M m w →
+pub flush_goes : {world : World} {M : Others} {m : ℕ} {w : Work} → IsOrderly world.model → IsRegular world → IsConsistent world M m w →
     HoldsAfter (λ u w'. IsConsistent world M m w' × More w w') (flush world w)
-flush_goes {world} {M} {m} {w} flat regular h =
-    subst (HoldsAfter (λ u w'. IsConsistent world M m w' × More w w')) (sym (flat_flush world flat w))
-    (then_goes w (pre_update world w) _ (pre_update_goes regular.heard h) (λ u v k more. writing_holds flat regular k))
+flush_goes {world} {M} {m} {w} orderly regular h = flush_law (at_work M m orderly regular.heard) (written_at_work orderly regular) w h

@@ -1,5 +1,5 @@
 -- How what holds after operations goes on.
-use Rattle.std.proofs.Common.{◌≡◌, ◌<◌, ◌≤◌, ℕ, Bool, true, false, List, [], ◌∷◌, length, refl, subst, arith}
+use Rattle.std.proofs.Common.{◌≡◌, ◌<◌, ℕ, Bool, true, false, List, [], ◌∷◌, length, refl, subst, ◌∙◌, arith}
 use Rattle.std.specs.Prelude.{◌==◌}
 use Rattle.std.specs.List.{AllByRecursion, list_any}
 use Rattle.jpa_value.specs.declared.refusal.Cause.{Cause}
@@ -7,8 +7,10 @@ use Rattle.jpa_heap.specs.declared.Life.{Life}
 use Rattle.jpa_context.specs.declared.Entry.{Entry}
 use Rattle.jpa_context.specs.Work.{Work}
 use Rattle.jpa_context.specs.Steps.{Outcome, Done, Refused, Op, after, require, each}
+use Rattle.jpa_ops.specs.Members.{collect}
 use Rattle.jpa_consistent.specs.Consistent.{stands_in}
 use Rattle.jpa_consistent.specs.Going.{HoldsAfter}
+use Rattle.jpa_consistent.proofs.Kept.{KeepsClasses}
 
 pub after_holds : {A B : Type 0} (P : B → Work → Type 0) (Q : A → Work → Type 0) (o : Outcome A) (f : A → Op B) → HoldsAfter Q o →
     ((a : A) (w : Work) → Q a w → HoldsAfter P (f a w)) → HoldsAfter P (after o f)
@@ -27,9 +29,21 @@ require_holds_last P false r w k = tt
 
 -- ---- what goes on
 
--- no fewer objects
+-- no fewer objects, of the same classes
 abbrev pub More : Work → Work → Type 0
-More w v = length w.objects ≤ length v.objects
+More w v = KeepsClasses w.objects v.objects
+
+pub no_more : (w : Work) → More w w
+no_more w = record { more = omega arith; class = λ n l. refl }
+
+pub more_on : (u v w : Work) → More u v → More v w → More u w
+more_on u v w a b =
+    let k = a.more in
+    let j = b.more in
+    record { more = omega (arith, k, j); class = λ n l. b.class n (omega (arith, k, l)) ∙ a.class n l }
+
+pub within_more : (w v : Work) (n : ℕ) → More w v → n < length w.objects → n < length v.objects
+within_more w v n m l = let k = m.more in omega (arith, k, l)
 
 module _ {P : Work → Type 0} where
   pub then_goes : {A B : Type 0} (w : Work) (o : Outcome A) (f : A → Op B) → HoldsAfter (λ a v. P v × More w v) o → ((a : A) (v : Work) → P v → More w v → HoldsAfter (λ b u. P u × More v u) (f a v)) →
@@ -38,23 +52,63 @@ module _ {P : Work → Type 0} where
   then_goes {B = B} w (Done a v) f h k = joined (f a v) (k a v h.0 h.1)
     where
       joined : (o : Outcome B) → HoldsAfter (λ b u. P u × More v u) o → HoldsAfter (λ b u. P u × More w u) o
-      joined (Done b u) t = let x = h.1 in let y = t.1 in (t.0, omega (arith, x, y))
+      joined (Done b u) t = (t.0, more_on w v u h.1 t.1)
       joined (Refused r events) t = tt
 
-pub same_many : {A : Type 0} (P : Work → Type 0) (w : Work) (o : Outcome A) → HoldsAfter (λ a v. P v × (length v.objects ≡ length w.objects)) o → HoldsAfter (λ a v. P v × More w v) o
-same_many P w (Done a v) h = let e = h.1 in (h.0, omega (arith, e))
-same_many P w (Refused r events) h = tt
+  -- the same with what is known of the answers
+  pub then_known : {A B : Type 0} (Q : A → Work → Type 0) (R : B → Work → Type 0) (w : Work) (o : Outcome A) (f : A → Op B) → HoldsAfter (λ a v. P v × More w v × Q a v) o →
+      ((a : A) (v : Work) → P v → More w v → Q a v → HoldsAfter (λ b u. P u × More v u × R b u) (f a v)) → HoldsAfter (λ b u. P u × More w u × R b u) (after o f)
+  then_known Q R w (Refused r events) f h k = tt
+  then_known {B = B} Q R w (Done a v) f h k = joined (f a v) (k a v h.0 h.1 h.2)
+    where
+      joined : (o : Outcome B) → HoldsAfter (λ b u. P u × More v u × R b u) o → HoldsAfter (λ b u. P u × More w u × R b u) o
+      joined (Done b u) t = (t.0, more_on w v u h.1 t.1, t.2)
+      joined (Refused r events) t = tt
 
-all_more : {A : Type 0} (at : A → ℕ) (i j : ℕ) → i ≤ j → (xs : List A) → AllByRecursion (λ x. at x < i) xs → AllByRecursion (λ x. at x < j) xs
-all_more at i j l [] h = tt
-all_more at i j l (x ∷ xs) h = (let a = h.0 in omega (arith, a, l), all_more at i j l xs h.1)
+  -- and where nothing is said of the last answer
+  pub then_from : {A B : Type 0} (Q : A → Work → Type 0) (w : Work) (o : Outcome A) (f : A → Op B) → HoldsAfter (λ a v. P v × More w v × Q a v) o →
+      ((a : A) (v : Work) → P v → More w v → Q a v → HoldsAfter (λ b u. P u × More v u) (f a v)) → HoldsAfter (λ b u. P u × More w u) (after o f)
+  then_from Q w (Refused r events) f h k = tt
+  then_from {B = B} Q w (Done a v) f h k = joined (f a v) (k a v h.0 h.1 h.2)
+    where
+      joined : (o : Outcome B) → HoldsAfter (λ b u. P u × More v u) o → HoldsAfter (λ b u. P u × More w u) o
+      joined (Done b u) t = (t.0, more_on w v u h.1 t.1)
+      joined (Refused r events) t = tt
 
--- in order, for objects that there are
-pub each_goes : {A : Type 0} (P : Work → Type 0) (at : A → ℕ) (f : A → Op (Unit {0})) → ((x : A) (w : Work) → P w → at x < length w.objects → HoldsAfter (λ u v. P v × More w v) (f x w)) →
-    (xs : List A) (w : Work) → P w → AllByRecursion (λ x. at x < length w.objects) xs → HoldsAfter (λ u v. P v × More w v) (each f xs w)
-each_goes P at f k [] w p h = (p, omega arith)
-each_goes P at f k (x ∷ xs) w p h =
-    then_goes w (f x w) (λ u. each f xs) (k x w p h.0) (λ u v q more. each_goes P at f k xs v q (all_more at (length w.objects) (length v.objects) more xs h.1))
+  -- with what is known of the answer where it is done
+  pub known : {A : Type 0} (Q : A → Work → Type 0) (w : Work) (o : Outcome A) → HoldsAfter (λ a v. P v × More w v) o → ((a : A) (v : Work) → P v → More w v → Q a v) → HoldsAfter (λ a v. P v × More w v × Q a v) o
+  known Q w (Done a v) h k = (h.0, h.1, k a v h.0 h.1)
+  known Q w (Refused r events) h k = tt
+
+pub unknown : {A : Type 0} (P : Work → Type 0) (Q : A → Work → Type 0) (w : Work) (o : Outcome A) → HoldsAfter (λ a v. P v × More w v × Q a v) o → HoldsAfter (λ a v. P v × More w v) o
+unknown P Q w (Done a v) h = (h.0, h.1)
+unknown P Q w (Refused r events) h = tt
+
+all_still : {A : Type 0} (There : A → Work → Type 0) (w v : Work) → ((x : A) → There x w → There x v) → (xs : List A) → AllByRecursion (λ x. There x w) xs → AllByRecursion (λ x. There x v) xs
+all_still There w v k [] h = tt
+all_still There w v k (x ∷ xs) h = (k x h.0, all_still There w v k xs h.1)
+
+-- in order, for what is there at the start and so later
+pub each_goes : {A : Type 0} (P : Work → Type 0) (There : A → Work → Type 0) (f : A → Op (Unit {0})) → ((x : A) (w v : Work) → More w v → There x w → There x v) →
+    ((x : A) (w : Work) → P w → There x w → HoldsAfter (λ u v. P v × More w v) (f x w)) →
+    (xs : List A) (w : Work) → P w → AllByRecursion (λ x. There x w) xs → HoldsAfter (λ u v. P v × More w v) (each f xs w)
+each_goes P There f still k [] w p h = (p, no_more w)
+each_goes P There f still k (x ∷ xs) w p h =
+    then_goes w (f x w) (λ u. each f xs) (k x w p h.0) (λ u v q more. each_goes P There f still k xs v q (all_still There w v (λ y. still y w v more) xs h.1))
+
+-- so many answers, and what is known of each
+abbrev pub EachHas : {A B : Type 0} → (A → B → Work → Type 0) → List A → List B → Work → Type 0
+EachHas Q [] [] w = Unit {0}
+EachHas Q [] (y ∷ ys) w = ⊥
+EachHas Q (x ∷ xs) [] w = ⊥
+EachHas Q (x ∷ xs) (y ∷ ys) w = Q x y w × EachHas Q xs ys w
+
+pub collect_goes : {A B : Type 0} (P : Work → Type 0) (Q : A → B → Work → Type 0) → ((x : A) (y : B) (w v : Work) → More w v → Q x y w → Q x y v) → (f : A → Op B) →
+    ((x : A) (w : Work) → P w → HoldsAfter (λ y v. P v × More w v × Q x y v) (f x w)) → (xs : List A) (w : Work) → P w → HoldsAfter (λ ys v. P v × More w v × EachHas Q xs ys v) (collect f xs w)
+collect_goes P Q still f k [] w p = (p, no_more w, tt)
+collect_goes P Q still f k (x ∷ xs) w p =
+    then_known (Q x) (EachHas Q (x ∷ xs)) w (f x w) _ (k x w p) (λ y v q more h.
+    then_known (EachHas Q xs) (EachHas Q (x ∷ xs)) v (collect f xs v) _ (collect_goes P Q still f k xs v q) (λ ys u r more' t. (r, no_more u, (still x y v u more' h, t))))
 
 pub only : {A : Type 0} (P : Work → Type 0) (w : Work) (o : Outcome A) → HoldsAfter (λ a v. P v × More w v) o → HoldsAfter (λ a v. P v) o
 only P w (Done a v) h = h.0

@@ -1,10 +1,9 @@
 -- What a callback leaves, whoever hears it: the object is a live one still, of the same class, key and state.
 use Rattle.std.proofs.Common.{◌≡◌, ◌<◌, ℕ, Bool, true, false, List, [], ◌∷◌, ◌++◌, length, refl, ap, subst, ◌∙◌}
 use Rattle.std.specs.Prelude.{map, slice_get, slice_set, Option, Some, None, is_some, ℤ, if◌then◌else◌}
-use Rattle.std.specs.List.{list_all, zip}
+use Rattle.std.specs.List.{All, list_all, zip}
 use Rattle.std.specs.Option.{unwrap_or}
 use Rattle.std.proofs.lemmas.Bool.{false≢true, and_parts, and_from}
-use Rattle.std.proofs.lemmas.List.{length-set}
 use Rattle.jpa_value.specs.declared.value.Value.{Value}
 use Rattle.jpa_value.specs.declared.refusal.Cause.{Cause}
 use Rattle.jpa_value.specs.declared.event.LifecycleEvent.{LifecycleEvent}
@@ -27,7 +26,8 @@ use Rattle.jpa_consistent.specs.Consistent.{IsLive, IsConsistent, Others}
 use Rattle.jpa_consistent.specs.Going.{HoldsAfter}
 use Rattle.jpa_consistent.proofs.Facts.{each_fits_set, list_all_set}
 use Rattle.jpa_consistent.proofs.Setting.{IsSet}
-use Rattle.jpa_consistent.proofs.Changed.{changed_at_work}
+use Rattle.jpa_consistent.proofs.Changed.{changed_at_work, keeps_set}
+use Rattle.jpa_consistent.proofs.Going.{More}
 use Rattle.jpa_consistent.proofs.Persisted.{told_at_work}
 
 -- ---- what a listener sees are values of the program
@@ -62,7 +62,7 @@ sees {m} event x h =
 -- ---- what it assigns
 
 itself : (m : PersistenceUnit) (os : List LiveObject) (x : LiveObject) → IsSet m os x x
-itself m os x = record { class = refl; life = refl; key = λ old. refl; live = λ h. h }
+itself m os x = record { class = refl; life = refl; key = λ old. refl; live = λ alive h. h }
 
 then_set : {m : PersistenceUnit} {os : List LiveObject} (x y z : LiveObject) → IsSet m os x y → IsSet m os y z → IsSet m os x z
 then_set x y z a b =
@@ -70,7 +70,7 @@ then_set x y z a b =
       class = b.class ∙ a.class;
       life = b.life ∙ a.life;
       key = λ old. b.key (ap is_new a.life ∙ old) ∙ a.key old;
-      live = λ h. b.live (a.live h);
+      live = λ alive h. b.live alive (a.live alive h);
     }
 
 fitting : (o : Option Attribute) (v : Value) (a : Attribute) → fits_attribute o v ≡ true → o ≡ Some a → fits a.kind v ≡ true
@@ -84,7 +84,7 @@ attribute_set m os x i v fit rep =
       class = refl;
       life = refl;
       key = λ old. refl;
-      live = λ h.
+      live = λ alive h.
           record {
             class = h.class;
             key = h.key;
@@ -122,32 +122,31 @@ assigned_is m os (a ∷ as') x y rep e =
 
 -- ---- the object when all have heard, or one refused
 
-pub fired_is : (world : World) → HearsRepresentable world → (os : List LiveObject) (event : LifecycleEvent) (names : List (List ℕ)) (x : LiveObject) → IsLive world.model os x →
+pub fired_is : (world : World) → HearsRepresentable world → (os : List LiveObject) → All (IsLive world.model os) os → (event : LifecycleEvent) (names : List (List ℕ)) (x : LiveObject) → IsLive world.model os x →
     IsSet world.model os x (fired_by world event names x).object
-fired_is world heard os event [] x h = itself world.model os x
-fired_is world heard os event (name ∷ names) x h =
-    by_answer (world.heard name (image_of world.model event x)) (heard name (image_of world.model event x) (sees event x h)) (λ y k. fired_is world heard os event names y k)
+fired_is world heard os alive event [] x h = itself world.model os x
+fired_is world heard os alive event (name ∷ names) x h =
+    by_answer (world.heard name (image_of world.model event x)) (heard name (image_of world.model event x) (sees event x h)) (λ y k. fired_is world heard os alive event names y k)
   where
     by_assigned : (o : Option LiveObject) → ((y : LiveObject) → o ≡ Some y → IsSet world.model os x y) → ((y : LiveObject) → IsLive world.model os y → IsSet world.model os y (fired_by world event names y).object) →
         IsSet world.model os x (after_assignments (λ y. fired_by world event names y) name x o).object
     by_assigned None k f = itself world.model os x
-    by_assigned (Some y) k f = let s = k y refl in then_set x y _ s (f y (s.live h))
+    by_assigned (Some y) k f = let s = k y refl in then_set x y _ s (f y (s.live alive h))
 
     by_answer : (a : Heard) → answers_representable a ≡ true → ((y : LiveObject) → IsLive world.model os y → IsSet world.model os y (fired_by world event names y).object) →
         IsSet world.model os x (after_answer (λ y. fired_by world event names y) world.model name x a).object
     by_answer (Heard.Assign list) rep f = by_assigned (assigned world.model list x) (λ y e. assigned_is world.model os list x y rep e) f
     by_answer (Heard.Throw text) rep f = itself world.model os x
 
--- an event leaves what holds, and as many objects
+-- an event leaves what holds
 pub heard_at_work : {world : World} {M : Others} {m : ℕ} {w : Work} → HearsRepresentable world → (event : LifecycleEvent) (n : ℕ) → n < length w.objects → IsConsistent world M m w →
-    HoldsAfter (λ u v. IsConsistent world M m v × (length v.objects ≡ length w.objects)) (callback world event n w)
+    HoldsAfter (λ u v. IsConsistent world M m v × More w v) (callback world event n w)
 heard_at_work {world} {M} {m} {w} heard event n l h = by_refusal (fire world event (object w n)).refusal
   where
-    by_refusal : (o : Option Cause) → HoldsAfter (λ u v. IsConsistent world M m v × (length v.objects ≡ length w.objects)) (ended o (told_fired event n (fire world event (object w n)) w))
+    by_refusal : (o : Option Cause) → HoldsAfter (λ u v. IsConsistent world M m v × More w v) (ended o (told_fired event n (fire world event (object w n)) w))
     by_refusal None =
         let x = object w n in
-        let y = (fire world event x).object in (
-          told_at_work _ (changed_at_work n y l (fired_is world heard w.objects event (order world.model x.class event) x (h.objects n no_object l)) h),
-          length-set w.objects n y,
-        )
+        let y = (fire world event x).object in
+        let set = fired_is world heard w.objects h.objects event (order world.model x.class event) x (h.objects n no_object l) in
+        (told_at_work _ (changed_at_work n y l set h), keeps_set w.objects n y l set.class)
     by_refusal (Some r) = tt

@@ -31,7 +31,7 @@ pub record KeepsClasses (os ps : List LiveObject) : Type 0 where
   pub class : (n : ℕ) → n < length os → (object_at ps n).class ≡ (object_at os n).class
 
 module _ (m : PersistenceUnit) (os ps : List LiveObject) (keeps : KeepsClasses os ps) where
-  leads_kept : (target k : ℕ) → leads_to m os target k ≡ true → leads_to m ps target k ≡ true
+  pub leads_kept : (target k : ℕ) → leads_to m os target k ≡ true → leads_to m ps target k ≡ true
   leads_kept target k h =
       let p = and_parts (nat_lt k (length os)) ((root_of m (object_at os k).class).table == (root_of m target).table) h in
       let l = ltb-true k (length os) p.0 in
@@ -48,7 +48,7 @@ module _ (m : PersistenceUnit) (os ps : List LiveObject) (keeps : KeepsClasses o
   collection_kept target Collection.Unfetched h = refl
   collection_kept target (Collection.Fetched ks) h = list_all_weaker (leads_to m os target) (leads_to m ps target) (leads_kept target) ks h
 
-  held_kept : (r : Relation) (h : Held) → held_fits m os r h ≡ true → held_fits m ps r h ≡ true
+  pub held_kept : (r : Relation) (h : Held) → held_fits m os r h ≡ true → held_fits m ps r h ≡ true
   held_kept r (Held.One l) h =
       let p = and_parts (is_to_one r.side) (link_fits m os r.target l) h in
       and_from (is_to_one r.side) (link_fits m ps r.target l) p.0 (link_kept r.target l p.1)
@@ -83,7 +83,7 @@ base_of_class : PersistenceUnit → ℕ → List Value → Base → Bool
 base_of_class m class key b =
     ((b.stored).class == class) && (is_shaped m (record { table = (root_of m class).table; key = key }) b.stored && (holds_representable b.stored && each_fits known_fits (relations_of m class) b.members))
 
-base_same : (m : PersistenceUnit) (x y : LiveObject) (b : Option Base) → y.class ≡ x.class → y.key ≡ x.key → base_fits m x b ≡ true → base_fits m y b ≡ true
+pub base_same : (m : PersistenceUnit) (x y : LiveObject) (b : Option Base) → y.class ≡ x.class → y.key ≡ x.key → base_fits m x b ≡ true → base_fits m y b ≡ true
 unfolding base_of_class
 base_same m x y None c k h = refl
 base_same m x y (Some b) c k h =

@@ -1,4 +1,4 @@
--- What holds while a manager is at work is kept where a row is loaded, in units without relations.
+-- What holds while a manager is at work is kept where a row is loaded.
 use Rattle.jpa_value.specs.Limits.{most_objects}
 use Rattle.std.proofs.Common.{◌≡◌, ◌<◌, ℕ, Bool, true, false, List, [], ◌∷◌, ◌++◌, length, map, refl, ap, sym, subst, ◌∙◌, arith}
 use Rattle.std.specs.Prelude.{nat_lt, Option, Some, None, ◌==◌, ◌&&◌, if◌then◌else◌, ℤ, is_some}
@@ -16,9 +16,8 @@ use Rattle.jpa_value.specs.declared.value.Identity.{Identity}
 use Rattle.jpa_value.specs.Value.{identity_cmp, is_representable, same_identity, fits}
 use Rattle.jpa_value.proofs.Orders.{identity_exact}
 use Rattle.jpa_model.specs.declared.unit.PersistenceUnit.{PersistenceUnit}
-use Rattle.jpa_model.specs.declared.unit.Relation.{Relation}
 use Rattle.jpa_model.specs.declared.unit.VersionColumn.{VersionColumn}
-use Rattle.jpa_model.specs.Chains.{root_of, root_class, attributes_of}
+use Rattle.jpa_model.specs.Chains.{root_of, root_class, attributes_of, relations_of}
 use Rattle.jpa_behaviour.specs.Behaviour.{World}
 use Rattle.jpa_stored.specs.declared.stored.Stored.{Stored}
 use Rattle.jpa_stored.specs.Sets.{StoredSet, stored_at, each_fits, is_key_of, is_identity_of, is_shaped, version_there}
@@ -31,9 +30,9 @@ use Rattle.jpa_context.specs.declared.Lock.{Lock}
 use Rattle.jpa_context.specs.declared.Entry.{Entry}
 use Rattle.jpa_context.specs.Work.{Work, identity_at, instance, row, has_identity, entered, with_base}
 use Rattle.jpa_ops.specs.Load.{object_loaded, base_loaded, held_loaded, made}
-use Rattle.jpa_ops.proofs.Loaded.{no_held, no_members}
 use Rattle.jpa_consistent.specs.Consistent.{IsLive, IsEntry, is_held_by, stands_in, are_one, name_of, version_fits, held_fits, held_representable, known_fits, base_fits}
-use Rattle.jpa_lifecycle.specs.Flat.{IsFlat}
+use Rattle.jpa_consistent.specs.Orderly.{IsOrderly}
+use Rattle.jpa_consistent.proofs.Related.{loaded_fits, loaded_representable, loaded_known}
 use Rattle.jpa_consistent.proofs.Facts.{numbers_same}
 use Rattle.jpa_consistent.specs.Consistent.{IsConsistent, contexts, Others}
 use Rattle.jpa_consistent.proofs.Kept.{others_kept, entry_kept, distinct_kept, holds_more, live_more, placed_more}
@@ -70,19 +69,22 @@ version_loads None (Some n) h = absurd (false≢true h)
 version_loads (Some c) v h = refl
 
 -- what is known of a row of a class
-record IsRow (m : PersistenceUnit) (ns : List ℕ) (id : Identity) (x : Stored) : Type 0 where
-  class : nat_lt x.class (length m.entities) ≡ true
-  table : (id.table == (root_of m x.class).table) ≡ true
-  key : is_key_of (root_of m x.class) id.key ≡ true
-  version : version_there (root_of m x.class).version x.version ≡ true
-  values : each_fits (λ a v. fits a.kind v) (attributes_of m x.class) x.values ≡ true
-  shaped : is_shaped m id x ≡ true
-  given : key_given_by ns (root_class m x.class) (root_of m x.class).generated id.key ≡ true
-  named : names_representable id ≡ true
-  held : holds_representable x ≡ true
+pub record IsRow (m : PersistenceUnit) (s : StoredSet) (ns : List ℕ) (id : Identity) (x : Stored) : Type 0 where
+  pub class : nat_lt x.class (length m.entities) ≡ true
+  pub table : (id.table == (root_of m x.class).table) ≡ true
+  pub key : is_key_of (root_of m x.class) id.key ≡ true
+  pub version : version_there (root_of m x.class).version x.version ≡ true
+  pub values : each_fits (λ a v. fits a.kind v) (attributes_of m x.class) x.values ≡ true
+  pub shaped : is_shaped m id x ≡ true
+  pub given : key_given_by ns (root_class m x.class) (root_of m x.class).generated id.key ≡ true
+  pub named : names_representable id ≡ true
+  pub held : holds_representable x ≡ true
+  pub relations : (os : List LiveObject) → each_fits (held_fits m os) (relations_of m x.class) (held_loaded m s id x) ≡ true
+  pub links : list_all held_representable (held_loaded m s id x) ≡ true
+  pub members : each_fits known_fits (relations_of m x.class) (base_loaded m s id x).members ≡ true
 
-is_row : {world : World} {ns : List ℕ} (id : Identity) (x : Stored) (s : StoredSet) → CanBeHeld world s ns → stored_at s id ≡ Some x → IsRow world.model ns id x
-is_row {world} {ns} id x s h e =
+pub is_row : {world : World} {ns : List ℕ} → IsOrderly world.model → (id : Identity) (x : Stored) (s : StoredSet) → CanBeHeld world s ns → stored_at s id ≡ Some x → IsRow world.model s ns id x
+is_row {world} {ns} orderly id x s h e =
     let m = world.model in
     let shaped = row_holds (λ (p : Identity × Stored). is_shaped m p.0 p.1) id x s h.shaped e in
     let a = and_parts (nat_lt x.class (length m.entities)) _ shaped in
@@ -102,15 +104,18 @@ is_row {world} {ns} id x s h e =
       given = row_holds (λ (p : Identity × Stored). key_given_by ns (root_class m (p.1).class) (root_of m (p.1).class).generated (p.0).key) id x s h.given e;
       named = g.0;
       held = g.1;
+      relations = λ os. loaded_fits orderly h x f.1 g.1 os id;
+      links = loaded_representable orderly h x f.1 g.1 id;
+      members = loaded_known orderly h x f.1 g.1 id;
     }
 
 -- the identity of a row is its object's
-name_loaded : {m : PersistenceUnit} {ns : List ℕ} {id : Identity} {x : Stored} (manager : ℕ) (s : StoredSet) → IsRow m ns id x → name_of m (object_loaded m manager s id x) ≡ id
-name_loaded {m} {ns} {id} {x} manager s h = λ i. record { table = sym (eqb-true id.table (root_of m x.class).table h.table) i; key = id.key }
+pub name_loaded : {m : PersistenceUnit} {ns : List ℕ} {id : Identity} {x : Stored} {s : StoredSet} (manager : ℕ) → IsRow m s ns id x → name_of m (object_loaded m manager s id x) ≡ id
+name_loaded {m} {ns} {id} {x} {s} manager h = λ i. record { table = sym (eqb-true id.table (root_of m x.class).table h.table) i; key = id.key }
 
-loaded_live : {m : PersistenceUnit} {ns : List ℕ} {id : Identity} {x : Stored} → IsFlat m → (os : List LiveObject) (manager : ℕ) (s : StoredSet) → IsRow m ns id x →
+pub loaded_live : {m : PersistenceUnit} {ns : List ℕ} {id : Identity} {x : Stored} {s : StoredSet} (os : List LiveObject) (manager : ℕ) → IsRow m s ns id x →
     IsLive m os (object_loaded m manager s id x)
-loaded_live {m} {ns} {id} {x} flat os manager s h =
+loaded_live {m} {ns} {id} {x} {s} os manager h =
     let r = and_parts (version_representable x.version) _ h.held in
     let v = and_parts (list_all is_representable x.values) _ r.1 in
     record {
@@ -118,23 +123,19 @@ loaded_live {m} {ns} {id} {x} flat os manager s h =
       key = fitting_key (root_of m x.class).key id.key h.key;
       version = version_loads (root_of m x.class).version x.version h.version;
       values = h.values;
-      relations =
-          subst (λ (rs : List Relation). each_fits (held_fits m os) rs (held_loaded m s id x) ≡ true) (sym (flat.relations x.class))
-          (subst (λ hs. each_fits (held_fits m os) [] hs ≡ true) (sym (no_held m s id x (flat.relations x.class))) refl);
+      relations = h.relations os;
       key_representable = h.named;
       version_representable = r.0;
       values_representable = v.0;
-      links_representable = subst (λ hs. list_all held_representable hs ≡ true) (sym (no_held m s id x (flat.relations x.class))) refl;
+      links_representable = h.links;
     }
 
-loaded_base : {m : PersistenceUnit} {ns : List ℕ} {id : Identity} {x : Stored} → IsFlat m → (manager : ℕ) (s : StoredSet) → IsRow m ns id x →
+pub loaded_base : {m : PersistenceUnit} {ns : List ℕ} {id : Identity} {x : Stored} {s : StoredSet} (manager : ℕ) → IsRow m s ns id x →
     base_fits m (object_loaded m manager s id x) (Some (base_loaded m s id x)) ≡ true
-loaded_base {m} {ns} {id} {x} flat manager s h =
+loaded_base {m} {ns} {id} {x} {s} manager h =
     and_from (x.class == x.class) _ (eq-eqb x.class x.class refl)
-    (and_from (is_shaped m (name_of m (object_loaded m manager s id x)) x) _ (subst (λ i. is_shaped m i x ≡ true) (sym (name_loaded manager s h)) h.shaped)
-    (and_from (holds_representable x) _ h.held
-    (subst (λ (rs : List Relation). each_fits known_fits rs (base_loaded m s id x).members ≡ true) (sym (flat.relations x.class))
-    (subst (λ ks. each_fits known_fits [] ks ≡ true) (sym (no_members m s id x (flat.relations x.class))) refl))))
+    (and_from (is_shaped m (name_of m (object_loaded m manager s id x)) x) _ (subst (λ i. is_shaped m i x ≡ true) (sym (name_loaded manager h)) h.shaped)
+    (and_from (holds_representable x) _ h.held h.members))
 
 -- ---- a row is loaded
 
@@ -153,10 +154,10 @@ earlier : (m : PersistenceUnit) (os : List LiveObject) (ns : List ℕ) (k : ℕ)
 earlier m os ns k [] h = tt
 earlier m os ns k (e ∷ es) h = (let l = (h.0).within in ne_eqb e.object (length os) (λ q. omega (arith, l, q)), earlier m os ns k es h.1)
 
-pub load_at_work : {world : World} {M : Others} {m : ℕ} {w : Work} → IsFlat world.model → (id : Identity) (x : Stored) → IsConsistent world M m w → row w id ≡ Some x →
+pub load_at_work : {world : World} {M : Others} {m : ℕ} {w : Work} → IsOrderly world.model → (id : Identity) (x : Stored) → IsConsistent world M m w → row w id ≡ Some x →
     is_some (instance world.model w id) ≡ false → length w.objects < most_objects →
     IsConsistent world M m (with_base (length w.objects) (Some (base_loaded world.model w.view id x)) (entered (length w.objects) (made (object_loaded world.model w.manager w.view id x) w)))
-load_at_work {world} {M} {m} {w} flat id x h e free few =
+load_at_work {world} {M} {m} {w} orderly id x h e free few =
     let model = world.model in
     let os = w.objects in
     let n = length os in
@@ -165,16 +166,16 @@ load_at_work {world} {M} {m} {w} flat id x h e free few =
     let b = base_loaded model w.view id x in
     let key = (object_at ps n).key in
     let entry = entry_with n key (Some b) in
-    let r = is_row id x w.view h.view e in
+    let r = is_row orderly id x w.view h.view e in
     let old = recursion_from_All (IsEntry model os w.numbers m) w.context h.entries in
     let up = numbers_same w.numbers in
     let here : obj ≡ object_at ps n = sym (get_or_push os obj no_object n refl) in
-    let name : name_of model (object_at ps n) ≡ id = ap (name_of model) (sym here) ∙ name_loaded w.manager w.view r in
+    let name : name_of model (object_at ps n) ≡ id = ap (name_of model) (sym here) ∙ name_loaded w.manager r in
     let context : w.context ++ entry ∷ [] ≡ map (based n (Some b)) (w.context ++ entry_with n key None ∷ []) = sym (based_last n key (Some b) w.context (earlier model os w.numbers m w.context old)) in
     let at : IsConsistent world M m (record w { objects = ps; context = w.context ++ entry ∷ [] }) =
     record {
       manager = h.manager;
-      objects = live_more model os obj h.objects (loaded_live flat ps w.manager w.view r);
+      objects = live_more model os obj h.objects (loaded_live ps w.manager r);
       entries = All-push (IsEntry model ps w.numbers m) w.context entry
           (All-weaker (IsEntry model os w.numbers m) (IsEntry model ps w.numbers m) (λ e'. entry_kept (holds_more m os obj) up) w.context h.entries)
           (record {
@@ -183,7 +184,7 @@ load_at_work {world} {M} {m} {w} flat id x h e free few =
             held = subst (λ (z : LiveObject). is_held_by m z.life ≡ true) here (eq-eqb w.manager m h.manager);
             whole = subst (λ (z : LiveObject). is_key_of (root_of model z.class) z.key ≡ true) here r.key;
             given = subst (λ (z : LiveObject). key_given_by w.numbers (root_class model z.class) (root_of model z.class).generated z.key ≡ true) here r.given;
-            base = subst (λ (z : LiveObject). base_fits model z (Some b) ≡ true) here (loaded_base flat w.manager w.view r);
+            base = subst (λ (z : LiveObject). base_fits model z (Some b) ≡ true) here (loaded_base w.manager r);
           });
       distinct = distinct_push (are_one model ps) w.context entry (distinct_kept w.context (holds_more m os obj) h.entries h.distinct)
           (names_apart model os ps w.numbers m n id w.context (holds_more m os obj) old name

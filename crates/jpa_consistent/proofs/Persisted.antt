@@ -26,13 +26,13 @@ use Rattle.jpa_context.specs.Work.{Work, object, state_from, told}
 use Rattle.jpa_ops.specs.States.{give_key, with_key, with_number, number_part, last_number}
 use Rattle.jpa_protocol.specs.declared.event.Told.{Told}
 use Rattle.jpa_consistent.specs.Consistent.{IsLive, IsEntry, is_held_by, stands_in}
-use Rattle.jpa_lifecycle.specs.Flat.{IsFlat}
+use Rattle.jpa_consistent.specs.Orderly.{IsOrderly}
 use Rattle.jpa_consistent.proofs.Facts.{held_more, numbers_trans, numbers_same, each_fits_set, each_fits_length}
 use Rattle.jpa_consistent.specs.Going.{HoldsAfter}
-use Rattle.jpa_consistent.proofs.Going.{require_holds, require_holds_last}
+use Rattle.jpa_consistent.proofs.Going.{More, no_more, require_holds, require_holds_last}
 use Rattle.jpa_consistent.specs.Consistent.{IsConsistent, contexts, Others}
 use Rattle.jpa_consistent.proofs.Kept.{KeepsHeld, others_kept, entry_kept, distinct_kept}
-use Rattle.jpa_consistent.proofs.Changed.{holds_apart, live_set, placed_set}
+use Rattle.jpa_consistent.proofs.Changed.{holds_apart, keeps_set, live_set, placed_set}
 
 -- ---- an event is told
 
@@ -68,6 +68,12 @@ life_new m Life.New e = refl
 life_new m (Life.Managed k) e = absurd (let h = (if_code (k == m) EntityState.Managed 0 e (λ z. omega (arith, z))).1 in omega (arith, h))
 life_new m (Life.Removed k) e = absurd (let h = (if_code (k == m) EntityState.Removed 0 e (λ z. omega (arith, z))).1 in omega (arith, h))
 life_new m Life.Detached e = absurd (omega (arith, e))
+
+pub life_managed : (m : ℕ) (life : Life) → state_code (state_from m life) ≡ 1 → life ≡ Life.Managed m
+life_managed m Life.New e = absurd (omega (arith, e))
+life_managed m (Life.Managed k) e = ap Life.Managed (eqb-true k m (if_code (k == m) EntityState.Managed 1 e (λ z. omega (arith, z))).0)
+life_managed m (Life.Removed k) e = absurd (let h = (if_code (k == m) EntityState.Removed 1 e (λ z. omega (arith, z))).1 in omega (arith, h))
+life_managed m Life.Detached e = absurd (omega (arith, e))
 
 pub life_removed : (m : ℕ) (life : Life) → state_code (state_from m life) ≡ 2 → life ≡ Life.Removed m
 life_removed m Life.New e = absurd (omega (arith, e))
@@ -110,7 +116,7 @@ pub record HasKey (world : World) (M : Others) (m n : ℕ) (w : Work) : Type 0 w
   pub given : key_given_by w.numbers (root_class world.model (object w n).class) (root_of world.model (object w n).class).generated (object w n).key ≡ true
 
 -- a key of fitting parts of which none is null
-whole_key : (ps : List Part) (vs : List Value) → each_fits (λ (part : Part) v. fits part.kind v) ps vs ≡ true → is_whole vs ≡ true →
+pub whole_key : (ps : List Part) (vs : List Value) → each_fits (λ (part : Part) v. fits part.kind v) ps vs ≡ true → is_whole vs ≡ true →
     each_fits (λ (part : Part) v. fits part.kind v && not (is_null v)) ps vs ≡ true
 whole_key [] [] h g = refl
 whole_key [] (v ∷ vs) h g = absurd (false≢true h)
@@ -184,13 +190,13 @@ unset_key {world} {M} {m} {n} {w} h l new g whole =
       given = ap (λ b. key_given_by w.numbers (root_class world.model x.class) b x.key) g;
     }
 
-given_key : {world : World} {M : Others} {m n : ℕ} {w : Work} → IsFlat world.model → IsConsistent world M m w → n < length w.objects → (object w n).life ≡ Life.New →
+given_key : {world : World} {M : Others} {m n : ℕ} {w : Work} → IsOrderly world.model → IsConsistent world M m w → n < length w.objects → (object w n).life ≡ Life.New →
     (root_of world.model (object w n).class).generated ≡ true →
     slice_index_or w.numbers (root_class world.model (object w n).class) 1 < last_number →
     HasKey world M m n
     (with_number (root_class world.model (object w n).class) (suc (slice_index_or w.numbers (root_class world.model (object w n).class) 1))
     (with_key n (number_part (slice_index_or w.numbers (root_class world.model (object w n).class) 1)) w))
-given_key {world} {M} {m} {n} {w} flat h l new g few =
+given_key {world} {M} {m} {n} {w} orderly h l new g few =
     let model = world.model in
     let x = object w n in
     let r = root_class model x.class in
@@ -198,11 +204,11 @@ given_key {world} {M} {m} {n} {w} flat h l new g few =
     let y : LiveObject = record x { key = number_part k } in
     let ns = slice_set w.numbers r (suc k) in
     let live = h.objects n no_object l in
-    let rooted : r < length model.entities = ltb-true r (length model.entities) (flat.rooted x.class live.class) in
+    let rooted : r < length model.entities = ltb-true r (length model.entities) (orderly.rooted x.class live.class) in
     let here : y ≡ object_at (slice_set w.objects n y) n = sym (at_place w.objects n y l) in
     let is_one : nat_lt 0 k ≡ true = generator_number (entity_at model r).origin k g (number_at model.entities w.numbers r rooted h.numbered) in
     let within : r < length w.numbers = let e = each_fits_length _ model.entities w.numbers h.numbered in omega (arith, e, rooted) in
-    let whole : is_key_of (root_of model x.class) (number_part k) ≡ true = flat.generated x.class k g in
+    let whole : is_key_of (root_of model x.class) (number_part k) ≡ true = orderly.generated x.class k g in
     let rises : slice_index_or ns r 1 ≡ suc k = get_or-set_same w.numbers r (suc k) 1 within in
     let is_given : is_given_before (slice_index_or ns r 1) (number_part k) ≡ true =
     and_from (nat_lt 0 k) (nat_lt k (slice_index_or ns r 1)) is_one (lt-ltb k (slice_index_or ns r 1) (omega (arith, rises))) in
@@ -229,12 +235,12 @@ given_key {world} {M} {m} {n} {w} flat h l new g few =
           (subst (λ b. key_given_by ns r b (number_part k) ≡ true) (sym g) is_given);
     }
 
-pub give_key_holds : {world : World} {M : Others} {m : ℕ} {w : Work} → IsFlat world.model → (n : ℕ) (b : Bool) → IsConsistent world M m w → n < length w.objects → (object w n).life ≡ Life.New →
-    (root_of world.model (object w n).class).generated ≡ b → HoldsAfter (λ u w'. HasKey world M m n w' × (length w'.objects ≡ length w.objects)) (give_key world n b w)
-give_key_holds {world} {M} {m} {w} flat n false h l new g =
-    require_holds_last _ (is_whole (object w n).key) (Cause.Persistence Persist.Key) w (λ whole. (unset_key h l new g whole, refl))
-give_key_holds {world} {M} {m} {w} flat n true h l new g =
+pub give_key_holds : {world : World} {M : Others} {m : ℕ} {w : Work} → IsOrderly world.model → (n : ℕ) (b : Bool) → IsConsistent world M m w → n < length w.objects → (object w n).life ≡ Life.New →
+    (root_of world.model (object w n).class).generated ≡ b → HoldsAfter (λ u w'. HasKey world M m n w' × More w w') (give_key world n b w)
+give_key_holds {world} {M} {m} {w} orderly n false h l new g =
+    require_holds_last _ (is_whole (object w n).key) (Cause.Persistence Persist.Key) w (λ whole. (unset_key h l new g whole, no_more w))
+give_key_holds {world} {M} {m} {w} orderly n true h l new g =
     let k = slice_index_or w.numbers (root_class world.model (object w n).class) 1 in
     require_holds _ (list_all is_null (object w n).key) (Cause.Persistence Persist.Key) w _ (λ unset.
     require_holds _ (nat_lt k last_number) (Cause.Persistence Persist.Generator) w _ (λ few.
-    (given_key flat h l new g (ltb-true k last_number few), length-set w.objects n (record (object w n) { key = number_part k }))))
+    (given_key orderly h l new g (ltb-true k last_number few), keeps_set w.objects n (record (object w n) { key = number_part k }) l refl)))

@@ -1,9 +1,10 @@
--- What holds of the machine is kept by a new object and by set.
-use Rattle.std.proofs.Common.{◌≡◌, ℕ, Bool, true, false, List, [], refl, ap, sym, subst, ◌∙◌}
-use Rattle.std.specs.Prelude.{slice_set, slice_get, Option, Some, None, if◌then◌else◌, ℤ, Result, Ok, Err, option_map}
-use Rattle.std.specs.List.{position_from}
+-- What set leaves of an object, and what an object is that holds something else in a relation.
+use Rattle.std.proofs.Common.{◌≡◌, ◌<◌, ℕ, Bool, true, false, List, length, refl, ap, sym, subst, ◌∙◌}
+use Rattle.std.specs.Prelude.{nat_lt, slice_get, Option, Some, None, if◌then◌else◌, ℤ, Result, Ok, Err, option_map}
+use Rattle.std.specs.List.{All, position_from}
 use Rattle.std.specs.Option.{unwrap_or}
-use Rattle.std.proofs.lemmas.Bool.{false≢true}
+use Rattle.std.proofs.lemmas.Bool.{and_from, eq-eqb, false≢true, lt-ltb}
+use Rattle.std.proofs.lemmas.Option.{get_or_from_slice_get}
 use Rattle.jpa_value.specs.declared.value.Value.{Value}
 use Rattle.jpa_value.specs.declared.refusal.Cause.{Cause}
 use Rattle.jpa_value.specs.declared.refusal.Argument.{Argument}
@@ -11,19 +12,21 @@ use Rattle.jpa_value.specs.Value.{fits, is_representable}
 use Rattle.jpa_model.specs.declared.unit.PersistenceUnit.{PersistenceUnit}
 use Rattle.jpa_model.specs.declared.unit.Attribute.{Attribute}
 use Rattle.jpa_model.specs.declared.unit.Part.{Part}
+use Rattle.jpa_model.specs.declared.unit.Relation.{Relation}
+use Rattle.jpa_model.specs.declared.unit.Root.{Root}
 use Rattle.jpa_model.specs.declared.unit.Member.{Member}
 use Rattle.jpa_model.specs.declared.unit.VersionColumn.{VersionColumn}
-use Rattle.jpa_model.specs.Chains.{attributes_of, relations_of, root_of, is_to_one, member_of, same_name, relation_at, or_else, is_version_name, part_name}
+use Rattle.jpa_model.specs.Chains.{attributes_of, relations_of, root_of, is_to_one, member_of, same_name, relation_at, or_else, is_kind_of, is_version_name, no_relation, part_name}
 use Rattle.jpa_heap.specs.declared.Held.{Held}
-use Rattle.jpa_stored.specs.Sets.{each_fits}
 use Rattle.jpa_rows.specs.Cells.{version_representable}
 use Rattle.jpa_heap.specs.declared.Handed.{Handed}
 use Rattle.jpa_heap.specs.declared.LiveObject.{LiveObject}
-use Rattle.jpa_heap.specs.Objects.{is_new, to_version}
+use Rattle.jpa_heap.specs.Objects.{is_new, no_object, object_at, to_version, with_held}
+use Rattle.jpa_heap.specs.Shape.{IsInHeap}
 use Rattle.jpa_heap.specs.Assign.{fits_part, fits_version, fits_plain, plain, fits_link, link_to, unless_refused, set_member}
-use Rattle.jpa_consistent.specs.Consistent.{IsLive, held_fits, held_representable, version_fits}
-use Rattle.jpa_lifecycle.specs.Flat.{IsFlat}
-use Rattle.jpa_consistent.proofs.Facts.{each_fits_none, each_fits_set, list_all_set}
+use Rattle.jpa_consistent.specs.Consistent.{IsLive, held_fits, held_representable, leads_to, link_fits, version_fits}
+use Rattle.jpa_consistent.specs.Orderly.{IsOrderly}
+use Rattle.jpa_consistent.proofs.Facts.{each_fits_set, list_all_set}
 
 -- ---- what set leaves as it was
 
@@ -35,7 +38,7 @@ pub record IsSet (m : PersistenceUnit) (os : List LiveObject) (x y : LiveObject)
   pub class : y.class ≡ x.class
   pub life : y.life ≡ x.life
   pub key : is_new x.life ≡ false → y.key ≡ x.key
-  pub live : IsLive m os x → IsLive m os y
+  pub live : All (IsLive m os) os → IsLive m os x → IsLive m os y
 
 -- what a refusal or an object is
 abbrev pub OnObject : (LiveObject → Type 0) → Result LiveObject Cause → Type 0
@@ -105,16 +108,52 @@ version_named m class name h =
     (named_version (position_from (λ part. same_name (part_name r part) name) 0 r.key) (is_version_name r name)
     (position_from (λ a. same_name a.name name) 0 (attributes_of m class)) (position_from (λ r'. same_name r'.name name) 0 (relations_of m class)) h)
 
+-- ---- what a relation holds
+
+-- an object of a kind of the target leads to it
+pub leads_kind : {m : PersistenceUnit} {os : List LiveObject} → IsOrderly m → All (IsLive m os) os → (class r : ℕ) (relation : Relation) → slice_get (relations_of m class) r ≡ Some relation →
+    (k : ℕ) → k < length os → is_kind_of m (object_at os k).class relation.target ≡ true → leads_to m os relation.target k ≡ true
+leads_kind {m} {os} orderly alive class r relation at k l kind =
+    let y = object_at os k in
+    and_from (nat_lt k (length os)) _ (lt-ltb k (length os) l)
+    (eq-eqb (root_of m y.class).table (root_of m relation.target).table
+    (ap (λ (q : Root). q.table) (orderly.kinds class r relation at y.class (alive k no_object l).class kind)))
+
 -- ---- set
 
 link_representable : (v : Handed) → held_representable (Held.One (link_to v)) ≡ true
 link_representable (Handed.Plain v) = refl
 link_representable (Handed.Object k) = refl
 
-module _ (m : PersistenceUnit) (flat : IsFlat m) (os : List LiveObject) (x : LiveObject) (v : Handed) (rep : handed_representable v ≡ true) where
-  no_relations : IsLive m os x → x.relations ≡ []
-  no_relations h = each_fits_none (held_fits m os) x.relations (subst (λ rs. each_fits (held_fits m os) rs x.relations ≡ true) (flat.relations x.class) h.relations)
+-- an object that is handed in is one of the heap
+link_leads : {m : PersistenceUnit} {os : List LiveObject} → IsOrderly m → All (IsLive m os) os → (class r : ℕ) (relation : Relation) → slice_get (relations_of m class) r ≡ Some relation →
+    (v : Handed) → IsInHeap os v → fits_link m os relation.target v ≡ true → link_fits m os relation.target (link_to v) ≡ true
+link_leads orderly alive class r relation at (Handed.Plain v) l fit = refl
+link_leads {m} {os} orderly alive class r relation at (Handed.Object k) l fit = leads_kind orderly alive class r relation at k l fit
 
+-- a relation holds something else that fits it
+pub held_set : {m : PersistenceUnit} {os : List LiveObject} (x : LiveObject) (r : ℕ) (h : Held) → held_representable h ≡ true →
+    (All (IsLive m os) os → (relation : Relation) → slice_get (relations_of m x.class) r ≡ Some relation → held_fits m os relation h ≡ true) → IsSet m os x (with_held x r h)
+held_set {m} {os} x r h rep fits =
+    record {
+      class = refl;
+      life = refl;
+      key = λ old. refl;
+      live = λ alive live.
+          record {
+            class = live.class;
+            key = live.key;
+            version = live.version;
+            values = live.values;
+            relations = each_fits_set (held_fits m os) (relations_of m x.class) x.relations r h live.relations (fits alive);
+            key_representable = live.key_representable;
+            version_representable = live.version_representable;
+            values_representable = live.values_representable;
+            links_representable = list_all_set held_representable x.relations r h rep live.links_representable;
+          };
+    }
+
+module _ (m : PersistenceUnit) (orderly : IsOrderly m) (os : List LiveObject) (x : LiveObject) (v : Handed) (rep : handed_representable v ≡ true) (there : IsInHeap os v) where
   pub set_is : (member : Option Member) → (is_version member ≡ true → has_version (root_of m x.class).version ≡ true) → OnObject (IsSet m os x) (set_member m os x v member)
   unfolding is_version
   set_is None k = tt
@@ -125,7 +164,7 @@ module _ (m : PersistenceUnit) (flat : IsFlat m) (os : List LiveObject) (x : Liv
         class = refl;
         life = refl;
         key = λ old. absurd (false≢true (sym old ∙ fresh));
-        live = λ h.
+        live = λ alive h.
             record {
               class = h.class;
               key = each_fits_set _ (root_of m x.class).key x.key i (plain v) h.key (λ part e. part_fits (slice_get (root_of m x.class).key i) v part fit e);
@@ -145,7 +184,7 @@ module _ (m : PersistenceUnit) (flat : IsFlat m) (os : List LiveObject) (x : Liv
         class = refl;
         life = refl;
         key = λ old. refl;
-        live = λ h.
+        live = λ alive h.
             record {
               class = h.class;
               key = h.key;
@@ -164,7 +203,7 @@ module _ (m : PersistenceUnit) (flat : IsFlat m) (os : List LiveObject) (x : Liv
         class = refl;
         life = refl;
         key = λ old. refl;
-        live = λ h.
+        live = λ alive h.
             record {
               class = h.class;
               key = h.key;
@@ -180,22 +219,7 @@ module _ (m : PersistenceUnit) (flat : IsFlat m) (os : List LiveObject) (x : Liv
   set_is (Some (Member.Relation r)) k =
       judged (IsSet m os x) (is_to_one (relation_at m x.class r).side) Argument.Name _ (λ one.
       judged (IsSet m os x) (fits_link m os (relation_at m x.class r).target v) Argument.Type _ (λ fit.
-      record {
-        class = refl;
-        life = refl;
-        key = λ old. refl;
-        live = λ h.
-            record {
-              class = h.class;
-              key = h.key;
-              version = h.version;
-              values = h.values;
-              relations =
-                  subst (λ rs. each_fits (held_fits m os) rs (slice_set x.relations r (Held.One (link_to v))) ≡ true) (sym (flat.relations x.class))
-                  (subst (λ hs. each_fits (held_fits m os) [] (slice_set hs r (Held.One (link_to v))) ≡ true) (sym (no_relations h)) refl);
-              key_representable = h.key_representable;
-              version_representable = h.version_representable;
-              values_representable = h.values_representable;
-              links_representable = list_all_set held_representable x.relations r (Held.One (link_to v)) (link_representable v) h.links_representable;
-            };
-      }))
+      held_set x r (Held.One (link_to v)) (link_representable v) (λ alive relation at.
+      let same = get_or_from_slice_get (relations_of m x.class) r relation no_relation at in
+      and_from (is_to_one relation.side) _ (subst (λ (q : Relation). is_to_one q.side ≡ true) same one)
+      (link_leads orderly alive x.class r relation at v there (subst (λ (q : Relation). fits_link m os q.target v ≡ true) same fit)))))

@@ -1,7 +1,7 @@
--- What a flush writes can be held by a store, in units without relations.
-use Rattle.std.proofs.Common.{◌≡◌, ◌<◌, ◌+◌, ◌-◌, ℕ, zero, suc, Bool, true, false, T, List, [], ◌∷◌, length, map, refl, ap, sym, subst, arith}
+-- What a flush writes can be held by a store.
+use Rattle.std.proofs.Common.{◌≡◌, ◌<◌, ◌+◌, ◌-◌, ℕ, zero, suc, Bool, true, false, T, List, [], ◌∷◌, length, refl, ap, sym, subst, arith}
 use Rattle.std.specs.Prelude.{Option, Some, None, ◌==◌, ◌||◌, if◌then◌else◌, ℤ, pos, negsuc, is_some, nat_lt}
-use Rattle.std.specs.List.{AllByRecursion, list_all, filter, enumerate_from}
+use Rattle.std.specs.List.{AllByRecursion, list_all, filter}
 use Rattle.std.specs.Option.{unwrap_or}
 use Rattle.std.specs.Ordering.{is_lt, int_cmp}
 use Rattle.std.specs.declared.cmp.Ordering.{Ordering}
@@ -16,7 +16,6 @@ use Rattle.jpa_value.specs.Value.{identity_cmp, is_i64, is_null, is_representabl
 use Rattle.jpa_value.proofs.Orders.{identity_total, identity_exact}
 use Rattle.jpa_model.specs.declared.unit.PersistenceUnit.{PersistenceUnit}
 use Rattle.jpa_model.specs.declared.unit.Attribute.{Attribute}
-use Rattle.jpa_model.specs.declared.unit.Relation.{Relation}
 use Rattle.jpa_model.specs.declared.unit.VersionColumn.{VersionColumn}
 use Rattle.jpa_model.specs.Chains.{root_of, relations_of}
 use Rattle.jpa_behaviour.specs.Behaviour.{World, AnswersConvertible, is_convertible}
@@ -25,7 +24,7 @@ use Rattle.jpa_stored.specs.Sets.{StoredSet, with_stored, each_fits, is_shaped, 
 use Rattle.jpa_rows.specs.Cells.{version_representable, holds_representable, names_representable, passes, is_given, column_value, cell_value}
 use Rattle.jpa_heap.specs.declared.LiveObject.{LiveObject}
 use Rattle.jpa_context.specs.Work.{Work, object, identity_at}
-use Rattle.jpa_flush.specs.Flush.{Action, joined, joined_all, first_version, raised, can_rise, converts, stored_of, written, owned_along}
+use Rattle.jpa_flush.specs.Flush.{Action, joined, joined_all, first_version, raised, can_rise, converts, stored_of, written}
 use Rattle.jpa_consistent.specs.Consistent.{IsLive, name_of}
 use Rattle.jpa_consistent.proofs.Setting.{has_version}
 
@@ -141,27 +140,22 @@ all_pass_converted world k (p ∷ ps) h =
 
 -- ---- an object as it is stored
 
-pub no_owned : (m : PersistenceUnit) (w : Work) (n : ℕ) → relations_of m (object w n).class ≡ [] → map (owned_along m w n) (enumerate_from 0 (relations_of m (object w n).class)) ≡ []
-no_owned m w n e = ap (λ (rs : List Relation). map (owned_along m w n) (enumerate_from 0 rs)) e
-
-pub stored_shaped : (m : PersistenceUnit) (w : Work) (n : ℕ) (v : Option ℤ) → relations_of m (object w n).class ≡ [] → IsLive m w.objects (object w n) →
-    is_key_of (root_of m (object w n).class) (object w n).key ≡ true → version_there (root_of m (object w n).class).version v ≡ true → is_shaped m (name_of m (object w n)) (stored_of m w n v) ≡ true
-stored_shaped m w n v flat h whole there =
+pub stored_shaped : (m : PersistenceUnit) (w : Work) (n : ℕ) (v : Option ℤ) → IsLive m w.objects (object w n) → is_key_of (root_of m (object w n).class) (object w n).key ≡ true →
+    version_there (root_of m (object w n).class).version v ≡ true → each_fits (owns_well m) (relations_of m (object w n).class) (stored_of m w n v).owned ≡ true →
+    is_shaped m (name_of m (object w n)) (stored_of m w n v) ≡ true
+stored_shaped m w n v h whole there owned =
     let x = object w n in
     and_from (nat_lt x.class (length m.entities)) _ h.class
     (and_from (is_identity_of (root_of m x.class) (name_of m x)) _
     (and_from ((root_of m x.class).table == (root_of m x.class).table) (is_key_of (root_of m x.class) x.key) (eq-eqb (root_of m x.class).table (root_of m x.class).table refl) whole)
     (and_from (version_there (root_of m x.class).version v) _ there
-    (and_from _ _ h.values
-    (subst (λ (rs : List Relation). each_fits (owns_well m) rs (stored_of m w n v).owned ≡ true) (sym flat)
-    (subst (λ (os : List (List Identity)). each_fits (owns_well m) [] os ≡ true) (sym (no_owned m w n flat)) refl)))))
+    (and_from _ _ h.values owned)))
 
-pub stored_representable : (m : PersistenceUnit) (w : Work) (n : ℕ) (v : Option ℤ) → relations_of m (object w n).class ≡ [] → IsLive m w.objects (object w n) →
-    version_representable v ≡ true → holds_representable (stored_of m w n v) ≡ true
-stored_representable m w n v flat h there =
+pub stored_representable : (m : PersistenceUnit) (w : Work) (n : ℕ) (v : Option ℤ) → IsLive m w.objects (object w n) → version_representable v ≡ true →
+    list_all (list_all names_representable) (stored_of m w n v).owned ≡ true → holds_representable (stored_of m w n v) ≡ true
+stored_representable m w n v h there owned =
     and_from (version_representable v) _ there
-    (and_from (list_all is_representable (object w n).values) _ h.values_representable
-    (subst (λ (os : List (List Identity)). list_all (list_all names_representable) os ≡ true) (sym (no_owned m w n flat)) refl))
+    (and_from (list_all is_representable (object w n).values) _ h.values_representable owned)
 
 pub name_is : (m : PersistenceUnit) (x : LiveObject) (b : Bool) (id : Identity) → (if b then Some (name_of m x) else None) ≡ Some id → id ≡ name_of m x
 name_is m x true id e = sym (ap (λ o. unwrap_or o id) e)

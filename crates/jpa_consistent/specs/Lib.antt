@@ -1,2 +1,3 @@
 pub mod Consistent
 pub mod Going
+pub mod Orderly

@@ -14,7 +14,7 @@ use Rattle.jpa_value.specs.declared.event.LifecycleEvent.{LifecycleEvent}
 use Rattle.jpa_protocol.specs.declared.reply.Answer.{Answer}
 use Rattle.jpa_protocol.specs.declared.reply.Item.{Item}
 use Rattle.jpa_json.specs.JsonOf.{text_data}
-use Rattle.jpa_lines.specs.CallOf.{meaning, text_call, call_of, create_of, new_of, set_of, get_of, em_of, on_object_of, by_key_of, given_of, marked_of, hex_of}
+use Rattle.jpa_lines.specs.CallOf.{meaning, text_call, call_of, create_of, new_of, set_of, get_of, em_of, em_and_object_of, by_key_of, given_of, marked_of, hex_of}
 use Rattle.jpa_lines.specs.ReplyText.{reply_text}
 use Rattle.jpa_lines.specs.Run.{lines_of}
 
@@ -59,16 +59,41 @@ unfolding is_utf8 chars meaning text_call text_data call_of em_of serde_json_on_
 begins = refl
 
 persists : meaning (codes "{\"call\":\"persist\",\"em\":1,\"object\":1}") ≡ Ok (Call.Persist (pos 1) (pos 1))
-unfolding is_utf8 chars meaning text_call text_data call_of on_object_of serde_json_on_literals
+unfolding is_utf8 chars meaning text_call text_data call_of em_and_object_of serde_json_on_literals
 persists = refl
 
+removes : meaning (codes "{\"call\":\"remove\",\"em\":1,\"object\":2}") ≡ Ok (Call.Remove (pos 1) (pos 2))
+unfolding is_utf8 chars meaning text_call text_data call_of em_and_object_of serde_json_on_literals
+removes = refl
+
+refreshes : meaning (codes "{\"object\":2,\"em\":1,\"call\":\"refresh\"}") ≡ Ok (Call.Refresh (pos 1) (pos 2))
+unfolding is_utf8 chars meaning text_call text_data call_of em_and_object_of serde_json_on_literals
+refreshes = refl
+
+detaches : meaning (codes "{\"call\":\"detach\",\"em\":2,\"object\":1}") ≡ Ok (Call.Detach (pos 2) (pos 1))
+unfolding is_utf8 chars meaning text_call text_data call_of em_and_object_of serde_json_on_literals
+detaches = refl
+
 asks : meaning (codes "{\"call\":\"contains\",\"em\":1,\"object\":2}") ≡ Ok (Call.Contains (pos 1) (pos 2))
-unfolding is_utf8 chars meaning text_call text_data call_of on_object_of serde_json_on_literals
+unfolding is_utf8 chars meaning text_call text_data call_of em_and_object_of serde_json_on_literals
 asks = refl
 
 clears : meaning (codes "{\"call\":\"clear\",\"em\":1}") ≡ Ok (Call.Clear (pos 1))
 unfolding is_utf8 chars meaning text_call text_data call_of em_of serde_json_on_literals
 clears = refl
+
+closes : meaning (codes "{\"call\":\"close\",\"em\":1}") ≡ Ok (Call.Close (pos 1))
+unfolding is_utf8 chars meaning text_call text_data call_of em_of serde_json_on_literals
+closes = refl
+
+flushes : meaning (codes "{\"call\":\"flush\",\"em\":1}") ≡ Ok (Call.Flush (pos 1))
+unfolding is_utf8 chars meaning text_call text_data call_of em_of serde_json_on_literals
+flushes = refl
+
+-- the object is missing
+of_no_object : meaning (codes "{\"call\":\"remove\",\"em\":1}") ≡ Err Cause.BadLine
+unfolding is_utf8 chars meaning text_call text_data call_of em_and_object_of serde_json_on_literals
+of_no_object = refl
 
 refers : meaning (codes "{\"call\":\"getReference\",\"em\":1,\"entity\":\"Person\",\"key\":[1]}") ≡ Ok (Call.GetReference (pos 1) (codes "Person") (Given.Plain (Value.Int (pos 1)) ∷ []))
 unfolding is_utf8 chars meaning text_call text_data call_of by_key_of given_of serde_json_on_literals

@@ -8,7 +8,7 @@ use Rattle.jpa_value.specs.declared.refusal.Cause.{Cause}
 use Rattle.jpa_value.specs.declared.refusal.Cause.TheVariants.{BadLine, Limit}
 use Rattle.jpa_value.specs.declared.value.Value.TheVariants.{Null, Int, Text, Bytes}
 use Rattle.jpa_protocol.specs.declared.call.Call.{Call}
-use Rattle.jpa_protocol.specs.declared.call.Call.TheVariants.{CreateEntityManager, NewObject, SetValue, Get, Begin, Persist, Contains, Clear, Commit, Rollback, SetRollbackOnly, Find, GetReference}
+use Rattle.jpa_protocol.specs.declared.call.Call.TheVariants.{CreateEntityManager, NewObject, SetValue, Get, Begin, Persist, Remove, Refresh, Detach, Contains, Clear, Close, Flush, Commit, Rollback, SetRollbackOnly, Find, GetReference}
 use Rattle.jpa_protocol.specs.declared.call.Given.{Given}
 use Rattle.jpa_protocol.specs.declared.call.Given.TheVariants as given
 use Rattle.serde_json.specs.Data.{Data, null, boolean, number, string, array, object}
@@ -99,13 +99,19 @@ of_em call d = do
   em ← em_of d
   Some (call em)
 
--- a call of a manager and an object
-unfoldable pub on_object_of : (ℤ → ℤ → Call) → Data → Option Call
-on_object_of call d = do
+-- the manager and the object, of a call that has no other member
+unfoldable pub em_and_object_of : Data → Option (ℤ × ℤ)
+em_and_object_of d = do
   all ← guard (count_of d == 3)
   em ← integer_at (codes "em") d
   on ← integer_at (codes "object") d
-  Some (call em on)
+  Some (em, on)
+
+-- a call of a manager and an object
+abbrev pub of_em_and_object : (ℤ → ℤ → Call) → Data → Option Call
+of_em_and_object call d = do
+  named ← em_and_object_of d
+  Some (call named.0 named.1)
 
 -- a call that finds by a key
 unfoldable pub by_key_of : (ℤ → List ℕ → List Given → Call) → Data → Option Call
@@ -125,8 +131,13 @@ word_of name =
     else if bytes_eq name (codes "get") then Some word.Get
     else if bytes_eq name (codes "begin") then Some word.Begin
     else if bytes_eq name (codes "persist") then Some word.Persist
+    else if bytes_eq name (codes "remove") then Some word.Remove
+    else if bytes_eq name (codes "refresh") then Some word.Refresh
+    else if bytes_eq name (codes "detach") then Some word.Detach
     else if bytes_eq name (codes "contains") then Some word.Contains
     else if bytes_eq name (codes "clear") then Some word.Clear
+    else if bytes_eq name (codes "close") then Some word.Close
+    else if bytes_eq name (codes "flush") then Some word.Flush
     else if bytes_eq name (codes "commit") then Some word.Commit
     else if bytes_eq name (codes "rollback") then Some word.Rollback
     else if bytes_eq name (codes "setRollbackOnly") then Some word.SetRollbackOnly
@@ -141,9 +152,14 @@ worded_call word.New d = new_of d
 worded_call word.Set d = set_of d
 worded_call word.Get d = get_of d
 worded_call word.Begin d = of_em Begin d
-worded_call word.Persist d = on_object_of Persist d
-worded_call word.Contains d = on_object_of Contains d
+worded_call word.Persist d = of_em_and_object Persist d
+worded_call word.Remove d = of_em_and_object Remove d
+worded_call word.Refresh d = of_em_and_object Refresh d
+worded_call word.Detach d = of_em_and_object Detach d
+worded_call word.Contains d = of_em_and_object Contains d
 worded_call word.Clear d = of_em Clear d
+worded_call word.Close d = of_em Close d
+worded_call word.Flush d = of_em Flush d
 worded_call word.Commit d = of_em Commit d
 worded_call word.Rollback d = of_em Rollback d
 worded_call word.SetRollbackOnly d = of_em SetRollbackOnly d

@@ -5,7 +5,7 @@ ghost use Rattle.jpa_protocol.specs.declared.call.Call.{Call};
 ghost use Rattle.jpa_value.specs.declared.refusal.Cause.TheVariants.{OutOfMemory};
 ghost use Rattle.jpa_json.specs.Members.{integer_of};
 ghost use Rattle.jpa_json.specs.Outcome.{Gives, same};
-ghost use Rattle.jpa_lines.specs.CallOf.{integer_at, hex_of, marked_of, given_of, em_of, create_of, new_of, set_of, get_of, on_object_of, by_key_of, word_of, worded_call, call_of, text_call, meaning};
+ghost use Rattle.jpa_lines.specs.CallOf.{integer_at, hex_of, marked_of, given_of, em_of, create_of, new_of, set_of, get_of, em_and_object_of, of_em_and_object, by_key_of, word_of, worded_call, call_of, text_call, meaning};
 
 use jpa_json::{Described, Unread, json_of, member, only, or_refuse, str_at, text_at};
 use jpa_protocol::{Call, Given};
@@ -25,8 +25,13 @@ enum Word {
     Get,
     Begin,
     Persist,
+    Remove,
+    Refresh,
+    Detach,
     Contains,
     Clear,
+    Close,
+    Flush,
     Commit,
     Rollback,
     SetRollbackOnly,
@@ -73,8 +78,13 @@ fn word_of(name: &str) -> Result<Word, Unread>
         "get" => Ok(Word::Get),
         "begin" => Ok(Word::Begin),
         "persist" => Ok(Word::Persist),
+        "remove" => Ok(Word::Remove),
+        "refresh" => Ok(Word::Refresh),
+        "detach" => Ok(Word::Detach),
         "contains" => Ok(Word::Contains),
         "clear" => Ok(Word::Clear),
+        "close" => Ok(Word::Close),
+        "flush" => Ok(Word::Flush),
         "commit" => Ok(Word::Commit),
         "rollback" => Ok(Word::Rollback),
         "setRollbackOnly" => Ok(Word::SetRollbackOnly),
@@ -94,8 +104,13 @@ fn worded_call(alloc: Global, word: Word, json: &Json) -> Result<Call, Unread>
         Word::Get => get_of(alloc, json),
         Word::Begin => Ok(Call::Begin { em: em_of(json)? }),
         Word::Persist => persist_of(json),
+        Word::Remove => remove_of(json),
+        Word::Refresh => refresh_of(json),
+        Word::Detach => detach_of(json),
         Word::Contains => contains_of(json),
         Word::Clear => Ok(Call::Clear { em: em_of(json)? }),
+        Word::Close => Ok(Call::Close { em: em_of(json)? }),
+        Word::Flush => Ok(Call::Flush { em: em_of(json)? }),
         Word::Commit => Ok(Call::Commit { em: em_of(json)? }),
         Word::Rollback => Ok(Call::Rollback { em: em_of(json)? }),
         Word::SetRollbackOnly => Ok(Call::SetRollbackOnly { em: em_of(json)? }),
@@ -156,23 +171,49 @@ fn em_of(json: &Json) -> Result<i64, Unread>
     integer_at(json, "em")
 }
 
-#[tactic(auto, unfolding(crate::specs::CallOf::on_object_of))]
-fn persist_of(json: &Json) -> Result<Call, Unread>
-    ensures { Gives same result (on_object_of Call.Persist (view json.now)) }
+/// The manager and the object of a call that has no other member.
+#[tactic(auto, unfolding(crate::specs::CallOf::em_and_object_of))]
+fn em_and_object_of(json: &Json) -> Result<(i64, i64), Unread>
+    ensures { Gives same result (em_and_object_of (view json.now)) }
 {
     only(json, 3)?;
     let em = integer_at(json, "em")?;
     let object = integer_at(json, "object")?;
+    Ok((em, object))
+}
+
+fn persist_of(json: &Json) -> Result<Call, Unread>
+    ensures { Gives same result (of_em_and_object Call.Persist (view json.now)) }
+{
+    let (em, object) = em_and_object_of(json)?;
     Ok(Call::Persist { em, object })
 }
 
-#[tactic(auto, unfolding(crate::specs::CallOf::on_object_of))]
-fn contains_of(json: &Json) -> Result<Call, Unread>
-    ensures { Gives same result (on_object_of Call.Contains (view json.now)) }
+fn remove_of(json: &Json) -> Result<Call, Unread>
+    ensures { Gives same result (of_em_and_object Call.Remove (view json.now)) }
 {
-    only(json, 3)?;
-    let em = integer_at(json, "em")?;
-    let object = integer_at(json, "object")?;
+    let (em, object) = em_and_object_of(json)?;
+    Ok(Call::Remove { em, object })
+}
+
+fn refresh_of(json: &Json) -> Result<Call, Unread>
+    ensures { Gives same result (of_em_and_object Call.Refresh (view json.now)) }
+{
+    let (em, object) = em_and_object_of(json)?;
+    Ok(Call::Refresh { em, object })
+}
+
+fn detach_of(json: &Json) -> Result<Call, Unread>
+    ensures { Gives same result (of_em_and_object Call.Detach (view json.now)) }
+{
+    let (em, object) = em_and_object_of(json)?;
+    Ok(Call::Detach { em, object })
+}
+
+fn contains_of(json: &Json) -> Result<Call, Unread>
+    ensures { Gives same result (of_em_and_object Call.Contains (view json.now)) }
+{
+    let (em, object) = em_and_object_of(json)?;
     Ok(Call::Contains { em, object })
 }
 

@@ -41,6 +41,21 @@ pub enum Call {
         em: i64,
         object: i64,
     },
+    /// Removes an object (chapter 3.2.3).
+    Remove {
+        em: i64,
+        object: i64,
+    },
+    /// Gives an object the state that is stored (chapter 3.2.5).
+    Refresh {
+        em: i64,
+        object: i64,
+    },
+    /// Detaches an object (chapter 3.2.7).
+    Detach {
+        em: i64,
+        object: i64,
+    },
     /// Asks whether an object is managed (chapter 3.2.8).
     Contains {
         em: i64,
@@ -48,6 +63,14 @@ pub enum Call {
     },
     /// Detaches all objects of a manager (chapter 3.2.7).
     Clear {
+        em: i64,
+    },
+    /// Closes a manager (chapter 7.2); its number names none from then on.
+    Close {
+        em: i64,
+    },
+    /// Writes what a manager's objects differ in from the set that its transaction sees (chapter 3.2.4).
+    Flush {
         em: i64,
     },
     /// Commits the transaction of a manager.
