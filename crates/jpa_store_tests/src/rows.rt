@@ -241,9 +241,23 @@ fn see_dropped<R: RowSource>(
     see_drop(rt, alloc, overlay.changes(source)?.as_slice())
 }
 
-/// The overlay's copy has its one change, which is its difference from no change.
-fn see_copy(rt: &impl Abort, alloc: Global, overlay: &Overlay) -> Result<(), Fail> {
-    let difference = overlay.try_copy()?.into_difference(&Overlay::new(alloc))?;
+/// The person as she stands, under her id.
+fn standing<R: RowSource>(alloc: Global, source: &mut R) -> Result<Overlay, Cause> {
+    let mut stood = Overlay::new(alloc);
+    if let Some(row) = row_of(alloc, source, 1, 1)? {
+        stood.put(id(alloc, 1, 1)?, row)?;
+    }
+    Ok(stood)
+}
+
+/// The overlay's copy has its one change, which is its difference from what stands.
+fn see_copy(
+    rt: &impl Abort,
+    alloc: Global,
+    overlay: &Overlay,
+    stood: &Overlay,
+) -> Result<(), Fail> {
+    let difference = overlay.try_copy()?.into_difference(stood)?;
     see_drop(rt, alloc, difference.as_slice())
 }
 
@@ -268,7 +282,7 @@ fn see_overlay<R: RowSource>(rt: &impl Abort, alloc: Global, source: &mut R) -> 
     let mut overlay = Overlay::new(alloc);
     overlay.drop_row(id(alloc, 1, 1)?)?;
     see_dropped(rt, alloc, &overlay, source)?;
-    see_copy(rt, alloc, &overlay)?;
+    see_copy(rt, alloc, &overlay, &standing(alloc, source)?)?;
     see_put(rt, alloc, &mut overlay, source)
 }
 
