@@ -17,7 +17,8 @@ use jpa_value::{Identity, Seq};
 
 /// Whether an object of the class or below it stands under the identity.
 fn is_of(metamodel: &Metamodel, view: &OpenSet, target: usize, id: &Identity) -> bool
-    ensures { result ≡ sets.is_of metamodel.now (sets.stored_at (opened.now view.now) id.now) target }
+    ensures { result
+        ≡ sets.is_of metamodel.now (sets.stored_at (opened.now view.now) id.now) target }
 {
     match view.get(id) {
         None => false,

@@ -183,7 +183,8 @@ fn is_alone(metamodel: &Metamodel, view: &OpenSet, change: &Change<'_>) -> bool
 
 /// Whether no claim of an object that was written is made twice.
 pub(crate) fn all_alone(metamodel: &Metamodel, view: &OpenSet, changes: &[Change<'_>]) -> bool
-    ensures { result ≡ list_all (judged.is_alone metamodel.now (opened.now view.now)) changes.now }
+    ensures { result
+        ≡ list_all (judged.is_alone metamodel.now (opened.now view.now)) changes.now }
 {
     for change in changes {
         if !is_alone(metamodel, view, change) {

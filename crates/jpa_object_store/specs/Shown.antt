@@ -7,9 +7,9 @@ use Rattle.jpa_value.specs.Value.{identity_cmp}
 use Rattle.jpa_model.specs.declared.unit.Origin.{Origin}
 use Rattle.jpa_behaviour.specs.Behaviour.{World}
 use Rattle.jpa_stored.specs.declared.stored.Stored.{Stored}
-use Rattle.jpa_stored.specs.Sets.{StoredSet}
+use Rattle.jpa_stored.specs.Sets.{StoredSet, stored_at}
 use Rattle.jpa_rows.specs.declared.schema.Schema.{Schema}
-use Rattle.jpa_rows.specs.Cells.{are_numbers}
+use Rattle.jpa_rows.specs.Cells.{are_numbers, CanBeHeld}
 use Rattle.jpa_rows.specs.Rows.{Rows, AreRising}
 use Rattle.jpa_rows.specs.Tables.{schema_of}
 use Rattle.jpa_view.specs.View.{AreStorable}
@@ -17,6 +17,7 @@ use Rattle.jpa_object_rows.specs.Raw.{is_id_of}
 use Rattle.jpa_object_rows.specs.Objects.{number_id, number_row, object_entries}
 use Rattle.jpa_object_rows.specs.Sets.{rows_of}
 use Rattle.jpa_overlay.specs.Overlay.{Changes, Recalls, with_change, rows_under}
+use Rattle.jpa_object_store.specs.Written.{with_or_without}
 
 -- ---- more changes: rows put, or dropped
 
@@ -32,6 +33,10 @@ with_drops (e ∷ es) changes = with_change e.0 None (with_drops es changes)
 abbrev pub entries_at : World → Identity → Option Stored → Rows
 entries_at world id None = []
 entries_at world id (Some x) = object_entries world id x
+
+-- of the object that a set has there, or none
+abbrev pub entries_stood : World → StoredSet → Identity → Rows
+entries_stood world set id = entries_at world id (stored_at set id)
 
 -- the row of a root's next number, put
 abbrev pub with_next : Origin → ℕ → Changes → Changes
@@ -61,3 +66,22 @@ pub record Show (world : World) (base : Rows) (changes : Changes) (set : StoredS
 pub record Recall (base : Rows) (stood changes : Changes) : Type 0 where
   pub own : Recalls stood stood base
   pub changed : Recalls stood changes base
+
+-- ---- what a step of changes does to what is seen
+
+-- where the one set was seen before, the other is seen after, over any rows and with any next numbers
+abbrev pub Brings : World → StoredSet → StoredSet → Changes → Changes → Type 0
+Brings world one other before after =
+    (base : Rows) (numbers : List ℕ) → Show world base before one numbers → Show world base after other numbers
+
+-- where a set was seen that has the old object under an identity, or none, it is seen with the new one there, or none
+abbrev pub Replaces : World → Identity → Option Stored → Option Stored → Changes → Changes → Type 0
+Replaces world id old new before after =
+    (base : Rows) (set : StoredSet) (numbers : List ℕ) → stored_at set id ≡ old
+    → Show world base before set numbers → Show world base after (with_or_without id new set) numbers
+
+-- what stood in a set that can be held is recalled after as it was before
+abbrev pub RecallsStill : World → StoredSet → Changes → Changes → Changes → Changes → Type 0
+RecallsStill world set stood_before before stood_after after =
+    (numbers : List ℕ) → CanBeHeld world set numbers
+    → Recall (rows_of world set numbers) stood_before before → Recall (rows_of world set numbers) stood_after after

@@ -90,7 +90,8 @@ fn write_changes<R: RowSource, B: Behaviour>(
     requires rising { each_fits nat_le before.now next.now ≡ true }
     ensures ok { let world = world_of B.meaning metamodel.now registry.now in
         OnOk result (R.holds source.old (rows_of world view.now.committed before.now)
-        → R.holds source.new (rows_of world (set_after (entries_in objects.now) view.now.committed) next.now)) }
+        → R.holds source.new (rows_of world
+        (set_after (entries_in objects.now) view.now.committed) next.now)) }
     ensures err { OnErr result ((rows : Rows) → R.holds source.old rows → R.holds source.new rows) }
     ensures cause { IfErr result (λ cause. (cause ≡ Cause.OutOfMemory) ⊎ (cause ≡ Cause.StoreFault)) }
     ensures told { R.faults source.new ≡ faults_after result (R.faults source.old) }

@@ -23,7 +23,8 @@ pub(crate) fn changes_of<'a>(
     ids: &'a [Identity],
 ) -> Result<Vec<ObjectChange<'a>>, Cause>
     requires shown { view.now.is_shown ≡ true }
-    ensures ok { IfOk result (λ changes. entries_in changes.items ≡ entries_of view.now.seen ids.now) }
+    ensures ok { IfOk result (λ changes.
+        entries_in changes.items ≡ entries_of view.now.seen ids.now) }
     ensures err { IfErr result (λ cause. cause ≡ Cause.OutOfMemory) }
 {
     let mut changes = Vec::new(alloc);

@@ -1,18 +1,16 @@
 //! The changes of written objects.
-ghost use Rattle.std.specs.Prelude.{◌≡◌, ℕ, List, true, OnOk, IfOk, IfErr};
+ghost use Rattle.std.specs.Prelude.{◌≡◌, true, OnOk, IfOk, IfErr};
 ghost use Rattle.std.specs.List.{AllByRecursion};
 ghost use Rattle.std.specs.Option.{option_copied};
 ghost use Rattle.jpa_value.specs.declared.refusal.Cause.{Cause};
 ghost use Rattle.jpa_value.specs.Value.{same_identity};
 ghost use Rattle.jpa_behaviour.specs.Registered.{world_of};
 ghost use Rattle.jpa_stored.specs.Sets as sets;
-ghost use Rattle.jpa_rows.specs.Cells.{CanBeHeld};
-ghost use Rattle.jpa_rows.specs.Rows.{Rows};
 ghost use Rattle.jpa_view.specs.View.{is_storable, AreStorable};
 ghost use Rattle.jpa_object_rows.specs.Objects.{object_entries};
-ghost use Rattle.jpa_object_rows.specs.Sets as set_rows;
-ghost use Rattle.jpa_object_store.specs.Shown.{with_puts, with_drops, entries_at, Show, Recall};
-ghost use Rattle.jpa_object_store.specs.Written.{entries_in, is_storable_if_any, with_or_without, set_after};
+ghost use Rattle.jpa_object_store.specs.Shown.{with_puts, with_drops, entries_at, entries_stood};
+ghost use Rattle.jpa_object_store.specs.Shown.{Replaces, Brings, RecallsStill};
+ghost use Rattle.jpa_object_store.specs.Written.{entries_in, is_storable_if_any, set_after};
 
 use crate::object_change::ObjectChange;
 use crate::rows::{drop_rows, put_rows};
@@ -34,14 +32,17 @@ fn rows_of<B: Behaviour>(
     id: &Identity,
     object: &Stored,
 ) -> Result<Seq<(RowId, Row)>, Cause>
-    requires { is_storable (world_of B.meaning metamodel.now registry.now) id.now object.now ≡ true }
-    ensures ok { IfOk result (λ rows. rows ≡ object_entries (world_of B.meaning metamodel.now registry.now) id.now object.now) }
+    requires { is_storable (world_of B.meaning metamodel.now registry.now)
+        id.now object.now ≡ true }
+    ensures ok { IfOk result (λ rows.
+        rows ≡ object_entries (world_of B.meaning metamodel.now registry.now) id.now object.now) }
     ensures err { IfErr result (λ cause. cause ≡ Cause.OutOfMemory) }
 {
     to_rows(alloc, metamodel, registry, id, object)
 }
 
-/// Drops the rows of the view's committed object under an identity, if there is one, and notes that they stood.
+/// Drops the rows of the view's committed object under an identity, if there is one, and
+/// notes that they stood.
 fn drop_old<B: Behaviour>(
     overlay: &mut Overlay,
     stood: &mut Overlay,
@@ -52,8 +53,12 @@ fn drop_old<B: Behaviour>(
     id: &Identity,
 ) -> Result<(), Cause>
     requires { AreStorable (world_of B.meaning metamodel.now registry.now) view.now.committed }
-    ensures ok { OnOk result (overlay.new ≡ with_drops (entries_at (world_of B.meaning metamodel.now registry.now) id.now (sets.stored_at view.now.committed id.now)) overlay.old) }
-    ensures noted { OnOk result (stood.new ≡ with_puts (entries_at (world_of B.meaning metamodel.now registry.now) id.now (sets.stored_at view.now.committed id.now)) stood.old) }
+    ensures ok { OnOk result (overlay.new ≡ with_drops
+        (entries_stood (world_of B.meaning metamodel.now registry.now)
+        view.now.committed id.now) overlay.old) }
+    ensures noted { OnOk result (stood.new ≡ with_puts
+        (entries_stood (world_of B.meaning metamodel.now registry.now)
+        view.now.committed id.now) stood.old) }
     ensures err { IfErr result (λ cause. cause ≡ Cause.OutOfMemory) }
 {
     match view.committed(id) {
@@ -75,8 +80,11 @@ fn put_new<B: Behaviour>(
     id: &Identity,
     object: Option<&Stored>,
 ) -> Result<(), Cause>
-    requires { is_storable_if_any (world_of B.meaning metamodel.now registry.now) id.now (option_copied object) ≡ true }
-    ensures ok { OnOk result (overlay.new ≡ with_puts (entries_at (world_of B.meaning metamodel.now registry.now) id.now (option_copied object.entry)) overlay.old) }
+    requires { is_storable_if_any (world_of B.meaning metamodel.now registry.now)
+        id.now (option_copied object) ≡ true }
+    ensures ok { OnOk result (overlay.new ≡ with_puts
+        (entries_at (world_of B.meaning metamodel.now registry.now)
+        id.now (option_copied object.entry)) overlay.old) }
     ensures err { IfErr result (λ cause. cause ≡ Cause.OutOfMemory) }
 {
     match object {
@@ -88,7 +96,8 @@ fn put_new<B: Behaviour>(
     }
 }
 
-/// Puts what is to stand under an identity in the place of the view's committed object there, if there is one, and notes what stood.
+/// Puts what is to stand under an identity in the place of the view's committed object there,
+/// if there is one, and notes what stood.
 fn change_object<B: Behaviour>(
     overlay: &mut Overlay,
     stood: &mut Overlay,
@@ -100,9 +109,13 @@ fn change_object<B: Behaviour>(
     object: Option<&Stored>,
 ) -> Result<(), Cause>
     requires committed { AreStorable (world_of B.meaning metamodel.now registry.now) view.now.committed }
-    requires storable { is_storable_if_any (world_of B.meaning metamodel.now registry.now) id.now (option_copied object) ≡ true }
-    ensures ok { OnOk result ((base : Rows) (set : sets.StoredSet) (numbers : List ℕ) → sets.stored_at set id.now ≡ sets.stored_at view.now.committed id.now → Show (world_of B.meaning metamodel.now registry.now) base overlay.old set numbers → Show (world_of B.meaning metamodel.now registry.now) base overlay.new (with_or_without id.now (option_copied object.entry) set) numbers) }
-    ensures noted { OnOk result ((before : List ℕ) → CanBeHeld (world_of B.meaning metamodel.now registry.now) view.now.committed before → Recall (set_rows.rows_of (world_of B.meaning metamodel.now registry.now) view.now.committed before) stood.old overlay.old → Recall (set_rows.rows_of (world_of B.meaning metamodel.now registry.now) view.now.committed before) stood.new overlay.new) }
+    requires storable { is_storable_if_any (world_of B.meaning metamodel.now registry.now)
+        id.now (option_copied object) ≡ true }
+    ensures ok { OnOk result (Replaces (world_of B.meaning metamodel.now registry.now) id.now
+        (sets.stored_at view.now.committed id.now) (option_copied object.entry)
+        overlay.old overlay.new) }
+    ensures noted { OnOk result (RecallsStill (world_of B.meaning metamodel.now registry.now)
+        view.now.committed stood.old overlay.old stood.new overlay.new) }
     ensures err { IfErr result (λ cause. cause ≡ Cause.OutOfMemory) }
 {
     // what the rows of a unit rest on
@@ -113,7 +126,8 @@ fn change_object<B: Behaviour>(
     put_new(overlay, alloc, metamodel, registry, id, object)
 }
 
-/// Puts what is to stand under each identity in the place of the view's committed object there, and notes what stood.
+/// Puts what is to stand under each identity in the place of the view's committed object
+/// there, and notes what stood.
 pub(crate) fn change_objects<B: Behaviour>(
     overlay: &mut Overlay,
     stood: &mut Overlay,
@@ -124,10 +138,14 @@ pub(crate) fn change_objects<B: Behaviour>(
     changes: &[ObjectChange<'_>],
 ) -> Result<(), Cause>
     requires committed { AreStorable (world_of B.meaning metamodel.now registry.now) view.now.committed }
-    requires storable { AllByRecursion (λ e. is_storable_if_any (world_of B.meaning metamodel.now registry.now) e.0 e.1 ≡ true) (entries_in changes.now) }
+    requires storable { AllByRecursion (λ e. is_storable_if_any
+        (world_of B.meaning metamodel.now registry.now) e.0 e.1 ≡ true) (entries_in changes.now) }
     requires distinct { sets.all_distinct (λ a b. same_identity a.0 b.0) (entries_in changes.now) ≡ true }
-    ensures ok { OnOk result ((base : Rows) (numbers : List ℕ) → Show (world_of B.meaning metamodel.now registry.now) base overlay.old view.now.committed numbers → Show (world_of B.meaning metamodel.now registry.now) base overlay.new (set_after (entries_in changes.now) view.now.committed) numbers) }
-    ensures noted { OnOk result ((before : List ℕ) → CanBeHeld (world_of B.meaning metamodel.now registry.now) view.now.committed before → Recall (set_rows.rows_of (world_of B.meaning metamodel.now registry.now) view.now.committed before) stood.old overlay.old → Recall (set_rows.rows_of (world_of B.meaning metamodel.now registry.now) view.now.committed before) stood.new overlay.new) }
+    ensures ok { OnOk result (Brings (world_of B.meaning metamodel.now registry.now)
+        view.now.committed (set_after (entries_in changes.now) view.now.committed)
+        overlay.old overlay.new) }
+    ensures noted { OnOk result (RecallsStill (world_of B.meaning metamodel.now registry.now)
+        view.now.committed stood.old overlay.old stood.new overlay.new) }
     ensures err { IfErr result (λ cause. cause ≡ Cause.OutOfMemory) }
 {
     for change in changes {
