@@ -66,6 +66,15 @@ class Plots:
             yield "set", {"object": number, "name": entity.version["name"], "value": self.random.randint(-1, 3)}
         yield "persist", {"em": em, "object": number}
 
+    def at_work(self):
+        """One of the open managers, whose transaction is begun; None where none is open."""
+        managers = self.open_ones()
+        if not managers:
+            return None
+        em = self.random.choice(managers[:4])
+        yield from self.beginning(em)
+        return em
+
     def some_held(self, em):
         """An object that the manager holds; it is loaded or made where there is none."""
         held = self.machine.managers[em - 1].context
@@ -82,11 +91,9 @@ class Plots:
 
     def refused_flush(self):
         """Objects are made, changed and removed, one of them so that it may be refused; then what they hold is looked at."""
-        managers = self.open_ones()
-        if not managers:
+        em = yield from self.at_work()
+        if em is None:
             return
-        em = self.random.choice(managers[:4])
-        yield from self.beginning(em)
         for _ in range(self.random.randint(0, 2)):
             yield from self.making(em)
         lives = list(self.machine.managers[em - 1].context)
@@ -103,11 +110,9 @@ class Plots:
 
     def flushes(self):
         """Objects are made and changed, with a flush after each, and all is rolled back or committed."""
-        managers = self.open_ones()
-        if not managers:
+        em = yield from self.at_work()
+        if em is None:
             return
-        em = self.random.choice(managers[:4])
-        yield from self.beginning(em)
         for _ in range(self.random.randint(1, 4)):
             live = self.some_held(em)
             if live is None or self.random.random() < 0.4:
@@ -124,11 +129,9 @@ class Plots:
 
     def one_object(self):
         """An object is removed, persisted, flushed, changed, refreshed and looked for in turns."""
-        managers = self.open_ones()
-        if not managers:
+        em = yield from self.at_work()
+        if em is None:
             return
-        em = self.random.choice(managers[:4])
-        yield from self.beginning(em)
         live = self.some_held(em)
         if live is None:
             yield from self.making(em)
@@ -187,11 +190,9 @@ class Plots:
 
     def same_key_again(self):
         """An object is dropped by a flush, or only removed, and another one of its identity is persisted."""
-        managers = self.open_ones()
-        if not managers:
+        em = yield from self.at_work()
+        if em is None:
             return
-        em = self.random.choice(managers[:4])
-        yield from self.beginning(em)
         kept = [live for live in self.machine.managers[em - 1].context if not live.entity.generated]
         if not kept:
             yield from self.making(em)
