@@ -21,7 +21,8 @@ fn push_unseen(
     found: &[Node],
 ) -> Result<(), Cause>
     requires agree { AreSeen nodes.old.items seen.old }
-    ensures ok { OnOk result (nodes.new.items ≡ nodes.old.items ++ spec.unseen nodes.old.items found.now) }
+    ensures ok { OnOk result (nodes.new.items
+        ≡ nodes.old.items ++ spec.unseen nodes.old.items found.now) }
     ensures agree { OnOk result (AreSeen nodes.new.items seen.new) }
     ensures err { IfErr result (λ cause. cause ≡ Cause.OutOfMemory) }
 {

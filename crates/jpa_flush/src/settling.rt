@@ -79,7 +79,8 @@ fn settle_written(
     requires object { object < length work.old.objects.now }
     requires place { slice_get (map (λ e. e.object) work.old.context.now) place ≡ Some object }
     requires distinct { all_distinct (λ a b. a.object == b.object) work.old.context.now ≡ true }
-    ensures ok { OnOk result (now work.new ≡ flushes.settled object (Some stored.now) (now work.old)) }
+    ensures ok { OnOk result
+        (now work.new ≡ flushes.settled object (Some stored.now) (now work.old)) }
     ensures err { IfErr result (λ cause. cause ≡ Cause.OutOfMemory) }
     ensures since { since work.new ≡ since work.old }
 {

@@ -12,7 +12,8 @@ use jpa_value::{Cause, TryCopy};
 
 /// Writes what a plan has of one object over a set, or takes out what stands under its identity.
 fn write(view: &mut OpenSet, planned: &Planned) -> Result<(), Cause>
-    ensures ok { OnOk result (view.new ≡ with_seen (plans.write planned.now view.old.seen) view.old) }
+    ensures ok { OnOk result
+        (view.new ≡ with_seen (plans.write planned.now view.old.seen) view.old) }
     ensures kept { OnErr result (view.new ≡ view.old) }
     ensures err { IfErr result (λ cause. cause ≡ Cause.OutOfMemory) }
 {
