@@ -1,5 +1,5 @@
 -- What a manager at work keeps so that it can undo: what it works on now, and what undoing gives.
-use Rattle.std.specs.Prelude.{◌≡◌, ◌<◌, ℕ, All, Bool, List, length, true, if◌then◌else◌}
+use Rattle.std.specs.Prelude.{◌≡◌, ◌<◌, ℕ, All, Bool, List, [], length, true, if◌then◌else◌}
 use Rattle.jpa_model.specs.declared.unit.PersistenceUnit.{PersistenceUnit}
 use Rattle.jpa_stored.specs.Sets.{StoredSet, all_shaped}
 use Rattle.jpa_open.specs.Opened as opened
@@ -38,6 +38,10 @@ since u =
 -- the set that the manager sees then
 abbrev pub view_since : Since → StoredSet
 view_since s = if s.is_shown then s.kept else s.committed
+
+-- the work to which a manager is led back, of which nothing is told
+abbrev pub undone : ℕ → Since → Work
+undone manager s = record { manager = manager; objects = s.objects; context = s.context; numbers = s.numbers; view = view_since s; events = [] }
 
 -- nothing is to be undone
 pub record IsKept (u : UnitOfWork) : Type 0 where

@@ -1,6 +1,6 @@
 //! A manager at work.
-ghost use Rattle.std.specs.Prelude.{◌≡◌, []};
-ghost use Rattle.jpa_context.specs.Undo.{IsKept, now, since, view_since};
+ghost use Rattle.std.specs.Prelude.{◌≡◌};
+ghost use Rattle.jpa_context.specs.Undo.{IsKept, now, since, undone};
 ghost use Rattle.jpa_open.specs.Opened as opened;
 
 use crate::PersistenceContext;
@@ -51,7 +51,7 @@ impl UnitOfWork {
 
     /// Undoes what was changed since it was last kept; the events are let go. Takes no memory.
     pub fn undo(&mut self, alloc: Global)
-        ensures now { now self.new ≡ record { manager = self.old.manager; objects = (since self.old).objects; context = (since self.old).context; numbers = (since self.old).numbers; view = view_since (since self.old); events = [] } }
+        ensures now { now self.new ≡ undone self.old.manager (since self.old) }
         ensures kept { IsKept self.new }
         ensures view { self.new.view ≡ opened.after_undoing self.old.view }
     {

@@ -4,7 +4,6 @@ ghost use Rattle.jpa_behaviour.specs.Registered.{world_of};
 ghost use Rattle.jpa_context.specs.declared.Lock.{Lock};
 ghost use Rattle.jpa_context.specs.Undo.{now, since};
 ghost use Rattle.jpa_context.specs.Work.{is_removed, state_from};
-ghost use Rattle.jpa_object_rows.specs.Sets.{rows_of};
 ghost use Rattle.jpa_protocol.specs.declared.call.Call.{Call};
 ghost use Rattle.jpa_provider.specs.Faults.{is_store_fault, tells_fault, faults_after_reply};
 ghost use Rattle.jpa_provider.specs.Machine.{Machine, committed_after};
@@ -105,7 +104,8 @@ fn end_commit(alloc: Global, session: &mut Session, manager: usize, next: Seq<u6
     requires next { next ≡ session.old.work.numbers.now }
     requires gone { gone.now ≡ serving.gone_objects (now session.old.work) }
     requires unlocked { All (λ e. e.lock ≡ Lock.Unlocked) session.old.work.context.now }
-    requires entries { All (λ e. e.object < length session.old.work.objects.now) session.old.work.context.now }
+    requires entries { All (λ e. e.object < length session.old.work.objects.now)
+        session.old.work.context.now }
     requires shown { (session.old.work.view).is_shown ≡ true }
     ensures ended { (M : Machine) → IsCommitting M manager session.old
         → machine_of session.new ≡ committed_after M manager (now session.old.work) }
@@ -146,13 +146,15 @@ fn store_commit<R: RowSource, B: Behaviour>(
     requires shown { (session.old.work.view).is_shown ≡ true }
     requires rising { each_fits nat_le session.old.stored session.old.work.numbers.now ≡ true }
     requires unlocked { All (λ e. e.lock ≡ Lock.Unlocked) session.old.work.context.now }
-    requires entries { All (λ e. e.object < length session.old.work.objects.now) session.old.work.context.now }
+    requires entries { All (λ e. e.object < length session.old.work.objects.now)
+        session.old.work.context.now }
     ensures stores { (M : Machine) → IsCommitting M manager session.old
         → serving.Stores M manager (now session.old.work) result (machine_of session.new) }
     ensures settled { (M : Machine) → IsCommitting M manager session.old → IsSettled session.new }
     ensures holds { (M : Machine) → IsCommitting M manager session.old
         → let world = world_of B.meaning metamodel.now registry.now in
-        R.holds rows.old (rows_kept world M) → R.holds rows.new (rows_kept world (machine_of session.new)) }
+        R.holds rows.old (rows_kept world M)
+        → R.holds rows.new (rows_kept world (machine_of session.new)) }
     ensures was_clean { R.clean rows.new → R.clean rows.old }
     ensures schema { R.schema rows.new ≡ R.schema rows.old }
     ensures crash { let world = world_of B.meaning metamodel.now registry.now in
@@ -221,15 +223,30 @@ fn commit_active<R: RowSource, B: Behaviour>(
     requires active { (manager_in session.old.managers.items manager).status ≡ Status.Active }
     requires serving { IsServing (world_of B.meaning metamodel.now registry.now) session.old }
     requires schema { R.schema rows.old ≡ schema_of metamodel.now }
-    requires holds { R.clean rows.old → R.holds rows.old (rows_of (world_of B.meaning metamodel.now registry.now) (machine_of session.old).committed (machine_of session.old).stored_numbers) }
-    ensures step { (em : ℤ) → named session.old em ≡ Some manager → Serves (world_of B.meaning metamodel.now registry.now) session.old (Call.Commit em) result session.new }
+    requires holds { let world = world_of B.meaning metamodel.now registry.now in
+        R.clean rows.old → R.holds rows.old (rows_kept world (machine_of session.old)) }
+    ensures step { let world = world_of B.meaning metamodel.now registry.now in
+        (em : ℤ) → named session.old em ≡ Some manager
+        → Serves world session.old (Call.Commit em) result session.new }
     ensures settled { IsSettled session.new }
-    ensures holds { R.clean rows.new → R.holds rows.new (rows_of (world_of B.meaning metamodel.now registry.now) (machine_of session.new).committed (machine_of session.new).stored_numbers) }
+    ensures holds { let world = world_of B.meaning metamodel.now registry.now in
+        R.clean rows.new → R.holds rows.new (rows_kept world (machine_of session.new)) }
     ensures was_clean { R.clean rows.new → R.clean rows.old }
     ensures schema { R.schema rows.new ≡ R.schema rows.old }
-    ensures crash { (em : ℤ) → named session.old em ≡ Some manager → R.clean rows.new → R.endures rows.old rows.new (λ left. left ≡ rows_made (world_of B.meaning metamodel.now registry.now) (machine_of session.old) (Call.Commit em)) }
-    ensures counted { (em : ℤ) → named session.old em ≡ Some manager → OnOk result.answer (RunsDifference (rows_kept (world_of B.meaning metamodel.now registry.now) (machine_of session.old)) (rows_made (world_of B.meaning metamodel.now registry.now) (machine_of session.old) (Call.Commit em)) (R.writes rows.old) (R.writes rows.new)) }
-    ensures bounded { (em : ℤ) → named session.old em ≡ Some manager → IsErr result.answer → (rows.new ≡ rows.old) ⊎ RunsAtMost (rows_kept (world_of B.meaning metamodel.now registry.now) (machine_of session.old)) (rows_made (world_of B.meaning metamodel.now registry.now) (machine_of session.old) (Call.Commit em)) (R.writes rows.old) (R.writes rows.new) }
+    ensures crash { let world = world_of B.meaning metamodel.now registry.now in
+        (em : ℤ) → named session.old em ≡ Some manager → R.clean rows.new
+        → R.endures rows.old rows.new (λ left.
+        left ≡ rows_made world (machine_of session.old) (Call.Commit em)) }
+    ensures counted { let world = world_of B.meaning metamodel.now registry.now in
+        (em : ℤ) → named session.old em ≡ Some manager → OnOk result.answer
+        (RunsDifference (rows_kept world (machine_of session.old))
+        (rows_made world (machine_of session.old) (Call.Commit em))
+        (R.writes rows.old) (R.writes rows.new)) }
+    ensures bounded { let world = world_of B.meaning metamodel.now registry.now in
+        (em : ℤ) → named session.old em ≡ Some manager → IsErr result.answer
+        → (rows.new ≡ rows.old) ⊎ RunsAtMost (rows_kept world (machine_of session.old))
+        (rows_made world (machine_of session.old) (Call.Commit em))
+        (R.writes rows.old) (R.writes rows.new) }
     ensures unread { R.reads rows.new ≡ R.reads rows.old }
     ensures told { R.faults rows.new ≡ faults_after_reply result (R.faults rows.old) }
     ensures refused { IsErr result.answer → IsGivenUp result ⊎ (rows.new ≡ rows.old) }
@@ -253,15 +270,27 @@ pub(crate) fn commit_call<R: RowSource, B: Behaviour>(
 ) -> Reply
     requires serving { IsServing (world_of B.meaning metamodel.now registry.now) session.old }
     requires schema { R.schema rows.old ≡ schema_of metamodel.now }
-    requires holds { R.clean rows.old → R.holds rows.old (rows_of (world_of B.meaning metamodel.now registry.now) (machine_of session.old).committed (machine_of session.old).stored_numbers) }
-    ensures step { Serves (world_of B.meaning metamodel.now registry.now) session.old (Call.Commit em) result session.new }
+    requires holds { let world = world_of B.meaning metamodel.now registry.now in
+        R.clean rows.old → R.holds rows.old (rows_kept world (machine_of session.old)) }
+    ensures step { let world = world_of B.meaning metamodel.now registry.now in
+        Serves world session.old (Call.Commit em) result session.new }
     ensures settled { IsSettled session.new }
-    ensures holds { R.clean rows.new → R.holds rows.new (rows_of (world_of B.meaning metamodel.now registry.now) (machine_of session.new).committed (machine_of session.new).stored_numbers) }
+    ensures holds { let world = world_of B.meaning metamodel.now registry.now in
+        R.clean rows.new → R.holds rows.new (rows_kept world (machine_of session.new)) }
     ensures was_clean { R.clean rows.new → R.clean rows.old }
     ensures schema { R.schema rows.new ≡ R.schema rows.old }
-    ensures crash { R.clean rows.new → R.endures rows.old rows.new (λ left. left ≡ rows_made (world_of B.meaning metamodel.now registry.now) (machine_of session.old) (Call.Commit em)) }
-    ensures counted { OnOk result.answer (RunsDifference (rows_kept (world_of B.meaning metamodel.now registry.now) (machine_of session.old)) (rows_made (world_of B.meaning metamodel.now registry.now) (machine_of session.old) (Call.Commit em)) (R.writes rows.old) (R.writes rows.new)) }
-    ensures bounded { IsErr result.answer → (rows.new ≡ rows.old) ⊎ RunsAtMost (rows_kept (world_of B.meaning metamodel.now registry.now) (machine_of session.old)) (rows_made (world_of B.meaning metamodel.now registry.now) (machine_of session.old) (Call.Commit em)) (R.writes rows.old) (R.writes rows.new) }
+    ensures crash { let world = world_of B.meaning metamodel.now registry.now in
+        R.clean rows.new → R.endures rows.old rows.new (λ left.
+        left ≡ rows_made world (machine_of session.old) (Call.Commit em)) }
+    ensures counted { let world = world_of B.meaning metamodel.now registry.now in
+        OnOk result.answer (RunsDifference (rows_kept world (machine_of session.old))
+        (rows_made world (machine_of session.old) (Call.Commit em))
+        (R.writes rows.old) (R.writes rows.new)) }
+    ensures bounded { let world = world_of B.meaning metamodel.now registry.now in
+        IsErr result.answer → (rows.new ≡ rows.old)
+        ⊎ RunsAtMost (rows_kept world (machine_of session.old))
+        (rows_made world (machine_of session.old) (Call.Commit em))
+        (R.writes rows.old) (R.writes rows.new) }
     ensures unread { R.reads rows.new ≡ R.reads rows.old }
     ensures told { R.faults rows.new ≡ faults_after_reply result (R.faults rows.old) }
     ensures refused { IsErr result.answer → IsGivenUp result ⊎ (rows.new ≡ rows.old) }
