@@ -2,16 +2,20 @@
 the cells of a store's file."""
 import json, os, random, re, sqlite3
 
-from hostile_model import LENGTH, Machine, Unit
+from hostile_model import Machine
 from hostile_plots import Plots
 from hostile_reading import DEPTH, GREATEST, LEAST, LINE, Number, lines_of
+from hostile_unit import LENGTH, Unit
+from hostile_units import random_mapping
 
 HERE = os.path.dirname(os.path.abspath(__file__))
-MAPPINGS = [None, "flat.json", "wide.json", "heard.json", "sub.json"]
+RANDOM = "random"
+MAPPINGS = [None, "linked.json", RANDOM, "flat.json", "woven.json", RANDOM, "wide.json", None, RANDOM, "heard.json", "linked.json", RANDOM, "sub.json",
+            "woven.json", RANDOM]
 TABLE = ("CREATE TABLE cell (t INTEGER NOT NULL, r BLOB NOT NULL, c INTEGER NOT NULL,\n"
          "  v BLOB NOT NULL, PRIMARY KEY (t, r, c)) STRICT")
-PERSONS = {"entities": [{"name": "Person", "table": 1, "key": [{"name": "id", "type": "int"}], "generated": True,
-                         "version": {"name": "version", "column": 1}, "attributes": [{"name": "name", "type": "text", "column": 2}]}]}
+# What the program serves without a mapping.
+PERSONS = "persons.json"
 
 INTEGERS = [0, 1, 2, -1, 7, 255, 2**31, 2**53 + 1, GREATEST, GREATEST - 1, LEAST, LEAST + 1]
 TEXTS = ["", "a", "Ada", "Bob", "glad", "sad", "\0", "a\0b", "\"\\/", "\n\r\t\b\f\x1f\x7f", "é", "\u2028", "\U0001f600", "\ufeff", "{\"hex\":\"00\"}", "0aff"]
@@ -28,6 +32,7 @@ class Calls(Plots):
 
     def __init__(self, random, machine):
         self.random, self.machine, self.plot = random, machine, None
+        self.has_relations = any(entity.relations for entity in machine.unit.entities.values())
 
     def line(self):
         """A line, and whether a plot wants it as it stands."""
@@ -39,9 +44,9 @@ class Calls(Plots):
 
     def call(self):
         """The next call of the plot, or any other one."""
-        if self.plot is None and self.random.random() < 0.08:
+        if self.plot is None and self.random.random() < (0.3 if self.has_relations else 0.08):
             self.plot = self.some_plot()
-        if self.plot is not None and self.random.random() < 0.85:
+        if self.plot is not None and self.random.random() < (0.93 if self.has_relations else 0.85):
             call = next(self.plot, None)
             if call:
                 return call
@@ -56,7 +61,7 @@ class Calls(Plots):
         weights = {"createEntityManager": 0.6 if len(managers) > 2 else 9, "new": 9, "set": 26, "get": 8, "begin": 1 if begun else 14, "persist": 14,
                    "find": 14, "commit": 6 if begun else 0.7, "rollback": 1 if begun else 0.4, "setRollbackOnly": 0.3 if begun else 0.2,
                    "getReference": 4, "contains": 5, "clear": 0.7, "flush": 10 if begun else 0.7, "remove": 7, "refresh": 4, "detach": 2,
-                   "close": 0.4 if len(managers) < 4 else 0.8}
+                   "close": 0.4 if len(managers) < 4 else 0.8, "add": 9 if self.has_relations else 0.3, "takeOut": 5 if self.has_relations else 0.2}
         return self.random.choices(list(weights), weights.values())[0]
 
     def written(self, members):
@@ -132,16 +137,44 @@ class Calls(Plots):
     def get(self):
         number = self.object()
         live = self.live(number)
-        return {"object": number, "name": self.random.choice(list(live.values)) if live and self.random.random() < 0.95 else "name"}
+        return {"object": number, "name": self.random.choice([*live.values, *live.links]) if live and self.random.random() < 0.95 else "name"}
 
     def set(self):
         number = self.object(lambda live: live.held != "detached")
         live = self.live(number)
         if not live:
             return {"object": number, "name": "name", "value": "x"}
+        links = [relation for relation in live.entity.relations.values() if not relation.is_many or self.random.random() < 0.05]
+        if links and self.random.random() < 0.4:
+            relation = self.random.choice(links)
+            value = None if self.random.random() < 0.1 else {"object": self.linkable(live, relation)} if self.random.random() < 0.98 else 1
+            return {"object": number, "name": relation.name, "value": value}
         lacking = [name for name in live.entity.key if live.values[name] is None and live.held == "new" and not live.entity.generated]
         name = lacking[0] if lacking and self.random.random() < 0.8 else self.member(live.entity, live.held == "new" and not live.entity.generated)
         return {"object": number, "name": name, "value": self.given(self.value(self.kind(live.entity, name)))}
+
+    def linkable(self, live, relation):
+        """An object that one may lead to: mostly of the target's class, and new or of the same manager."""
+        fits = lambda other: other.entity.is_a(relation.target)
+        near = lambda other: fits(other) and other.held in ("new", live.held)
+        return self.object(near if self.random.random() < 0.8 else fits if self.random.random() < 0.9 else lambda other: True)
+
+    def add(self):
+        number = self.object(lambda live: live.held != "detached" and any(each.is_many for each in live.entity.relations.values()))
+        live = self.live(number)
+        relations = [each for each in live.entity.relations.values() if each.is_many or self.random.random() < 0.05] if live else []
+        if not relations:
+            return {"object": number, "name": "name", "member": self.object()}
+        relation = self.random.choice(relations)
+        return {"object": number, "name": relation.name, "member": self.linkable(live, relation)}
+
+    def takeOut(self):
+        members = self.add()
+        live = self.live(members["object"])
+        held = live.links.get(members["name"]) if live else None
+        if isinstance(held, list) and held and self.random.random() < 0.8:
+            members["member"] = self.random.choice(held).number
+        return members
 
     def persist(self):
         em = self.em(0.7)
@@ -293,10 +326,24 @@ def mutated(random, line):
 
 # ---- cases
 
+def some_mapping(seed, name):
+    """The mapping of this name: None where the program gets none, the name of a file, or a random one as JSON says it."""
+    return random_mapping(random.Random(seed)) if name == RANDOM else name
+
+
+def words_for(mapping, place):
+    """The words of the command line that give the program the mapping, for which a file is made at this place where there is none."""
+    if isinstance(mapping, dict):
+        with open(place, "w", encoding="utf-8") as file:
+            json.dump(mapping, file)
+        return ["--mapping", place]
+    return ["--mapping", os.path.join(HERE, mapping)] if mapping else []
+
+
 def unit_of(mapping):
-    if mapping is None:
-        return Unit(PERSONS)
-    with open(os.path.join(HERE, mapping), "rb") as file:
+    if isinstance(mapping, dict):
+        return Unit(mapping)
+    with open(os.path.join(HERE, mapping or PERSONS), "rb") as file:
         return Unit(json.load(file))
 
 
@@ -330,7 +377,7 @@ def made(seed, mapping, unit, state, count):
 
     while len(lines) < count:
         line, is_wanted = calls.line()
-        is_mutated = chance.random() < 0.3
+        is_mutated = chance.random() < (0.12 if calls.has_relations else 0.3)
         if is_mutated:
             take(mutated(chance, line))
         if not is_mutated or (is_wanted and chance.random() < 0.85):

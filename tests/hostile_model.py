@@ -1,196 +1,42 @@
 """What the program answers to lines, in plain Python after docs/GUIDE.md and docs/DEFINITIONS.md: the call that a line means
-(tests/hostile_reading.py), the machine that calls change, and the cells of what was committed. It serves what the program serves, and
-knows nothing of how that is built.
+(tests/hostile_reading.py), the machine that calls change, and the cells of what was committed (tests/hostile_cells.py). It serves what the
+program serves, and knows nothing of how that is built.
 
 Values are None, int, str (a text), bytes and Number (the number of an object); an identity is a root entity's name with the key as a tuple.
 """
-import json, re
+import json
 
+from hostile_cells import State, Stored, members, unsound
 from hostile_reading import GREATEST, Number, Refused, call_of
+from hostile_unit import KINDS, LENGTH, assigned, size
 
-LENGTH, MANAGERS, MADE = 65535, 16, 1000000
+MANAGERS, MADE = 16, 1000000
 NUMBERS = {"BadLine": 3, "NoSuchManager": 4, "NoSuchObject": 5, "IllegalArgument": 6, "IllegalState": 7, "TransactionRequired": 8,
            "EntityExists": 9, "EntityNotFound": 10, "OptimisticLock": 11, "Persistence": 12, "Listener": 13, "Rollback": 14, "Busy": 18, "Limit": 19}
-# The calls, and the numbers of the refusals, that mark the manager's transaction.
+# The calls, and the numbers of the refusals, that mark the manager's transaction; and the calls of which a callback's refusal marks that of
+# the manager which holds the object.
 MARKED_BY = {"find", "getReference", "persist", "remove", "refresh", "detach", "contains", "clear", "flush"}
 MARKING = {6, 7, 8, 9, 10, 11, 12, 13, 17, 19}
-
-
-# ---- units
-
-KINDS = {"int": int, "text": str, "bytes": bytes}
-
-
-def size(value):
-    return len(value.encode()) if isinstance(value, str) else len(value) if isinstance(value, bytes) else 0
-
-
-class Entity:
-    """An entity of a mapping: the kinds of its members by their names, in order, the root's first."""
-
-    def __init__(self, described, above=None):
-        self.name, self.above, self.root = described["name"], above, above.root if above else self
-        self.discriminator = described.get("discriminator", self.name)
-        if above:
-            self.table, self.key, self.generated, self.version = above.table, above.key, above.generated, above.version
-        else:
-            before = described["embedded"] + "." if "embedded" in described else ""
-            self.table = described["table"]
-            self.key = {before + part["name"]: KINDS[part["type"]] for part in described["key"]}
-            self.generated = described.get("generated", False)
-            self.version = described.get("version")
-        self.attributes = {**(above.attributes if above else {}), **{each["name"]: each for each in described.get("attributes", [])}}
-        self.listeners, self.callbacks = described.get("listeners", []), described.get("callbacks", [])
-        self.excludes_default, self.excludes_super = described.get("excludeDefault", False), described.get("excludeSuper", False)
-
-    def chain(self):
-        """The entities from the root to this one."""
-        return [*self.above.chain(), self] if self.above else [self]
-
-    def is_a(self, other):
-        return other in self.chain()
-
-    def kind(self, name):
-        """The kind of a member, if the entity has one of this name."""
-        if name in self.key:
-            return self.key[name]
-        if self.version and name == self.version["name"]:
-            return int
-        if name in self.attributes:
-            return KINDS[self.attributes[name]["type"]]
-        raise Refused("IllegalArgument", "name")
-
-
-def side(data):
-    return bytes.fromhex(data["hex"]) if isinstance(data, dict) else data
-
-
-class Unit:
-    """The entities of a mapping, who listens to them, and the functions of the mapping."""
-
-    def __init__(self, mapping):
-        self.described = {each["name"]: each for each in mapping["entities"]}
-        self.entities = {}
-        for name in self.described:
-            self.entity(name)
-        self.entities = {name: self.entities[name] for name in self.described}
-        self.functions = {each["name"]: each for each in mapping.get("functions", [])}
-        self.default = mapping.get("listeners", [])
-
-    def entity(self, name):
-        if name not in self.entities:
-            above = self.described[name].get("extends")
-            self.entities[name] = Entity(self.described[name], self.entity(above) if above else None)
-        return self.entities[name]
-
-    def column(self, attribute, value):
-        """What the attribute's column holds for a value."""
-        if value is None or "converter" not in attribute:
-            return value
-        found = converted(self.functions[attribute["converter"]], value)
-        if found is None or size(found) > LENGTH:
-            raise Refused("Persistence", "converter")
-        return found
-
-    def heard_by(self, entity, event):
-        """The functions that hear an event of an entity, in order."""
-        chain, entries = entity.chain(), []
-        if not any(each.excludes_default for each in chain):
-            entries += self.default
-        lowest = max((at for at, each in enumerate(chain) if each.excludes_super), default=0)
-        for each in chain[lowest:]:
-            entries += each.listeners
-        for each in chain:
-            entries += each.callbacks
-        return [self.functions[entry["name"]] for entry in entries if event in entry["events"]]
-
-
-def assigned(function, values):
-    """What a listener assigns when it hears of an object with these values."""
-    make = function["make"]
-    if make == "set_text":
-        return {function["attribute"]: function["value"]}
-    if make == "copy":
-        return {function["to"]: values.get(function["from"])}
-    if make == "count":
-        value = values.get(function["attribute"])
-        value = 0 if value is None else value
-        if not isinstance(value, int) or value == GREATEST:
-            raise Refused("Listener", "count")
-        return {function["attribute"]: value + 1}
-    if make == "require" and values.get(function["attribute"]) is None:
-        raise Refused("Listener", "require " + function["attribute"])
-    return {}
-
-
-def converted(function, value):
-    if function["make"] == "flip":
-        return -1 - value if isinstance(value, int) else None
-    if function["make"] == "hextext":
-        return value.hex() if isinstance(value, bytes) else None
-    return next((side(there) for here, there in function["pairs"] if side(here) == value), None)
-
-
-# ---- cells
-
-def integer_bytes(number):
-    return b"\x01" + (number + 2**63).to_bytes(8, "big")
-
-
-def part_bytes(value):
-    if isinstance(value, int):
-        return integer_bytes(value)
-    text = isinstance(value, str)
-    return (b"\x02" if text else b"\x03") + (value.encode() if text else value).replace(b"\0", b"\0\xff") + b"\0\0"
-
-
-def cell_bytes(value):
-    if isinstance(value, int):
-        return integer_bytes(value)
-    return b"\x02" + value.encode() if isinstance(value, str) else b"\x03" + value
-
-
-class Stored:
-    """A stored object."""
-
-    def __init__(self, entity, version, values):
-        self.entity, self.version, self.values = entity, version, values
-
-    def lacks(self):
-        """Whether a required value is null."""
-        return any(each.get("required") and self.values[name] is None for name, each in self.entity.attributes.items())
-
-
-class State:
-    """The committed objects by their identities, and the next number of each generator by its root."""
-
-    def __init__(self, objects=None, numbers=None):
-        self.objects, self.numbers = objects or {}, numbers or {}
-
-    def cells(self, unit):
-        rows = [(0, integer_bytes(unit.entities[name].table), 0, integer_bytes(n)) for name, n in self.numbers.items() if n != 1]
-        for (_, key), stored in self.objects.items():
-            entity, row = stored.entity, b"".join(part_bytes(part) for part in key)
-            rows.append((entity.table, row, 0, cell_bytes(entity.discriminator)))
-            if entity.version:
-                rows.append((entity.table, row, entity.version["column"], integer_bytes(stored.version)))
-            for attribute in entity.attributes.values():
-                value = unit.column(attribute, stored.values[attribute["name"]])
-                if value is not None:
-                    rows.append((entity.table, row, attribute["column"], cell_bytes(value)))
-        return sorted(rows)
+MARKED_BY_CALLBACK = {"get", "add", "takeOut"}
 
 
 # ---- the machine
 
 class Live:
-    """A live object: its values by the names of its members; held is new, detached, or the manager that manages it or has it removed.
-    The base is what was loaded or written last, if anything."""
+    """A live object: its values, and what it holds in its relations, by their names; held is new, detached, or the manager that manages it
+    or has it removed. The base is what was loaded or written last, if anything; known are the identities that each relation had when
+    it was read or written last, None of a collection that wasn't.
+
+    A relation to one holds None, an object, or the identity of one that was not read yet; a collection a list of objects, which is never
+    changed but replaced, or UNREAD."""
+
+    UNREAD = "unread"
 
     def __init__(self, entity, number):
         self.entity, self.number = entity, number
         self.values = dict.fromkeys([*entity.key, *([entity.version["name"]] if entity.version else []), *entity.attributes])
-        self.held, self.is_removed, self.base = "new", False, None
+        self.links = {name: [] if relation.is_many else None for name, relation in entity.relations.items()}
+        self.held, self.is_removed, self.base, self.known = "new", False, None, {}
 
     def key(self):
         return tuple(self.values[name] for name in self.entity.key)
@@ -204,17 +50,52 @@ class Live:
     def is_managed(self, manager):
         return self.held is manager and not self.is_removed
 
-    def load(self, key, stored):
+    def is_unread(self, relation):
+        held = self.links[relation.name]
+        return isinstance(held, tuple) or held is Live.UNREAD
+
+    def read_of(self, relation):
+        """The objects in a relation, none where it is unread."""
+        held = self.links[relation.name]
+        return [] if held is None or self.is_unread(relation) else held if relation.is_many else [held]
+
+    def identities_of(self, relation):
+        """The identities in a relation, of those whose key is whole; None of a collection that is unread."""
+        held = self.links[relation.name]
+        if held is Live.UNREAD:
+            return None
+        found = [held] if isinstance(held, tuple) else [other.identity() for other in self.read_of(relation)]
+        return frozenset(identity for identity in found if None not in identity[1])
+
+    def load(self, key, stored, objects):
+        """Becomes the object that is stored among these ones."""
         self.values.update(zip(self.entity.key, key), **stored.values)
+        for relation in self.entity.relations.values():
+            found = None if relation.is_many else members(objects, self.identity(), relation)
+            self.links[relation.name] = Live.UNREAD if relation.is_many else found[0] if found else None
         self.written(stored)
+        self.remember()
 
     def written(self, stored):
         if self.entity.version:
             self.values[self.entity.version["name"]] = stored.version
         self.base = stored
 
+    def remember(self):
+        self.known = {relation.name: self.identities_of(relation) for relation in self.entity.relations.values()}
+
     def differs(self):
-        return self.base is not None and self.attributes() != self.base.values
+        return self.base is not None and (self.attributes() != self.base.values or any(map(self.differs_along, self.entity.owned())))
+
+    def differs_along(self, relation):
+        before, now = self.known[relation.name], self.identities_of(relation)
+        return before is not None and now is not None and before != now
+
+    def orphans(self):
+        """The identities that left relations with orphan removal since these were read or written last."""
+        for relation in self.entity.relations.values():
+            if self.base and relation.removes_orphans:
+                yield from sorted((self.known[relation.name] or frozenset()) - (self.identities_of(relation) or frozenset()))
 
     def detach(self):
         self.held, self.is_removed = "detached", False
@@ -229,21 +110,19 @@ class Manager:
 
 
 class Before:
-    """What a manager's call may change, as it was."""
+    """What a refused call may have changed, as it was."""
 
-    def __init__(self, machine, manager, number):
-        lives = list(manager.context)
-        if 1 <= number <= len(machine.objects):
-            lives.append(machine.objects[number - 1])
-        self.machine, self.manager = machine, manager
-        self.lives = [(live, dict(live.values), live.held, live.is_removed, live.base) for live in lives]
-        self.context, self.seen, self.numbers, self.count = list(manager.context), manager.seen, dict(machine.numbers), len(machine.objects)
+    def __init__(self, machine):
+        self.machine, self.numbers, self.objects = machine, dict(machine.numbers), list(machine.objects)
+        self.lives = [(dict(live.values), dict(live.links), live.held, live.is_removed, live.base, live.known) for live in machine.objects]
+        self.managers = [(list(manager.context), manager.seen) for manager in machine.managers]
 
     def restore(self):
-        for live, live.values, live.held, live.is_removed, live.base in self.lives:
+        self.machine.numbers, self.machine.objects = self.numbers, self.objects
+        for live, (live.values, live.links, live.held, live.is_removed, live.base, live.known) in zip(self.objects, self.lives):
             pass
-        self.manager.context, self.manager.seen, self.machine.numbers = self.context, self.seen, self.numbers
-        del self.machine.objects[self.count:]
+        for manager, (manager.context, manager.seen) in zip(self.machine.managers, self.managers):
+            pass
 
 
 class Machine:
@@ -291,28 +170,75 @@ class Machine:
     def new(self, events, name):
         if len(self.objects) == MADE:
             raise Refused("Limit")
-        return self.made(self.entity(name))
+        return Number(self.made(self.entity(name)).number)
 
     def made(self, entity):
         self.objects.append(Live(entity, len(self.objects) + 1))
-        return Number(len(self.objects))
+        return self.objects[-1]
 
     def get(self, events, number, name):
         live = self.object(number)
+        relation = live.entity.relations.get(name)
+        if relation:
+            return self.read(events, live, relation)
         live.entity.kind(name)
         return live.values[name]
 
     def set(self, events, number, name, value):
         live = self.object(number)
-        if isinstance(value, Number):
-            self.object(value.number)
+        other = self.object(value.number) if isinstance(value, Number) else None
         if size(value) > LENGTH:
             raise Refused("Limit")
+        relation = live.entity.relations.get(name)
+        if relation and not relation.is_many:
+            if value is not None and not (other and other.entity.is_a(relation.target)):
+                raise Refused("IllegalArgument", "type")
+            live.links[name] = other
+            return
         if not isinstance(value, (live.entity.kind(name), type(None))):
             raise Refused("IllegalArgument", "type")
         if live.held != "new" and name not in live.entity.attributes:
             raise Refused("IllegalArgument", "key" if name in live.entity.key else "version")
         live.values[name] = value
+
+    def add(self, events, number, name, member):
+        live, other = self.object(number), self.object(member)
+        relation = self.collection(live, name, other)
+        live.links[name] = [*self.read(events, live, relation), other]
+
+    def takeOut(self, events, number, name, member):
+        live, other = self.object(number), self.object(member)
+        relation = self.collection(live, name, other)
+        held = self.read(events, live, relation)
+        if other not in held:
+            return False
+        at = held.index(other)
+        live.links[name] = held[:at] + held[at + 1:]
+        return True
+
+    def collection(self, live, name, other):
+        """The collection of an object that may have the other one as a member."""
+        relation = live.entity.relations.get(name)
+        if not relation or not relation.is_many:
+            raise Refused("IllegalArgument", "name")
+        if not other.entity.is_a(relation.target):
+            raise Refused("IllegalArgument", "type")
+        return relation
+
+    def read(self, events, live, relation):
+        """What an object holds in a relation, which is read first where it was not yet."""
+        held = live.links[relation.name]
+        if not live.is_unread(relation):
+            return held
+        if live.held == "detached":
+            raise Refused("IllegalState", "unfetched")
+        if relation.is_many:
+            found = members(self.view(live.held), live.identity(), relation)
+            live.known = {**live.known, relation.name: frozenset(found)}
+            live.links[relation.name] = [self.reached(events, live.held, identity) for identity in found]
+        else:
+            live.links[relation.name] = self.reached(events, live.held, held)
+        return live.links[relation.name]
 
     def fire(self, events, event, live):
         """The listeners and callbacks of the object hear of the event."""
@@ -327,70 +253,36 @@ class Machine:
                     raise Refused("Persistence", "callback")
             live.values.update(found)
 
-    # -- what a manager does with objects
+    # -- what a manager finds
 
     def view(self, manager):
         return manager.seen if manager.is_begun else self.committed.objects
 
-    def persist(self, events, em, number):
-        manager, live = self.manager(em), self.object(number)
-        if live.held is manager:
-            if live.is_removed:
-                live.is_removed = False
-                if live.base is None:
-                    self.fire(events, "PrePersist", live)
-            return
-        if live.held != "new":
-            raise Refused("EntityExists")
-        number = self.number_for(live)
-        if number is None and self.instance(manager, live.identity()):
-            raise Refused("EntityExists")
-        if number is not None:
-            live.values[next(iter(live.entity.key))] = number
-            self.numbers[live.entity.root.name] = number + 1
-        live.held = manager
-        manager.context.append(live)
-        self.fire(events, "PrePersist", live)
-
-    def number_for(self, live):
-        """The number that the generator gives, or None where the key is whole without."""
-        if live.entity.generated != all(part is None for part in live.key()) or (not live.entity.generated and None in live.key()):
-            raise Refused("Persistence", "key")
-        if not live.entity.generated:
-            return None
-        number = self.numbers.get(live.entity.root.name, 1)
-        if number == GREATEST:
-            raise Refused("Persistence", "generator")
-        return number
-
     def instance(self, manager, identity):
         return next((live for live in manager.context if live.identity() == identity), None)
 
-    def remove(self, events, em, number):
-        manager, live = self.manager(em), self.object(number)
-        if live.held == "new":
-            return
-        if live.held is not manager:
-            raise Refused("IllegalArgument", "state")
-        if not live.is_removed:
-            live.is_removed = True
-            self.fire(events, "PreRemove", live)
-
-    def refresh(self, events, em, number):
-        manager, live = self.manager(em), self.object(number)
-        if not live.is_managed(manager):
-            raise Refused("IllegalArgument", "state")
-        row = self.view(manager).get(live.identity())
-        if row is None or row.entity is not live.entity:
+    def reached(self, events, manager, identity):
+        """The manager's instance of an identity, which is loaded where it has none."""
+        live = self.instance(manager, identity)
+        if live:
+            return live
+        if identity not in self.view(manager):
             raise Refused("EntityNotFound")
-        live.load(live.key(), row)
-        self.fire(events, "PostLoad", live)
+        return self.loaded(events, manager, identity)
 
-    def detach(self, events, em, number):
-        manager, live = self.manager(em), self.object(number)
-        if live.held is manager:
-            manager.context.remove(live)
-            live.detach()
+    def loaded(self, events, manager, identity):
+        if len(self.objects) == MADE:
+            raise Refused("Limit")
+        row = self.view(manager)[identity]
+        live = self.made(row.entity)
+        live.load(identity[1], row, self.view(manager))
+        self.enter(manager, live)
+        self.fire(events, "PostLoad", live)
+        return live
+
+    def enter(self, manager, live):
+        live.held = manager
+        manager.context.append(live)
 
     def find(self, events, em, name, key):
         manager = self.manager(em)
@@ -406,15 +298,7 @@ class Machine:
         row = self.view(manager).get(identity)
         if row is None or not row.entity.is_a(entity):
             return None
-        if len(self.objects) == MADE:
-            raise Refused("Limit")
-        found = self.made(row.entity)
-        live = self.objects[-1]
-        live.load(key, row)
-        live.held = manager
-        manager.context.append(live)
-        self.fire(events, "PostLoad", live)
-        return found
+        return Number(self.loaded(events, manager, identity).number)
 
     def getReference(self, events, em, name, key):
         found = self.find(events, em, name, key)
@@ -425,6 +309,113 @@ class Machine:
     def contains(self, events, em, number):
         manager = self.manager(em)
         return self.object(number).is_managed(manager)
+
+    # -- cascades
+
+    def waves(self, operation, manager, start):
+        """The nodes that an operation reaches from a start: objects, and identities that the manager has no instance of."""
+        nodes = {start: None}
+        wave = [start]
+        while wave:
+            wave = [target for node in wave for target in self.targets(operation, manager, node)]
+            wave = [target for target in dict.fromkeys(wave) if target not in nodes]
+            nodes.update(dict.fromkeys(wave))
+        return list(nodes)
+
+    def targets(self, operation, manager, node):
+        """Where the operation goes from a node."""
+        is_live = isinstance(node, Live)
+        if is_live and not (node.held is manager and not (node.is_removed and operation == "REMOVE") or node.held == "new" and operation != "DETACH"):
+            return
+        entity = node.entity if is_live else self.view(manager)[node].entity
+        for relation in entity.relations.values():
+            if not relation.cascades(operation):
+                continue
+            if is_live and not node.is_unread(relation):
+                yield from node.read_of(relation)
+            elif operation == "REMOVE":
+                yield from self.unread_targets(manager, node, relation)
+
+    def unread_targets(self, manager, node, relation):
+        """The members of a relation that was not read, off what the manager sees: its instances, or identities."""
+        if isinstance(node, Live) and not relation.is_many:
+            found = [node.links[relation.name]]
+        else:
+            found = members(self.view(manager), node.identity() if isinstance(node, Live) else node, relation)
+        for identity in found:
+            live = self.instance(manager, identity)
+            if live or identity in self.view(manager):
+                yield live or identity
+
+    def persist(self, events, em, number):
+        manager, start = self.manager(em), self.object(number)
+        self.persist_from(events, manager, start)
+
+    def persist_from(self, events, manager, start):
+        for live in self.waves("PERSIST", manager, start):
+            self.persist_one(events, manager, live)
+
+    def persist_one(self, events, manager, live):
+        if live.held is manager:
+            if live.is_removed:
+                live.is_removed = False
+                if live.base is None:
+                    self.fire(events, "PrePersist", live)
+            return
+        if live.held != "new":
+            raise Refused("EntityExists")
+        number = self.number_for(live)
+        if number is None and self.instance(manager, live.identity()):
+            raise Refused("EntityExists")
+        if number is not None:
+            live.values[next(iter(live.entity.key))] = number
+            self.numbers[live.entity.root.name] = number + 1
+        self.enter(manager, live)
+        self.fire(events, "PrePersist", live)
+
+    def number_for(self, live):
+        """The number that the generator gives, or None where the key is whole without."""
+        if live.entity.generated != all(part is None for part in live.key()) or (not live.entity.generated and None in live.key()):
+            raise Refused("Persistence", "key")
+        if not live.entity.generated:
+            return None
+        number = self.numbers.get(live.entity.root.name, 1)
+        if number == GREATEST:
+            raise Refused("Persistence", "generator")
+        return number
+
+    def remove(self, events, em, number):
+        manager, start = self.manager(em), self.object(number)
+        self.remove_from(events, manager, start)
+
+    def remove_from(self, events, manager, start):
+        for node in self.waves("REMOVE", manager, start):
+            live = node if isinstance(node, Live) else self.loaded(events, manager, node)
+            if live.held == "new":
+                continue
+            if live.held is not manager:
+                raise Refused("IllegalArgument", "state")
+            if not live.is_removed:
+                live.is_removed = True
+                self.fire(events, "PreRemove", live)
+
+    def refresh(self, events, em, number):
+        manager, start = self.manager(em), self.object(number)
+        for live in self.waves("REFRESH", manager, start):
+            if not live.is_managed(manager):
+                raise Refused("IllegalArgument", "state")
+            row = self.view(manager).get(live.identity())
+            if row is None or row.entity is not live.entity:
+                raise Refused("EntityNotFound")
+            live.load(live.key(), row, self.view(manager))
+            self.fire(events, "PostLoad", live)
+
+    def detach(self, events, em, number):
+        manager, start = self.manager(em), self.object(number)
+        for live in self.waves("DETACH", manager, start):
+            if live.held is manager:
+                manager.context.remove(live)
+                live.detach()
 
     def clear(self, events, em):
         self.detach_all(self.manager(em))
@@ -465,7 +456,7 @@ class Machine:
         if manager.is_marked:
             self.roll_back(manager)
             raise Refused("Rollback", "marked")
-        before = Before(self, manager, 0)
+        before = Before(self)
         try:
             self.write(events, manager)
         except Refused as refused:
@@ -478,6 +469,8 @@ class Machine:
             live.detach()
         manager.is_begun, manager.seen = False, None
 
+    # -- flushes
+
     def flush(self, events, em):
         manager = self.manager(em)
         if not manager.is_begun:
@@ -486,7 +479,10 @@ class Machine:
 
     def write(self, events, manager):
         """The flush: what the manager's objects say is written to the objects that its transaction sees."""
-        for live in list(manager.context):
+        self.persist_targets(events, manager)
+        self.remove_orphans(events, manager)
+        self.see_references(manager)
+        for live in manager.context:
             if not live.is_removed and live.differs():
                 self.fire(events, "PreUpdate", live)
         done = []
@@ -498,18 +494,49 @@ class Machine:
                 done.append(("PostPersist", live, self.inserted(manager, live)))
             elif not live.is_removed and live.differs():
                 done.append(("PostUpdate", live, self.replaced(manager, live)))
-        if any(stored and stored.lacks() for _, _, stored in done):
-            raise Refused("Persistence", "null")
         seen = dict(manager.seen)
         for _, live, stored in done:
             seen.pop(live.identity(), None)
             if stored:
                 seen[live.identity()] = stored
+        why = unsound(seen)
+        if why:
+            raise Refused("Persistence", why)
+        manager.seen = seen
+        for _, live, stored in done:
+            if stored:
                 live.written(stored)
             live.base = stored
-        manager.seen = seen
+        for live in manager.context:
+            if not live.is_removed:
+                live.remember()
         for event, live, _ in done:
             self.fire(events, event, live)
+
+    def persist_targets(self, events, manager):
+        """What managed objects lead to along a cascade of persist is persisted, also where objects enter meanwhile."""
+        for live in manager.context:
+            if not live.is_removed:
+                for target in list(self.targets("PERSIST", manager, live)):
+                    self.persist_from(events, manager, target)
+
+    def remove_orphans(self, events, manager):
+        """What left a relation with orphan removal is removed."""
+        for live in list(manager.context):
+            for identity in list(live.orphans()) if not live.is_removed else []:
+                orphan = self.instance(manager, identity)
+                if orphan is None and identity in manager.seen:
+                    orphan = self.loaded(events, manager, identity)
+                if orphan and not orphan.is_removed:
+                    self.remove_from(events, manager, orphan)
+
+    def see_references(self, manager):
+        """No managed object leads to a new or removed one, but along a cascade of persist."""
+        for live in manager.context:
+            for relation in live.entity.relations.values():
+                if not live.is_removed and not relation.cascades("PERSIST"):
+                    if any(other.held == "new" or other.held is manager and other.is_removed for other in live.read_of(relation)):
+                        raise Refused("IllegalState", "reference")
 
     def see_current(self, manager, live):
         """The row that the object's base was is the one that stands."""
@@ -520,18 +547,24 @@ class Machine:
     def inserted(self, manager, live):
         if live.identity() in manager.seen:
             raise Refused("EntityExists")
-        return self.stored(live, 0)
+        return self.stored(manager, live, 0)
 
     def replaced(self, manager, live):
         self.see_current(manager, live)
         if live.base.version == GREATEST:
             raise Refused("Persistence", "version")
-        return self.stored(live, live.base.version + 1 if live.entity.version else None)
+        return self.stored(manager, live, live.base.version + 1 if live.entity.version else None)
 
-    def stored(self, live, version):
+    def stored(self, manager, live, version):
+        """What is written of an object; a set that was not read stays as the transaction sees it."""
         for name, attribute in live.entity.attributes.items():
             self.unit.column(attribute, live.values[name])
-        return Stored(live.entity, version if live.entity.version else None, live.attributes())
+        links = {}
+        for relation in live.entity.owned():
+            found = live.identities_of(relation)
+            found = frozenset(members(manager.seen, live.identity(), relation)) if found is None else found
+            links[relation.name] = found if relation.is_many else next(iter(found), None)
+        return Stored(live.entity, version if live.entity.version else None, live.attributes(), links)
 
     # -- lines
 
@@ -539,27 +572,33 @@ class Machine:
         """The reply to a line, as its bytes."""
         events = []
         try:
-            word, members = call_of(line)
+            word, given = call_of(line)
         except Refused as refused:
             return reply({"error": told(refused), "events": []})
         try:
-            answer = self.answered(events, word, members)
+            answer = self.answered(events, word, given)
             return reply({"events": told_events(events), "ok": shown(answer)})
         except Refused as refused:
             return reply({"error": told(refused), "events": told_events(events)})
 
-    def answered(self, events, word, members):
+    def answered(self, events, word, given):
         """What a call is answered. A refused one changes nothing, but for the mark; a commit sees to that itself."""
-        marking = word in MARKED_BY and 1 <= members[0] <= len(self.managers)
-        before = Before(self, self.managers[members[0] - 1], members[1] if len(members) == 2 else 0) if marking else None
+        before = Before(self) if word in MARKED_BY | MARKED_BY_CALLBACK else None
         try:
-            return getattr(self, word)(events, *members)
+            return getattr(self, word)(events, *given)
         except Refused as refused:
-            if marking:
+            if before:
                 before.restore()
-                if NUMBERS[refused.name] in MARKING:
-                    before.manager.is_marked = True
+                for manager in self.marked(word, given[0], refused):
+                    manager.is_marked = True
             raise
+
+    def marked(self, word, number, refused):
+        """The managers whose transactions a refused call marks: at most one."""
+        if word in MARKED_BY:
+            return self.managers[number - 1:number] if NUMBERS[refused.name] in MARKING and number > 0 else []
+        by_callback = refused.name == "Listener" or (refused.name, refused.why) == ("Persistence", "callback")
+        return [manager for manager in self.managers if by_callback and manager is self.objects[number - 1].held]
 
 
 def told(refused):
@@ -572,137 +611,12 @@ def told_events(events):
 
 
 def shown(value):
-    if isinstance(value, Number):
+    if isinstance(value, list):
+        return [shown(each) for each in value]
+    if isinstance(value, (Live, Number)):
         return {"object": value.number}
     return {"hex": value.hex()} if isinstance(value, bytes) else value
 
 
 def reply(data):
     return json.dumps(data, separators=(",", ":"), ensure_ascii=False).encode() + b"\n"
-
-
-# ---- what cells stand for
-
-class Damaged(Exception):
-    """A store that is refused: the table and row that are named."""
-
-    def __init__(self, table, row):
-        super().__init__(table, row)
-        self.table, self.row = table, row
-
-
-def value_of(cell):
-    """The value that a cell spells; a reference is none of an entity that has no relations."""
-    tag, rest = cell[:1], cell[1:]
-    if tag == b"\x01" and len(rest) == 8:
-        return int.from_bytes(rest, "big") - 2**63
-    if tag in (b"\x02", b"\x03") and len(rest) <= LENGTH:
-        return rest.decode() if tag == b"\x02" else rest
-    raise ValueError("cell")
-
-
-def part_of(kind, row):
-    """The first part of a key's bytes, and the bytes after it."""
-    if row[:1] != {int: b"\x01", str: b"\x02", bytes: b"\x03"}[kind]:
-        raise ValueError("kind")
-    if kind is int:
-        return value_of(row[:9]), row[9:]
-    at = 1
-    while row[at:at + 2] != b"\0\0":
-        if at >= len(row) or (row[at:at + 1] == b"\0" and row[at:at + 2] != b"\0\xff"):
-            raise ValueError("end")
-        at += 2 if row[at:at + 1] == b"\0" else 1
-    part = row[1:at].replace(b"\0\xff", b"\0")
-    if len(part) > LENGTH:
-        raise ValueError("long")
-    return part.decode() if kind is str else part, row[at + 2:]
-
-
-def key_of(entity, row):
-    parts = []
-    for kind in entity.key.values():
-        part, row = part_of(kind, row)
-        parts.append(part)
-    if row:
-        raise ValueError("more")
-    return tuple(parts)
-
-
-def converted_back(function, value):
-    if function["make"] == "flip":
-        return -1 - value if isinstance(value, int) else None
-    if function["make"] == "hextext":
-        return bytes.fromhex(value) if isinstance(value, str) and re.fullmatch("([0-9a-f]{2})*", value, re.ASCII) else None
-    return next((side(here) for here, there in function["pairs"] if side(there) == value), None)
-
-
-def attribute_of(unit, attribute, cell):
-    """What an attribute holds for its cell, if it has one."""
-    if cell is None:
-        return None
-    value = value_of(cell)
-    if "converter" in attribute:
-        value = converted_back(unit.functions[attribute["converter"]], value)
-    if not isinstance(value, KINDS[attribute["type"]]):
-        raise ValueError("kind")
-    return value
-
-
-def class_of(classes, cells):
-    """The class that a row's discriminator names."""
-    return next((entity for entity in classes if cells.get(0) == cell_bytes(entity.discriminator)), None)
-
-
-def object_of(unit, classes, cells):
-    """The object that the cells of a row, by their columns, say."""
-    entity = class_of(classes, cells)
-    if entity is None:
-        raise ValueError("class")
-    columns = {0} | {each["column"] for each in entity.attributes.values()} | ({entity.version["column"]} if entity.version else set())
-    if not set(cells) <= columns:
-        raise ValueError("columns")
-    version = value_of(cells.get(entity.version["column"], b"")) if entity.version else None
-    if entity.version and not isinstance(version, int):
-        raise ValueError("version")
-    return Stored(entity, version, {name: attribute_of(unit, each, cells.get(each["column"])) for name, each in entity.attributes.items()})
-
-
-def number_of(unit, row, cells):
-    """The root whose next number a row of table 0 is, and the number."""
-    table = key_of(Entity({"name": "", "table": 0, "key": [{"name": "table", "type": "int"}]}), row)[0]
-    name = next((name for name, each in unit.entities.items() if each.table == table and each.generated and each.root is each), None)
-    number = value_of(cells.get(0, b""))
-    if name is None or set(cells) != {0} or not isinstance(number, int) or number < 2:
-        raise ValueError("number")
-    return name, number
-
-
-def is_sound(unit, state):
-    for (name, key), stored in state.objects.items():
-        if stored.lacks() or (stored.entity.generated and not 1 <= key[0] < state.numbers.get(name, 1)):
-            return False
-    return True
-
-
-def state_of(unit, cells):
-    """What cells stand for, or `Damaged`."""
-    tables = {}
-    for entity in unit.entities.values():
-        tables.setdefault(entity.table, []).append(entity)
-    rows, state = {}, State()
-    for table, row, column, value in cells:
-        if table == 0 or table in tables:
-            rows.setdefault((table, row), {})[column] = value
-    for (table, row), held in sorted(rows.items()):
-        try:
-            if table == 0:
-                name, number = number_of(unit, row, held)
-                state.numbers[name] = number
-            else:
-                root = tables[table][0].root
-                state.objects[root.name, key_of(root, row)] = object_of(unit, tables[table], held)
-        except ValueError:
-            raise Damaged(table, row) from None
-    if not is_sound(unit, state):
-        raise Damaged(0, b"")
-    return state

@@ -1,12 +1,15 @@
 """Plots of tests/hostile_lines.py: calls that follow on one another, so that what is rare among calls by chance comes often. A plot gives the
 next call once the last one was answered; other calls may come between.
 """
+from hostile_links import LinkPlots
 
 
-class Plots:
+class Plots(LinkPlots):
     """The plots over a machine. Each is a generator of calls, as their words and members."""
 
     def some_plot(self):
+        if self.has_relations and self.random.random() < 0.65:
+            return self.random.choice(self.link_plots())()
         plots = [self.one_object, self.another_writes, self.flushes, self.same_key_again, self.refused_flush, self.many_managers]
         return self.random.choices(plots, [4, 4, 3, 3, 4, 0.4])[0]()
 
@@ -51,20 +54,48 @@ class Plots:
         if not self.machine.unit.entities:
             return
         roots = [entity for entity in self.machine.unit.entities.values() if key is None or list(entity.root.key.values()) == list(map(type, key))]
-        entity = self.random.choice(roots)
+        live = yield from self.shaping(em, self.random.choice(roots), key)
+        if live:
+            yield "persist", {"em": em, "object": live.number}
+
+    def shaping(self, em, entity, key=None, depth=0):
+        """Calls that make an object of the entity, with a key and what is required; the object then, or None."""
         yield "new", {"entity": entity.name}
         number = self.newest()
         if not 1 <= number or self.machine.objects[-1].entity is not entity:
-            return
+            return None
+        live = self.machine.objects[-1]
         if not entity.generated:
-            for name, part in zip(entity.key, key or [self.value(kind) for kind in entity.key.values()]):
+            for name, part in zip(entity.key, key or self.fresh_key(entity)):
                 yield "set", {"object": number, "name": name, "value": self.given(part)}
         for name, attribute in entity.attributes.items():
             if attribute.get("required") or self.random.random() < 0.5:
-                yield "set", {"object": number, "name": name, "value": self.a_value(self.machine.objects[number - 1], name)}
+                yield "set", {"object": number, "name": name, "value": self.a_value(live, name)}
         if entity.version and self.random.random() < 0.1:
             yield "set", {"object": number, "name": entity.version["name"], "value": self.random.randint(-1, 3)}
-        yield "persist", {"em": em, "object": number}
+        for relation in entity.owned():
+            if relation.is_required and depth < 3:
+                yield from self.requiring(em, live, relation, depth)
+        return live
+
+    def fresh_key(self, entity):
+        """A key that mostly is whole, and that no object has."""
+        taken, kinds = {live.identity() for live in self.machine.objects}, entity.key.values()
+        for _ in range(20):
+            key = [self.value(kind) for kind in kinds]
+            if self.random.random() < 0.04 or all(map(isinstance, key, kinds)) and (entity.root.name, tuple(key)) not in taken:
+                break
+        return key
+
+    def requiring(self, em, live, relation, depth):
+        """Calls that give an object what it must lead to."""
+        held = [each for each in self.held_by(em)[-20:] if each.entity.is_a(relation.target)]
+        if relation.kind == "oneToOne" or not held or self.random.random() < 0.3:
+            other = yield from self.shaping(em, self.some_class(relation.target), None, depth + 1)
+        else:
+            other = self.random.choice(held)
+        if other:
+            yield self.linked(live, relation, other)
 
     def at_work(self):
         """One of the open managers, whose transaction is begun; None where none is open."""

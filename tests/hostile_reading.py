@@ -5,6 +5,7 @@ from json.decoder import scanstring
 LEAST, GREATEST = -2**63, 2**63 - 1
 LINE, DEPTH = 1048576, 127
 MEMBERS = {"createEntityManager": [], "close": ["em"], "new": ["entity"], "set": ["object", "name", "value"], "get": ["object", "name"],
+           "add": ["object", "name", "member"], "takeOut": ["object", "name", "member"],
            "begin": ["em"], "flush": ["em"], "commit": ["em"], "rollback": ["em"], "setRollbackOnly": ["em"], "find": ["em", "entity", "key"],
            "getReference": ["em", "entity", "key"], "persist": ["em", "object"], "remove": ["em", "object"], "refresh": ["em", "object"],
            "detach": ["em", "object"], "contains": ["em", "object"], "clear": ["em"]}
@@ -135,7 +136,7 @@ def given(data):
 
 
 def member_of(name, data):
-    if name in ("em", "object"):
+    if name in ("em", "object", "member"):
         if not is_integer(data):
             raise ValueError(name)
         return data

@@ -8,11 +8,13 @@ mapping that is refused. It runs no program. Exit status 0 where all that ran ag
 import json, os, sys
 
 sys.dont_write_bytecode = True
-from hostile_model import Damaged, Machine, Unit, state_of
+from hostile_cells import Damaged, state_of
+from hostile_model import Machine
+from hostile_unit import Unit
 from hostile_reading import lines_of
-from runs import FLAT, STAGES, other_replies, read
+from runs import HERE, STAGES, other_replies, read
 
-LACKING = {"setFlushMode", "add", "takeOut", "merge", "lock", "query", "querySingle", "executeUpdate"}
+LACKING = {"setFlushMode", "merge", "lock", "query", "querySingle", "executeUpdate"}
 
 
 def skipped(folder, mapping):
@@ -22,8 +24,6 @@ def skipped(folder, mapping):
         return stage.decode().strip()
     if read(folder, "words") is not None or read(folder, "status") == b"2\n":
         return "command line or mapping"
-    if any(entity.get("relations") for entity in mapping["entities"]):
-        return "mapping with relations"
     for line in lines_of(read(folder, "calls.jsonl")):
         try:
             word = json.loads(line)["call"]
@@ -62,7 +62,7 @@ def mapping_of(folder):
     """The mapping of a run, if it is JSON."""
     text = read(folder, "mapping.json")
     if text is None:
-        with open(FLAT, "rb") as file:
+        with open(os.path.join(HERE, "persons.json"), "rb") as file:
             text = file.read()
     try:
         return json.loads(text)

@@ -3,7 +3,7 @@
 
 A run is a folder with calls.jsonl (the lines in), replies.jsonl (the lines out) and cells.txt (the cells afterwards, one a line:
 table, row, column, value; row and value in hex), and, where it has them,
-- mapping.json; where there is none, the mapping is tests/flat.json: persons and orders without relations,
+- mapping.json; where there is none, the program gets none, and serves persons and orders (tests/persons.json),
 - cells-before.txt, the cells that the store has before,
 - calls-2.jsonl and replies-2.jsonl, a second process over the file that the first left,
 - status and stderr, where the program ends with another status than 0,
@@ -14,7 +14,7 @@ Exit status 0 where all that ran agree.
 """
 import json, os, sqlite3, subprocess, sys, tempfile
 
-SERVED = {"createEntityManager", "new", "set", "get", "begin", "persist", "commit", "rollback", "setRollbackOnly", "find",
+SERVED = {"createEntityManager", "new", "set", "get", "add", "takeOut", "begin", "persist", "commit", "rollback", "setRollbackOnly", "find",
           "getReference", "contains", "clear", "remove", "refresh", "detach", "close", "flush"}
 STAGES = {b"a transaction per manager", b"mapping revision 2"}
 HERE = os.path.dirname(os.path.abspath(__file__))
@@ -45,10 +45,6 @@ def unserved(folder):
         word = call.get("call") if isinstance(call, dict) else None
         if isinstance(word, str) and word not in SERVED and word != "x":
             return "call " + word
-    mapping = read(folder, "mapping.json")
-    for entity in (json.loads(mapping)["entities"] if mapping else []):
-        if entity.get("relations"):
-            return "mapping with relations"
     return None
 
 
@@ -81,7 +77,7 @@ def words_of(folder, store):
     if words is not None:
         return words.decode().splitlines()
     mapping = os.path.join(folder, "mapping.json")
-    return ["--mapping", mapping if os.path.exists(mapping) else FLAT, "--db", store]
+    return (["--mapping", mapping] if os.path.exists(mapping) else []) + ["--db", store]
 
 
 def other_replies(found, wanted):

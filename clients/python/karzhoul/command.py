@@ -8,16 +8,16 @@ from pathlib import Path
 from typing import List, Optional
 
 from . import factory, show
-from .linter import Report, lint
+from .linter import lint
 from .program import Program, find_program
 from .refusals import KarzhoulError, ProgramNotFound, Refused
 
-WRONG, UNSERVED, FAILED = 1, 3, 4
+WRONG, REFUSED, FAILED = 1, 3, 4
 
 
 def main(words: Optional[List[str]] = None) -> int:
-    """Runs the command; its status is 0, or 1 for a mapping that is wrong, 2 for a wrong command line, 3 for a mapping that the program
-    doesn't serve yet, and 4 for what else failed."""
+    """Runs the command; its status is 0, or 1 for a mapping that is wrong, 2 for a wrong command line, 3 for a well-formed mapping that
+    the program refuses, and 4 for what else failed."""
     said = _parser().parse_args(words)
     try:
         return int(said.run(said))
@@ -56,28 +56,26 @@ def _parser() -> argparse.ArgumentParser:
 
 
 def run_check(said: argparse.Namespace) -> int:
-    """Tells the rules that a mapping breaks; where it breaks none, whether the program serves it."""
+    """Tells the rules that a mapping breaks; where it breaks none, whether the program takes it."""
     report = lint(Path(said.mapping).read_bytes())
     for finding in report.findings:
         print(f"{said.mapping}:{finding}")
     if report.findings:
         return WRONG
-    refused = _refusal(said.mapping, said.program, report)
+    refused = _refusal(said.mapping, said.program)
     if refused is None:
         print(f"{said.mapping}: good")
         return 0
-    for finding in report.unserved:
-        print(f"{said.mapping}:{finding}")
-    print(f"{said.mapping}: well formed, and not served yet: {refused}")
-    return UNSERVED
+    print(f"{said.mapping}: well formed, and refused by the program: {refused}")
+    return REFUSED
 
 
-def _refusal(mapping: str, program: Optional[str], report: Report) -> Optional[str]:
-    """What the program says of a well-formed mapping; without a program, what one says that serves the least."""
+def _refusal(mapping: str, program: Optional[str]) -> Optional[str]:
+    """What the program says of a well-formed mapping, if it refuses it, and if there is a program."""
     try:
         running = Program([find_program(program), "--mapping", mapping])
-    except ProgramNotFound as fault:
-        return str(fault) if report.unserved else None
+    except ProgramNotFound:
+        return None
     try:
         running.start()
     except Refused as refused:

@@ -2,7 +2,7 @@
 
 from __future__ import annotations
 
-from collections.abc import Sequence
+from collections.abc import MutableSequence
 from dataclasses import dataclass
 from typing import TYPE_CHECKING, Any, ClassVar, Dict, Iterable, Iterator, List, NamedTuple, Optional, Tuple, Type, Union, overload
 
@@ -89,9 +89,11 @@ class _Property:
         return handle_of(entity).factory.get(entity, self.member.name)
 
     def __set__(self, entity: Entity, value: Any) -> None:
-        # `object.members += [..]` has added them when it assigns.
-        if not (type(value) is Collection and value.is_of(entity, self.member.name)):
+        if self.member.kind is not MemberKind.COLLECTION:
             handle_of(entity).factory.set(entity, self.member.name, value)
+        # `object.members += [..]` has added them when it assigns.
+        elif not (type(value) is Collection and value.is_of(entity, self.member.name)):
+            Collection(entity, self.member.name).replace(value)
 
 
 class _EmbeddedProperty:
@@ -138,9 +140,12 @@ class EmbeddedId:
         return f"<{self._name} of {self._entity!r}>"
 
 
-class Collection(Sequence):  # type: ignore[type-arg]
-    """The members of a relation to many: a list that is read anew each time, to whose end members are added and from which the first
-    occurrence of a member is taken out."""
+class Collection(MutableSequence):  # type: ignore[type-arg]
+    """The members of a relation to many: a list that is read anew each time.
+
+    The program adds a member at the end, and takes out the first occurrence of one. `append`, `extend` and `remove` are these calls;
+    what else a list can do adds the members of the new list, and then takes out those of the old one. A refusal on the way leaves the
+    members between the two, and none is lost that was there."""
 
     __slots__ = ("_entity", "_name")
 
@@ -153,6 +158,8 @@ class Collection(Sequence):  # type: ignore[type-arg]
 
     def _members(self) -> List[Entity]:
         return handle_of(self._entity).factory.get(self._entity, self._name)  # type: ignore[no-any-return]
+
+    # ---- what it holds
 
     @overload
     def __getitem__(self, at: int) -> Entity: ...
@@ -180,9 +187,10 @@ class Collection(Sequence):  # type: ignore[type-arg]
 
     __hash__ = None  # type: ignore[assignment]
 
-    def __iadd__(self, members: Iterable[Entity]) -> Collection:
-        self.extend(members)
-        return self
+    def __repr__(self) -> str:
+        return f"<{self._name} of {self._entity!r}>"
+
+    # ---- calls
 
     def append(self, member: Entity) -> None:
         """Adds a member at the end."""
@@ -203,8 +211,46 @@ class Collection(Sequence):  # type: ignore[type-arg]
         for member in self._members():
             self.remove(member)
 
-    def __repr__(self) -> str:
-        return f"<{self._name} of {self._entity!r}>"
+    # ---- more calls than one
+
+    def replace(self, members: Iterable[Entity]) -> None:
+        """Has these members from now on, as `object.members = [..]` does."""
+        given, held = list(members), self._members()
+        self.extend(given)
+        for member in held:
+            self.remove(member)
+
+    @overload
+    def __setitem__(self, at: int, member: Entity) -> None: ...
+
+    @overload
+    def __setitem__(self, at: slice, member: Iterable[Entity]) -> None: ...
+
+    def __setitem__(self, at: Union[int, slice], member: Any) -> None:
+        members = self._members()
+        members[at] = member
+        self.replace(members)
+
+    def __delitem__(self, at: Union[int, slice]) -> None:
+        members = self._members()
+        if isinstance(at, int) and members.index(members[at]) == at % len(members):
+            self.remove(members[at])
+            return
+        del members[at]
+        self.replace(members)
+
+    def insert(self, at: int, member: Entity) -> None:
+        """Puts a member before the one at a place."""
+        members = self._members()
+        if at >= len(members):
+            self.append(member)
+            return
+        members.insert(at, member)
+        self.replace(members)
+
+    def reverse(self) -> None:
+        """Turns the order of the members round."""
+        self.replace(reversed(self))
 
 
 def class_of(factory: EntityManagerFactory, entity: EntityDescription) -> Type[Entity]:

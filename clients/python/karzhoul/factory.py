@@ -48,7 +48,7 @@ def open(mapping: Union[Words, Mapping[str, Any]], db: Optional[Words] = None, *
 
         running.close()
         report = lint(Path(mapping).read_bytes()) if os.path.isfile(mapping) else Report()
-        refused.faults = tuple(map(str, report.findings or report.unserved))
+        refused.faults = tuple(map(str, report.findings))
         raise
     except BaseException:
         running.kill()

@@ -1,7 +1,6 @@
 """A check of mappings of the client's own: which rule of docs/GUIDE.md a mapping breaks, and where in its file.
 
-It refuses exactly what the program refuses, with the same word: `json`, `shape`, `model` or `function`. What is well formed and isn't
-served by every program yet is told apart (`Report.unserved`).
+It refuses exactly what the program refuses, with the same word: `json`, `shape`, `model` or `function`.
 """
 
 from __future__ import annotations
@@ -49,24 +48,15 @@ class Finding:
 
 @dataclass
 class Report:
-    """What a check found. `unserved` tells what is well formed and not served by every program yet."""
+    """What a check found."""
 
     findings: List[Finding] = field(default_factory=list)
-    unserved: List[Finding] = field(default_factory=list)
-    is_known: bool = True
 
     @property
     def verdict(self) -> Optional[Fault]:
         """What the program answers to a mapping that is wrong; None where it is well formed."""
         faults = {finding.fault for finding in self.findings}
         return next((fault for fault in Fault if fault in faults), None)
-
-    def verdict_of(self, serves_all: bool) -> Optional[Fault]:
-        """The same of a program that serves all, or only entities without relations. A function that isn't there is asked for last."""
-        made = self.verdict
-        if made is Fault.FUNCTION and self.is_known is False and self.unserved and not serves_all:
-            return Fault.MODEL
-        return made or (Fault.MODEL if self.unserved and not serves_all else None)
 
 
 def lint(data: bytes) -> Report:
@@ -86,10 +76,8 @@ def lint(data: bytes) -> Report:
         _Model(teller, unit).check()
         is_well_formed = not report.findings
         made = _functions(teller, root)
-        if is_well_formed:
-            _unserved(teller, root)
-            if made is not None:
-                report.is_known = not _unknown(teller, root, made)
+        if is_well_formed and made is not None:
+            _unknown(teller, root, made)
     return report
 
 
@@ -101,9 +89,6 @@ class _Teller:
 
     def tell(self, fault: Fault, path: Path, value: Value, message: str) -> None:
         self._report.findings.append(self._finding(fault, path, value, message))
-
-    def tell_unserved(self, path: Path, value: Value, message: str) -> None:
-        self._report.unserved.append(self._finding(Fault.MODEL, path, value, message))
 
     def _finding(self, fault: Fault, path: Path, value: Value, message: str) -> Finding:
         return Finding(fault, message, path_text(path), *self._lines.place(value.at))
@@ -648,7 +633,7 @@ def _value(value: Value) -> Optional[Tuple[type, object]]:
     return None
 
 
-def _unknown(teller: _Teller, root: Value, made: _Made) -> bool:
+def _unknown(teller: _Teller, root: Value, made: _Made) -> None:
     """Tells the functions that a mapping names and doesn't make."""
     unit = _Unit(root)
     own = (each for entity in unit.entities for sort in ("listeners", "callbacks") for each in entity.items(sort))
@@ -656,15 +641,6 @@ def _unknown(teller: _Teller, root: Value, made: _Made) -> bool:
     named = [(listener.at("name"), made.listeners, "listener") for listener in listeners]
     attributes = (attribute for entity in unit.entities for attribute in entity.items("attributes") if attribute.has("converter"))
     named += [(attribute.at("converter"), made.converters, "converter") for attribute in attributes]
-    unknown = [(where, what) for where, names, what in named if where.value.data not in names]
-    for where, what in unknown:
-        teller.tell(Fault.FUNCTION, where.path, where.value, f"'functions' makes no {what} of this name")
-    return bool(unknown)
-
-
-def _unserved(teller: _Teller, root: Value) -> None:
-    """Tells what not every program serves."""
-    unit = _Unit(root)
-    for entity in unit.entities:
-        if entity.has("relations") and entity.at("relations").value.data:
-            teller.tell_unserved((*entity.path, "relations"), entity.at("relations").value, "relations may not be served yet")
+    for where, names, what in named:
+        if where.value.data not in names:
+            teller.tell(Fault.FUNCTION, where.path, where.value, f"'functions' makes no {what} of this name")

@@ -233,10 +233,11 @@ class Check(WithStore):
         self.assertEqual(status, 1)
         self.assertIn("$.entities[1].table: table 7 is taken already [Mapping(model)]", out)
 
-    def test_a_mapping_that_is_not_served_yet(self) -> None:
-        status, out, _ = ran("check", str(HERE / "data" / "relations.json"))
-        self.assertIn(status, (0, 3))
-        self.assertEqual("not served yet" in out, status == 3)
+    def test_mappings_with_relations(self) -> None:
+        # Persons whose orders are removed as orphans.
+        Path(self.mapping).write_text("\n".join(next(examples("mappings")).given), encoding="utf-8")
+        for mapping in (self.mapping, str(HERE / "data" / "relations.json")):
+            self.assertEqual(ran("check", mapping), (0, f"{mapping}: good\n", ""))
 
     def test_a_file_that_is_not_there(self) -> None:
         self.assertEqual(ran("check", "/nowhere")[0], 4)

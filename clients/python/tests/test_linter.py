@@ -107,13 +107,6 @@ class Places(unittest.TestCase):
         self.assertEqual((finding.line, finding.column), (2, 15))
         self.assertEqual(str(finding), "2:15: $: a value is missing [Mapping(json)]")
 
-    def test_what_is_not_served_everywhere_is_told_apart(self) -> None:
-        report = lint("\n".join(next(examples("mappings")).given).encode())
-        self.assertIsNone(report.verdict)
-        self.assertEqual([finding.path for finding in report.unserved], ["$.entities[0].relations", "$.entities[1].relations"])
-        self.assertEqual(report.verdict_of(serves_all=False), Fault.MODEL)
-        self.assertIsNone(report.verdict_of(serves_all=True))
-
 
 # ---- against the program
 
@@ -133,9 +126,8 @@ def answer(text: bytes) -> Optional[str]:
 
 
 def agrees(report: Report, said: Optional[str]) -> bool:
-    """Whether a program says so of a mapping, one that serves all or one that doesn't."""
-    verdicts = (report.verdict_of(serves_all) for serves_all in (False, True))
-    return said in [found.value if found else None for found in verdicts]
+    """Whether the program says so of a mapping."""
+    return said == (report.verdict.value if report.verdict else None)
 
 
 RICH: Dict[str, Any] = json.loads((HERE / "data" / "relations.json").read_text(encoding="utf-8"))

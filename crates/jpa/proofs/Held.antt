@@ -9,7 +9,6 @@ use Rattle.jpa_functions.specs.Functions.{meaning}
 use Rattle.jpa_functions.specs.Known.{names_are_known}
 use Rattle.jpa_functions.specs.declared.make.Listener.{Listener}
 use Rattle.jpa_functions.specs.declared.make.Converter.{Converter}
-use Rattle.jpa_provider.specs.Served.{is_served}
 use Rattle.jpa_program.specs.Opening.{HoldsCells}
 use Rattle.jpa.specs.declared.Unit.{Unit}
 use Rattle.jpa.specs.Served.{unit_from, HoldsUnit, IsServable, GivesServable}
@@ -25,17 +24,10 @@ module _ {S : Type 0} (g : Ghosts S) where
       (set, numbers, subst (λ r. HoldsCells g (world_of meaning unit.metamodel r) last set numbers) is_registry of_model)
 
 -- an answer that no refusal of the unit allows comes of a unit that can be served
-pub is_servable : {A E : Type 0} (unit : Unit) (answer : Result A E) (model function : E) (a : A) → answer ≡ Ok a
-    → (is_served unit.metamodel ≡ false → answer ≡ Err model)
-    → (is_served unit.metamodel ≡ true → names_are_known unit.registry unit.metamodel ≡ false → answer ≡ Err function) → IsServable unit
-is_servable unit answer model function a is unserved unknown =
-    let serves = served (is_served unit.metamodel) (λ no. sym is ∙ unserved no) in
-    (serves, known (names_are_known unit.registry unit.metamodel) (λ no. sym is ∙ unknown serves no))
+pub is_servable : {A E : Type 0} (unit : Unit) (answer : Result A E) (function : E) (a : A) → answer ≡ Ok a
+    → (names_are_known unit.registry unit.metamodel ≡ false → answer ≡ Err function) → IsServable unit
+is_servable unit answer function a is unknown = known (names_are_known unit.registry unit.metamodel) (λ no. sym is ∙ unknown no)
   where
-    served : (test : Bool) → (test ≡ false → Ok a ≡ Err model) → test ≡ true
-    served true never = refl
-    served false never = let bad = never refl in cc
-
     known : (test : Bool) → (test ≡ false → Ok a ≡ Err function) → test ≡ true
     known true never = refl
     known false never = let bad = never refl in cc

@@ -12,7 +12,6 @@ use Rattle.jpa_functions.specs.Functions.{meaning}
 use Rattle.jpa_functions.specs.FunctionsIn.{functions_in}
 use Rattle.jpa_functions.specs.Known.{names_are_known}
 use Rattle.jpa_functions.specs.Sorts.{registered}
-use Rattle.jpa_provider.specs.Served.{is_served}
 use Rattle.jpa_program.specs.Opening.{HoldsCells}
 use Rattle.jpa_program.specs.Persons.{persons}
 use Rattle.jpa.specs.declared.Unit.{Unit}
@@ -24,7 +23,7 @@ unit_in bytes =
     and_then (functions_in bytes) (λ functions.
     and_then (registered functions) (λ registry. Ok (record { metamodel = metamodel; registry = registry }))))
 
--- the unit that is served without a mapping: the program's own persons, and no function
+-- the unit that is served without a mapping: the program's own persons with their orders, and no function
 abbrev pub own_unit : Unit
 own_unit = record { metamodel = persons; registry = record { listeners = []; converters = [] } }
 
@@ -37,9 +36,9 @@ unit_from None = Ok own_unit
 abbrev pub IsMappingCause : Cause → Type 0
 IsMappingCause cause = (cause ≡ Cause.OutOfMemory) ⊎ ((fault : MappingFault) × (cause ≡ Cause.Mapping fault))
 
--- the calls of this version serve the unit, and each function that it names is registered
+-- each function that the unit names is registered
 abbrev pub IsServable : Unit → Type 0
-IsServable unit = (is_served unit.metamodel ≡ true) × (names_are_known unit.registry unit.metamodel ≡ true)
+IsServable unit = names_are_known unit.registry unit.metamodel ≡ true
 
 -- the unit of these bytes, or of none, can be served
 abbrev pub GivesServable : Option (List ℕ) → Type 0

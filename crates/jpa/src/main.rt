@@ -8,7 +8,6 @@ ghost use Rattle.jpa_value.specs.declared.refusal.MappingFault.{MappingFault};
 ghost use Rattle.jpa_model.specs.Described.{IsUnlessMemory};
 ghost use Rattle.jpa_cells_meaning.specs.Store.{IsOrderedIfFound};
 ghost use Rattle.jpa_functions.specs.Known as known;
-ghost use Rattle.jpa_provider.specs.Served.{is_served};
 ghost use Rattle.jpa.specs.Served as spec;
 
 use jpa_behaviour::Registry;
@@ -95,7 +94,7 @@ fn described(alloc: Global, bytes: &[u8]) -> Result<Unit, Cause>
     })
 }
 
-/// The unit that is served without a mapping: the program's own persons, and no function.
+/// The unit that is served without a mapping: the program's own persons with their orders, and no function.
 fn own_unit(alloc: Global) -> Result<Unit, Cause>
     ensures unit { IsUnlessMemory result (Ok spec.own_unit) }
     ensures refused { IfErr result spec.IsMappingCause }
@@ -124,8 +123,7 @@ fn serve<S: Alter + Drop>(
     unit: Unit,
 ) -> Result<(Stop, Connection<S>), Cause>
     requires { IsOrderedIfFound S.Store conn }
-    ensures unserved { is_served unit.metamodel ≡ false → IsErrAnd result (λ cause. cause ≡ Cause.Mapping MappingFault.Model) }
-    ensures unknown { is_served unit.metamodel ≡ true → known.names_are_known unit.registry unit.metamodel ≡ false → IsErrAnd result (λ cause. cause ≡ Cause.Mapping MappingFault.Function) }
+    ensures unknown { known.names_are_known unit.registry unit.metamodel ≡ false → IsErrAnd result (λ cause. cause ≡ Cause.Mapping MappingFault.Function) }
     ensures served { OnOk result (spec.IsServable unit) }
     ensures cells { IfOk result (λ served. spec.HoldsUnit S.Store unit served.1) }
 {

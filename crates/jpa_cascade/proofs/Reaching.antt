@@ -17,7 +17,7 @@ use Rattle.jpa_value.proofs.Orders.{identity_exact, identity_total}
 use Rattle.jpa_cascade.specs.declared.Node.{Node}
 use Rattle.jpa_cascade.specs.Waves.{same_node, unseen, waves_by}
 use Rattle.jpa_cascade.specs.Reached.{IsReachedIn, IsAsNear, AreReached, HasTarget, HaveAllThatLeadOn, WavesReach}
-use Rattle.jpa_cascade.proofs.Plain.{waves_ended}
+use Rattle.jpa_cascade.proofs.Ended.{waves_ended}
 use Rattle.jpa_cascade.proofs.Lists.{none_in, first_in, later_in, in_one, in_cases, in_flat, from_flat}
 
 -- ---- same nodes

@@ -19,7 +19,7 @@ use Rattle.jpa_context.specs.Work.{Work, object, state_of}
 use Rattle.jpa_cascade.specs.declared.Node.{Node}
 use Rattle.jpa_cascade.specs.declared.Operation.{Operation}
 use Rattle.jpa_cascade.specs.Waves.{goes_along, goes_from, reaches_unread, nodes_held, live_targets_along, targets}
-use Rattle.jpa_cascade.proofs.Plain.{either_way}
+use Rattle.jpa_cascade.proofs.Ended.{either_way}
 use Rattle.jpa_cascade.proofs.Cascades.{held_there}
 
 found_shaped : (m : PersistenceUnit) (id : Identity) (x : Stored) (e : Identity × Stored) (o : Option Stored) (b : Bool) → is_eq (identity_cmp id e.0) ≡ b → (o ≡ Some x → is_shaped m id x ≡ true) →

@@ -12,7 +12,7 @@ use Rattle.jpa_cascade.specs.declared.Node.{Node}
 use Rattle.jpa_cascade.specs.declared.Operation.{Operation}
 use Rattle.jpa_cascade.specs.Waves.{unseen, waves_by, targets, most_nodes, waves}
 use Rattle.jpa_cascade.specs.Reached.{AreReached, HasTarget, HaveAllThatLeadOn}
-use Rattle.jpa_cascade.proofs.Plain.{nothing_more, waves_ended}
+use Rattle.jpa_cascade.proofs.Ended.{nothing_more, waves_ended}
 use Rattle.jpa_cascade.proofs.Lists.{first_in}
 use Rattle.jpa_cascade.proofs.Reaching.{waves_reach}
 use Rattle.jpa_cascade.proofs.Cascades.{nodes_in, nodes_few, leads_there}

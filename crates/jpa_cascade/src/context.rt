@@ -43,8 +43,9 @@ fn first_named(
 ) -> Option<usize>
     requires objects { All (HasShape metamodel.now) objects.now }
     requires within { All (λ n. n < length objects.now) places.now }
-    ensures first { result
-        ≡ find (λ n. works.has_identity (identity_of metamodel.now (object_at objects.now n)) id.now) places.now }
+    ensures first { result ≡ find
+        (λ n. works.has_identity (identity_of metamodel.now (object_at objects.now n)) id.now)
+        places.now }
     ensures within { IfSome result (λ n. n < length objects.now) }
 {
     for place in places {

@@ -15,6 +15,7 @@ mod waving;
 pub use context::{instance, state_of};
 use jpa_value::Identity;
 pub use laws::cascade_laws;
+pub use targets::live_targets;
 pub use view::{members, members_now};
 pub use waving::waves;
 

@@ -1,5 +1,5 @@
 //! The targets of a node.
-ghost use Rattle.std.specs.Prelude.{◌≡◌, ◌<◌, ◌++◌, length, map, OnOk, IfErr};
+ghost use Rattle.std.specs.Prelude.{◌≡◌, ◌<◌, ◌++◌, length, map, OnOk, IfOk, IfErr};
 ghost use Rattle.jpa_value.specs.declared.refusal.Cause.{Cause};
 ghost use Rattle.jpa_model.specs.Chains.{relations_of};
 ghost use Rattle.jpa_heap.specs.Objects.{object_at};
@@ -13,7 +13,8 @@ use crate::{Node, Operation};
 use jpa_context::{EntityState, UnitOfWork};
 use jpa_heap::{Collection, Held, Link};
 use jpa_model::{Metamodel, Relation};
-use jpa_value::{Cause, Identity, TryCopy};
+use jpa_value::{Cause, Identity, Seq, TryCopy};
+use std::alloc::Global;
 
 /// Whether an operation goes along a relation (Jakarta Persistence 3.1, chapters 2.9 and 3.2).
 fn goes_along(operation: Operation, relation: &Relation) -> bool
@@ -220,4 +221,37 @@ pub(crate) fn push_targets(
         Node::Live(object) => push_live_targets(metamodel, work, operation, *object, found),
         Node::Bare(id) => push_bare_targets(metamodel, work, operation, id, found),
     }
+}
+
+/// The objects among nodes, in their order.
+fn live_nodes(alloc: Global, nodes: &[Node]) -> Result<Seq<usize>, Cause>
+    ensures ok { IfOk result (λ objects. objects ≡ waves.live_nodes nodes.now) }
+    ensures err { IfErr result (λ cause. cause ≡ Cause.OutOfMemory) }
+{
+    let mut objects = Seq::new(alloc);
+    for node in nodes {
+        if let Node::Live(object) = node {
+            objects.push(*object)?;
+        }
+    }
+    Ok(objects)
+}
+
+/// The objects among the targets of an object: where an operation goes on from it, in the order of its relations (Jakarta
+/// Persistence 3.1, chapter 3.2). Fails for want of memory alone, with `OutOfMemory`.
+pub fn live_targets(
+    alloc: Global,
+    metamodel: &Metamodel,
+    work: &UnitOfWork,
+    operation: Operation,
+    object: usize,
+) -> Result<Seq<usize>, Cause>
+    requires placed { IsPlaced metamodel.now (now work.now) }
+    ensures ok { IfOk result (λ objects. objects ≡ waves.live_nodes
+        (waves.targets metamodel.now operation (now work.now) (Node.Live object))) }
+    ensures refused { IfErr result (λ cause. cause ≡ Cause.OutOfMemory) }
+{
+    let mut found = Vec::new(alloc);
+    push_live_targets(metamodel, work, operation, object, &mut found)?;
+    live_nodes(alloc, found.as_slice())
 }

@@ -17,10 +17,10 @@ use Rattle.jpa_heap.specs.Objects.{object_at, no_object, is_new}
 use Rattle.jpa_heap.specs.Assign.{set_in}
 use Rattle.jpa_context.specs.declared.Entry.{Entry}
 use Rattle.jpa_context.specs.Work.{Work, object, with_object}
-use Rattle.jpa_ops.specs.Members.{placed, set}
+use Rattle.jpa_fetch.specs.Members.{placed, set}
 use Rattle.jpa_consistent.specs.Consistent.{IsLive, IsEntry, is_held_by, stands_in}
 use Rattle.jpa_heap.specs.Shape.{IsInHeap}
-use Rattle.jpa_consistent.specs.Orderly.{IsOrderly}
+use Rattle.jpa_fetch.specs.Orderly.{IsOrderly}
 use Rattle.jpa_consistent.proofs.Facts.{numbers_same}
 use Rattle.jpa_consistent.specs.Going.{HoldsAfter}
 use Rattle.jpa_consistent.specs.Consistent.{IsConsistent, contexts, Others}

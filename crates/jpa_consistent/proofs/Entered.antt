@@ -23,7 +23,7 @@ use Rattle.jpa_context.specs.declared.Entry.{Entry}
 use Rattle.jpa_context.specs.Work.{Work, object, identity_at, instance, has_identity, object_in, with_life_of, entered}
 use Rattle.jpa_ops.specs.States.{become_managed, give_key, has_instance}
 use Rattle.jpa_consistent.specs.Consistent.{IsEntry, is_held_by, stands_in, are_one, name_of}
-use Rattle.jpa_consistent.specs.Orderly.{IsOrderly}
+use Rattle.jpa_fetch.specs.Orderly.{IsOrderly}
 use Rattle.jpa_consistent.proofs.Facts.{numbers_same, key_is_whole}
 use Rattle.jpa_consistent.specs.Going.{HoldsAfter}
 use Rattle.jpa_consistent.proofs.Going.{More, after_holds, more_on, require_holds}

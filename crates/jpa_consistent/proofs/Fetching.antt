@@ -22,11 +22,11 @@ use Rattle.jpa_heap.specs.Objects.{held_at, no_object, with_held}
 use Rattle.jpa_heap.specs.Assign.{fits_link}
 use Rattle.jpa_context.specs.Work.{Work, object, state_of}
 use Rattle.jpa_cascade.specs.Waves.{members_now}
-use Rattle.jpa_ops.specs.Load.{reach}
-use Rattle.jpa_ops.specs.Members.{add, collect, collection_in, fetch, fetch_held, get, get_member, get_relation, is_held, read_for, read_named, resolve, resolve_link, take_out, with_read, with_relation, without_first}
+use Rattle.jpa_fetch.specs.Load.{reach}
+use Rattle.jpa_fetch.specs.Members.{add, collect, collection_in, fetch, fetch_held, get, get_member, get_relation, is_held, read_for, read_named, resolve, resolve_link, take_out, with_read, with_relation, without_first}
 use Rattle.jpa_consistent.specs.Consistent.{held_fits, held_representable, leads_to}
 use Rattle.jpa_consistent.specs.Going.{HoldsAfter}
-use Rattle.jpa_consistent.specs.Orderly.{IsOrderly}
+use Rattle.jpa_fetch.specs.Orderly.{IsOrderly}
 use Rattle.jpa_consistent.proofs.Facts.{list_all_weaker}
 use Rattle.jpa_consistent.proofs.Going.{EachHas, More, collect_goes, no_more, require_holds, then_from, then_goes, then_known, within_more}
 use Rattle.jpa_consistent.proofs.Kept.{leads_kept}
@@ -38,7 +38,7 @@ use Rattle.jpa_consistent.proofs.Setting.{held_set, leads_kind}
 -- ---- what stands in a relation of an object
 
 -- the class has this relation at this place
-abbrev IsAt : PersistenceUnit → ℕ → ℕ → Relation → Type 0
+abbrev pub IsAt : PersistenceUnit → ℕ → ℕ → Relation → Type 0
 IsAt m class r relation = slice_get (relations_of m class) r ≡ Some relation
 
 -- each of these may stand in the relation
@@ -66,6 +66,15 @@ all_without p k (j ∷ js) h = let a = and_parts (p j) (list_all p js) h in by_t
     by_test : (b : Bool) → p j ≡ true → list_all p js ≡ true → list_all p (without_first k js) ≡ true → list_all p (if b then js else j ∷ without_first k js) ≡ true
     by_test true h g rest = g
     by_test false h g rest = and_from (p j) (list_all p (without_first k js)) h rest
+
+-- so may these and one more, and these but one
+pub stand_with : (m : PersistenceUnit) (n r : ℕ) (ks : List ℕ) (k : ℕ) (v : Work) → MayStand m n r ks v → MayStand m n r (k ∷ []) v → MayStand m n r (ks ++ k ∷ []) v
+stand_with m n r ks k v h own = λ relation at.
+    let p = leads_to m v.objects relation.target in
+    all_pushed p ks k (h relation at) (and_parts (p k) true (own relation at)).0
+
+pub stand_without : (m : PersistenceUnit) (n r : ℕ) (ks : List ℕ) (k : ℕ) (v : Work) → MayStand m n r ks v → MayStand m n r (without_first k ks) v
+stand_without m n r ks k v h = λ relation at. all_without (leads_to m v.objects relation.target) k ks (h relation at)
 
 -- a collection is no to-one relation
 many_in : (m : PersistenceUnit) (class : ℕ) (member : Option Member) (r : ℕ) → collection_in m class member ≡ Some r → is_to_one (relation_at m class r).side ≡ false
@@ -170,7 +179,7 @@ module _ {world : World} {P : Work → Type 0} (orderly : IsOrderly world.model)
   -- ---- add and take_out
 
   -- a collection of the object, what it holds, and another that may stand in it
-  abbrev IsRead : ℕ → ℕ → ℕ × List ℕ → Work → Type 0
+  abbrev pub IsRead : ℕ → ℕ → ℕ × List ℕ → Work → Type 0
   IsRead n k c v = ((relation : Relation) → IsAt world.model (object v n).class c.0 relation → not (is_to_one relation.side) ≡ true) × MayStand world.model n c.0 c.1 v × MayStand world.model n c.0 (k ∷ []) v
 
   read_for_goes : (n k : ℕ) (o : Option ℕ) (w : Work) → P w → n < length w.objects → k < length w.objects →
@@ -190,7 +199,7 @@ module _ {world : World} {P : Work → Type 0} (orderly : IsOrderly world.model)
       (subst (λ (s : Relation). fits_link m w.objects s.target (Handed.Object k) ≡ true) (same relation at) fit))) refl in
       (q, no_more v, (side, stand, own))))
 
-  read_named_goes : (n : ℕ) (name : List ℕ) (k : ℕ) (w : Work) → P w → n < length w.objects → k < length w.objects → HoldsAfter (λ c v. P v × More w v × IsRead n k c v) (read_named world n name k w)
+  pub read_named_goes : (n : ℕ) (name : List ℕ) (k : ℕ) (w : Work) → P w → n < length w.objects → k < length w.objects → HoldsAfter (λ c v. P v × More w v × IsRead n k c v) (read_named world n name k w)
   read_named_goes n name k w p l j =
       let m = world.model in
       let class = (object w n).class in
@@ -205,11 +214,9 @@ module _ {world : World} {P : Work → Type 0} (orderly : IsOrderly world.model)
   pub add_goes : (n : ℕ) (name : List ℕ) (k : ℕ) (w : Work) → P w → n < length w.objects → k < length w.objects → HoldsAfter (λ u v. P v × More w v) (add world n name k w)
   add_goes n name k w p l j =
       then_from (IsRead n k) w (read_named world n name k w) _ (read_named_goes n name k w p l j) (λ c v q more h.
-      held_again n c.0 (c.1 ++ k ∷ []) v q (within_more w v n more l) h.0 (λ relation at.
-      all_pushed (leads_to world.model v.objects relation.target) c.1 k (h.1 relation at) (and_parts (leads_to world.model v.objects relation.target k) true (h.2 relation at)).0))
+      held_again n c.0 (c.1 ++ k ∷ []) v q (within_more w v n more l) h.0 (stand_with world.model n c.0 c.1 k v h.1 h.2))
 
   pub take_out_goes : (n : ℕ) (name : List ℕ) (k : ℕ) (w : Work) → P w → n < length w.objects → k < length w.objects → HoldsAfter (λ b v. P v × More w v) (take_out world n name k w)
   take_out_goes n name k w p l j =
       then_from (IsRead n k) w (read_named world n name k w) _ (read_named_goes n name k w p l j) (λ c v q more h.
-      held_again n c.0 (without_first k c.1) v q (within_more w v n more l) h.0 (λ relation at.
-      all_without (leads_to world.model v.objects relation.target) k c.1 (h.1 relation at)))
+      held_again n c.0 (without_first k c.1) v q (within_more w v n more l) h.0 (stand_without world.model n c.0 c.1 k v h.1))

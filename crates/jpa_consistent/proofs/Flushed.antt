@@ -24,7 +24,7 @@ use Rattle.jpa_context.specs.Work.{Work, object, state_from, state_of, is_manage
 use Rattle.jpa_flush.specs.Flush.{Action, written, actions, listed, replaces_row, flushed, settled, settled_entry, settled_all, remembered, remembered_in, members_held, pre_update, flush}
 use Rattle.jpa_consistent.specs.Consistent.{IsConsistent, IsEntry, IsLive, Others, base_fits, name_of, version_fits}
 use Rattle.jpa_consistent.specs.Going.{HoldsAfter}
-use Rattle.jpa_consistent.specs.Orderly.{IsOrderly}
+use Rattle.jpa_fetch.specs.Orderly.{IsOrderly}
 use Rattle.jpa_consistent.proofs.Facts.{list_all_weaker}
 use Rattle.jpa_consistent.proofs.Going.{More}
 use Rattle.jpa_consistent.proofs.Changed.{object_read}

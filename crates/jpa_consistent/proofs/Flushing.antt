@@ -28,7 +28,7 @@ use Rattle.jpa_cascade.specs.declared.Node.{Node}
 use Rattle.jpa_cascade.specs.declared.Operation.{Operation}
 use Rattle.jpa_cascade.specs.There.{HoldsWithin}
 use Rattle.jpa_cascade.specs.Waves.{goes_along, goes_from, live_nodes, live_targets_along, nodes_held, targets}
-use Rattle.jpa_ops.specs.Load.{load}
+use Rattle.jpa_fetch.specs.Load.{load}
 use Rattle.jpa_ops.specs.States.{persist, remove}
 use Rattle.jpa_flush.specs.Flush.{Action, Drop, Insert, Replace, action_of, actions, after_flush, check_actions, check_links, check_one, flush, flushed, links_stored, orphans_of, persist_behind, persist_from, persist_reachable, persist_targets, planned, post, post_event, pre_update, pre_update_for, pre_update_one, remove_instance, remove_orphan, remove_orphan_in, remove_orphans, remove_orphans_of, sound_or, write_all}
 use Rattle.jpa_consistent.specs.Going.{HoldsAfter}

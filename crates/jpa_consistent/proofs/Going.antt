@@ -7,7 +7,7 @@ use Rattle.jpa_heap.specs.declared.Life.{Life}
 use Rattle.jpa_context.specs.declared.Entry.{Entry}
 use Rattle.jpa_context.specs.Work.{Work}
 use Rattle.jpa_context.specs.Steps.{Outcome, Done, Refused, Op, after, require, each}
-use Rattle.jpa_ops.specs.Members.{collect}
+use Rattle.jpa_fetch.specs.Members.{collect}
 use Rattle.jpa_consistent.specs.Consistent.{stands_in}
 use Rattle.jpa_consistent.specs.Going.{HoldsAfter}
 use Rattle.jpa_consistent.proofs.Kept.{KeepsClasses}

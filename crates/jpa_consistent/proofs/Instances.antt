@@ -6,7 +6,7 @@ use Rattle.jpa_heap.specs.declared.Life.{Life}
 use Rattle.jpa_context.specs.declared.Entry.{Entry}
 use Rattle.jpa_context.specs.Work.{Work, object, with_life_of}
 use Rattle.jpa_consistent.specs.Consistent.{IsConsistent, IsEntry, Others, is_held_by}
-use Rattle.jpa_consistent.specs.Orderly.{IsOrderly}
+use Rattle.jpa_fetch.specs.Orderly.{IsOrderly}
 use Rattle.jpa_consistent.proofs.Changed.{changed_at_work}
 use Rattle.jpa_consistent.proofs.Entered.{become_holds, removed, revived}
 use Rattle.jpa_consistent.proofs.Heard.{heard_at_work}

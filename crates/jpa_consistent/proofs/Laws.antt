@@ -26,8 +26,8 @@ use Rattle.jpa_cascade.specs.There.{IsThere}
 use Rattle.jpa_cascade.specs.Waves.{waves}
 use Rattle.jpa_cascade.proofs.There.{waves_are_there}
 use Rattle.jpa_lifecycle.specs.Callbacks.{callback}
-use Rattle.jpa_ops.specs.Load.{object_loaded, base_loaded, made, load, reach, reached, found, found_row, find}
-use Rattle.jpa_ops.specs.Members.{with_read}
+use Rattle.jpa_fetch.specs.Load.{object_loaded, base_loaded, made, load, reach, reached, found, found_row, find}
+use Rattle.jpa_fetch.specs.Members.{with_read}
 use Rattle.jpa_ops.specs.States.{cascaded, persist, persist_one, persist_node, become_managed, pre_persist_if, remove, remove_one, remove_live, remove_under, remove_node, refresh, refresh_row, refresh_one, refresh_node, reloaded, detach, detach_one, detach_node, let_go}
 use Rattle.jpa_consistent.specs.Consistent.{is_held_by}
 use Rattle.jpa_consistent.specs.Going.{HoldsAfter}

@@ -6,7 +6,6 @@ pub mod Changed
 pub mod Persisted
 pub mod Heard
 pub mod Entered
-pub mod Orderly
 pub mod Related
 pub mod Loaded
 pub mod Members
@@ -23,5 +22,8 @@ pub mod Flushing
 pub mod Flushed
 pub mod Detached
 pub mod Placed
-pub mod Got
+pub mod Ready
+pub mod Unheld
+pub mod Above
+pub mod Units
 pub mod Unlocked

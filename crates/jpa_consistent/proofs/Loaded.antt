@@ -29,9 +29,9 @@ use Rattle.jpa_context.specs.declared.Base.{Base}
 use Rattle.jpa_context.specs.declared.Lock.{Lock}
 use Rattle.jpa_context.specs.declared.Entry.{Entry}
 use Rattle.jpa_context.specs.Work.{Work, identity_at, instance, row, has_identity, entered, with_base}
-use Rattle.jpa_ops.specs.Load.{object_loaded, base_loaded, held_loaded, made}
+use Rattle.jpa_fetch.specs.Load.{object_loaded, base_loaded, held_loaded, made}
 use Rattle.jpa_consistent.specs.Consistent.{IsLive, IsEntry, is_held_by, stands_in, are_one, name_of, version_fits, held_fits, held_representable, known_fits, base_fits}
-use Rattle.jpa_consistent.specs.Orderly.{IsOrderly}
+use Rattle.jpa_fetch.specs.Orderly.{IsOrderly}
 use Rattle.jpa_consistent.proofs.Related.{loaded_fits, loaded_representable, loaded_known}
 use Rattle.jpa_consistent.proofs.Facts.{numbers_same}
 use Rattle.jpa_consistent.specs.Consistent.{IsConsistent, contexts, Others}

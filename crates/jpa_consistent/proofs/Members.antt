@@ -24,7 +24,7 @@ use Rattle.jpa_context.specs.Work.{Work, has_identity, identity_at, instance, ob
 use Rattle.jpa_cascade.specs.There.{AreLinked, HoldsWithin}
 use Rattle.jpa_cascade.specs.Waves.{members_now, members_under}
 use Rattle.jpa_consistent.specs.Consistent.{IsLive, held_fits, leads_to, name_of}
-use Rattle.jpa_consistent.specs.Orderly.{IsOrderly}
+use Rattle.jpa_fetch.specs.Orderly.{IsOrderly}
 use Rattle.jpa_consistent.proofs.Going.{EachHas, More, within_more}
 use Rattle.jpa_consistent.proofs.Loaded.{row_holds, same_exact}
 use Rattle.jpa_consistent.proofs.Related.{AreMembers, members_fit, no_members}

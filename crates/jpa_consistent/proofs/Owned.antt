@@ -27,7 +27,7 @@ use Rattle.jpa_context.specs.Work.{Work, identity_at, object}
 use Rattle.jpa_cascade.specs.Waves.{members_now}
 use Rattle.jpa_flush.specs.Flush.{held_now, into_rising, is_owner, listed, members_held, owned_along, owned_or, rising}
 use Rattle.jpa_consistent.specs.Consistent.{IsLive, held_fits, held_representable, known_fits, leads_to, name_of}
-use Rattle.jpa_consistent.specs.Orderly.{IsOrderly}
+use Rattle.jpa_fetch.specs.Orderly.{IsOrderly}
 use Rattle.jpa_consistent.proofs.Members.{IsStanding, members_now_fit}
 use Rattle.jpa_consistent.proofs.Persisted.{whole_key}
 use Rattle.jpa_consistent.proofs.Related.{AreMembers, all_enumerated, fits_at, fits_enumerated, holds_at, no_members}

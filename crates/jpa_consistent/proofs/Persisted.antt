@@ -26,7 +26,7 @@ use Rattle.jpa_context.specs.Work.{Work, object, state_from, told}
 use Rattle.jpa_ops.specs.States.{give_key, with_key, with_number, number_part, last_number}
 use Rattle.jpa_protocol.specs.declared.event.Told.{Told}
 use Rattle.jpa_consistent.specs.Consistent.{IsLive, IsEntry, is_held_by, stands_in}
-use Rattle.jpa_consistent.specs.Orderly.{IsOrderly}
+use Rattle.jpa_fetch.specs.Orderly.{IsOrderly}
 use Rattle.jpa_consistent.proofs.Facts.{held_more, numbers_trans, numbers_same, each_fits_set, each_fits_length}
 use Rattle.jpa_consistent.specs.Going.{HoldsAfter}
 use Rattle.jpa_consistent.proofs.Going.{More, no_more, require_holds, require_holds_last}

@@ -26,7 +26,7 @@ use Rattle.jpa_value.specs.declared.value.Identity.{Identity}
 use Rattle.jpa_context.specs.Work.{Work, is_managed, object, state_of, identity_at, row_at, with_object}
 use Rattle.jpa_flush.specs.Flush.{Action, Insert, Replace, Drop, replace_if, action_in, action_of, differs, is_write, check_action, row_is_base, all_convert, can_rise, stored_of, written, planned, first_version, raised}
 use Rattle.jpa_consistent.specs.Consistent.{IsLive, IsEntry, are_one, is_held_by, name_of, stands_in, base_fits, known_fits, version_fits}
-use Rattle.jpa_consistent.specs.Orderly.{IsOrderly}
+use Rattle.jpa_fetch.specs.Orderly.{IsOrderly}
 use Rattle.jpa_consistent.specs.Going.{HoldsAfter}
 use Rattle.jpa_consistent.proofs.Going.{require_holds, require_holds_last}
 use Rattle.jpa_consistent.specs.Consistent.{IsConsistent, contexts, Others}

@@ -12,7 +12,7 @@ use Rattle.jpa_heap.specs.declared.LiveObject.{LiveObject}
 use Rattle.jpa_context.specs.declared.Base.{Base}
 use Rattle.jpa_context.specs.declared.Entry.{Entry}
 use Rattle.jpa_context.specs.Work.{Work, object}
-use Rattle.jpa_ops.specs.Members.{with_members, with_read}
+use Rattle.jpa_fetch.specs.Members.{with_members, with_read}
 use Rattle.jpa_consistent.specs.Consistent.{IsConsistent, IsEntry, Others, base_fits, known_fits, name_of}
 use Rattle.jpa_consistent.proofs.Facts.{each_fits_set}
 use Rattle.jpa_consistent.proofs.Planned.{based_entry, mapped_at_work}

@@ -14,8 +14,8 @@ use Rattle.jpa_heap.specs.Objects.{identity_of, is_whole, object_at}
 use Rattle.jpa_context.specs.declared.Base.{Base}
 use Rattle.jpa_context.specs.declared.Entry.{Entry}
 use Rattle.jpa_context.specs.Work.{Work, object, identity_at, row}
-use Rattle.jpa_consistent.specs.Orderly.{IsOrderly}
-use Rattle.jpa_ops.specs.Load.{object_loaded, base_loaded}
+use Rattle.jpa_fetch.specs.Orderly.{IsOrderly}
+use Rattle.jpa_fetch.specs.Load.{object_loaded, base_loaded}
 use Rattle.jpa_ops.specs.States.{reloaded}
 use Rattle.jpa_consistent.specs.Consistent.{IsConsistent, IsEntry, Others, base_fits}
 use Rattle.jpa_consistent.proofs.Setting.{IsSet}

@@ -20,9 +20,9 @@ use Rattle.jpa_stored.specs.declared.stored.Stored.{Stored}
 use Rattle.jpa_stored.specs.Sets.{StoredSet, each_fits, owned_at, leading_to, members, members_by, is_identity_of, is_shaped, owns_as, owns_well, is_rising, is_below, is_at_most_one, is_empty}
 use Rattle.jpa_rows.specs.Cells.{CanBeHeld, names_representable, holds_representable, version_representable}
 use Rattle.jpa_heap.specs.declared.LiveObject.{LiveObject}
-use Rattle.jpa_ops.specs.Load.{unread, unread_link, known, held_loaded, base_loaded}
+use Rattle.jpa_fetch.specs.Load.{unread, unread_link, known, held_loaded, base_loaded}
 use Rattle.jpa_consistent.specs.Consistent.{held_fits, link_fits, held_representable, known_fits}
-use Rattle.jpa_consistent.specs.Orderly.{IsOrderly}
+use Rattle.jpa_fetch.specs.Orderly.{IsOrderly}
 
 -- ---- lists
 

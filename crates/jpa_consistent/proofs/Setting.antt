@@ -25,7 +25,7 @@ use Rattle.jpa_heap.specs.Objects.{is_new, no_object, object_at, to_version, wit
 use Rattle.jpa_heap.specs.Shape.{IsInHeap}
 use Rattle.jpa_heap.specs.Assign.{fits_part, fits_version, fits_plain, plain, fits_link, link_to, unless_refused, set_member}
 use Rattle.jpa_consistent.specs.Consistent.{IsLive, held_fits, held_representable, leads_to, link_fits, version_fits}
-use Rattle.jpa_consistent.specs.Orderly.{IsOrderly}
+use Rattle.jpa_fetch.specs.Orderly.{IsOrderly}
 use Rattle.jpa_consistent.proofs.Facts.{each_fits_set, list_all_set}
 
 -- ---- what set leaves as it was

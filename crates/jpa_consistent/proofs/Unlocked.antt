@@ -22,13 +22,13 @@ use Rattle.jpa_context.specs.declared.Lock.{Lock}
 use Rattle.jpa_context.specs.Work.{Work, object, state_of, is_managed, identity_at, entered, with_base, with_life_of, with_object}
 use Rattle.jpa_context.specs.Steps.{Outcome, Done, Refused}
 use Rattle.jpa_lifecycle.specs.Callbacks.{callback, ended, fire, told_fired}
-use Rattle.jpa_ops.specs.Load.{object_loaded, base_loaded, made}
-use Rattle.jpa_ops.specs.Members.{with_members, with_read}
+use Rattle.jpa_fetch.specs.Load.{object_loaded, base_loaded, made}
+use Rattle.jpa_fetch.specs.Members.{with_members, with_read}
 use Rattle.jpa_ops.specs.States.{become_managed, give_key, has_instance, last_number, let_go, reloaded}
 use Rattle.jpa_flush.specs.Flush.{Action, actions, all_remembered, flush, lowered, members_held, remembered, remembered_in, settled, settled_all, settled_entry, written}
 use Rattle.jpa_consistent.specs.Consistent.{IsConsistent, Others}
 use Rattle.jpa_consistent.specs.Going.{HoldsAfter}
-use Rattle.jpa_consistent.specs.Orderly.{IsOrderly}
+use Rattle.jpa_fetch.specs.Orderly.{IsOrderly}
 use Rattle.jpa_consistent.proofs.Going.{More, after_holds, require_holds, require_holds_last}
 use Rattle.jpa_consistent.proofs.Detached.{staying, staying_each}
 use Rattle.jpa_consistent.proofs.Flushed.{written_at_work}

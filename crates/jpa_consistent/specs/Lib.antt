@@ -1,3 +1,2 @@
 pub mod Consistent
 pub mod Going
-pub mod Orderly

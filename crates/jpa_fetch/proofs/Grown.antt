@@ -1,5 +1,5 @@
 -- What code that goes by places stands on, and how a work has grown, where objects and entries change or are added.
-use Rattle.std.proofs.Common.{◌≡◌, ◌≢◌, ◌<◌, ◌≤◌, ◌⊎◌, inl, inr, ℕ, Bool, true, false, List, [], ◌∷◌, ◌++◌, map, length, refl, ap, sym, subst, ◌∙◌, arith}
+use Rattle.std.proofs.Common.{◌≡◌, ◌≢◌, ◌<◌, ◌≤◌, ◌⊎◌, inl, inr, ℕ, true, false, List, [], ◌∷◌, ◌++◌, map, length, refl, ap, sym, subst, ◌∙◌, arith}
 use Rattle.std.specs.Prelude.{All, slice_set, not, ◌==◌, ◌||◌, ◌&&◌}
 use Rattle.std.specs.List.{AllByRecursion, list_any}
 use Rattle.std.proofs.lemmas.Bool.{cases_eq, and_parts, and_from, or_from, not-true, not_from_false, ne_eqb}
@@ -8,17 +8,47 @@ use Rattle.std.proofs.lemmas.List.Elements.{All-get_or, All-set, All-push, All-w
 use Rattle.std.proofs.lemmas.List.Folds.{list_any-append}
 use Rattle.jpa_model.specs.declared.unit.PersistenceUnit.{PersistenceUnit}
 use Rattle.jpa_stored.specs.Sets.{all_distinct}
+use Rattle.jpa_heap.specs.declared.Held.{Held}
 use Rattle.jpa_heap.specs.declared.LiveObject.{LiveObject}
 use Rattle.jpa_heap.specs.Objects.{no_object, object_at, is_whole}
 use Rattle.jpa_heap.specs.Shape.{HasShape}
 use Rattle.jpa_context.specs.declared.Entry.{Entry}
 use Rattle.jpa_context.specs.Undo.{IsKeyed, IsPlaced}
-use Rattle.jpa_context.specs.Work.{Work, object, with_object, with_entry}
-use Rattle.jpa_lifecycle.proofs.Keeps.{IsRevalued, revalued_shape, HasHappened}
-use Rattle.jpa_fetch.specs.Grown.{AreDistinct, HasGrown}
+use Rattle.jpa_context.specs.Work.{Work, object, with_object}
+use Rattle.jpa_lifecycle.proofs.Keeps.{revalued_shape, HasHappened}
+use Rattle.jpa_fetch.specs.Grown.{AreDistinct, AreLinked, HasGrown, IsLinked, IsReady, objects_held}
+
+-- ---- what objects hold
+
+-- what a relation holds is among so many objects
+abbrev pub HoldsWithin : ℕ → Held → Type 0
+HoldsWithin count held = All (λ k. k < count) (objects_held held)
+
+holds_more : (a b : ℕ) → a ≤ b → (held : Held) → HoldsWithin a held → HoldsWithin b held
+holds_more a b more held h = All-weaker (λ k. k < a) (λ k. k < b) (λ k l. omega (arith, l, more)) (objects_held held) h
+
+linked_more : (os ps : List LiveObject) → length os ≤ length ps → (x : LiveObject) → IsLinked os x → IsLinked ps x
+linked_more os ps more x h = All-weaker (HoldsWithin (length os)) (HoldsWithin (length ps)) (holds_more (length os) (length ps) more) x.relations h
+
+all_linked_more : (os ps xs : List LiveObject) → length os ≤ length ps → All (IsLinked os) xs → All (IsLinked ps) xs
+all_linked_more os ps xs more h = All-weaker (IsLinked os) (IsLinked ps) (linked_more os ps more) xs h
+
+linked_set : (os : List LiveObject) (n : ℕ) (y : LiveObject) → IsLinked os y → AreLinked os → AreLinked (slice_set os n y)
+linked_set os n y own h =
+    let e = length-set os n y in
+    let more : length os ≤ length (slice_set os n y) = omega (arith, e) in
+    All-set (IsLinked (slice_set os n y)) os n y (linked_more os (slice_set os n y) more y own) (all_linked_more os (slice_set os n y) os more h)
+
+linked_push : (os : List LiveObject) (x : LiveObject) → IsLinked os x → AreLinked os → AreLinked (os ++ x ∷ [])
+linked_push os x own h =
+    let e = length-append os (x ∷ []) in
+    let more : length os ≤ length (os ++ x ∷ []) = omega (arith, e) in
+    All-push (IsLinked (os ++ x ∷ [])) os x (all_linked_more os (os ++ x ∷ []) os more h) (linked_more os (os ++ x ∷ []) more x own)
+
+-- ---- a work goes on
 
 pub grown_none : (w : Work) → HasGrown w w
-grown_none w = record { count = omega arith; classes = λ n l. refl; distinct = λ d. d }
+grown_none w = record { count = omega arith; classes = λ n l. refl; distinct = λ d. d; linked = λ h. h }
 
 pub grown_on : (u v w : Work) → HasGrown u v → HasGrown v w → HasGrown u w
 grown_on u v w h g =
@@ -26,7 +56,12 @@ grown_on u v w h g =
       count = let a = h.count in let b = g.count in omega (arith, a, b);
       classes = λ n l. g.classes n (let a = h.count in omega (arith, a, l)) ∙ h.classes n l;
       distinct = λ d. g.distinct (h.distinct d);
+      linked = λ l. g.linked (h.linked l);
     }
+
+-- a ready work that has grown and goes by places still is ready again
+pub ready_on : (m : PersistenceUnit) (w v : Work) → IsReady m w → IsPlaced m v → HasGrown w v → IsReady m v
+ready_on m w v h placed grown = record { placed = placed; linked = grown.linked h.linked; distinct = grown.distinct h.distinct }
 
 -- ---- an object changes
 
@@ -52,12 +87,13 @@ placed_set m w n y h l shape same =
       view = h.view;
     }
 
-pub grown_set : (w : Work) (n : ℕ) (y : LiveObject) → y.class ≡ (object w n).class → n < length w.objects → HasGrown w (with_object n y w)
-grown_set w n y same l =
+pub grown_set : (w : Work) (n : ℕ) (y : LiveObject) → y.class ≡ (object w n).class → n < length w.objects → (AreLinked w.objects → IsLinked w.objects y) → HasGrown w (with_object n y w)
+grown_set w n y same l own =
     record {
       count = let e = length-set w.objects n y in omega (arith, e);
       classes = λ k within. by_place k (cases_eq k n);
       distinct = λ d. d;
+      linked = λ h. linked_set w.objects n y (own h) h;
     }
   where
     by_place : (k : ℕ) → (k ≡ n) ⊎ (k ≢ n) → (object (with_object n y w) k).class ≡ (object w k).class
@@ -77,8 +113,11 @@ placed_happened m n w v h l happened =
 
 pub grown_happened : (n : ℕ) (w v : Work) → n < length w.objects → HasHappened n w v → HasGrown w v
 grown_happened n w v l happened =
-    let set = grown_set w n happened.object (ap (λ (z : LiveObject). z.class) (happened.revalued).same) l in
-    subst (HasGrown w) (sym happened.same) (record { count = set.count; classes = set.classes; distinct = set.distinct })
+    let same = (happened.revalued).same in
+    let own : AreLinked w.objects → IsLinked w.objects happened.object =
+    λ h. subst (λ hs. All (HoldsWithin (length w.objects)) hs) (sym (ap (λ (z : LiveObject). z.relations) same)) (All-get_or (IsLinked w.objects) w.objects n no_object l h) in
+    let set = grown_set w n happened.object (ap (λ (z : LiveObject). z.class) same) l own in
+    subst (HasGrown w) (sym happened.same) (record { count = set.count; classes = set.classes; distinct = set.distinct; linked = set.linked })
 
 -- ---- entries change
 
@@ -109,7 +148,7 @@ placed_map m w f same key h =
     }
 
 pub grown_map : (w : Work) (f : Entry → Entry) → ((e : Entry) → (f e).object ≡ e.object) → HasGrown w (record w { context = map f w.context })
-grown_map w f same = record { count = omega arith; classes = λ n l. refl; distinct = λ d. distinct_after f same w.context ∙ d }
+grown_map w f same = record { count = omega arith; classes = λ n l. refl; distinct = λ d. distinct_after f same w.context ∙ d; linked = λ h. h }
 
 -- ---- an object and its entry are added
 
@@ -148,10 +187,12 @@ distinct_push n (e ∷ es) y own d h =
     and_from (not (list_any (λ (b : Entry). e.object == b.object) (es ++ y ∷ []))) (all_distinct (λ (a b : Entry). a.object == b.object) (es ++ y ∷ []))
     (not_from_false (list_any (λ (b : Entry). e.object == b.object) (es ++ y ∷ [])) apart) (distinct_push n es y own p.1 h.1)
 
-pub grown_push : (w : Work) (x : LiveObject) (e : Entry) → e.object ≡ length w.objects → All (λ (a : Entry). a.object < length w.objects) w.context → HasGrown w (with_last x e w)
-grown_push w x e own within =
+pub grown_push : (w : Work) (x : LiveObject) (e : Entry) → e.object ≡ length w.objects → All (λ (a : Entry). a.object < length w.objects) w.context → IsLinked w.objects x →
+    HasGrown w (with_last x e w)
+grown_push w x e own within links =
     record {
       count = let s = length-append w.objects (x ∷ []) in omega (arith, s);
       classes = λ n l. ap (λ (z : LiveObject). z.class) (get_or_append_left w.objects (x ∷ []) no_object n l);
       distinct = λ d. distinct_push (length w.objects) w.context e own d (recursion_from_All (λ (a : Entry). a.object < length w.objects) w.context within);
+      linked = linked_push w.objects x links;
     }

@@ -9,7 +9,7 @@ use Rattle.std.specs.Cmp.{Equal-is}
 use Rattle.std.specs.FinMap.Entries.{find as entry_found}
 use Rattle.std.proofs.lemmas.List.{get_or_push, length-append, length-map}
 use Rattle.std.proofs.lemmas.List.FromFn.{length-enumerate_from}
-use Rattle.std.proofs.lemmas.List.Elements.{recursion_from_All}
+use Rattle.std.proofs.lemmas.List.Elements.{All-from_recursion, All-map, All-nil, recursion_from_All}
 use Rattle.std.proofs.lemmas.Bool.{true≢false, false≢true, ltb-true, lt-ltb, eq-eqb, ne_eqb, and_parts, and_from}
 use Rattle.jpa_value.specs.declared.value.Identity.{Identity}
 use Rattle.jpa_value.specs.declared.value.Value.{Value}
@@ -24,22 +24,21 @@ use Rattle.jpa_model.specs.Chains.{attributes_of, relations_of, root_of, is_to_o
 use Rattle.jpa_behaviour.specs.Behaviour.{World}
 use Rattle.jpa_stored.specs.declared.stored.Stored.{Stored}
 use Rattle.jpa_stored.specs.Sets.{StoredSet, stored_at, all_shaped, is_shaped, is_identity_of, is_key_of, version_there, each_fits, members}
-use Rattle.jpa_heap.specs.declared.Held.{Held}
 use Rattle.jpa_heap.specs.declared.LiveObject.{LiveObject}
-use Rattle.jpa_heap.specs.Objects.{no_object, object_at, is_whole}
+use Rattle.jpa_heap.specs.Objects.{no_object, is_whole}
 use Rattle.jpa_heap.specs.Shape.{HasShape}
 use Rattle.jpa_context.specs.declared.Base.{Base}
 use Rattle.jpa_context.specs.declared.Lock.{Lock}
 use Rattle.jpa_context.specs.declared.Entry.{Entry}
 use Rattle.jpa_protocol.specs.declared.event.Told.{Told}
-use Rattle.jpa_context.specs.Steps.{◌>>◌, Op, Outcome, Done, Refused, after, change, give, require, IsRefusedAs}
+use Rattle.jpa_context.specs.Steps.{◌>>◌, Op, Outcome, Done, after, change, give, require, IsRefusedAs}
 use Rattle.jpa_context.specs.Undo.{IsPlaced}
 use Rattle.jpa_context.specs.Work.{Work, object, row, entered, with_base}
 use Rattle.jpa_lifecycle.specs.Callbacks.{callback}
 use Rattle.jpa_lifecycle.proofs.Keeps.{happened}
-use Rattle.jpa_fetch.specs.Grown.{HasGrown}
+use Rattle.jpa_fetch.specs.Grown.{HasGrown, IsLinked}
 use Rattle.jpa_fetch.specs.Load.{held_from, held_loaded, known, unread, members_loaded, object_loaded, base_loaded, made, load}
-use Rattle.jpa_fetch.proofs.Grown.{with_last, placed_push, grown_push, placed_happened, grown_happened, grown_on}
+use Rattle.jpa_fetch.proofs.Grown.{HoldsWithin, with_last, placed_push, grown_push, placed_happened, grown_happened, grown_on}
 
 -- ---- a row of a shaped set
 
@@ -112,6 +111,24 @@ loaded_shape m s manager id x h e =
       },
       key_is_whole (root_of m x.class).key id.key c.1,
     )
+
+-- it holds no object yet
+unread_within : (count : ℕ) (b : Bool) (ids : List Identity) → HoldsWithin count (unread b ids)
+unread_within count true [] = All-nil (λ k. k < count)
+unread_within count true (id ∷ ids) = All-nil (λ k. k < count)
+unread_within count false ids = All-nil (λ k. k < count)
+
+pub loaded_links : (m : PersistenceUnit) (s : StoredSet) (manager : ℕ) (id : Identity) (x : Stored) (os : List LiveObject) → IsLinked os (object_loaded m manager s id x)
+loaded_links m s manager id x os =
+    let count = length os in
+    let enumerated = enumerate_from 0 (relations_of m x.class) in
+    let Holds : ℕ × Relation → Type 0 = λ p. HoldsWithin count (unread (is_to_one (p.1).side) (members m s id x p.0)) in
+    All-map (HoldsWithin count) (λ (p : ℕ × Relation). unread (is_to_one (p.1).side) (members m s id x p.0)) enumerated
+    (All-from_recursion Holds enumerated (each enumerated))
+  where
+    each : (ps : List (ℕ × Relation)) → AllByRecursion (λ (p : ℕ × Relation). HoldsWithin (length os) (unread (is_to_one (p.1).side) (members m s id x p.0))) ps
+    each [] = tt
+    each (p ∷ ps) = (unread_within (length os) (is_to_one (p.1).side) (members m s id x p.0), each ps)
 
 -- ---- an object with its base enters
 
@@ -191,7 +208,7 @@ pub load_done : (world : World) (id : Identity) (x : Stored) (w : Work) (n : ℕ
     callback world LifecycleEvent.PostLoad n u ≡ Done tt new → load world id x w ≡ Done n new
 load_done world id x w n u new h e told = loads_as world id x w n u h e ∙ ap (λ o. after o (λ _. give n)) told
 
-refused_after : {A B : Type 0} (r : Cause) (events : List Told) (o : Outcome A) (f : A → Op B) → IsRefusedAs r events o → IsRefusedAs r events (after o f)
+pub refused_after : {A B : Type 0} (r : Cause) (events : List Told) (o : Outcome A) (f : A → Op B) → IsRefusedAs r events o → IsRefusedAs r events (after o f)
 refused_after Cause.OutOfMemory events o f h = tt
 refused_after Cause.StoreFault events o f h = h
 refused_after r events o f h = ap (λ p. after p f) h
@@ -219,7 +236,8 @@ module _ (world : World) (id : Identity) (x : Stored) (w : Work) (n : ℕ) (u : 
 
   pub entered_grown : HasGrown w u
   entered_grown =
-      subst (HasGrown w) (sym e.work) (grown_push w (object_loaded world.model w.manager w.view id x) (entry_loaded world.model w.view id x (length w.objects)) refl h.entries)
+      let own = object_loaded world.model w.manager w.view id x in
+      subst (HasGrown w) (sym e.work) (grown_push w own (entry_loaded world.model w.view id x (length w.objects)) refl h.entries (loaded_links world.model w.view w.manager id x w.objects))
 
   pub entered_shape : HasShape world.model (object u n)
   entered_shape = entered_placed.objects n no_object within

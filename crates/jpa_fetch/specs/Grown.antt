@@ -1,15 +1,43 @@
--- How a work goes on while objects are loaded and relations are read: objects are added, and each keeps its class; a context that
--- names each object once does so still.
-use Rattle.std.specs.Prelude.{◌≡◌, ◌<◌, ◌≤◌, ◌==◌, ℕ, true, List, length}
+-- What operations on a work stand on, and how a work goes on by them: objects are added, and each keeps its class.
+use Rattle.std.specs.Prelude.{◌≡◌, ◌<◌, ◌≤◌, ◌==◌, ℕ, true, All, List, [], ◌∷◌, length}
+use Rattle.jpa_model.specs.declared.unit.PersistenceUnit.{PersistenceUnit}
 use Rattle.jpa_stored.specs.Sets.{all_distinct}
+use Rattle.jpa_heap.specs.declared.Link.{Link}
+use Rattle.jpa_heap.specs.declared.Collection.{Collection}
+use Rattle.jpa_heap.specs.declared.Held.{Held}
+use Rattle.jpa_heap.specs.declared.LiveObject.{LiveObject}
 use Rattle.jpa_context.specs.declared.Entry.{Entry}
+use Rattle.jpa_context.specs.Undo.{IsPlaced}
 use Rattle.jpa_context.specs.Work.{Work, object}
 
 -- no two entries are of one object
 abbrev pub AreDistinct : List Entry → Type 0
 AreDistinct es = all_distinct (λ a b. a.object == b.object) es ≡ true
 
+-- the objects that a relation holds, as far as it was read
+abbrev pub objects_held : Held → List ℕ
+objects_held (Held.One Link.None) = []
+objects_held (Held.One (Link.Object k)) = k ∷ []
+objects_held (Held.One (Link.Key id)) = []
+objects_held (Held.Many (Collection.Fetched ks)) = ks
+objects_held (Held.Many Collection.Unfetched) = []
+
+-- what an object holds stands in the heap
+abbrev pub IsLinked : List LiveObject → LiveObject → Type 0
+IsLinked objects x = All (λ held. All (λ k. k < length objects) (objects_held held)) x.relations
+
+abbrev pub AreLinked : List LiveObject → Type 0
+AreLinked objects = All (IsLinked objects) objects
+
+-- what operations stand on: places, links and entries are in order
+pub record IsReady (m : PersistenceUnit) (w : Work) : Type 0 where
+  pub placed : IsPlaced m w
+  pub linked : AreLinked w.objects
+  pub distinct : AreDistinct w.context
+
+-- objects are added, and each keeps its class; what was linked, and entries of different objects, are so still
 pub record HasGrown (w v : Work) : Type 0 where
   pub count : length w.objects ≤ length v.objects
   pub classes : (n : ℕ) → n < length w.objects → (object v n).class ≡ (object w n).class
   pub distinct : AreDistinct w.context → AreDistinct v.context
+  pub linked : AreLinked w.objects → AreLinked v.objects

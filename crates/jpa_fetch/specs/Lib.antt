@@ -1,2 +1,4 @@
 pub mod Grown
 pub mod Load
+pub mod Members
+pub mod Orderly

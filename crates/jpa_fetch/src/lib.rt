@@ -1,8 +1,18 @@
-//! Loading of objects: a row becomes an object of the context, with what it leads to unread.
+//! Loading of objects, and what they hold: a row becomes an object of the context, with what it leads to unread; what was not
+//! read is read when it is asked for.
 //!
-//! The definition stands in `specs/Load.antt`. The crate stands on cascades and on listeners.
+//! The definitions stand in `specs/`: `Load` loads and finds, `Members` gets and changes. The crate stands on cascades and on
+//! listeners.
 #![tactic(auto)]
 
+mod changing;
+mod collections;
+mod finding;
+mod getting;
 mod loading;
+mod reading;
 
+pub use collections::{add, take_out};
+pub use finding::find;
+pub use getting::{Got, get};
 pub use loading::{load, object_of_row};

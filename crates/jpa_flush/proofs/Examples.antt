@@ -19,7 +19,7 @@ use Rattle.jpa_context.specs.declared.Lock.{Lock}
 use Rattle.jpa_context.specs.Steps.{Done, Refused}
 use Rattle.jpa_context.specs.Work.{Work}
 use Rattle.jpa_flush.specs.Flush.{flush}
-use Rattle.jpa_flush.specs.Names.{has_distinct_entries}
+use Rattle.jpa_ops.specs.Names.{has_distinct_entries}
 use Rattle.jpa_flush.specs.Plan.{plan_of, write_each}
 
 -- persons with a name and a version

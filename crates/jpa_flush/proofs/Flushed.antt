@@ -1,132 +1,77 @@
--- A flush, where classes have no relations and no entry is locked, is its plan.
-use Rattle.std.proofs.Common.{◌≡◌, ◌∙◌, ℕ, zero, suc, Bool, true, false, List, [], ◌∷◌, ◌++◌, length, refl, ap, sym, subst, T}
-use Rattle.std.specs.Prelude.{option_map, is_some, not, ◌||◌, slice_get, Option, Some, None, All}
-use Rattle.std.specs.List.{AllByRecursion, list_all, filter, flat_map, enumerate_from}
+-- A flush is its plan: what is written, taken out, settled and told is what the definition's actions say.
+use Rattle.std.proofs.Common.{◌≡◌, ◌∙◌, ℕ, ◌+◌, ◌<◌, Bool, true, false, List, [], ◌∷◌, ◌++◌, map, length, refl, ap, sym, subst, T}
+use Rattle.std.specs.Prelude.{All, is_some, not, ◌||◌, Option, Some, None, if◌then◌else◌}
+use Rattle.std.specs.List.{list_all, filter, flat_map, enumerate_from}
 use Rattle.std.specs.FinMap.Entries.{is_sorted}
-use Rattle.std.proofs.lemmas.Bool.{and_from}
-use Rattle.std.proofs.lemmas.Grind.{flat_map-append}
+use Rattle.std.proofs.lemmas.Bool.{and_from, and_parts, not-true}
 use Rattle.jpa_value.specs.declared.value.Identity.{Identity}
 use Rattle.jpa_value.specs.declared.refusal.Cause.{Cause}
-use Rattle.jpa_value.specs.declared.refusal.State.{State}
 use Rattle.jpa_value.specs.declared.refusal.Persist.{Persist}
 use Rattle.jpa_value.specs.Value.{identity_cmp, same_identity}
 use Rattle.jpa_protocol.specs.declared.event.Told.{Told}
 use Rattle.jpa_model.specs.declared.unit.PersistenceUnit.{PersistenceUnit}
 use Rattle.jpa_model.specs.declared.unit.Relation.{Relation}
-use Rattle.jpa_model.specs.Chains.{is_versioned}
+use Rattle.jpa_model.specs.Chains.{relations_of}
 use Rattle.jpa_behaviour.specs.Behaviour.{World}
 use Rattle.jpa_stored.specs.declared.stored.Stored.{Stored}
-use Rattle.jpa_stored.specs.Sets.{StoredSet, without, all_distinct, fault_of}
+use Rattle.jpa_stored.specs.Sets.{StoredSet, IsSound, without, all_distinct, fault_of}
+use Rattle.jpa_heap.specs.Objects.{held_at}
+use Rattle.jpa_heap.specs.Shape.{HasShape}
 use Rattle.jpa_context.specs.declared.Entry.{Entry}
 use Rattle.jpa_context.specs.declared.EntityState.{EntityState}
-use Rattle.jpa_context.specs.declared.Lock.{Lock}
-use Rattle.jpa_context.specs.Work.{Work, object, state_of, is_managed, identity_at}
-use Rattle.jpa_context.specs.Steps.{◌>>◌, Outcome, Done, Refused, Op, after, require, change, each, IsRefusedAs}
-use Rattle.jpa_cascade.specs.declared.Operation.{Operation}
-use Rattle.jpa_cascade.specs.Waves.{live_nodes}
-use Rattle.jpa_cascade.proofs.Plain.{plain_targets}
-use Rattle.jpa_lifecycle.specs.Flat.{IsFlat}
-use Rattle.jpa_ops.specs.States.{persist}
+use Rattle.jpa_context.specs.Work.{Work, object, state_of, identity_at, row_at, base_of}
+use Rattle.jpa_context.specs.Steps.{◌>>◌, Outcome, Done, Refused, Op, after, change, each, IsRefusedAs}
+use Rattle.jpa_fetch.specs.Grown.{IsReady}
+use Rattle.jpa_ops.specs.Names.{has_distinct_entries}
 use Rattle.jpa_flush.specs.declared.planning.Planned.{Planned}
-use Rattle.jpa_flush.specs.Flush.{Action, Insert, Replace, Drop, persist_targets, persist_behind, persist_from, orphans_of, orphans_along, remove_orphan, remove_orphans_of, remove_orphans, links_along, links_stored, check_links, pre_update, check_actions, first_version, raised, written, actions, listed, replaces_row, joined as joins, joined_all, flushed, sound_or, settled, settled_all, all_remembered, after_flush, post, write_all, flush}
-use Rattle.jpa_flush.specs.Names.{has_distinct_entries}
-use Rattle.jpa_flush.specs.Plan.{plain_stored, insertion, replacement, removal, plan_of, write_each, settled_by, told_by, applied}
-use Rattle.jpa_flush.proofs.Plain.{IsUnlocked, item, items, plan_is, plain_entries, plain_stored_of}
-use Rattle.jpa_flush.proofs.Joined.{Write, joined, replaced, names, drops_rest, same_set}
-use Rattle.jpa_flush.proofs.Joined.{applied as applied_writes}
-use Rattle.jpa_flush.proofs.Names.{updated_distinct, plan_apart}
-use Rattle.jpa_flush.proofs.Written.{of_one, write_of, writes_of, alone, names_of, applied_each}
-use Rattle.jpa_ops.proofs.Refused.{refused_after}
-use Rattle.jpa_flush.proofs.Updated.{by_updates, updated_unlocked}
+use Rattle.jpa_flush.specs.Changes.{IsWritten}
+use Rattle.jpa_flush.specs.Flush.{Action, Insert, Replace, Drop, persist_reachable, remove_orphans, check_links, pre_update, check_actions, written, actions, listed, replaces_row, joined as joins, joined_all, flushed, sound_or, settled, settled_all, all_remembered, after_flush, post_event, post, write_all, flush}
+use Rattle.jpa_flush.specs.Plan.{class_there, item, plan_of, write_each, settled_by, told_by, applied, writing}
+use Rattle.jpa_flush.proofs.Alike.{alike_ready}
+use Rattle.jpa_flush.proofs.Changed.{plan_of_class}
+use Rattle.jpa_flush.proofs.Joined.{Write, joined, replaced, drops_rest, same_set}
+use Rattle.jpa_flush.proofs.Names.{plan_apart}
+use Rattle.jpa_flush.proofs.Settled.{settled_alike, settled_events}
+use Rattle.jpa_flush.proofs.Written.{of_one, is_replacing, writes_of, names_of, applied_each}
 
--- ---- nothing along relations
-
--- persist along cascades
-no_targets : (world : World) → IsFlat world.model → (n : ℕ) (s : EntityState) (w : Work) → persist_targets world n s w ≡ Done tt w
-no_targets world flat n EntityState.Managed w = ap (λ ns. each (persist world) (live_nodes ns) w) (plain_targets world.model Operation.Persist w n (flat.relations (object w n).class))
-no_targets world flat n EntityState.New w = refl
-no_targets world flat n EntityState.Removed w = refl
-no_targets world flat n EntityState.Detached w = refl
-
-nothing_behind : (world : World) → IsFlat world.model → (o : Option Entry) (w : Work) → persist_behind world o w ≡ Done tt w
-nothing_behind world flat None w = refl
-nothing_behind world flat (Some e) w = no_targets world flat e.object (state_of w e.object) w
-
-nothing_from : (world : World) → IsFlat world.model → (bound i : ℕ) (w : Work) → persist_from world bound i w ≡ Done tt w
-nothing_from world flat zero i w = refl
-nothing_from world flat (suc bound) i w =
-    ap (λ o. after o (λ _. persist_from world bound (suc i))) (nothing_behind world flat (slice_get w.context i) w) ∙ nothing_from world flat bound (suc i) w
-
--- orphans
-no_orphans : (m : PersistenceUnit) → IsFlat m → (w : Work) (n : ℕ) (s : EntityState) → orphans_of m w n s ≡ []
-no_orphans m flat w n EntityState.Managed = ap (λ (rs : List Relation). flat_map (orphans_along m w n) (enumerate_from 0 rs)) (flat.relations (object w n).class)
-no_orphans m flat w n EntityState.New = refl
-no_orphans m flat w n EntityState.Removed = refl
-no_orphans m flat w n EntityState.Detached = refl
-
-no_orphan : (world : World) → IsFlat world.model → (es : List Entry) (w : Work) → each (remove_orphans_of world) es w ≡ Done tt w
-no_orphan world flat [] w = refl
-no_orphan world flat (e ∷ es) w =
-    ap (λ ids. after (each (remove_orphan world) ids w) (λ _. each (remove_orphans_of world) es)) (no_orphans world.model flat w e.object (state_of w e.object)) ∙ no_orphan world flat es w
-
--- links to what is not stored
-or_true : (b : Bool) → (b || true) ≡ true
-or_true true = refl
-or_true false = refl
-
-all_linked : (m : PersistenceUnit) → IsFlat m → (w : Work) (es : List Entry) → list_all (links_stored m w) es ≡ true
-all_linked m flat w [] = refl
-all_linked m flat w (e ∷ es) =
-    let one : links_stored m w e ≡ true =
-    ap (λ (rs : List Relation). not (is_managed (state_of w e.object)) || list_all (links_along w e.object) (enumerate_from 0 rs)) (flat.relations (object w e.object).class)
-    ∙ or_true (not (is_managed (state_of w e.object))) in
-    and_from (links_stored m w e) (list_all (links_stored m w) es) one (all_linked m flat w es)
+-- ---- one part after another
 
 -- the flush from its last part back
-abbrev pub writing : World → Op (Unit {0})
-writing world = check_actions world >> write_all world
-
 abbrev pub updating : World → Op (Unit {0})
 updating world = pre_update world >> writing world
 
-abbrev linking : World → Op (Unit {0})
+abbrev pub linking : World → Op (Unit {0})
 linking world = check_links world >> updating world
 
-abbrev orphaning : World → Op (Unit {0})
+abbrev pub orphaning : World → Op (Unit {0})
 orphaning world = remove_orphans world >> linking world
 
-linked : (world : World) (b : Bool) (w : Work) → b ≡ true → after (require b (Cause.IllegalState State.Reference) w) (λ _. updating world) ≡ updating world w
-linked world b w h = ap (λ c. after (require c (Cause.IllegalState State.Reference) w) (λ _. updating world)) h
+-- once all that is reached is managed
+pub reached : (world : World) (w0 w : Work) → persist_reachable world w0 ≡ Done tt w → flush world w0 ≡ orphaning world w
+reached world w0 w e = ap (λ o. after o (λ _. orphaning world)) e
 
-pub flat_flush : (world : World) → IsFlat world.model → (w : Work) → flush world w ≡ updating world w
-flat_flush world flat w =
-    ap (λ o. after o (λ _. orphaning world)) (nothing_from world flat (length w.objects) 0 w)
-    ∙ ap (λ o. after o (λ _. linking world)) (no_orphan world flat w.context w)
-    ∙ linked world (list_all (links_stored world.model w) w.context) w (all_linked world.model flat w w.context)
+-- once orphans are removed
+pub orphaned : (world : World) (w0 w x : Work) → persist_reachable world w0 ≡ Done tt w → remove_orphans world w ≡ Done tt x → flush world w0 ≡ linking world x
+orphaned world w0 w x e r = reached world w0 w e ∙ ap (λ o. after o (λ _. linking world)) r
+
+-- once links are checked
+pub linked : (world : World) (w0 w x : Work) → persist_reachable world w0 ≡ Done tt w → remove_orphans world w ≡ Done tt x → check_links world x ≡ Done tt x → flush world w0 ≡ updating world x
+linked world w0 w x e r l = orphaned world w0 w x e r ∙ ap (λ o. after o (λ _. updating world)) l
+
+-- and PreUpdate happened
+pub updated : (world : World) (w0 w x v : Work) → persist_reachable world w0 ≡ Done tt w → remove_orphans world w ≡ Done tt x → check_links world x ≡ Done tt x → pre_update world x ≡ Done tt v →
+    flush world w0 ≡ writing world v
+updated world w0 w x v e r l u = linked world w0 w x e r l ∙ ap (λ o. after o (λ _. writing world)) u
 
 -- ---- the actions are the plan
 
-abbrev rest_settled : List Planned → ℕ → Work → Option Stored → Work
-rest_settled plan n v x = settled_by plan (settled n x v)
+settled_items : (m : PersistenceUnit) (w : Work) (as' : List (ℕ × Action)) (v : Work) → settled_all m w as' v ≡ settled_by (map (item m w) as') v
+settled_items m w [] v = refl
+settled_items m w (a ∷ as') v = settled_items m w as' (settled a.0 (written m w a.0 a.1) v)
 
-settled_one : (m : PersistenceUnit) → IsFlat m → (w v : Work) (n : ℕ) (a : Action) (plan : List Planned) → settled_by plan (settled n (written m w n a) v) ≡ settled_by (item m w n a ++ plan) v
-settled_one m flat w v n Insert plan = ap (λ x. rest_settled plan n v (Some x)) (plain_stored_of m flat w n (first_version (is_versioned m (object w n).class)))
-settled_one m flat w v n (Replace b) plan = ap (λ x. rest_settled plan n v (Some x)) (plain_stored_of m flat w n (raised (b.stored).version))
-settled_one m flat w v n (Drop b) plan = refl
-
-settled_items : (m : PersistenceUnit) → IsFlat m → (w : Work) (as' : List (ℕ × Action)) (v : Work) → settled_all m w as' v ≡ settled_by (items m w as') v
-settled_items m flat w [] v = refl
-settled_items m flat w (a ∷ as') v = settled_items m flat w as' (settled a.0 (written m w a.0 a.1) v) ∙ settled_one m flat w v a.0 a.1 (items m w as')
-
-told_one : (world : World) (w v : Work) (n : ℕ) (a : Action) (rest : Op (Unit {0})) (plan : List Planned) → ((u : Work) → rest u ≡ told_by world plan u) →
-    after (post world (n, a) v) (λ _. rest) ≡ told_by world (item world.model w n a ++ plan) v
-told_one world w v n Insert rest plan e = λ i. after (post world (n, Insert) v) (λ _ u. e u i)
-told_one world w v n (Replace b) rest plan e = λ i. after (post world (n, Replace b) v) (λ _ u. e u i)
-told_one world w v n (Drop b) rest plan e = λ i. after (post world (n, Drop b) v) (λ _ u. e u i)
-
-told_items : (world : World) (w : Work) (as' : List (ℕ × Action)) (v : Work) → each (post world) as' v ≡ told_by world (items world.model w as') v
+told_items : (world : World) (w : Work) (as' : List (ℕ × Action)) (v : Work) → each (post world) as' v ≡ told_by world (map (item world.model w) as') v
 told_items world w [] v = refl
-told_items world w (a ∷ as') v = told_one world w v a.0 a.1 (each (post world) as') (items world.model w as') (λ u. told_items world w as' u)
+told_items world w (a ∷ as') v = λ i. after (post world a v) (λ _ u. told_items world w as' u i)
 
 -- ---- the new set
 
@@ -138,27 +83,11 @@ put_first None x b ws s = refl
 put_first (Some id) None b ws s = refl
 put_first (Some id) (Some x) b ws s = refl
 
-joined_one : (m : PersistenceUnit) → IsFlat m → (w : Work) (n : ℕ) (a : Action) (ws : List Write) (s : StoredSet) →
-    joined ws (joins (identity_at m w n) (written m w n a) s) ≡ joined (writes_of (item m w n a) ++ ws) s
-joined_one m flat w n Insert ws s =
-    ap (λ x. joined ws (joins (identity_at m w n) (Some x) s)) (plain_stored_of m flat w n (first_version (is_versioned m (object w n).class)))
-    ∙ put_first (identity_at m w n) (Some (plain_stored (object w n) (first_version (is_versioned m (object w n).class)))) false ws s
-    ∙ ap (λ xs. joined (xs ++ ws) s) (sym (alone (insertion m w n)))
-joined_one m flat w n (Replace b) ws s =
-    ap (λ x. joined ws (joins (identity_at m w n) (Some x) s)) (plain_stored_of m flat w n (raised (b.stored).version))
-    ∙ put_first (identity_at m w n) (Some (plain_stored (object w n) (raised (b.stored).version))) true ws s
-    ∙ ap (λ xs. joined (xs ++ ws) s) (sym (alone (replacement m w n (b.stored).version)))
-joined_one m flat w n (Drop b) ws s = put_first (identity_at m w n) None true ws s ∙ ap (λ xs. joined (xs ++ ws) s) (sym (alone (removal m w n)))
-
-split : (m : PersistenceUnit) (w : Work) (a : ℕ × Action) (as' : List (ℕ × Action)) → writes_of (items m w (a ∷ as')) ≡ writes_of (item m w a.0 a.1) ++ writes_of (items m w as')
-split m w a as' = flat_map-append write_of (item m w a.0 a.1) (items m w as')
-
-joined_items : (m : PersistenceUnit) → IsFlat m → (w : Work) (as' : List (ℕ × Action)) (s : StoredSet) → joined_all m w as' s ≡ joined (writes_of (items m w as')) s
-joined_items m flat w [] s = refl
-joined_items m flat w (a ∷ as') s =
-    joined_items m flat w as' (joins (identity_at m w a.0) (written m w a.0 a.1) s)
-    ∙ joined_one m flat w a.0 a.1 (writes_of (items m w as')) s
-    ∙ ap (λ ws. joined ws s) (sym (split m w a as'))
+joined_items : (m : PersistenceUnit) (w : Work) (as' : List (ℕ × Action)) (s : StoredSet) → joined_all m w as' s ≡ joined (writes_of (map (item m w) as')) s
+joined_items m w [] s = refl
+joined_items m w (a ∷ as') s =
+    joined_items m w as' (joins (identity_at m w a.0) (written m w a.0 a.1) s)
+    ∙ put_first (identity_at m w a.0) (written m w a.0 a.1) (is_replacing (post_event a.1)) (writes_of (map (item m w) as')) s
 
 replaced_first : (id : Option Identity) (x : Option Stored) (ws : List Write) (ids : List Identity) → ids ≡ replaced ws → listed id ++ ids ≡ replaced (of_one id x true ++ ws)
 replaced_first None x ws ids h = h
@@ -169,119 +98,137 @@ kept_first None x ws ids h = h
 kept_first (Some id) x ws ids h = h
 
 replaced_one : (m : PersistenceUnit) (w : Work) (n : ℕ) (a : Action) (as' : List (ℕ × Action)) (ws : List Write) → replaced_in m w as' ≡ replaced ws →
-    replaced_in m w ((n, a) ∷ as') ≡ replaced (writes_of (item m w n a) ++ ws)
-replaced_one m w n Insert as' ws h =
-    kept_first (identity_at m w n) (Some (plain_stored (object w n) (first_version (is_versioned m (object w n).class)))) ws (replaced_in m w as') h ∙ ap (λ xs. replaced (xs ++ ws)) (sym (alone (insertion m w n)))
-replaced_one m w n (Replace b) as' ws h =
-    replaced_first (identity_at m w n) (Some (plain_stored (object w n) (raised (b.stored).version))) ws (replaced_in m w as') h ∙ ap (λ xs. replaced (xs ++ ws)) (sym (alone (replacement m w n (b.stored).version)))
-replaced_one m w n (Drop b) as' ws h = replaced_first (identity_at m w n) None ws (replaced_in m w as') h ∙ ap (λ xs. replaced (xs ++ ws)) (sym (alone (removal m w n)))
+    replaced_in m w ((n, a) ∷ as') ≡ replaced (of_one (identity_at m w n) (written m w n a) (is_replacing (post_event a)) ++ ws)
+replaced_one m w n Insert as' ws h = kept_first (identity_at m w n) (written m w n Insert) ws (replaced_in m w as') h
+replaced_one m w n (Replace b) as' ws h = replaced_first (identity_at m w n) (written m w n (Replace b)) ws (replaced_in m w as') h
+replaced_one m w n (Drop b) as' ws h = replaced_first (identity_at m w n) None ws (replaced_in m w as') h
 
-replaced_items : (m : PersistenceUnit) (w : Work) (as' : List (ℕ × Action)) → replaced_in m w as' ≡ replaced (writes_of (items m w as'))
+replaced_items : (m : PersistenceUnit) (w : Work) (as' : List (ℕ × Action)) → replaced_in m w as' ≡ replaced (writes_of (map (item m w) as'))
 replaced_items m w [] = refl
-replaced_items m w (a ∷ as') = replaced_one m w a.0 a.1 as' (writes_of (items m w as')) (replaced_items m w as') ∙ ap replaced (sym (split m w a as'))
+replaced_items m w (a ∷ as') = replaced_one m w a.0 a.1 as' (writes_of (map (item m w) as')) (replaced_items m w as')
 
 -- what is not written is dropped
 rest_first : (id : Option Identity) (x : Option Stored) (b : Bool) (ws : List Write) → (is_some x || b) ≡ true → drops_rest ws ≡ true → drops_rest (of_one id x b ++ ws) ≡ true
 rest_first None x b ws t h = h
 rest_first (Some id) x b ws t h = and_from (is_some x || b) (drops_rest ws) t h
 
-rest_one : (m : PersistenceUnit) (w : Work) (n : ℕ) (a : Action) (ws : List Write) → drops_rest ws ≡ true → drops_rest (writes_of (item m w n a) ++ ws) ≡ true
-rest_one m w n Insert ws h =
-    ap (λ xs. drops_rest (xs ++ ws)) (alone (insertion m w n)) ∙ rest_first (identity_at m w n) (Some (plain_stored (object w n) (first_version (is_versioned m (object w n).class)))) false ws refl h
-rest_one m w n (Replace b) ws h = ap (λ xs. drops_rest (xs ++ ws)) (alone (replacement m w n (b.stored).version)) ∙ rest_first (identity_at m w n) (Some (plain_stored (object w n) (raised (b.stored).version))) true ws refl h
-rest_one m w n (Drop b) ws h = ap (λ xs. drops_rest (xs ++ ws)) (alone (removal m w n)) ∙ rest_first (identity_at m w n) None true ws refl h
+rest_one : (m : PersistenceUnit) (w : Work) (n : ℕ) (a : Action) → (is_some (written m w n a) || is_replacing (post_event a)) ≡ true
+rest_one m w n Insert = refl
+rest_one m w n (Replace b) = refl
+rest_one m w n (Drop b) = refl
 
-rest_items : (m : PersistenceUnit) (w : Work) (as' : List (ℕ × Action)) → drops_rest (writes_of (items m w as')) ≡ true
+rest_items : (m : PersistenceUnit) (w : Work) (as' : List (ℕ × Action)) → drops_rest (writes_of (map (item m w) as')) ≡ true
 rest_items m w [] = refl
-rest_items m w (a ∷ as') = ap drops_rest (split m w a as') ∙ rest_one m w a.0 a.1 (writes_of (items m w as')) (rest_items m w as')
-
--- ---- together
+rest_items m w (a ∷ as') =
+    rest_first (identity_at m w a.0) (written m w a.0 a.1) (is_replacing (post_event a.1)) (writes_of (map (item m w) as')) (rest_one m w a.0 a.1) (rest_items m w as')
 
 abbrev pub new_view : PersistenceUnit → Work → StoredSet
 new_view m w = write_each (plan_of m w) w.view
 
-flushed_is : (m : PersistenceUnit) → IsFlat m → (w : Work) → AllByRecursion IsUnlocked w.context → T (is_sorted identity_cmp w.view) → has_distinct_entries m w ≡ true → flushed m w (actions m w) ≡ new_view m w
-flushed_is m flat w h rising distinct =
-    let as' = actions m w in
-    let is = plan_is m flat w h in
-    joined_items m flat w as' (without (replaced_in m w as') w.view)
-    ∙ ap (λ ids. joined (writes_of (items m w as')) (without ids w.view)) (replaced_items m w as')
-    ∙ same_set (writes_of (items m w as')) w.view rising (ap (λ ps. all_distinct same_identity (names (writes_of ps))) is ∙ ap (all_distinct same_identity) (names_of (plan_of m w)) ∙ plan_apart m w distinct) (rest_items m w as')
-    ∙ ap (λ ps. applied_writes (writes_of ps) w.view) is
-    ∙ applied_each (plan_of m w) w.view
+flushed_is : (m : PersistenceUnit) (w : Work) → T (is_sorted identity_cmp w.view) → has_distinct_entries m w ≡ true → flushed m w (actions m w) ≡ new_view m w
+flushed_is m w rising distinct =
+    let plan = plan_of m w in
+    joined_items m w (actions m w) (without (replaced_in m w (actions m w)) w.view)
+    ∙ ap (λ ids. joined (writes_of plan) (without ids w.view)) (replaced_items m w (actions m w))
+    ∙ same_set (writes_of plan) w.view rising (ap (all_distinct same_identity) (names_of plan) ∙ plan_apart m w distinct) (rest_items m w (actions m w))
+    ∙ applied_each plan w.view
+
+-- ---- together
 
 abbrev ending : World → List (ℕ × Action) → StoredSet → Op (Unit {0})
 ending world plan set = change (after_flush world.model plan set) >> each (post world) plan
 
-applied_is : (m : PersistenceUnit) → IsFlat m → (w : Work) (set : StoredSet) → AllByRecursion IsUnlocked w.context → after_flush m (actions m w) set w ≡ applied m (plan_of m w) set w
-applied_is m flat w set h =
-    ap {A = Work} {B = Work} (λ v. record (all_remembered m v) { view = set })
-    (settled_items m flat w (actions m w) w ∙ ap (λ plan. settled_by plan w) (plan_is m flat w h))
+applied_is : (m : PersistenceUnit) (w : Work) (set : StoredSet) → after_flush m (actions m w) set w ≡ applied m (plan_of m w) set w
+applied_is m w set = ap {A = Work} {B = Work} (λ v. record (all_remembered m v) { view = set }) (settled_items m w (actions m w) w)
 
-ended : (world : World) → IsFlat world.model → (w : Work) (set : StoredSet) → AllByRecursion IsUnlocked w.context →
-    ending world (actions world.model w) set w ≡ told_by world (plan_of world.model w) (applied world.model (plan_of world.model w) set w)
-ended world flat w set h =
+ended : (world : World) (w : Work) (set : StoredSet) → ending world (actions world.model w) set w ≡ told_by world (plan_of world.model w) (applied world.model (plan_of world.model w) set w)
+ended world w set =
     let m = world.model in
-    ap (each (post world) (actions m w)) (applied_is m flat w set h)
-    ∙ told_items world w (actions m w) (applied m (plan_of m w) set w)
-    ∙ ap (λ plan. told_by world plan (applied m (plan_of m w) set w)) (plan_is m flat w h)
+    ap (each (post world) (actions m w)) (applied_is m w set) ∙ told_items world w (actions m w) (applied m (plan_of m w) set w)
 
--- after the checks: the fault of the new set, else the plan
-abbrev pub outcome : World → Work → Outcome (Unit {0})
-outcome world w = after (sound_or (fault_of world.model (new_view world.model w)) w) (λ _ _. told_by world (plan_of world.model w) (applied world.model (plan_of world.model w) (new_view world.model w) w))
+-- the fault of the new set, else the plan
+abbrev told_of : World → Work → Outcome (Unit {0})
+told_of world w = told_by world (plan_of world.model w) (applied world.model (plan_of world.model w) (new_view world.model w) w)
 
-by_fault : (world : World) (w : Work) (fault : Option Persist) (next : Op (Unit {0})) (o : Outcome (Unit {0})) → next w ≡ o → after (sound_or fault w) (λ _. next) ≡ after (sound_or fault w) (λ _ _. o)
-by_fault world w None next o e = e
-by_fault world w (Some fault) next o e = refl
+by_fault : (w : Work) (fault : Option Persist) (next : Op (Unit {0})) (o : Outcome (Unit {0})) → next w ≡ o → after (sound_or fault w) (λ _. next) ≡ after (sound_or fault w) (λ _ _. o)
+by_fault w None next o e = e
+by_fault w (Some fault) next o e = refl
 
-written_is : (world : World) → IsFlat world.model → (w : Work) → AllByRecursion IsUnlocked w.context → T (is_sorted identity_cmp w.view) → has_distinct_entries world.model w ≡ true →
-    write_all world w ≡ outcome world w
-written_is world flat w h rising distinct =
+written_is : (world : World) (w : Work) → T (is_sorted identity_cmp w.view) → has_distinct_entries world.model w ≡ true →
+    write_all world w ≡ after (sound_or (fault_of world.model (new_view world.model w)) w) (λ _ _. told_of world w)
+written_is world w rising distinct =
     let m = world.model in
-    ap (λ set. after (sound_or (fault_of m set) w) (λ _. ending world (actions m w) set)) (flushed_is m flat w h rising distinct)
-    ∙ by_fault world w (fault_of m (new_view m w)) (ending world (actions m w) (new_view m w))
-    (told_by world (plan_of m w) (applied m (plan_of m w) (new_view m w) w)) (ended world flat w (new_view m w) h)
+    ap (λ set. after (sound_or (fault_of m set) w) (λ _. ending world (actions m w) set)) (flushed_is m w rising distinct)
+    ∙ by_fault w (fault_of m (new_view m w)) (ending world (actions m w) (new_view m w)) (told_of world w) (ended world w (new_view m w))
 
--- what PreUpdate refuses is refused
-pub refused_at_first : (world : World) → IsFlat world.model → (w : Work) (r : Cause) (events : List Told) → IsRefusedAs r events (pre_update world w) → IsRefusedAs r events (flush world w)
-refused_at_first world flat w r events h =
-    subst (IsRefusedAs r events) (sym (flat_flush world flat w)) (refused_after r events (pre_update world w) (λ _. writing world) h)
+-- a set is sound or refused over any work alike
+pub no_fault : (fault : Option Persist) (w v : Work) → sound_or fault w ≡ Done tt v → fault ≡ None
+no_fault None w v e = refl
+no_fault (Some fault) w v e = absurd cc
 
-after_updates : (world : World) → IsFlat world.model → (w0 w : Work) → pre_update world w0 ≡ Done tt w → flush world w0 ≡ writing world w
-after_updates world flat w0 w e = flat_flush world flat w0 ∙ ap (λ o. after o (λ _. writing world)) e
+none_refused : (r : Cause) (events : List Told) (w : Work) (o : Outcome (Unit {0})) → IsRefusedAs {A = Unit {0}} r events (Done tt w) → IsRefusedAs r events o
+none_refused Cause.OutOfMemory events w o h = tt
+none_refused Cause.StoreFault events w o h = h
+none_refused r events w o h = absurd cc
 
--- what a check refuses is refused
-pub refused_by_check : (world : World) → IsFlat world.model → (w0 w : Work) (r : Cause) (events : List Told) → pre_update world w0 ≡ Done tt w → IsRefusedAs r events (check_actions world w) →
-    IsRefusedAs r events (flush world w0)
-refused_by_check world flat w0 w r events e h =
-    subst (IsRefusedAs r events) (sym (after_updates world flat w0 w e)) (refused_after r events (check_actions world w) (λ _. write_all world) h)
+refused_alike : (fault : Option Persist) (r : Cause) (w v : Work) (o : Outcome (Unit {0})) → v.events ≡ w.events → IsRefusedAs r v.events (sound_or fault v) → IsRefusedAs r v.events (after (sound_or fault w) (λ _ _. o))
+refused_alike None r w v o same h = none_refused r v.events v o h
+refused_alike (Some fault) r w v o same h = subst (λ es. IsRefusedAs {A = Unit {0}} r v.events (Refused (Cause.Persistence fault) es)) same h
 
--- a flush whose checks pass
-checked : (world : World) → IsFlat world.model → (w0 w : Work) → All (λ e. e.lock ≡ Lock.Unlocked) w.context → T (is_sorted identity_cmp w.view) → has_distinct_entries world.model w ≡ true →
-    pre_update world w0 ≡ Done tt w → check_actions world w ≡ Done tt w → flush world w0 ≡ outcome world w
-checked world flat w0 w unlocked rising distinct updated passed =
-    after_updates world flat w0 w updated ∙ ap (λ o. after o (λ _. write_all world)) passed ∙ written_is world flat w (plain_entries w.context unlocked) rising distinct
+-- a flush whose checks pass, where the new set is refused, and where it is sound
+pub refused_by_fault : (world : World) (w v : Work) (r : Cause) → T (is_sorted identity_cmp w.view) → has_distinct_entries world.model w ≡ true → check_actions world w ≡ Done tt w →
+    v.view ≡ new_view world.model w → v.events ≡ w.events → IsRefusedAs r v.events (sound_or (fault_of world.model v.view) v) → IsRefusedAs r v.events (writing world w)
+refused_by_fault world w v r rising distinct passed set same h =
+    let m = world.model in
+    subst (IsRefusedAs r v.events) (sym (ap (λ o. after o (λ _. write_all world)) passed ∙ written_is world w rising distinct))
+    (refused_alike (fault_of m (new_view m w)) r w v (told_of world w) same (subst (λ s. IsRefusedAs r v.events (sound_or (fault_of m s) v)) set h))
 
-pub at_fault : (world : World) (w : Work) (fault : Persist) → fault_of world.model (new_view world.model w) ≡ Some fault → outcome world w ≡ Refused (Cause.Persistence fault) w.events
-at_fault world w fault e =
-    ap (λ f. after (sound_or f w) (λ _ _. told_by world (plan_of world.model w) (applied world.model (plan_of world.model w) (new_view world.model w) w))) e
+pub sound : (world : World) (w : Work) → T (is_sorted identity_cmp w.view) → has_distinct_entries world.model w ≡ true → check_actions world w ≡ Done tt w → fault_of world.model (new_view world.model w) ≡ None →
+    writing world w ≡ told_by world (plan_of world.model w) (applied world.model (plan_of world.model w) (new_view world.model w) w)
+sound world w rising distinct passed e =
+    ap (λ o. after o (λ _. write_all world)) passed ∙ written_is world w rising distinct ∙ ap (λ f. after (sound_or f w) (λ _ _. told_of world w)) e
 
-pub sound : (world : World) (w : Work) → fault_of world.model (new_view world.model w) ≡ None → outcome world w ≡ told_by world (plan_of world.model w) (applied world.model (plan_of world.model w) (new_view world.model w) w)
-sound world w e = ap (λ f. after (sound_or f w) (λ _ _. told_by world (plan_of world.model w) (applied world.model (plan_of world.model w) (new_view world.model w) w))) e
+-- ---- what code makes of a work
 
--- a flush after PreUpdate
-pub ready : (world : World) → IsFlat world.model → (w0 w : Work) → All (λ e. e.lock ≡ Lock.Unlocked) w0.context → T (is_sorted identity_cmp w0.view) → has_distinct_entries world.model w0 ≡ true →
-    pre_update world w0 ≡ Done tt w → check_actions world w ≡ Done tt w → flush world w0 ≡ outcome world w
-ready world flat w0 w unlocked rising distinct updated passed =
-    let h = by_updates world w0 w updated in
-    checked world flat w0 w (updated_unlocked w0 w h unlocked) (subst (λ s. T (is_sorted identity_cmp s)) (sym h.view) rising) (updated_distinct world.model w0 w h distinct) updated passed
+-- settled, remembered and written is the plan applied
+pub made : (m : PersistenceUnit) (w v1 v2 v3 : Work) (ps qs : List Planned) → ps ≡ plan_of m w → qs ≡ plan_of m w → v1 ≡ settled_by ps w → v2 ≡ all_remembered m v1 → v3 ≡ record v2 { view = write_each qs v2.view } →
+    v3 ≡ applied m (plan_of m w) (new_view m w) w
+made m w v1 v2 v3 ps qs p q settled remembered wrote =
+    let plan = plan_of m w in
+    let all : v2 ≡ all_remembered m (settled_by plan w) = remembered ∙ ap (all_remembered m) (settled ∙ ap (λ xs. settled_by xs w) p) in
+    wrote
+    ∙ (λ i. record (all i) { view = write_each (q i) (all i).view })
+    ∙ ap {A = StoredSet} {B = Work} (λ s. record (all_remembered m (settled_by plan w)) { view = write_each plan s }) (settled_alike plan w).view
 
--- what the look for a fault of the new set refuses
-pub refused_by_fault : (world : World) (w : Work) (r : Cause) → option_map Cause.Persistence (fault_of world.model (new_view world.model w)) ≡ Some r → IsRefusedAs r w.events (outcome world w)
-refused_by_fault world w r h = by (fault_of world.model (new_view world.model w)) refl h
-  where
-    by : (o : Option Persist) → fault_of world.model (new_view world.model w) ≡ o → option_map Cause.Persistence o ≡ Some r → IsRefusedAs r w.events (outcome world w)
-    by None e h = absurd cc
-    by (Some fault) e h =
-        let same : Cause.Persistence fault ≡ r = cc in
-        subst (λ c. IsRefusedAs c w.events (outcome world w)) same (at_fault world w fault e)
+pub settled_ready : (m : PersistenceUnit) (w v : Work) (ps : List Planned) → v ≡ settled_by ps w → IsReady m w → IsReady m v
+settled_ready m w v ps same ready = subst (IsReady m) (sym same) (alike_ready m w (settled_by ps w) (settled_alike ps w) ready)
+
+pub applied_shapes : (m : PersistenceUnit) (w v : Work) (plan : List Planned) (set : StoredSet) → v ≡ applied m plan set w → IsReady m w → All (HasShape m) v.objects
+applied_shapes m w v plan set same ready = subst (λ (u : Work). All (HasShape m) u.objects) (sym same) (alike_ready m w (settled_by plan w) (settled_alike plan w) ready).placed.objects
+
+pub applied_within : (m : PersistenceUnit) (w v : Work) (plan ps : List Planned) (set : StoredSet) → v ≡ applied m plan set w → All (λ p. p.object < length w.objects) ps → All (λ p. p.object < length v.objects) ps
+applied_within m w v plan ps set same within =
+    subst (λ n. All (λ (p : Planned). p.object < n) ps) (sym (ap (λ (u : Work). length u.objects) same ∙ (settled_alike plan w).count)) within
+
+-- the set that is judged is what the plan made of the one before
+pub written_of : (m : PersistenceUnit) (w v : Work) (ps : List Planned) → ps ≡ plan_of m w → v ≡ applied m (plan_of m w) (new_view m w) w → T (is_sorted identity_cmp w.view) → IsSound m w.view → IsWritten m w ps v.view
+written_of m w v ps p same rising whole =
+    record {
+      rising = rising;
+      sound = whole;
+      classes = subst (λ (xs : List Planned). All (λ q. q.class_before ≡ class_there (row_at w q.id)) xs) (sym p) (plan_of_class m w);
+      written = ap (λ (u : Work). u.view) same ∙ ap (λ xs. write_each xs w.view) (sym p);
+    }
+
+-- and what code answers then is the flush's outcome
+pub refused_at_fault : (world : World) (w v : Work) (r : Cause) → T (is_sorted identity_cmp w.view) → has_distinct_entries world.model w ≡ true → check_actions world w ≡ Done tt w →
+    v ≡ applied world.model (plan_of world.model w) (new_view world.model w) w → IsRefusedAs r v.events (sound_or (fault_of world.model v.view) v) → IsRefusedAs r v.events (writing world w)
+refused_at_fault world w v r rising distinct passed same h =
+    refused_by_fault world w v r rising distinct passed (ap (λ (u : Work). u.view) same) (ap (λ (u : Work). u.events) same ∙ settled_events (plan_of world.model w) w) h
+
+pub told_at_end : (world : World) (w v : Work) (ps : List Planned) → T (is_sorted identity_cmp w.view) → has_distinct_entries world.model w ≡ true → check_actions world w ≡ Done tt w →
+    ps ≡ plan_of world.model w → v ≡ applied world.model (plan_of world.model w) (new_view world.model w) w → sound_or (fault_of world.model v.view) v ≡ Done tt v → told_by world ps v ≡ writing world w
+told_at_end world w v ps rising distinct passed p same whole =
+    let m = world.model in
+    (λ i. told_by world (p i) (same i))
+    ∙ sym (sound world w rising distinct passed (ap (λ (u : Work). fault_of m u.view) (sym same) ∙ no_fault (fault_of m v.view) v v whole))

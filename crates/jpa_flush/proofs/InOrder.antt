@@ -2,7 +2,7 @@
 use Rattle.std.proofs.Common.{◌≡◌, ◌∙◌, ℕ, zero, suc, ◌<◌, ◌≤◌, ◌+◌, Bool, true, false, List, [], ◌∷◌, ◌++◌, map, drop, length, get_or, refl, ap, sym, subst, arith}
 use Rattle.std.specs.Prelude.{if◌then◌else◌, ◌==◌, ◌&&◌, ◌||◌, not, slice_get, slice_set, Option, Some, None}
 use Rattle.std.specs.List.{list_any, flat_map}
-use Rattle.std.specs.Option.{option_map, option_to_list}
+use Rattle.std.specs.Option.{option_map}
 use Rattle.std.proofs.lemmas.Bool.{false≢true, both_ways, and_parts, or_parts, not-true, cond-true, cond-false, cond_both, eq-eqb, ne_eqb, eqb-false}
 use Rattle.std.proofs.lemmas.List.{length-map, drop-map, drop_more, drop_all}
 use Rattle.std.proofs.lemmas.List.Folds.{list_any_at}
@@ -13,10 +13,12 @@ use Rattle.jpa_stored.specs.Sets.{all_distinct}
 use Rattle.jpa_context.specs.declared.Entry.{Entry}
 use Rattle.jpa_context.specs.Work.{Work}
 use Rattle.jpa_flush.specs.declared.planning.Planned.{Planned}
-use Rattle.jpa_flush.specs.declared.steps.Step.{Step}
 use Rattle.jpa_flush.specs.Order.{is_in_order}
-use Rattle.jpa_flush.specs.Plan.{step_of, insertion, replacement, removal, planned, planned_of, plan_of}
+use Rattle.jpa_flush.specs.Flush.{Action, action_of}
+use Rattle.jpa_flush.specs.Flush as flushes
+use Rattle.jpa_flush.specs.Plan.{item, planned_of, plan_of}
 use Rattle.jpa_flush.proofs.Settled.{settled_as, settled_if}
+use Rattle.jpa_flush.proofs.Actions.{all_planned}
 
 abbrev pub AreDistinct : List Entry → Type 0
 AreDistinct es = all_distinct (λ a b. a.object == b.object) es ≡ true
@@ -140,15 +142,13 @@ later (p ∷ ps) e es h = cond_both (e.object == p.object) (is_in_order ps es) (
 first_met : (p : Planned) (e : Entry) (ps : List Planned) (es : List Entry) → p.object ≡ e.object → is_in_order ps es ≡ true → is_in_order (p ∷ ps) (e ∷ es) ≡ true
 first_met p e ps es same h = cond-true (e.object == p.object) (is_in_order ps es) (is_in_order (p ∷ ps) es) (eq-eqb e.object p.object (sym same)) ∙ h
 
-at_first : (m : PersistenceUnit) (w : Work) (e : Entry) (s : Step) (ps : List Planned) (es : List Entry) → is_in_order ps es ≡ true → is_in_order (option_to_list (planned m w e.object s) ++ ps) (e ∷ es) ≡ true
-at_first m w e Step.Keep ps es h = later ps e es h
-at_first m w e Step.Insert ps es h = first_met (insertion m w e.object) e ps es refl h
-at_first m w e (Step.Replace v) ps es h = first_met (replacement m w e.object v) e ps es refl h
-at_first m w e (Step.Drop v) ps es h = first_met (removal m w e.object) e ps es refl h
+at_first : (m : PersistenceUnit) (w : Work) (e : Entry) (a : Option Action) (ps : List Planned) (es : List Entry) → is_in_order ps es ≡ true → is_in_order (map (item m w) (flushes.planned m w e a) ++ ps) (e ∷ es) ≡ true
+at_first m w e None ps es h = later ps e es h
+at_first m w e (Some a) ps es h = first_met (item m w (e.object, a)) e ps es refl h
 
 planned_in_order : (m : PersistenceUnit) (w : Work) (es : List Entry) → is_in_order (flat_map (planned_of m w) es) es ≡ true
 planned_in_order m w [] = refl
-planned_in_order m w (e ∷ es) = at_first m w e (step_of w e) (flat_map (planned_of m w) es) es (planned_in_order m w es)
+planned_in_order m w (e ∷ es) = at_first m w e (action_of m w e) (flat_map (planned_of m w) es) es (planned_in_order m w es)
 
 pub plan_in_order : (m : PersistenceUnit) (w : Work) → is_in_order (plan_of m w) w.context ≡ true
-plan_in_order m w = planned_in_order m w w.context
+plan_in_order m w = ap (λ ps. is_in_order ps w.context) (sym (all_planned m w)) ∙ planned_in_order m w w.context

@@ -163,7 +163,7 @@ put_or_take_rises : (id : Identity) (x : Option Stored) (s : StoredSet) → T (i
 put_or_take_rises id None s h = is_sorted-where_key identity_cmp (λ i. not (list_any (same_identity i) (id ∷ []))) s h
 put_or_take_rises id (Some x) s h = is_sorted-put identity_cmp identity_total id x s h
 
-applied_rises : (ws : List Write) (s : StoredSet) → T (is_sorted identity_cmp s) → T (is_sorted identity_cmp (applied ws s))
+pub applied_rises : (ws : List Write) (s : StoredSet) → T (is_sorted identity_cmp s) → T (is_sorted identity_cmp (applied ws s))
 applied_rises [] s h = h
 applied_rises (w ∷ ws) s h = applied_rises ws (put_or_take w.0 w.1 s) (put_or_take_rises w.0 w.1 s h)
 

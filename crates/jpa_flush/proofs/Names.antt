@@ -1,16 +1,12 @@
 -- Entries of different identities: they name different objects, and what a flush writes of them has different identities.
-use Rattle.std.proofs.Common.{◌≡◌, ◌∙◌, ◌⊎◌, inl, inr, ℕ, Bool, true, false, List, [], ◌∷◌, ◌++◌, refl, ap, sym}
-use Rattle.std.specs.Prelude.{◌==◌, ◌&&◌, ◌||◌, not, Some, None, if◌then◌else◌}
+use Rattle.std.proofs.Common.{◌≡◌, ◌∙◌, ◌⊎◌, inl, inr, ℕ, Bool, true, false, List, [], ◌∷◌, ◌++◌, map, refl, ap, sym}
+use Rattle.std.specs.Prelude.{◌&&◌, ◌||◌, not, Option, Some, None, if◌then◌else◌}
 use Rattle.std.specs.List.{list_any, flat_map}
-use Rattle.std.specs.Option.{option_to_list}
-use Rattle.std.specs.Cmp.{tied_itself}
-use Rattle.std.specs.Ordering.{is_eq}
-use Rattle.std.proofs.lemmas.Bool.{and_parts, and_from, or_parts, or_from, not-true, not_from_false, false≢true, eqb-true}
+use Rattle.std.proofs.lemmas.Bool.{and_parts, and_from, or_parts, or_from, not-true, not_from_false}
 use Rattle.std.proofs.lemmas.Grind.{flat_map-append}
 use Rattle.std.proofs.lemmas.List.Folds.{list_any-append}
 use Rattle.jpa_value.specs.declared.value.Identity.{Identity}
 use Rattle.jpa_value.specs.Value.{same_identity}
-use Rattle.jpa_value.proofs.Orders.{identity_total}
 use Rattle.jpa_model.specs.declared.unit.PersistenceUnit.{PersistenceUnit}
 use Rattle.jpa_stored.specs.Sets.{all_distinct}
 use Rattle.jpa_heap.specs.declared.LiveObject.{LiveObject}
@@ -18,39 +14,13 @@ use Rattle.jpa_heap.specs.Objects.{is_whole}
 use Rattle.jpa_context.specs.declared.Entry.{Entry}
 use Rattle.jpa_context.specs.Work.{Work, object}
 use Rattle.jpa_flush.specs.declared.planning.Planned.{Planned}
-use Rattle.jpa_flush.specs.declared.steps.Step.{Step}
-use Rattle.jpa_flush.specs.Flush.{listed}
-use Rattle.jpa_flush.specs.Names.{name_of, are_one, has_distinct_entries, targets, are_apart}
-use Rattle.jpa_flush.specs.Plan.{step_of, planned, planned_of, plan_of}
+use Rattle.jpa_flush.specs.Flush.{Action, listed, action_of}
+use Rattle.jpa_flush.specs.Flush as flushes
+use Rattle.jpa_flush.specs.Names.{targets, are_apart}
+use Rattle.jpa_ops.specs.Names.{name_of, are_one, has_distinct_entries}
+use Rattle.jpa_flush.specs.Plan.{item, planned_of, plan_of}
+use Rattle.jpa_flush.proofs.Actions.{all_planned}
 use Rattle.jpa_flush.proofs.Updated.{IsUpdated}
-
--- ---- they name different objects
-
-itself : (id : Identity) → same_identity id id ≡ true
-itself id = ap is_eq (tied_itself identity_total id)
-
-same_object : (m : PersistenceUnit) (w : Work) (n k : ℕ) → same_identity (name_of m (object w n)) (name_of m (object w k)) ≡ false → (n == k) ≡ false
-same_object m w n k h = by (n == k) refl
-  where
-    by : (b : Bool) → (n == k) ≡ b → (n == k) ≡ false
-    by false e = e
-    by true e = absurd (false≢true (sym h ∙ ap (λ i. same_identity (name_of m (object w n)) (name_of m (object w i))) (sym (eqb-true n k e)) ∙ itself (name_of m (object w n))))
-
-others : (m : PersistenceUnit) (w : Work) (e : Entry) (es : List Entry) → list_any (are_one m w e) es ≡ false → list_any (λ b. e.object == b.object) es ≡ false
-others m w e [] h = refl
-others m w e (d ∷ es) h =
-    let p = or_parts (are_one m w e d) (list_any (are_one m w e) es) h in
-    or_from (e.object == d.object) (list_any (λ b. e.object == b.object) es) (same_object m w e.object d.object p.0) (others m w e es p.1)
-
-distinct_in : (m : PersistenceUnit) (w : Work) (es : List Entry) → all_distinct (are_one m w) es ≡ true → all_distinct (λ (a b : Entry). a.object == b.object) es ≡ true
-distinct_in m w [] h = refl
-distinct_in m w (e ∷ es) h =
-    let p = and_parts (not (list_any (are_one m w e) es)) (all_distinct (are_one m w) es) h in
-    and_from (not (list_any (λ b. e.object == b.object) es)) (all_distinct (λ (a b : Entry). a.object == b.object) es)
-    (not_from_false (list_any (λ b. e.object == b.object) es) (others m w e es (not-true (list_any (are_one m w e) es) p.0))) (distinct_in m w es p.1)
-
-pub distinct_objects : (m : PersistenceUnit) (w : Work) → has_distinct_entries m w ≡ true → all_distinct (λ (a b : Entry). a.object == b.object) w.context ≡ true
-distinct_objects m w h = distinct_in m w w.context h
 
 -- ---- PreUpdate leaves them different
 
@@ -77,11 +47,9 @@ own_listed : (m : PersistenceUnit) (x : LiveObject) (b : Bool) → IsOwn (name_o
 own_listed m x true = inr refl
 own_listed m x false = inl refl
 
-own_planned : (m : PersistenceUnit) (w : Work) (n : ℕ) (s : Step) → IsOwn (name_of m (object w n)) (targets (option_to_list (planned m w n s)))
-own_planned m w n Step.Keep = inl refl
-own_planned m w n Step.Insert = own_listed m (object w n) (is_whole (object w n).key)
-own_planned m w n (Step.Replace v) = own_listed m (object w n) (is_whole (object w n).key)
-own_planned m w n (Step.Drop v) = own_listed m (object w n) (is_whole (object w n).key)
+own_planned : (m : PersistenceUnit) (w : Work) (e : Entry) (a : Option Action) → IsOwn (name_of m (object w e.object)) (targets (map (item m w) (flushes.planned m w e a)))
+own_planned m w e None = inl refl
+own_planned m w e (Some a) = own_listed m (object w e.object) (is_whole (object w e.object).key)
 
 split_first : (m : PersistenceUnit) (w : Work) (e : Entry) (es : List Entry) → targets (flat_map (planned_of m w) (e ∷ es)) ≡ targets (planned_of m w e) ++ targets (flat_map (planned_of m w) es)
 split_first m w e es = flat_map-append (λ (p : Planned). listed p.id) (planned_of m w e) (flat_map (planned_of m w) es)
@@ -98,7 +66,7 @@ apart_from m w e (d ∷ es) h =
     ap (list_any (same_identity id)) (split_first m w d es)
     ∙ list_any-append (same_identity id) (targets (planned_of m w d)) (targets (flat_map (planned_of m w) es))
     ∙ or_from (list_any (same_identity id) (targets (planned_of m w d))) (list_any (same_identity id) (targets (flat_map (planned_of m w) es)))
-    (own_apart id (name_of m (object w d.object)) (targets (planned_of m w d)) (own_planned m w d.object (step_of w d)) p.0) (apart_from m w e es p.1)
+    (own_apart id (name_of m (object w d.object)) (targets (planned_of m w d)) (own_planned m w d (action_of m w d)) p.0) (apart_from m w e es p.1)
 
 own_distinct : (name : Identity) (ids rest : List Identity) → IsOwn name ids → list_any (same_identity name) rest ≡ false → all_distinct same_identity rest ≡ true → all_distinct same_identity (ids ++ rest) ≡ true
 own_distinct name ids rest (inl e) h k = ap (λ xs. all_distinct same_identity (xs ++ rest)) e ∙ k
@@ -111,8 +79,8 @@ planned_apart m w [] h = refl
 planned_apart m w (e ∷ es) h =
     let p = and_parts (not (list_any (are_one m w e) es)) (all_distinct (are_one m w) es) h in
     ap (all_distinct same_identity) (split_first m w e es)
-    ∙ own_distinct (name_of m (object w e.object)) (targets (planned_of m w e)) (targets (flat_map (planned_of m w) es)) (own_planned m w e.object (step_of w e))
+    ∙ own_distinct (name_of m (object w e.object)) (targets (planned_of m w e)) (targets (flat_map (planned_of m w) es)) (own_planned m w e (action_of m w e))
     (apart_from m w e es (not-true (list_any (are_one m w e) es) p.0)) (planned_apart m w es p.1)
 
 pub plan_apart : (m : PersistenceUnit) (w : Work) → has_distinct_entries m w ≡ true → are_apart (plan_of m w) ≡ true
-plan_apart m w h = planned_apart m w w.context h
+plan_apart m w h = ap are_apart (sym (all_planned m w)) ∙ planned_apart m w w.context h

@@ -1,47 +1,57 @@
--- Without relations a base remembers no members.
-use Rattle.std.proofs.Common.{◌≡◌, ◌∙◌, ℕ, Bool, true, false, List, [], ◌∷◌, map, refl, ap, sym}
-use Rattle.std.specs.Prelude.{if◌then◌else◌, ◌&&◌, Option, Some, None, All}
-use Rattle.std.proofs.lemmas.Bool.{true≢false, and_parts, cond-true}
+-- What bases remember of relations.
+use Rattle.std.proofs.Common.{◌≡◌, ◌∙◌, ℕ, zero, suc, ◌+◌, ◌<◌, true, List, [], ◌∷◌, map, length, get_or, refl, ap, sym, subst}
+use Rattle.std.specs.Prelude.{slice_set, Option, Some, None}
+use Rattle.std.proofs.lemmas.Bool.{cond_both}
 use Rattle.jpa_value.specs.declared.value.Identity.{Identity}
 use Rattle.jpa_model.specs.declared.unit.PersistenceUnit.{PersistenceUnit}
-use Rattle.jpa_stored.specs.declared.stored.Stored.{Stored}
-use Rattle.jpa_heap.specs.declared.LiveObject.{LiveObject}
 use Rattle.jpa_context.specs.declared.Base.{Base}
 use Rattle.jpa_context.specs.declared.Entry.{Entry}
+use Rattle.jpa_context.specs.Indexed.{placed}
 use Rattle.jpa_context.specs.Work.{Work, state_of, is_managed}
-use Rattle.jpa_flush.specs.Flush.{held_now, members_held, remembered_in, remembered}
-use Rattle.jpa_flush.specs.Plan.{has_members, is_outdated}
-use Rattle.jpa_flush.proofs.Settled.{any_object}
+use Rattle.jpa_fetch.specs.Grown.{IsReady}
+use Rattle.jpa_flush.specs.Flush.{members_held, remembered_in, remembered}
+use Rattle.jpa_flush.specs.Plan.{same_members, entry_or}
+use Rattle.jpa_flush.proofs.Alike.{alike_entries, alike_ready}
+use Rattle.jpa_flush.proofs.Same.{members_are_one}
+use Rattle.jpa_flush.proofs.Settled.{partly, set_round, keep_round}
 
-abbrev pub AreBare : List LiveObject → Type 0
-AreBare objects = All (λ x. x.relations ≡ []) objects
+-- ---- an entry that remembers
 
-none_held : (m : PersistenceUnit) (w : Work) (n : ℕ) → AreBare w.objects → members_held m w n ≡ []
-none_held m w n bare = ap (map (held_now m w)) (any_object (λ x. x.relations ≡ []) refl w.objects n bare)
+abbrev pub with_members : List (Option (List Identity)) → Entry → Entry
+with_members members e = record e { base = remembered_in members e.base }
 
-no_members : (x : Stored) (ms : List (Option (List Identity))) → has_members (Some (record { stored = x; members = ms })) ≡ false → ms ≡ []
-no_members x [] h = refl
-no_members x (k ∷ ks) h = absurd (true≢false h)
+-- without a base there is nothing to remember
+pub none_to_remember : (e : Entry) (members : List (Option (List Identity))) → e.base ≡ None → e ≡ with_members members e
+none_to_remember e members h = ap {A = Option Base} {B = Entry} (λ b. record e { base = b }) (h ∙ ap (remembered_in members) (sym h))
 
-same_base : (b : Option Base) → has_members b ≡ false → b ≡ remembered_in [] b
-same_base None h = refl
-same_base (Some b) h = ap {A = List (Option (List Identity))} {B = Option Base} (λ ms. Some (record { stored = b.stored; members = ms })) (no_members b.stored b.members h)
+pub remembers_already : (e : Entry) (b : Base) (members : List (Option (List Identity))) → e.base ≡ Some b → same_members b.members members ≡ true → e ≡ with_members members e
+remembers_already e b members h same =
+    let known : Some b ≡ remembered_in members (Some b) = ap {A = List (Option (List Identity))} {B = Option Base} (λ ms. Some (record b { members = ms })) (members_are_one b.members members same) in
+    ap {A = Option Base} {B = Entry} (λ o. record e { base = o }) (h ∙ known ∙ ap (remembered_in members) (sym h))
 
-remembers_none : (m : PersistenceUnit) (w : Work) (e : Entry) → AreBare w.objects → record e { base = remembered_in [] e.base } ≡ record e { base = remembered_in (members_held m w e.object) e.base }
-remembers_none m w e bare = ap {A = List (Option (List Identity))} {B = Entry} (λ ms. record e { base = remembered_in ms e.base }) (sym (none_held m w e.object bare))
+-- ---- some entries remember already
 
-pub outdated : (m : PersistenceUnit) (w : Work) (e y : Entry) → AreBare w.objects → is_outdated w e ≡ true → y ≡ record e { base = remembered_in [] e.base } → y ≡ remembered m w e
-outdated m w e y bare h made =
-    made ∙ remembers_none m w e bare
-    ∙ sym (cond-true (is_managed (state_of w e.object)) (record e { base = remembered_in (members_held m w e.object) e.base }) e ((and_parts (has_members e.base) (is_managed (state_of w e.object)) h).1))
+remembered_placed : (m : PersistenceUnit) (w : Work) (e : Entry) → placed (remembered m w e) ≡ placed e
+remembered_placed m w e = cond_both (is_managed (state_of w e.object)) (with_members (members_held m w e.object) e) e (λ (v : Entry). placed v ≡ placed e) (λ q. refl) (λ q. refl)
 
-pub up_to_date : (m : PersistenceUnit) (w : Work) (e : Entry) → AreBare w.objects → is_outdated w e ≡ false → e ≡ remembered m w e
-up_to_date m w e bare h = by_parts (has_members e.base) refl (is_managed (state_of w e.object)) h
-  where
-    known : has_members e.base ≡ false → e ≡ record e { base = remembered_in (members_held m w e.object) e.base }
-    known k = ap {A = Option Base} {B = Entry} (λ b. record e { base = b }) (same_base e.base k) ∙ remembers_none m w e bare
+partly_placed : (f : Entry → Entry) → ((e : Entry) → placed (f e) ≡ placed e) → (i : ℕ) (es : List Entry) → map placed (partly f i es) ≡ map placed es
+partly_placed f same zero es = refl
+partly_placed f same (suc i) [] = refl
+partly_placed f same (suc i) (e ∷ es) = λ j. same e j ∷ partly_placed f same i es j
 
-    by_parts : (b : Bool) → has_members e.base ≡ b → (c : Bool) → (b && c) ≡ false → e ≡ (if c then record e { base = remembered_in (members_held m w e.object) e.base } else e)
-    by_parts b k false g = refl
-    by_parts true k true g = absurd (true≢false g)
-    by_parts false k true g = known k
+pub partly_ready : (m : PersistenceUnit) (w0 w : Work) (i : ℕ) → w ≡ record w0 { context = partly (remembered m w0) i w0.context } → IsReady m w0 → IsReady m w
+partly_ready m w0 w i same ready =
+    let es = partly (remembered m w0) i w0.context in
+    subst (IsReady m) (sym same) (alike_ready m w0 (record w0 { context = es }) (alike_entries w0 es (partly_placed (remembered m w0) (remembered_placed m w0) i w0.context)) ready)
+
+-- the next entry: another takes its place, or it stays
+remembered_next : (m : PersistenceUnit) (w0 w : Work) (i : ℕ) (e : Entry) → w ≡ record w0 { context = partly (remembered m w0) i w0.context } → remembered m w e ≡ remembered m w0 e
+remembered_next m w0 w i e same = ap {A = Work} {B = Entry} (λ v. remembered m v e) same
+
+pub set_next : (m : PersistenceUnit) (w0 w : Work) (i : ℕ) (e y : Entry) (o : Option Entry) → i < length w0.context → w ≡ record w0 { context = partly (remembered m w0) i w0.context } → e ≡ get_or w.context i e →
+    o ≡ Some y → entry_or e o ≡ remembered m w e → record w { context = slice_set w.context i y } ≡ record w0 { context = partly (remembered m w0) (i + 1) w0.context }
+set_next m w0 w i e y o l same read is h = set_round (remembered m w0) w0 w i e y l same read (ap (entry_or e) (sym is) ∙ h ∙ remembered_next m w0 w i e same)
+
+pub keep_next : (m : PersistenceUnit) (w0 w : Work) (i : ℕ) (e : Entry) (o : Option Entry) → i < length w0.context → w ≡ record w0 { context = partly (remembered m w0) i w0.context } → e ≡ get_or w.context i e →
+    o ≡ None → entry_or e o ≡ remembered m w e → w ≡ record w0 { context = partly (remembered m w0) (i + 1) w0.context }
+keep_next m w0 w i e o l same read is h = keep_round (remembered m w0) w0 w i e l same read (ap (entry_or e) (sym is) ∙ h ∙ remembered_next m w0 w i e same)

@@ -1,18 +1,16 @@
 -- What changes an object at a time, and an entry at a time.
 use Rattle.std.proofs.Common.{◌≡◌, ◌∙◌, ℕ, zero, suc, ◌<◌, ◌≤◌, ◌+◌, List, [], ◌∷◌, ◌++◌, map, take, drop, length, get_or, refl, ap, sym, subst, arith, add-one}
-use Rattle.std.specs.Prelude.{ℤ, if◌then◌else◌, ◌==◌, slice_set, Option, Some, None, All}
-use Rattle.std.proofs.lemmas.Bool.{cases_lt, cond_both}
-use Rattle.std.proofs.Common.{inl, inr}
-use Rattle.std.proofs.lemmas.List.{length-set, get_or_past}
-use Rattle.std.proofs.lemmas.List.Elements.{All-set, All-map}
+use Rattle.std.specs.Prelude.{if◌then◌else◌, ◌==◌, slice_set, Option, Some, None}
+use Rattle.std.proofs.lemmas.Bool.{cond_both}
+use Rattle.std.proofs.lemmas.List.{length-set}
 use Rattle.jpa_stored.specs.declared.stored.Stored.{Stored}
-use Rattle.jpa_heap.specs.declared.LiveObject.{LiveObject}
-use Rattle.jpa_heap.specs.Objects.{no_object}
 use Rattle.jpa_context.specs.declared.Entry.{Entry}
+use Rattle.jpa_context.specs.Indexed.{placed}
 use Rattle.jpa_context.specs.Work.{Work, object}
 use Rattle.jpa_flush.specs.declared.planning.Planned.{Planned}
 use Rattle.jpa_flush.specs.Flush.{settled_entry, settled}
 use Rattle.jpa_flush.specs.Plan.{settled_by}
+use Rattle.jpa_flush.proofs.Alike.{IsAlike, alike_none, alike_twice, alike_entries, like_set, placed_map}
 
 -- an entry of an object of which this was written, or which was taken out
 abbrev pub settled_as : Option Stored → Entry → Entry
@@ -79,28 +77,35 @@ pub one_context : (n : ℕ) (o : Option Stored) (w : Work) → (settled n o w).c
 one_context n None w = refl
 one_context n (Some x) w = refl
 
-pub any_object : (P : LiveObject → Type 0) → P no_object → (xs : List LiveObject) (n : ℕ) → All P xs → P (get_or xs n no_object)
-any_object P none xs n h = elim (cases_lt n (length xs)) [
-  | inl less ↦ h n no_object less
-  | inr more ↦ subst P (sym (get_or_past xs n no_object more)) none
-]
+-- ---- operations stand on what is settled as on what was there
 
--- what holds of an object whatever its version
-pub objects_keep : (P : LiveObject → Type 0) → P no_object → ((x : LiveObject) (v : Option ℤ) → P x → P (record x { version = v })) → (plan : List Planned) (w : Work) →
-    All P w.objects → All P (settled_by plan w).objects
-objects_keep P none any [] w h = h
-objects_keep P none any (p ∷ ps) w h = objects_keep P none any ps (settled p.object p.stored w) (one p.object p.stored)
+settled_placed : (n : ℕ) (o : Option Stored) (e : Entry) → placed (settled_if n o e) ≡ placed e
+settled_placed n o e = cond_both (e.object == n) (settled_as o e) e (λ (v : Entry). placed v ≡ placed e) (λ q. as_it_was o) (λ q. refl)
   where
-    one : (n : ℕ) (o : Option Stored) → All P (settled n o w).objects
-    one n None = h
-    one n (Some x) = All-set P w.objects n (record (object w n) { version = x.version }) (any (object w n) x.version (any_object P none w.objects n h)) h
+    as_it_was : (x : Option Stored) → placed (settled_as x e) ≡ placed e
+    as_it_was None = refl
+    as_it_was (Some x) = refl
 
--- what holds of an entry whatever was written
-pub entries_keep : (P : Entry → Type 0) → ((o : Option Stored) (e : Entry) → P e → P (settled_as o e)) → (plan : List Planned) (w : Work) →
-    All P w.context → All P (settled_by plan w).context
-entries_keep P any [] w h = h
-entries_keep P any (p ∷ ps) w h =
-    entries_keep P any ps (settled p.object p.stored w)
-    (subst (All P) (sym (one_context p.object p.stored w))
-    (All-map P (settled_if p.object p.stored) w.context
-    (λ k d l. cond_both ((get_or w.context k d).object == p.object) (settled_as p.stored (get_or w.context k d)) (get_or w.context k d) P (λ q. any p.stored (get_or w.context k d) (h k d l)) (λ q. h k d l))))
+one_alike : (n : ℕ) (o : Option Stored) (w : Work) → IsAlike w (settled n o w)
+one_alike n None w = alike_entries w (map (settled_if n None) w.context) (placed_map (settled_if n None) (settled_placed n None) w.context)
+one_alike n (Some x) w =
+    record {
+      numbers = refl;
+      view = refl;
+      context = placed_map (settled_if n (Some x)) (settled_placed n (Some x)) w.context;
+      count = one_count n (Some x) w;
+      objects = λ k. like_set w.objects n k (record (object w n) { version = x.version }) (record { class = refl; key = refl; relations = refl; count = refl });
+    }
+
+pub settled_alike : (plan : List Planned) (w : Work) → IsAlike w (settled_by plan w)
+settled_alike [] w = alike_none w
+settled_alike (p ∷ ps) w = alike_twice w (settled p.object p.stored w) (settled_by ps (settled p.object p.stored w)) (one_alike p.object p.stored w) (settled_alike ps (settled p.object p.stored w))
+
+-- what is told of them stays
+pub settled_events : (plan : List Planned) (w : Work) → (settled_by plan w).events ≡ w.events
+settled_events [] w = refl
+settled_events (p ∷ ps) w = settled_events ps (settled p.object p.stored w) ∙ one_events p.object p.stored
+  where
+    one_events : (n : ℕ) (o : Option Stored) → (settled n o w).events ≡ w.events
+    one_events n None = refl
+    one_events n (Some x) = refl

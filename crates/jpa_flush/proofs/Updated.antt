@@ -1,26 +1,25 @@
 -- What events leave of a work: objects have other values at most, and nothing else is other but what was told.
-use Rattle.std.proofs.Common.{◌≡◌, ◌∙◌, ◌≢◌, ◌⊎◌, ℕ, ◌<◌, ◌≤◌, List, [], ◌∷◌, length, get_or, refl, ap, sym, subst, inl, inr, arith}
-use Rattle.std.specs.Prelude.{All, slice_set, Option, Some, None}
+use Rattle.std.proofs.Common.{◌≡◌, ◌∙◌, ◌≢◌, ◌⊎◌, ℕ, ◌<◌, ◌≤◌, List, [], ◌∷◌, map, length, refl, ap, sym, subst, inl, inr}
+use Rattle.std.specs.Prelude.{slice_set, Option, Some, None}
 use Rattle.std.proofs.lemmas.Bool.{cases_eq, cases_lt}
-use Rattle.std.proofs.lemmas.List.{length-set, get_or-set_same, get_or-set_other, get_or_default, set_past}
+use Rattle.std.proofs.lemmas.List.{length-set, get_or-set_same, get_or-set_other, set_past}
 use Rattle.jpa_value.specs.declared.event.LifecycleEvent.{LifecycleEvent}
 use Rattle.jpa_model.specs.declared.unit.PersistenceUnit.{PersistenceUnit}
 use Rattle.jpa_behaviour.specs.Behaviour.{World}
-use Rattle.jpa_stored.specs.Sets.{all_shaped}
 use Rattle.jpa_heap.specs.declared.LiveObject.{LiveObject}
 use Rattle.jpa_heap.specs.Objects.{no_object, object_at}
-use Rattle.jpa_heap.specs.Shape.{HasShape}
-use Rattle.jpa_context.specs.declared.Lock.{Lock}
 use Rattle.jpa_context.specs.declared.Entry.{Entry}
 use Rattle.jpa_context.specs.Steps.{Outcome, Done, Refused, Op, done, after, each}
-use Rattle.jpa_context.specs.Undo.{IsKeyed, IsPlaced}
+use Rattle.jpa_context.specs.Indexed.{placed}
 use Rattle.jpa_context.specs.Work.{Work, object}
 use Rattle.jpa_lifecycle.specs.Callbacks.{callback}
-use Rattle.jpa_lifecycle.proofs.Keeps.{IsRevalued, revalued_none, revalued_twice, revalued_shape, HasHappened, happened}
+use Rattle.jpa_lifecycle.proofs.Keeps.{IsRevalued, revalued_none, revalued_twice, HasHappened, happened}
+use Rattle.jpa_fetch.specs.Grown.{IsReady}
 use Rattle.jpa_flush.specs.declared.steps.Step.{Step}
 use Rattle.jpa_flush.specs.declared.planning.Planned.{Planned}
 use Rattle.jpa_flush.specs.Flush.{Action, Insert, Replace, Drop, action_of, pre_update_for, pre_update_one, pre_update}
 use Rattle.jpa_flush.specs.Plan.{update, tell, told_by}
+use Rattle.jpa_flush.proofs.Alike.{IsLike, IsAlike, alike_ready}
 
 pub record IsUpdated (w v : Work) : Type 0 where
   pub manager : v.manager ≡ w.manager
@@ -118,31 +117,24 @@ by_step world n s w v e = related_step IsUpdated updated_none updated_twice worl
 
 -- ---- what stays
 
-updated_keyed : (w v : Work) → IsUpdated w v → (e : Entry) → IsKeyed w.objects e → IsKeyed v.objects e
-updated_keyed w v h e k = record { same = ap (λ (x : LiveObject). x.key) (h.objects e.object).same ∙ k.same; whole = k.whole }
-
--- the object at a place, at whatever default
-object_is : (xs : List LiveObject) (n : ℕ) (d : LiveObject) → n < length xs → get_or xs n d ≡ object_at xs n
-object_is xs n d l = get_or_default xs n d no_object l
-
-pub updated_shapes : (m : PersistenceUnit) (w v : Work) → IsUpdated w v → All (HasShape m) w.objects → All (HasShape m) v.objects
-updated_shapes m w v h shapes = λ n d l.
-    let k : n < length w.objects = omega (arith, l, h.count) in
-    subst (HasShape m) (sym (object_is v.objects n d l)) (revalued_shape m (object w n) (object v n) (h.objects n) (shapes n no_object k))
-
-pub updated_within : (w v : Work) → IsUpdated w v → All (λ e. e.object < length w.objects) w.context → All (λ e. e.object < length v.objects) v.context
-updated_within w v h entries =
-    subst (λ n. All (λ (e : Entry). e.object < n) v.context) (sym h.count) (subst (λ (es : List Entry). All (λ e. e.object < length w.objects) es) (sym h.context) entries)
-
-pub updated_places : (m : PersistenceUnit) (w v : Work) → IsUpdated w v → IsPlaced m w → IsPlaced m v
-updated_places m w v h p =
+like_revalued : (x y : LiveObject) → IsRevalued x y → IsLike x y
+like_revalued x y h =
     record {
-      objects = updated_shapes m w v h p.objects;
-      entries = updated_within w v h p.entries;
-      keyed = subst (All (IsKeyed v.objects)) (sym h.context) (λ i d l. updated_keyed w v h (get_or w.context i d) (p.keyed i d l));
-      numbers = ap (λ (ns : List ℕ). length ns) h.numbers ∙ p.numbers;
-      view = ap (λ s. all_shaped m s) h.view ∙ p.view;
+      class = ap (λ (o : LiveObject). o.class) h.same;
+      key = ap (λ (o : LiveObject). o.key) h.same;
+      relations = ap (λ (o : LiveObject). o.relations) h.same;
+      count = h.count;
     }
 
-pub updated_unlocked : (w v : Work) → IsUpdated w v → All (λ e. e.lock ≡ Lock.Unlocked) w.context → All (λ e. e.lock ≡ Lock.Unlocked) v.context
-updated_unlocked w v h p = subst (All (λ (e : Entry). e.lock ≡ Lock.Unlocked)) (sym h.context) p
+pub updated_alike : (w v : Work) → IsUpdated w v → IsAlike w v
+updated_alike w v h =
+    record {
+      numbers = h.numbers;
+      view = h.view;
+      context = ap (λ (es : List Entry). map placed es) h.context;
+      count = h.count;
+      objects = λ n. like_revalued (object w n) (object v n) (h.objects n);
+    }
+
+pub updated_ready : (m : PersistenceUnit) (w v : Work) → IsUpdated w v → IsReady m w → IsReady m v
+updated_ready m w v h r = alike_ready m w v (updated_alike w v h) r

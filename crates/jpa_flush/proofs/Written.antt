@@ -2,7 +2,6 @@
 use Rattle.std.proofs.Common.{◌≡◌, ◌∙◌, Bool, true, false, List, [], ◌∷◌, ◌++◌, refl, ap}
 use Rattle.std.specs.Prelude.{Option, Some, None}
 use Rattle.std.specs.List.{flat_map}
-use Rattle.std.proofs.lemmas.List.{append-nil}
 use Rattle.jpa_value.specs.declared.event.LifecycleEvent.{LifecycleEvent}
 use Rattle.jpa_value.specs.declared.value.Identity.{Identity}
 use Rattle.jpa_stored.specs.declared.stored.Stored.{Stored}
@@ -27,9 +26,6 @@ write_of p = of_one p.id p.stored (is_replacing p.event)
 
 abbrev pub writes_of : List Planned → List Write
 writes_of plan = flat_map write_of plan
-
-pub alone : (p : Planned) → writes_of (p ∷ []) ≡ write_of p
-alone p = append-nil (write_of p)
 
 first_name : (id : Option Identity) (x : Option Stored) (b : Bool) (ws : List Write) → names (of_one id x b ++ ws) ≡ listed id ++ names ws
 first_name None x b ws = refl

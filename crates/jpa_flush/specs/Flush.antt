@@ -34,7 +34,8 @@ use Rattle.jpa_lifecycle.specs.Callbacks.{callback}
 use Rattle.jpa_cascade.specs.declared.Operation.{Operation}
 use Rattle.jpa_cascade.specs.declared.Node.{Node}
 use Rattle.jpa_cascade.specs.Waves.{targets, live_nodes, members_now}
-use Rattle.jpa_ops.specs.Load.{load}
+use Rattle.jpa_fetch.specs.Grown.{objects_held}
+use Rattle.jpa_fetch.specs.Load.{load}
 use Rattle.jpa_ops.specs.States.{persist, remove}
 
 -- ---- persist along cascades: each managed object's targets, also of objects that enter meanwhile
@@ -134,13 +135,6 @@ is_storable EntityState.New = false
 is_storable EntityState.Managed = true
 is_storable EntityState.Removed = false
 is_storable EntityState.Detached = true
-
-abbrev pub objects_held : Held → List ℕ
-objects_held (Held.One Link.None) = []
-objects_held (Held.One (Link.Object k)) = k ∷ []
-objects_held (Held.One (Link.Key id)) = []
-objects_held (Held.Many (Collection.Fetched ks)) = ks
-objects_held (Held.Many Collection.Unfetched) = []
 
 abbrev pub links_along : Work → ℕ → ℕ × Relation → Bool
 links_along w n p = ((p.1).cascade).persist || list_all (λ k. is_storable (state_of w k)) (objects_held (held_at (object w n) p.0))

@@ -1,54 +1,39 @@
--- The flush of a unit without relations, with no entry locked: what it does with each entry of the context, and what it
--- writes.
-use Rattle.std.specs.Prelude.{ℕ, ℤ, Bool, true, false, not, ◌&&◌, is_some, List, [], ◌∷◌, Option, Some, None}
-use Rattle.std.specs.List.{flat_map, zip}
-use Rattle.std.specs.Option.{option_to_list}
-use Rattle.jpa_value.specs.declared.value.Value.{Value}
+-- The flush as a plan: what it does with each entry of the context, and what it writes or takes out under which identity.
+use Rattle.std.specs.Prelude.{ℕ, ℤ, Bool, true, false, not, ◌&&◌, is_some, List, [], ◌∷◌, map, Option, Some, None, option_map}
 use Rattle.jpa_value.specs.declared.value.Identity.{Identity}
 use Rattle.jpa_value.specs.declared.refusal.Cause.{Cause}
 use Rattle.jpa_value.specs.declared.refusal.Persist.{Persist}
 use Rattle.jpa_value.specs.declared.event.LifecycleEvent.{LifecycleEvent}
 use Rattle.jpa_model.specs.declared.unit.PersistenceUnit.{PersistenceUnit}
-use Rattle.jpa_model.specs.Chains.{attributes_of, is_versioned}
+use Rattle.jpa_model.specs.Chains.{is_versioned}
 use Rattle.jpa_behaviour.specs.Behaviour.{World}
 use Rattle.jpa_stored.specs.declared.stored.Stored.{Stored}
-use Rattle.jpa_stored.specs.Sets.{StoredSet, with_stored, without, values_there}
-use Rattle.jpa_heap.specs.declared.LiveObject.{LiveObject}
-use Rattle.jpa_context.specs.declared.Base.{Base}
+use Rattle.jpa_stored.specs.Sets.{StoredSet, with_stored, without}
 use Rattle.jpa_context.specs.declared.Entry.{Entry}
-use Rattle.jpa_context.specs.declared.EntityState.{EntityState}
-use Rattle.jpa_context.specs.Work.{Work, object, state_of, is_managed, identity_at, row_at}
+use Rattle.jpa_context.specs.Work.{Work, object, identity_at, row_at}
 use Rattle.jpa_context.specs.Steps.{◌>>=◌, ◌>>◌, Op, done, require, read, each}
 use Rattle.jpa_lifecycle.specs.Callbacks.{callback}
 use Rattle.jpa_flush.specs.declared.steps.Step.{Step}
 use Rattle.jpa_flush.specs.declared.planning.Planned.{Planned}
-use Rattle.jpa_flush.specs.Flush.{same_values, same_version, can_rise, all_convert, first_version, raised, settled, all_remembered}
+use Rattle.jpa_flush.specs.Flush.{Action, Insert, Replace, Drop, action_of, actions, stored_of, written, first_version, raised, post_event, same_version, same_identities, can_rise, all_convert, settled, all_remembered, check_actions, write_all}
+use Rattle.jpa_flush.specs.Flush as flushes
 
-abbrev pub unless_same : Bool → Option ℤ → Step
-unless_same true version = Step.Keep
-unless_same false version = Step.Replace version
+-- ---- steps: actions, of whose base the version alone is asked
 
-abbrev pub step_for : EntityState → Option Base → List Value → Step
-step_for EntityState.Managed None values = Step.Insert
-step_for EntityState.Managed (Some b) values = unless_same (same_values values (b.stored).values) (b.stored).version
-step_for EntityState.Removed None values = Step.Keep
-step_for EntityState.Removed (Some b) values = Step.Drop (b.stored).version
-step_for EntityState.New b values = Step.Keep
-step_for EntityState.Detached b values = Step.Keep
+abbrev pub step_as : Option Action → Step
+step_as None = Step.Keep
+step_as (Some Insert) = Step.Insert
+step_as (Some (Replace b)) = Step.Replace (b.stored).version
+step_as (Some (Drop b)) = Step.Drop (b.stored).version
 
-abbrev pub step_of : Work → Entry → Step
-step_of w e = step_for (state_of w e.object) e.base (object w e.object).values
+abbrev pub step_of : PersistenceUnit → Work → Entry → Step
+step_of m w e = step_as (action_of m w e)
 
 abbrev pub update : World → ℕ → Step → Op (Unit {0})
 update world n Step.Keep = done
 update world n Step.Insert = done
 update world n (Step.Replace version) = callback world LifecycleEvent.PreUpdate n
 update world n (Step.Drop version) = done
-
--- ---- the values that a class requires are there
-
-abbrev pub has_required : PersistenceUnit → Stored → Bool
-has_required m x = values_there (zip (attributes_of m x.class) x.values)
 
 -- ---- the checks
 
@@ -82,31 +67,35 @@ check world n Step.Insert = check_insertion world n
 check world n (Step.Replace version) = check_replacement world n version
 check world n (Step.Drop version) = check_removal world.model n version
 
+-- what a flush does after PreUpdate
+abbrev pub writing : World → Op (Unit {0})
+writing world = check_actions world >> write_all world
+
 -- ---- what is written
 
-abbrev pub plain_stored : LiveObject → Option ℤ → Stored
-plain_stored x version = record { class = x.class; version = version; values = x.values; owned = [] }
+-- the class of what stands there, if anything does
+abbrev pub class_there : Option Stored → Option ℕ
+class_there x = option_map (λ (o : Stored). o.class) x
+
+-- an object of the plan: its event, and what stands under its identity before and afterwards
+abbrev pub planned_as : PersistenceUnit → Work → ℕ → LifecycleEvent → Option Stored → Planned
+planned_as m w n event stored =
+    record {
+      object = n;
+      id = identity_at m w n;
+      event = event;
+      class_before = class_there (row_at w (identity_at m w n));
+      stored = stored;
+    }
 
 abbrev pub insertion : PersistenceUnit → Work → ℕ → Planned
-insertion m w n =
-    record {
-      object = n;
-      id = identity_at m w n;
-      event = LifecycleEvent.PostPersist;
-      stored = Some (plain_stored (object w n) (first_version (is_versioned m (object w n).class)));
-    }
+insertion m w n = planned_as m w n LifecycleEvent.PostPersist (Some (stored_of m w n (first_version (is_versioned m (object w n).class))))
 
 abbrev pub replacement : PersistenceUnit → Work → ℕ → Option ℤ → Planned
-replacement m w n version =
-    record {
-      object = n;
-      id = identity_at m w n;
-      event = LifecycleEvent.PostUpdate;
-      stored = Some (plain_stored (object w n) (raised version));
-    }
+replacement m w n version = planned_as m w n LifecycleEvent.PostUpdate (Some (stored_of m w n (raised version)))
 
 abbrev pub removal : PersistenceUnit → Work → ℕ → Planned
-removal m w n = record { object = n; id = identity_at m w n; event = LifecycleEvent.PostRemove; stored = None }
+removal m w n = planned_as m w n LifecycleEvent.PostRemove None
 
 abbrev pub planned : PersistenceUnit → Work → ℕ → Step → Option Planned
 planned m w n Step.Keep = None
@@ -114,11 +103,15 @@ planned m w n Step.Insert = Some (insertion m w n)
 planned m w n (Step.Replace version) = Some (replacement m w n version)
 planned m w n (Step.Drop version) = Some (removal m w n)
 
+-- what the plan has of an action
+abbrev pub item : PersistenceUnit → Work → ℕ × Action → Planned
+item m w a = planned_as m w a.0 (post_event a.1) (written m w a.0 a.1)
+
 abbrev pub planned_of : PersistenceUnit → Work → Entry → List Planned
-planned_of m w e = option_to_list (planned m w e.object (step_of w e))
+planned_of m w e = map (item m w) (flushes.planned m w e (action_of m w e))
 
 abbrev pub plan_of : PersistenceUnit → Work → List Planned
-plan_of m w = flat_map (planned_of m w) w.context
+plan_of m w = map (item m w) (actions m w)
 
 -- ---- what becomes of a plan
 
@@ -135,30 +128,9 @@ abbrev pub write_each : List Planned → StoredSet → StoredSet
 write_each [] s = s
 write_each (p ∷ ps) s = write_each ps (write p s)
 
--- what is written has the values that its class requires
-abbrev pub fills_at : PersistenceUnit → Option Identity → Option Stored → Bool
-fills_at m None x = true
-fills_at m (Some id) None = true
-fills_at m (Some id) (Some x) = has_required m x
-
-abbrev pub fills : PersistenceUnit → Planned → Bool
-fills m p = fills_at m p.id p.stored
-
 abbrev pub settled_by : List Planned → Work → Work
 settled_by [] w = w
 settled_by (p ∷ ps) w = settled_by ps (settled p.object p.stored w)
-
--- whether the base of a managed object has members
-abbrev pub has_members : Option Base → Bool
-has_members None = false
-has_members (Some b) = not (is_none b.members)
-  where
-    is_none : List (Option (List Identity)) → Bool
-    is_none [] = true
-    is_none (x ∷ xs) = false
-
-abbrev pub is_outdated : Work → Entry → Bool
-is_outdated w e = has_members e.base && is_managed (state_of w e.object)
 
 abbrev pub tell : World → Planned → Op (Unit {0})
 tell world p = callback world p.event p.object
@@ -168,3 +140,22 @@ told_by world plan = each (tell world) plan
 
 abbrev pub applied : PersistenceUnit → List Planned → StoredSet → Work → Work
 applied m plan set w = let v = all_remembered m (settled_by plan w) in record v { view = set }
+
+-- ---- what bases remember
+
+abbrev pub same_member : Option (List Identity) → Option (List Identity) → Bool
+same_member None None = true
+same_member None (Some ys) = false
+same_member (Some xs) None = false
+same_member (Some xs) (Some ys) = same_identities xs ys
+
+abbrev pub same_members : List (Option (List Identity)) → List (Option (List Identity)) → Bool
+same_members [] [] = true
+same_members [] (y ∷ ys) = false
+same_members (x ∷ xs) [] = false
+same_members (x ∷ xs) (y ∷ ys) = same_member x y && same_members xs ys
+
+-- an entry, where another does not take its place
+abbrev pub entry_or : Entry → Option Entry → Entry
+entry_or e None = e
+entry_or e (Some y) = y

@@ -49,6 +49,19 @@ pub fn is_current(work: &UnitOfWork, id: &Option<Identity>, version: Option<i64>
     }
 }
 
+/// The class of what stands in the set under the identity, if anything does.
+pub fn class_there(work: &UnitOfWork, id: &Option<Identity>) -> Option<usize>
+    ensures { result ≡ plans.class_there (works.row_at (now work.now) id.now) }
+{
+    match id {
+        None => None,
+        Some(id) => match work.view.get(id) {
+            None => None,
+            Some(stored) => Some(stored.class),
+        },
+    }
+}
+
 /// Whether a version, if there is one, can rise.
 pub fn can_rise(version: Option<i64>) -> bool
     ensures { result ≡ flushes.can_rise version }
@@ -77,7 +90,8 @@ fn goes_through<B: Behaviour>(
     name: &str,
     value: &Value,
 ) -> Result<bool, Cause>
-    ensures ok { IfOk result (λ goes. goes ≡ is_some (column_in B.meaning registry.now name.now value.now)) }
+    ensures ok { IfOk result (λ goes. goes
+        ≡ is_some (column_in B.meaning registry.now name.now value.now)) }
     ensures err { IfErr result (λ cause. cause ≡ Cause.OutOfMemory) }
 {
     match registry.to_column(name, value) {
@@ -94,7 +108,9 @@ fn converts<B: Behaviour>(
     attribute: &Attribute,
     value: &Value,
 ) -> Result<bool, Cause>
-    ensures ok { (m : PersistenceUnit) → IfOk result (λ goes. goes ≡ flushes.converts (world_of B.meaning m registry.now) attribute.now.converter value.now) }
+    ensures ok { (m : PersistenceUnit) → let world = world_of B.meaning m registry.now in
+        IfOk result (λ goes. goes
+        ≡ flushes.converts world attribute.now.converter value.now) }
     ensures err { IfErr result (λ cause. cause ≡ Cause.OutOfMemory) }
 {
     match (&attribute.converter, value) {
@@ -110,7 +126,8 @@ pub fn all_convert<B: Behaviour>(
     object: &LiveObject,
 ) -> Result<bool, Cause>
     requires { HasShape metamodel.now object.now }
-    ensures ok { IfOk result (λ convert. convert ≡ flushes.all_convert (world_of B.meaning metamodel.now registry.now) object.now) }
+    ensures ok { let world = world_of B.meaning metamodel.now registry.now in
+        IfOk result (λ convert. convert ≡ flushes.all_convert world object.now) }
     ensures err { IfErr result (λ cause. cause ≡ Cause.OutOfMemory) }
 {
     let values = object.values.as_slice();

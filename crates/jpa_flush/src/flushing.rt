@@ -1,22 +1,24 @@
 //! The flush of a manager's context.
-ghost use Rattle.std.specs.Prelude.{◌≡◌, ◌<◌, ◌==◌, T, true, All, length, OnOk};
+ghost use Rattle.std.specs.Prelude.{◌≡◌, T, true};
 ghost use Rattle.std.specs.FinMap.Entries.{is_sorted};
 ghost use Rattle.jpa_behaviour.specs.Registered.{world_of};
-ghost use Rattle.jpa_context.specs.declared.Lock.{Lock};
 ghost use Rattle.jpa_context.specs.Steps.{Meets};
-ghost use Rattle.jpa_context.specs.Undo.{now, since, IsPlaced};
-ghost use Rattle.jpa_lifecycle.specs.Flat.{IsFlat};
+ghost use Rattle.jpa_context.specs.Undo.{now, since};
+ghost use Rattle.jpa_fetch.specs.Grown.{IsReady};
+ghost use Rattle.jpa_fetch.specs.Orderly.{IsOrderly};
 ghost use Rattle.jpa_flush.specs.Flush as flushes;
-ghost use Rattle.jpa_flush.specs.Names.{has_distinct_entries};
-ghost use Rattle.jpa_flush.specs.Order.{is_in_order};
 ghost use Rattle.jpa_flush.specs.Plan as plans;
-ghost use Rattle.jpa_heap.specs.Shape.{HasShape};
-ghost use Rattle.jpa_stored.specs.Sets.{IsSound, all_distinct};
+ghost use Rattle.jpa_ops.specs.Names.{has_distinct_entries};
+ghost use Rattle.jpa_stored.specs.Sets.{IsSound};
 ghost use Rattle.jpa_value.specs.Value.{identity_cmp};
 
-use crate::judging::judge;
-use crate::planning::{Planned, plan};
-use crate::settling::{remember, settle};
+use crate::judging::judge_written;
+use crate::links::check_links;
+use crate::orphans::remove_orphans;
+use crate::planning::plan;
+use crate::reaching::persist_reachable;
+use crate::remembering::remember;
+use crate::settling::settle;
 use crate::telling::{tell_updates, tell_written};
 use crate::writing::write_all;
 use jpa_behaviour::{Behaviour, Registry};
@@ -25,64 +27,66 @@ use jpa_model::Metamodel;
 use jpa_value::Cause;
 use std::alloc::Global;
 
-/// The work after a plan is written: the objects have their versions and bases, and what was written is told.
-fn apply<B: Behaviour>(
+/// Checks and writes what the objects of a context differ in from the set, as they are after PreUpdate, and tells of it.
+///
+/// Objects and entries settle before the set is written and judged: what they remember is what they hold, of whatever set, and
+/// what was changed is undone where the new set is refused.
+fn write_changes<B: Behaviour>(
     alloc: Global,
     metamodel: &Metamodel,
     registry: &Registry<B>,
     work: &mut UnitOfWork,
-    plan: &[Planned],
 ) -> Result<(), Cause>
-    requires flat { IsFlat metamodel.now }
-    requires shaped { All (HasShape metamodel.now) (now work.old).objects }
-    requires entries { All (λ e. e.object < length work.old.objects.now) work.old.context.now }
-    requires unlocked { All (λ e. e.lock ≡ Lock.Unlocked) (now work.old).context }
-    requires objects { All (λ p. p.object < length work.old.objects.now) plan.now }
-    requires distinct { all_distinct (λ a b. a.object == b.object) work.old.context.now ≡ true }
-    requires order { is_in_order plan.now work.old.context.now ≡ true }
-    ensures meets { Meets result (now work.new) (plans.told_by (world_of B.meaning metamodel.now registry.now) plan.now (flushes.all_remembered metamodel.now (plans.settled_by plan.now (now work.old)))) }
-    ensures unlocked { OnOk result (All (λ e. e.lock ≡ Lock.Unlocked) (now work.new).context) }
+    requires ready { IsReady metamodel.now (now work.old) }
+    requires shown { work.old.view.is_shown ≡ true }
+    requires sound { IsSound metamodel.now (now work.old).view }
+    requires rising { T (is_sorted identity_cmp (now work.old).view) }
+    requires distinct { has_distinct_entries metamodel.now (now work.old) ≡ true }
+    ensures meets { let world = world_of B.meaning metamodel.now registry.now in
+        Meets result (now work.new) (plans.writing world (now work.old)) }
     ensures since { since work.new ≡ since work.old }
 {
-    settle(alloc, work, plan)?;
+    let plan = plan(alloc, metamodel, registry, work)?;
+    settle(alloc, work, plan.as_slice())?;
     remember(alloc, metamodel, work)?;
-    tell_written(alloc, metamodel, registry, work, plan)?;
-    Ok(())
+    write_all(work, plan.as_slice())?;
+    judge_written(alloc, metamodel, work, plan.as_slice())?;
+    tell_written(alloc, metamodel, registry, work, plan.as_slice())
 }
 
-/// Writes what the objects of a manager's context differ in from the set that it sees, and takes out the rows of removed
-/// ones, in a unit without relations, with no entry locked (Jakarta Persistence 3.1, chapters 3.2.3, 3.2.4, 3.4 and 3.5).
-/// The work sees the new set then.
+/// Writes what the objects of a manager's context differ in from the set that it sees, and takes out the rows of removed ones
+/// (Jakarta Persistence 3.1, chapters 2.9, 3.2.3, 3.2.4, 3.4 and 3.5). What managed objects lead to along relations that cascade
+/// persist becomes managed before, and what left a relation that removes orphans is removed. The work sees the new set then.
 ///
-/// `EntityExists` where an object that is new to the set has the identity of one in it; `OptimisticLock` where the set
-/// has not the version that a changed or a removed object was loaded with; `Persistence(version)` where a version can't
-/// rise; `Persistence(converter)` where a converter throws; `Persistence(null)` where a value is not there that its class
-/// requires; `Listener` with its text where a listener or callback throws, and `Persistence(callback)` where one assigns
-/// what is not allowed; `OutOfMemory` where a growth was refused. What a refused call changed is undone by
+/// What persisting refuses, and what removing does; `IllegalState(reference)` where a managed object leads to one that is not stored; `EntityExists`
+/// where an object that is new to the set has the identity of one in it; `OptimisticLock` where the set has not the version
+/// that a changed or a removed object was loaded with; `Persistence(version)` where a version can't rise;
+/// `Persistence(converter)` where a converter throws; `Persistence` with `Null`, `Reference` or `Unique` where the new set
+/// would not be sound; `Listener` with its text where a listener or callback throws, and `Persistence(callback)` where one
+/// assigns what is not allowed; `OutOfMemory` where a growth was refused. What a refused call changed is undone by
 /// `UnitOfWork::undo`.
 ///
-/// It looks at each entry of the context once, and of the set at what it writes alone.
+/// It looks at each entry of the context and what its object holds, and of the set at what it writes, at what that leads to, and
+/// at what leads to what it takes out.
 pub fn flush<B: Behaviour>(
     alloc: Global,
     metamodel: &Metamodel,
     registry: &Registry<B>,
     work: &mut UnitOfWork,
 ) -> Result<(), Cause>
-    requires flat { IsFlat metamodel.now }
-    requires placed { IsPlaced metamodel.now (now work.old) }
-    requires unlocked { All (λ e. e.lock ≡ Lock.Unlocked) (now work.old).context }
+    requires orderly { IsOrderly metamodel.now }
+    requires ready { IsReady metamodel.now (now work.old) }
     requires shown { work.old.view.is_shown ≡ true }
     requires sound { IsSound metamodel.now (now work.old).view }
     requires rising { T (is_sorted identity_cmp (now work.old).view) }
     requires distinct { has_distinct_entries metamodel.now (now work.old) ≡ true }
     ensures meets { Meets result (now work.new)
         (flushes.flush (world_of B.meaning metamodel.now registry.now) (now work.old)) }
-    ensures unlocked { OnOk result (All (λ e. e.lock ≡ Lock.Unlocked) (now work.new).context) }
     ensures since { since work.new ≡ since work.old }
 {
+    persist_reachable(alloc, metamodel, registry, work)?;
+    remove_orphans(alloc, metamodel, registry, work)?;
+    check_links(metamodel, work)?;
     tell_updates(alloc, metamodel, registry, work)?;
-    let plan = plan(alloc, metamodel, registry, work)?;
-    judge(metamodel, plan.as_slice())?;
-    write_all(work, plan.as_slice())?;
-    apply(alloc, metamodel, registry, work, plan.as_slice())
+    write_changes(alloc, metamodel, registry, work)
 }

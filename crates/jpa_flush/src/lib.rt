@@ -1,15 +1,22 @@
 //! The flush: what a manager's context writes to the set that it sees.
 //!
-//! The definition stands in `specs/Flush.antt`; `specs/Plan.antt` says what it comes to in a unit without relations,
-//! where the code makes a plan, writes it, and tells of it. The crate stands on the operations of a manager.
+//! The definition stands in `specs/Flush.antt`; `specs/Plan.antt` has it as a plan, which the code makes, writes, judges and tells
+//! of, and `specs/Changes.antt` what a plan changes of a set. The crate stands on the operations of a manager.
 #![tactic(auto)]
 
 mod checking;
+mod differing;
 mod flushing;
+mod held;
 mod judging;
+mod links;
+mod orphans;
 mod planning;
+mod reaching;
+mod remembering;
 mod settling;
 mod steps;
+mod storing;
 mod telling;
 mod writing;
 

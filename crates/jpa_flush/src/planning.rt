@@ -2,21 +2,21 @@
 ghost use Rattle.std.specs.Prelude.{◌≡◌, ◌<◌, All, length, IfOk, IfErr};
 ghost use Rattle.jpa_behaviour.specs.Registered.{world_of};
 ghost use Rattle.jpa_context.specs.Steps.{Ends};
-ghost use Rattle.jpa_context.specs.declared.Lock.{Lock};
-ghost use Rattle.jpa_context.specs.Undo.{now, IsPlaced};
-ghost use Rattle.jpa_lifecycle.specs.Flat.{IsFlat};
+ghost use Rattle.jpa_context.specs.Undo.{now};
+ghost use Rattle.jpa_fetch.specs.Grown.{IsReady};
 ghost use Rattle.jpa_value.specs.declared.refusal.Cause.{Cause};
 ghost use Rattle.jpa_flush.specs.Flush as flushes;
 ghost use Rattle.jpa_flush.specs.Plan as plans;
 
-use crate::checking::{all_convert, can_rise, is_current, is_stored, raised};
+use crate::checking::{all_convert, can_rise, class_there, is_current, is_stored, raised};
 use crate::steps::{Step, step_of};
+use crate::storing::stored_of;
 use jpa_behaviour::{Behaviour, Registry};
 use jpa_context::UnitOfWork;
-use jpa_heap::{LiveObject, identity_of};
+use jpa_heap::identity_of;
 use jpa_model::Metamodel;
 use jpa_stored::Stored;
-use jpa_value::{Cause, Identity, LifecycleEvent, Persist, Seq, TryCopy};
+use jpa_value::{Cause, Identity, LifecycleEvent, Persist, Seq};
 use std::alloc::Global;
 
 /// An object that is to be written, with the event that is told of it then.
@@ -25,21 +25,10 @@ pub struct Planned {
     pub object: usize,
     pub id: Option<Identity>,
     pub event: LifecycleEvent,
-    /// What stands under its identity afterwards; nothing where the object was removed.
+    /// The class of what stands under its identity before.
+    pub class_before: Option<usize>,
+    /// What stands there afterwards; nothing where the object was removed.
     pub stored: Option<Stored>,
-}
-
-/// What is written of an object of a class without relations.
-fn stored_of(alloc: Global, object: &LiveObject, version: Option<i64>) -> Result<Stored, Cause>
-    ensures ok { IfOk result (λ stored. stored ≡ plans.plain_stored object.now version) }
-    ensures err { IfErr result (λ cause. cause ≡ Cause.OutOfMemory) }
-{
-    Ok(Stored {
-        class: object.class,
-        version,
-        values: object.values.try_copy()?,
-        owned: Seq::new(alloc),
-    })
 }
 
 /// An object that the set has not.
@@ -50,10 +39,12 @@ fn insertion<B: Behaviour>(
     work: &UnitOfWork,
     object: usize,
 ) -> Result<Planned, Cause>
-    requires placed { IsPlaced metamodel.now (now work.now) }
+    requires ready { IsReady metamodel.now (now work.now) }
     requires object { object < length work.now.objects.now }
-    ensures planned { IfOk result (λ planned. planned ≡ plans.insertion metamodel.now (now work.now) object) }
-    ensures ends { Ends result (now work.now) (plans.check_insertion (world_of B.meaning metamodel.now registry.now) object (now work.now)) }
+    ensures planned { IfOk result
+        (λ planned. planned ≡ plans.insertion metamodel.now (now work.now) object) }
+    ensures ends { let world = world_of B.meaning metamodel.now registry.now in
+        Ends result (now work.now) (plans.check_insertion world object (now work.now)) }
 {
     let live = &work.objects.as_slice()[object];
     let id = identity_of(metamodel, live)?;
@@ -68,11 +59,14 @@ fn insertion<B: Behaviour>(
     } else {
         None
     };
+    let class_before = class_there(work, &id);
+    let stored = stored_of(alloc, metamodel, work, object, version)?;
     Ok(Planned {
         object,
         id,
         event: LifecycleEvent::PostPersist,
-        stored: Some(stored_of(alloc, live, version)?),
+        class_before,
+        stored: Some(stored),
     })
 }
 
@@ -85,10 +79,12 @@ fn replacement<B: Behaviour>(
     object: usize,
     version: Option<i64>,
 ) -> Result<Planned, Cause>
-    requires placed { IsPlaced metamodel.now (now work.now) }
+    requires ready { IsReady metamodel.now (now work.now) }
     requires object { object < length work.now.objects.now }
-    ensures planned { IfOk result (λ planned. planned ≡ plans.replacement metamodel.now (now work.now) object version) }
-    ensures ends { Ends result (now work.now) (plans.check_replacement (world_of B.meaning metamodel.now registry.now) object version (now work.now)) }
+    ensures planned { IfOk result
+        (λ planned. planned ≡ plans.replacement metamodel.now (now work.now) object version) }
+    ensures ends { let world = world_of B.meaning metamodel.now registry.now in
+        Ends result (now work.now) (plans.check_replacement world object version (now work.now)) }
 {
     let live = &work.objects.as_slice()[object];
     let id = identity_of(metamodel, live)?;
@@ -101,11 +97,14 @@ fn replacement<B: Behaviour>(
     if !all_convert(metamodel, registry, live)? {
         return Err(Cause::Persistence(Persist::Converter));
     }
+    let class_before = class_there(work, &id);
+    let stored = stored_of(alloc, metamodel, work, object, raised(version))?;
     Ok(Planned {
         object,
         id,
         event: LifecycleEvent::PostUpdate,
-        stored: Some(stored_of(alloc, live, raised(version))?),
+        class_before,
+        stored: Some(stored),
     })
 }
 
@@ -116,7 +115,7 @@ fn removal(
     object: usize,
     loaded: Option<i64>,
 ) -> Result<Planned, Cause>
-    requires placed { IsPlaced metamodel.now (now work.now) }
+    requires ready { IsReady metamodel.now (now work.now) }
     requires object { object < length work.now.objects.now }
     ensures planned { IfOk result
         (λ planned. planned ≡ plans.removal metamodel.now (now work.now) object) }
@@ -127,10 +126,12 @@ fn removal(
     if !is_current(work, &id, loaded) {
         return Err(Cause::OptimisticLock);
     }
+    let class_before = class_there(work, &id);
     Ok(Planned {
         object,
         id,
         event: LifecycleEvent::PostRemove,
+        class_before,
         stored: None,
     })
 }
@@ -144,10 +145,12 @@ fn plan_one<B: Behaviour>(
     object: usize,
     step: Step,
 ) -> Result<Option<Planned>, Cause>
-    requires placed { IsPlaced metamodel.now (now work.now) }
+    requires ready { IsReady metamodel.now (now work.now) }
     requires object { object < length work.now.objects.now }
-    ensures planned { IfOk result (λ planned. planned ≡ plans.planned metamodel.now (now work.now) object step) }
-    ensures ends { Ends result (now work.now) (plans.check (world_of B.meaning metamodel.now registry.now) object step (now work.now)) }
+    ensures planned { IfOk result
+        (λ planned. planned ≡ plans.planned metamodel.now (now work.now) object step) }
+    ensures ends { let world = world_of B.meaning metamodel.now registry.now in
+        Ends result (now work.now) (plans.check world object step (now work.now)) }
 {
     match step {
         Step::Keep => Ok(None),
@@ -166,16 +169,15 @@ pub fn plan<B: Behaviour>(
     registry: &Registry<B>,
     work: &UnitOfWork,
 ) -> Result<Seq<Planned>, Cause>
-    requires flat { IsFlat metamodel.now }
-    requires placed { IsPlaced metamodel.now (now work.now) }
-    requires unlocked { All (λ e. e.lock ≡ Lock.Unlocked) (now work.now).context }
+    requires ready { IsReady metamodel.now (now work.now) }
     ensures planned { IfOk result (λ plan. plan ≡ plans.plan_of metamodel.now (now work.now)) }
     ensures objects { IfOk result (λ plan. All (λ p. p.object < length work.now.objects.now) plan) }
-    ensures ends { Ends result (now work.now) (flushes.check_actions (world_of B.meaning metamodel.now registry.now) (now work.now)) }
+    ensures ends { let world = world_of B.meaning metamodel.now registry.now in
+        Ends result (now work.now) (flushes.check_actions world (now work.now)) }
 {
     let mut plan = Seq::new(alloc);
     for entry in work.context.as_slice() {
-        let step = step_of(work, entry);
+        let step = step_of(metamodel, work, entry)?;
         if let Some(planned) = plan_one(alloc, metamodel, registry, work, entry.object, step)? {
             plan.push(planned)?;
         }

@@ -1,4 +1,4 @@
-//! The objects and their bases after a write.
+//! The objects and what stands in their bases after a write.
 ghost use Rattle.std.specs.Prelude.{◌≡◌, ◌<◌, ◌==◌, true, Some, None, [], All, length, map, slice_get, IfOk, IfErr, OnOk};
 ghost use Rattle.jpa_context.specs.Undo.{now, since};
 ghost use Rattle.jpa_context.specs.Work as works;
@@ -10,8 +10,6 @@ ghost use Rattle.jpa_flush.specs.Plan as plans;
 
 use crate::planning::Planned;
 use jpa_context::{Base, Entry, Lock, UnitOfWork};
-use jpa_heap::Life;
-use jpa_model::Metamodel;
 use jpa_stored::Stored;
 use jpa_value::{Cause, Seq, TryCopy};
 use std::alloc::Global;
@@ -58,7 +56,8 @@ fn settled_entry(alloc: Global, entry: &Entry, stored: &Stored) -> Result<Entry,
 /// An object takes the version that was written.
 fn settle_version(work: &mut UnitOfWork, object: usize, version: Option<i64>) -> Result<(), Cause>
     requires { object < length work.old.objects.now }
-    ensures ok { OnOk result (now work.new ≡ works.with_object object (record (works.object (now work.old) object) { version = version }) (now work.old)) }
+    ensures ok { let settled = record (works.object (now work.old) object) { version = version } in
+        OnOk result (now work.new ≡ works.with_object object settled (now work.old)) }
     ensures err { IfErr result (λ cause. cause ≡ Cause.OutOfMemory) }
     ensures since { since work.new ≡ since work.old }
 {
@@ -140,59 +139,6 @@ pub fn settle(alloc: Global, work: &mut UnitOfWork, plan: &[Planned]) -> Result<
         if next < plan.len() && plan[next].object == work.context.as_slice()[i].object {
             settle_at(alloc, work, i, &plan[next])?;
             next += 1;
-        }
-    }
-    Ok(())
-}
-
-/// Whether an entry of a managed object remembers members, which a class without relations has not.
-fn is_outdated(work: &UnitOfWork, entry: &Entry) -> bool
-    requires { entry.now.object < length work.now.objects.now }
-    ensures { result ≡ plans.is_outdated (now work.now) entry.now }
-{
-    match &entry.base {
-        None => false,
-        Some(base) if base.members.is_empty() => false,
-        Some(_) => match work.objects.as_slice()[entry.object].life {
-            Life::Managed(manager) => manager == work.manager,
-            _ => false,
-        },
-    }
-}
-
-/// An entry that remembers no members.
-fn without_members(alloc: Global, entry: &Entry) -> Result<Entry, Cause>
-    ensures ok { IfOk result (λ current. current ≡ record entry.now { base = flushes.remembered_in [] entry.now.base }) }
-    ensures err { IfErr result (λ cause. cause ≡ Cause.OutOfMemory) }
-{
-    let base = match &entry.base {
-        None => None,
-        Some(base) => Some(Base {
-            stored: base.stored.try_copy()?,
-            members: Seq::new(alloc),
-        }),
-    };
-    Ok(Entry {
-        object: entry.object,
-        key: entry.key.try_copy()?,
-        lock: entry.lock,
-        base,
-    })
-}
-
-/// The base of each managed object takes the members that its relations have, which are none.
-pub fn remember(alloc: Global, _metamodel: &Metamodel, work: &mut UnitOfWork) -> Result<(), Cause>
-    requires entries { All (λ e. e.object < length work.old.objects.now) work.old.context.now }
-    requires bare { All (λ x. x.relations ≡ []) work.old.objects.now }
-    ensures ok { OnOk result (now work.new ≡ flushes.all_remembered _metamodel.now (now work.old)) }
-    ensures err { IfErr result (λ cause. cause ≡ Cause.OutOfMemory) }
-    ensures since { since work.new ≡ since work.old }
-{
-    for i in 0..work.context.len() {
-        let entry = &work.context.as_slice()[i];
-        if is_outdated(work, entry) {
-            let current = without_members(alloc, entry)?;
-            work.context.set(i, current)?;
         }
     }
     Ok(())

@@ -1,13 +1,16 @@
 //! What the flush does with an entry of the context.
-ghost use Rattle.std.specs.Prelude.{◌≡◌, ◌<◌, length};
+ghost use Rattle.std.specs.Prelude.{◌≡◌, ◌<◌, ◌||◌, length, IfOk, IfErr};
+ghost use Rattle.jpa_value.specs.declared.refusal.Cause.{Cause};
 ghost use Rattle.jpa_context.specs.Undo.{now};
+ghost use Rattle.jpa_fetch.specs.Grown.{IsReady};
 ghost use Rattle.jpa_flush.specs.Flush as flushes;
 ghost use Rattle.jpa_flush.specs.Plan as plans;
 
-use jpa_context::{Entry, UnitOfWork};
-use jpa_heap::Life;
-use jpa_value::{Value, order_keys};
-use std::cmp::Ordering;
+use crate::differing::differs;
+use jpa_cascade::state_of;
+use jpa_context::{Base, EntityState, Entry, Lock, UnitOfWork};
+use jpa_model::Metamodel;
+use jpa_value::Cause;
 
 /// What the flush does with an entry.
 #[derive(Clone, Copy)]
@@ -20,32 +23,58 @@ pub enum Step {
     Drop(Option<i64>),
 }
 
-/// Whether two lists hold the same values.
-fn are_same(a: &[Value], b: &[Value]) -> bool
-    ensures { result ≡ flushes.same_values a.now b.now }
+/// Whether a managed object replaces its row: it is not what its base is, or its lock is to raise the version (chapter 3.4.4).
+fn replaces(
+    metamodel: &Metamodel,
+    work: &UnitOfWork,
+    entry: &Entry,
+    base: &Base,
+) -> Result<bool, Cause>
+    requires ready { IsReady metamodel.now (now work.now) }
+    requires object { entry.now.object < length work.now.objects.now }
+    ensures ok { IfOk result (λ replaces. replaces
+        ≡ (flushes.differs metamodel.now (now work.now) entry.now.object base.now
+        || flushes.is_write entry.now.lock)) }
+    ensures err { IfErr result (λ cause. cause ≡ Cause.OutOfMemory) }
 {
-    matches!(order_keys(a, b), Ordering::Equal)
+    let differs = differs(metamodel, work, entry.object, base)?;
+    Ok(differs || matches!(entry.lock, Lock::Write))
 }
 
-/// What the flush does with an entry: a managed object that was not written yet is inserted, one whose values are not
-/// those of its base replaces its row, and the row of a removed object is taken out, if it has one.
-pub fn step_of(work: &UnitOfWork, entry: &Entry) -> Step
-    requires { entry.now.object < length work.now.objects.now }
-    ensures { result ≡ plans.step_of (now work.now) entry.now }
+/// What the flush does with an entry of a managed object that was written or loaded.
+fn step_from(
+    metamodel: &Metamodel,
+    work: &UnitOfWork,
+    entry: &Entry,
+    base: &Base,
+) -> Result<Step, Cause>
+    requires ready { IsReady metamodel.now (now work.now) }
+    requires object { entry.now.object < length work.now.objects.now }
+    ensures ok { IfOk result (λ step. step ≡ plans.step_as (flushes.replace_if
+        (flushes.differs metamodel.now (now work.now) entry.now.object base.now
+        || flushes.is_write entry.now.lock) base.now)) }
+    ensures err { IfErr result (λ cause. cause ≡ Cause.OutOfMemory) }
 {
-    let object = &work.objects.as_slice()[entry.object];
-    match object.life {
-        Life::Managed(manager) if manager == work.manager => match &entry.base {
-            None => Step::Insert,
-            Some(base) if are_same(object.values.as_slice(), base.stored.values.as_slice()) => {
-                Step::Keep
-            }
-            Some(base) => Step::Replace(base.stored.version),
-        },
-        Life::Removed(manager) if manager == work.manager => match &entry.base {
-            None => Step::Keep,
-            Some(base) => Step::Drop(base.stored.version),
-        },
-        _ => Step::Keep,
+    if replaces(metamodel, work, entry, base)? {
+        Ok(Step::Replace(base.stored.version))
+    } else {
+        Ok(Step::Keep)
+    }
+}
+
+/// What the flush does with an entry: a managed object that was not written yet is inserted, one that differs from its base
+/// replaces its row, and the row of a removed object is taken out, if it has one. `OutOfMemory` where a growth was refused.
+pub fn step_of(metamodel: &Metamodel, work: &UnitOfWork, entry: &Entry) -> Result<Step, Cause>
+    requires ready { IsReady metamodel.now (now work.now) }
+    requires object { entry.now.object < length work.now.objects.now }
+    ensures ok { IfOk result
+        (λ step. step ≡ plans.step_of metamodel.now (now work.now) entry.now) }
+    ensures err { IfErr result (λ cause. cause ≡ Cause.OutOfMemory) }
+{
+    match (state_of(work, entry.object), &entry.base) {
+        (EntityState::Managed, None) => Ok(Step::Insert),
+        (EntityState::Managed, Some(base)) => step_from(metamodel, work, entry, base),
+        (EntityState::Removed, Some(base)) => Ok(Step::Drop(base.stored.version)),
+        _ => Ok(Step::Keep),
     }
 }

@@ -2,11 +2,10 @@
 ghost use Rattle.std.specs.Prelude.{◌≡◌, ◌<◌, All, length};
 ghost use Rattle.jpa_behaviour.specs.Registered.{world_of};
 ghost use Rattle.jpa_context.specs.Steps.{Meets};
-ghost use Rattle.jpa_context.specs.declared.Lock.{Lock};
-ghost use Rattle.jpa_context.specs.Undo.{now, since, IsPlaced};
+ghost use Rattle.jpa_context.specs.Undo.{now, since};
 ghost use Rattle.jpa_context.specs.Work as works;
 ghost use Rattle.jpa_heap.specs.Shape.{HasShape};
-ghost use Rattle.jpa_lifecycle.specs.Flat.{IsFlat};
+ghost use Rattle.jpa_fetch.specs.Grown.{IsReady};
 ghost use Rattle.jpa_flush.specs.Flush as flushes;
 ghost use Rattle.jpa_flush.specs.Plan as plans;
 
@@ -30,7 +29,8 @@ fn tell_update<B: Behaviour>(
 ) -> Result<(), Cause>
     requires object { object < length work.old.objects.now }
     requires shape { HasShape metamodel.now (works.object (now work.old) object) }
-    ensures meets { Meets result (now work.new) (plans.update (world_of B.meaning metamodel.now registry.now) object step (now work.old)) }
+    ensures meets { let world = world_of B.meaning metamodel.now registry.now in
+        Meets result (now work.new) (plans.update world object step (now work.old)) }
     ensures since { since work.new ≡ since work.old }
 {
     match step {
@@ -42,31 +42,30 @@ fn tell_update<B: Behaviour>(
     }
 }
 
-/// PreUpdate happens to each object that replaces its row (chapter 3.5.2); what it assigns is what the flush finds then. Refused as the
-/// first listener or callback that refuses.
+/// PreUpdate happens to each object that replaces its row (chapter 3.5.2); what it assigns is what the flush finds then. Refused
+/// as the first listener or callback that refuses; `OutOfMemory` where a growth was refused.
 pub fn tell_updates<B: Behaviour>(
     alloc: Global,
     metamodel: &Metamodel,
     registry: &Registry<B>,
     work: &mut UnitOfWork,
 ) -> Result<(), Cause>
-    requires flat { IsFlat metamodel.now }
-    requires placed { IsPlaced metamodel.now (now work.old) }
-    requires unlocked { All (λ e. e.lock ≡ Lock.Unlocked) (now work.old).context }
-    ensures meets { Meets result (now work.new) (flushes.pre_update (world_of B.meaning metamodel.now registry.now) (now work.old)) }
+    requires ready { IsReady metamodel.now (now work.old) }
+    ensures meets { let world = world_of B.meaning metamodel.now registry.now in
+        Meets result (now work.new) (flushes.pre_update world (now work.old)) }
     ensures since { since work.new ≡ since work.old }
 {
     for i in 0..work.context.len() {
         let entry = &work.context.as_slice()[i];
         let object = entry.object;
-        let step = step_of(work, entry);
+        let step = step_of(metamodel, work, entry)?;
         tell_update(alloc, metamodel, registry, work, object, step)?;
     }
     Ok(())
 }
 
 /// The event of each object that was written happens, in the order of the plan. Refused as the first listener or callback that
-/// refuses.
+/// refuses; `OutOfMemory` where a growth was refused.
 pub fn tell_written<B: Behaviour>(
     alloc: Global,
     metamodel: &Metamodel,
@@ -76,7 +75,8 @@ pub fn tell_written<B: Behaviour>(
 ) -> Result<(), Cause>
     requires shaped { All (HasShape metamodel.now) work.old.objects.now }
     requires objects { All (λ p. p.object < length work.old.objects.now) plan.now }
-    ensures meets { Meets result (now work.new) (plans.told_by (world_of B.meaning metamodel.now registry.now) plan.now (now work.old)) }
+    ensures meets { let world = world_of B.meaning metamodel.now registry.now in
+        Meets result (now work.new) (plans.told_by world plan.now (now work.old)) }
     ensures since { since work.new ≡ since work.old }
 {
     for planned in plan {

@@ -14,7 +14,7 @@ use Rattle.jpa_value.specs.declared.event.LifecycleEvent.{LifecycleEvent}
 use Rattle.jpa_protocol.specs.declared.reply.Answer.{Answer}
 use Rattle.jpa_protocol.specs.declared.reply.Item.{Item}
 use Rattle.jpa_json.specs.JsonOf.{text_data}
-use Rattle.jpa_lines.specs.CallOf.{meaning, text_call, call_of, create_of, new_of, set_of, get_of, em_of, em_and_object_of, by_key_of, given_of, marked_of, hex_of}
+use Rattle.jpa_lines.specs.CallOf.{meaning, text_call, call_of, create_of, new_of, set_of, get_of, by_member_of, em_of, em_and_object_of, by_key_of, given_of, marked_of, hex_of}
 use Rattle.jpa_lines.specs.ReplyText.{reply_text}
 use Rattle.jpa_lines.specs.Run.{lines_of}
 
@@ -53,6 +53,19 @@ gives_object = refl
 gets : meaning (codes "{\"call\":\"get\",\"object\":1,\"name\":\"x\"}") ≡ Ok (Call.Get (pos 1) (codes "x"))
 unfolding is_utf8 chars meaning text_call text_data call_of get_of serde_json_on_literals
 gets = refl
+
+adds : meaning (codes "{\"call\":\"add\",\"object\":1,\"name\":\"orders\",\"member\":2}") ≡ Ok (Call.Add (pos 1) (codes "orders") (pos 2))
+unfolding is_utf8 chars meaning text_call text_data call_of by_member_of serde_json_on_literals
+adds = refl
+
+takes_out : meaning (codes "{\"member\":-1,\"object\":1,\"name\":\"orders\",\"call\":\"takeOut\"}") ≡ Ok (Call.TakeOut (pos 1) (codes "orders") (negsuc 0))
+unfolding is_utf8 chars meaning text_call text_data call_of by_member_of serde_json_on_literals
+takes_out = refl
+
+-- a member is written as its number
+adds_no_value : meaning (codes "{\"call\":\"add\",\"object\":1,\"name\":\"orders\",\"member\":{\"object\":2}}") ≡ Err Cause.BadLine
+unfolding is_utf8 chars meaning text_call text_data call_of by_member_of serde_json_on_literals
+adds_no_value = refl
 
 begins : meaning (codes "{\"call\":\"begin\",\"em\":1}") ≡ Ok (Call.Begin (pos 1))
 unfolding is_utf8 chars meaning text_call text_data call_of em_of serde_json_on_literals

@@ -8,7 +8,7 @@ use Rattle.jpa_value.specs.declared.refusal.Cause.{Cause}
 use Rattle.jpa_value.specs.declared.refusal.Cause.TheVariants.{BadLine, Limit}
 use Rattle.jpa_value.specs.declared.value.Value.TheVariants.{Null, Int, Text, Bytes}
 use Rattle.jpa_protocol.specs.declared.call.Call.{Call}
-use Rattle.jpa_protocol.specs.declared.call.Call.TheVariants.{CreateEntityManager, NewObject, SetValue, Get, Begin, Persist, Remove, Refresh, Detach, Contains, Clear, Close, Flush, Commit, Rollback, SetRollbackOnly, Find, GetReference}
+use Rattle.jpa_protocol.specs.declared.call.Call.TheVariants.{CreateEntityManager, NewObject, SetValue, Get, Add, TakeOut, Begin, Persist, Remove, Refresh, Detach, Contains, Clear, Close, Flush, Commit, Rollback, SetRollbackOnly, Find, GetReference}
 use Rattle.jpa_protocol.specs.declared.call.Given.{Given}
 use Rattle.jpa_protocol.specs.declared.call.Given.TheVariants as given
 use Rattle.serde_json.specs.Data.{Data, null, boolean, number, string, array, object}
@@ -87,6 +87,15 @@ get_of d = do
   name ← text_at (codes "name") d
   Some (Get on name)
 
+-- a call that changes a collection by a member
+unfoldable pub by_member_of : (ℤ → List ℕ → ℤ → Call) → Data → Option Call
+by_member_of call d = do
+  all ← guard (count_of d == 4)
+  on ← integer_at (codes "object") d
+  name ← text_at (codes "name") d
+  member ← integer_at (codes "member") d
+  Some (call on name member)
+
 -- the manager, of a call that has no other member
 unfoldable pub em_of : Data → Option ℤ
 em_of d = do
@@ -129,6 +138,8 @@ word_of name =
     else if bytes_eq name (codes "new") then Some word.New
     else if bytes_eq name (codes "set") then Some word.Set
     else if bytes_eq name (codes "get") then Some word.Get
+    else if bytes_eq name (codes "add") then Some word.Add
+    else if bytes_eq name (codes "takeOut") then Some word.TakeOut
     else if bytes_eq name (codes "begin") then Some word.Begin
     else if bytes_eq name (codes "persist") then Some word.Persist
     else if bytes_eq name (codes "remove") then Some word.Remove
@@ -151,6 +162,8 @@ worded_call word.CreateEntityManager d = create_of d
 worded_call word.New d = new_of d
 worded_call word.Set d = set_of d
 worded_call word.Get d = get_of d
+worded_call word.Add d = by_member_of Add d
+worded_call word.TakeOut d = by_member_of TakeOut d
 worded_call word.Begin d = of_em Begin d
 worded_call word.Persist d = of_em_and_object Persist d
 worded_call word.Remove d = of_em_and_object Remove d

@@ -5,7 +5,7 @@ ghost use Rattle.jpa_protocol.specs.declared.call.Call.{Call};
 ghost use Rattle.jpa_value.specs.declared.refusal.Cause.TheVariants.{OutOfMemory};
 ghost use Rattle.jpa_json.specs.Members.{integer_of};
 ghost use Rattle.jpa_json.specs.Outcome.{Gives, same};
-ghost use Rattle.jpa_lines.specs.CallOf.{integer_at, hex_of, marked_of, given_of, em_of, create_of, new_of, set_of, get_of, em_and_object_of, of_em_and_object, by_key_of, word_of, worded_call, call_of, text_call, meaning};
+ghost use Rattle.jpa_lines.specs.CallOf.{integer_at, hex_of, marked_of, given_of, em_of, create_of, new_of, set_of, get_of, by_member_of, em_and_object_of, of_em_and_object, by_key_of, word_of, worded_call, call_of, text_call, meaning};
 
 use jpa_json::{Described, Unread, json_of, member, only, or_refuse, str_at, text_at};
 use jpa_protocol::{Call, Given};
@@ -23,6 +23,8 @@ enum Word {
     New,
     Set,
     Get,
+    Add,
+    TakeOut,
     Begin,
     Persist,
     Remove,
@@ -76,6 +78,8 @@ fn word_of(name: &str) -> Result<Word, Unread>
         "new" => Ok(Word::New),
         "set" => Ok(Word::Set),
         "get" => Ok(Word::Get),
+        "add" => Ok(Word::Add),
+        "takeOut" => Ok(Word::TakeOut),
         "begin" => Ok(Word::Begin),
         "persist" => Ok(Word::Persist),
         "remove" => Ok(Word::Remove),
@@ -102,6 +106,8 @@ fn worded_call(alloc: Global, word: Word, json: &Json) -> Result<Call, Unread>
         Word::New => new_of(alloc, json),
         Word::Set => set_of(alloc, json),
         Word::Get => get_of(alloc, json),
+        Word::Add => add_of(alloc, json),
+        Word::TakeOut => take_out_of(alloc, json),
         Word::Begin => Ok(Call::Begin { em: em_of(json)? }),
         Word::Persist => persist_of(json),
         Word::Remove => remove_of(json),
@@ -160,6 +166,36 @@ fn get_of(alloc: Global, json: &Json) -> Result<Call, Unread>
     let object = integer_at(json, "object")?;
     let name = text_at(alloc, json, "name")?;
     Ok(Call::Get { object, name })
+}
+
+#[tactic(auto, unfolding(crate::specs::CallOf::by_member_of))]
+fn add_of(alloc: Global, json: &Json) -> Result<Call, Unread>
+    ensures { Gives same result (by_member_of Call.Add (view json.now)) }
+{
+    only(json, 4)?;
+    let object = integer_at(json, "object")?;
+    let name = text_at(alloc, json, "name")?;
+    let member = integer_at(json, "member")?;
+    Ok(Call::Add {
+        object,
+        name,
+        member,
+    })
+}
+
+#[tactic(auto, unfolding(crate::specs::CallOf::by_member_of))]
+fn take_out_of(alloc: Global, json: &Json) -> Result<Call, Unread>
+    ensures { Gives same result (by_member_of Call.TakeOut (view json.now)) }
+{
+    only(json, 4)?;
+    let object = integer_at(json, "object")?;
+    let name = text_at(alloc, json, "name")?;
+    let member = integer_at(json, "member")?;
+    Ok(Call::TakeOut {
+        object,
+        name,
+        member,
+    })
 }
 
 /// The manager of a call that has no other member.

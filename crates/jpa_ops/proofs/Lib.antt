@@ -1,9 +1,13 @@
-mod Alone
 mod Based
+pub mod Entered
 mod Examples
 mod Fitting
+pub mod Front
+pub mod Going
 mod LetGo
-pub mod Loaded
 mod Persisted
+pub mod Ready
 mod Refreshed
 pub mod Refused
+mod Rounds
+pub mod Names

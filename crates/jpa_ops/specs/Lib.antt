@@ -1,3 +1,2 @@
-pub mod Load
-pub mod Members
+pub mod Names
 pub mod States

@@ -26,7 +26,7 @@ use Rattle.jpa_lifecycle.specs.Callbacks.{callback}
 use Rattle.jpa_cascade.specs.declared.Operation.{Operation}
 use Rattle.jpa_cascade.specs.declared.Node.{Node}
 use Rattle.jpa_cascade.specs.Waves.{waves}
-use Rattle.jpa_ops.specs.Load.{load, object_loaded, base_loaded}
+use Rattle.jpa_fetch.specs.Load.{load, object_loaded, base_loaded}
 
 -- each node of the cascade from the object, in order; the nodes are those of the work as the operation begins
 abbrev pub cascaded : World → Operation → (Node → Op (Unit {0})) → ℕ → Op (Unit {0})

@@ -12,11 +12,15 @@ ghost use Rattle.jpa_context.specs.Steps.{Meets, Done};
 ghost use Rattle.jpa_context.specs.Undo.{now, since, IsPlaced};
 ghost use Rattle.jpa_context.specs.Work as works;
 ghost use Rattle.jpa_context.specs.declared.EntityState.{EntityState};
-ghost use Rattle.jpa_lifecycle.specs.Flat.{IsFlat};
+ghost use Rattle.jpa_cascade.specs.There.{IsThere};
+ghost use Rattle.jpa_fetch.specs.Grown.{HasGrown, IsReady};
+ghost use Rattle.jpa_fetch.specs.Orderly.{IsOrderly};
+ghost use Rattle.jpa_ops.specs.Names.{has_distinct_entries};
 ghost use Rattle.jpa_ops.specs.States as states;
 
-use crate::context::{has_base, has_instance, set_life, state_of};
+use crate::context::{has_base, has_instance, set_life};
 use jpa_behaviour::{Behaviour, Registry};
+use jpa_cascade::{Node, Operation, state_of, waves};
 use jpa_context::{EntityState, Entry, Lock, UnitOfWork};
 use jpa_heap::{Life, LiveObject, is_whole};
 use jpa_lifecycle::callback;
@@ -60,11 +64,13 @@ fn give_number(
     work: &mut UnitOfWork,
     object: usize,
 ) -> Result<(), Cause>
-    requires flat { IsFlat metamodel.now }
+    requires orderly { IsOrderly metamodel.now }
     requires placed { IsPlaced metamodel.now (now work.old) }
     requires object { object < length work.old.objects.now }
-    requires generated { (root_of metamodel.now (works.object (now work.old) object).class).generated ≡ true }
-    ensures meets { (world : World) → Meets result (now work.new) (states.give_key (record world { model = metamodel.now }) object true (now work.old)) }
+    requires generated { (root_of metamodel.now
+        (works.object (now work.old) object).class).generated ≡ true }
+    ensures meets { (world : World) → Meets result (now work.new)
+        (states.give_key (record world { model = metamodel.now }) object true (now work.old)) }
     ensures placed { IsPlaced metamodel.now (now work.new) }
     ensures count { length work.new.objects.now ≡ length work.old.objects.now }
     ensures view { work.new.view ≡ work.old.view }
@@ -93,10 +99,13 @@ fn give_key(
     work: &mut UnitOfWork,
     object: usize,
 ) -> Result<(), Cause>
-    requires flat { IsFlat metamodel.now }
+    requires orderly { IsOrderly metamodel.now }
     requires placed { IsPlaced metamodel.now (now work.old) }
     requires object { object < length work.old.objects.now }
-    ensures meets { (world : World) → Meets result (now work.new) (states.give_key (record world { model = metamodel.now }) object (root_of metamodel.now (works.object (now work.old) object).class).generated (now work.old)) }
+    ensures meets { let w = now work.old in
+        let generated = (root_of metamodel.now (works.object w object).class).generated in
+        (world : World) → Meets result (now work.new)
+        (states.give_key (record world { model = metamodel.now }) object generated w) }
     ensures placed { IsPlaced metamodel.now (now work.new) }
     ensures count { length work.new.objects.now ≡ length work.old.objects.now }
     ensures view { work.new.view ≡ work.old.view }
@@ -120,10 +129,11 @@ fn become_managed(
     work: &mut UnitOfWork,
     object: usize,
 ) -> Result<(), Cause>
-    requires flat { IsFlat metamodel.now }
+    requires orderly { IsOrderly metamodel.now }
     requires placed { IsPlaced metamodel.now (now work.old) }
     requires object { object < length work.old.objects.now }
-    ensures meets { (world : World) → Meets result (now work.new) (states.become_managed (record world { model = metamodel.now }) object (now work.old)) }
+    ensures meets { (world : World) → Meets result (now work.new)
+        (states.become_managed (record world { model = metamodel.now }) object (now work.old)) }
     ensures shape { OnOk result (HasShape metamodel.now (works.object (now work.new) object)) }
     ensures count { length work.new.objects.now ≡ length work.old.objects.now }
     ensures view { work.new.view ≡ work.old.view }
@@ -152,10 +162,12 @@ fn persist_new<B: Behaviour>(
     work: &mut UnitOfWork,
     object: usize,
 ) -> Result<(), Cause>
-    requires flat { IsFlat metamodel.now }
+    requires orderly { IsOrderly metamodel.now }
     requires placed { IsPlaced metamodel.now (now work.old) }
     requires object { object < length work.old.objects.now }
-    ensures meets { Meets result (now work.new) (states.persist_one (world_of B.meaning metamodel.now registry.now) object EntityState.New (now work.old)) }
+    ensures meets { let world = world_of B.meaning metamodel.now registry.now in
+        Meets result (now work.new)
+        (states.persist_one world object EntityState.New (now work.old)) }
     ensures view { work.new.view ≡ work.old.view }
     ensures since { since work.new ≡ since work.old }
 {
@@ -179,10 +191,11 @@ fn persist_removed<B: Behaviour>(
     work: &mut UnitOfWork,
     object: usize,
 ) -> Result<(), Cause>
-    requires flat { IsFlat metamodel.now }
     requires placed { IsPlaced metamodel.now (now work.old) }
     requires object { object < length work.old.objects.now }
-    ensures meets { Meets result (now work.new) (states.persist_one (world_of B.meaning metamodel.now registry.now) object EntityState.Removed (now work.old)) }
+    ensures meets { let world = world_of B.meaning metamodel.now registry.now in
+        Meets result (now work.new)
+        (states.persist_one world object EntityState.Removed (now work.old)) }
     ensures view { work.new.view ≡ work.old.view }
     ensures since { since work.new ≡ since work.old }
 {
@@ -200,9 +213,60 @@ fn persist_removed<B: Behaviour>(
     )
 }
 
-/// Makes an object of a unit without relations managed: a new one enters the persistence context, with the
-/// next number as its key where keys are generated; a removed one is managed again; a managed one stays as it is
-/// (Jakarta Persistence 3.1, chapters 3.2.2 and 2.4). PrePersist happens to an object that was not stored yet.
+/// An object that stands so for its manager is managed afterwards. Refused as `persist` is.
+fn persist_one<B: Behaviour>(
+    alloc: Global,
+    metamodel: &Metamodel,
+    registry: &Registry<B>,
+    work: &mut UnitOfWork,
+    object: usize,
+    state: EntityState,
+) -> Result<(), Cause>
+    requires orderly { IsOrderly metamodel.now }
+    requires placed { IsPlaced metamodel.now (now work.old) }
+    requires object { object < length work.old.objects.now }
+    ensures meets { let world = world_of B.meaning metamodel.now registry.now in
+        Meets result (now work.new) (states.persist_one world object state (now work.old)) }
+    ensures view { work.new.view ≡ work.old.view }
+    ensures since { since work.new ≡ since work.old }
+{
+    match state {
+        EntityState::New => persist_new(alloc, metamodel, registry, work, object),
+        EntityState::Managed => Ok(()),
+        EntityState::Removed => persist_removed(alloc, metamodel, registry, work, object),
+        EntityState::Detached => Err(Cause::EntityExists),
+    }
+}
+
+/// A node of the cascade is persisted: an object; a row without an instance is stored already. Refused as `persist` is.
+fn persist_node<B: Behaviour>(
+    alloc: Global,
+    metamodel: &Metamodel,
+    registry: &Registry<B>,
+    work: &mut UnitOfWork,
+    node: &Node,
+) -> Result<(), Cause>
+    requires orderly { IsOrderly metamodel.now }
+    requires placed { IsPlaced metamodel.now (now work.old) }
+    requires there { IsThere (now work.old) node.now }
+    ensures meets { let world = world_of B.meaning metamodel.now registry.now in
+        Meets result (now work.new) (states.persist_node world node.now (now work.old)) }
+    ensures view { work.new.view ≡ work.old.view }
+    ensures since { since work.new ≡ since work.old }
+{
+    match node {
+        Node::Live(object) => {
+            let state = state_of(work, *object);
+            persist_one(alloc, metamodel, registry, work, *object, state)
+        }
+        Node::Bare(_) => Ok(()),
+    }
+}
+
+/// Makes an object managed, and those that it leads to along relations that cascade it: a new one enters the persistence
+/// context, with the next number as its key where keys are generated; a removed one is managed again; a managed one stays as
+/// it is (Jakarta Persistence 3.1, chapters 3.2.2 and 2.4). PrePersist happens to an object that was not stored yet. The
+/// objects are those of the waves of the cascade as it begins, in their order.
 ///
 /// `EntityExists` for a detached object, and where the context has another of the identity; `Persistence(key)` where a
 /// part of an assigned key is null, or a generated key is not; `Persistence(generator)` where no number is left; `Listener`
@@ -215,17 +279,21 @@ pub fn persist<B: Behaviour>(
     work: &mut UnitOfWork,
     object: usize,
 ) -> Result<(), Cause>
-    requires flat { IsFlat metamodel.now }
-    requires placed { IsPlaced metamodel.now (now work.old) }
+    requires orderly { IsOrderly metamodel.now }
+    requires ready { IsReady metamodel.now (now work.old) }
     requires object { object < length work.old.objects.now }
-    ensures meets { Meets result (now work.new) (states.persist (world_of B.meaning metamodel.now registry.now) object (now work.old)) }
+    ensures meets { let world = world_of B.meaning metamodel.now registry.now in
+        Meets result (now work.new) (states.persist world object (now work.old)) }
+    ensures ready { OnOk result (IsReady metamodel.now (now work.new)) }
+    ensures grown { OnOk result (HasGrown (now work.old) (now work.new)) }
+    ensures named { has_distinct_entries metamodel.now (now work.old) ≡ true →
+        OnOk result (has_distinct_entries metamodel.now (now work.new) ≡ true) }
     ensures view { work.new.view ≡ work.old.view }
     ensures since { since work.new ≡ since work.old }
 {
-    match state_of(work, object) {
-        EntityState::New => persist_new(alloc, metamodel, registry, work, object),
-        EntityState::Managed => Ok(()),
-        EntityState::Removed => persist_removed(alloc, metamodel, registry, work, object),
-        EntityState::Detached => Err(Cause::EntityExists),
+    let nodes = waves(alloc, metamodel, work, Operation::Persist, object)?;
+    for node in nodes.as_slice() {
+        persist_node(alloc, metamodel, registry, work, node)?;
     }
+    Ok(())
 }

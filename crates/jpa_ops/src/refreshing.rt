@@ -1,29 +1,30 @@
 //! Loading an object again.
-ghost use Rattle.std.specs.Prelude.{◌≡◌, ◌<◌, ◌==◌, true, length, IfOk, IfErr, OnOk, Some};
+ghost use Rattle.std.specs.Prelude.{◌≡◌, ◌<◌, length, IfOk, IfErr, OnOk, Some};
 ghost use Rattle.jpa_value.specs.declared.refusal.Cause.{Cause};
 ghost use Rattle.jpa_behaviour.specs.Behaviour.{World};
 ghost use Rattle.jpa_behaviour.specs.Registered.{world_of};
-ghost use Rattle.jpa_stored.specs.Sets.{all_distinct};
 ghost use Rattle.jpa_context.specs.Steps.{IsRefusedAs, Meets};
 ghost use Rattle.jpa_context.specs.Undo.{now, since, IsPlaced};
 ghost use Rattle.jpa_context.specs.Work as works;
-ghost use Rattle.jpa_lifecycle.specs.Flat.{IsFlat};
+ghost use Rattle.jpa_context.specs.declared.EntityState.{EntityState};
+ghost use Rattle.jpa_cascade.specs.There.{IsThere};
+ghost use Rattle.jpa_fetch.specs.Grown.{AreDistinct, HasGrown, IsReady};
 ghost use Rattle.jpa_ops.specs.States as states;
 
-use crate::context::state_of;
-use crate::finding::object_loaded;
 use jpa_behaviour::{Behaviour, Registry};
+use jpa_cascade::{Node, Operation, state_of, waves};
 use jpa_context::{Base, EntityState, Entry, UnitOfWork};
+use jpa_fetch::object_of_row;
 use jpa_heap::identity_of;
 use jpa_lifecycle::callback;
 use jpa_model::Metamodel;
 use jpa_stored::Stored;
-use jpa_value::{Argument, Cause, Identity, LifecycleEvent, Seq, TryCopy};
+use jpa_value::{Argument, Cause, Identity, LifecycleEvent, TryCopy};
 use std::alloc::Global;
 
 /// An object's entry has a new base. Fails for want of memory alone, with `OutOfMemory`.
 fn set_base(work: &mut UnitOfWork, object: usize, base: Base) -> Result<(), Cause>
-    requires distinct { all_distinct (λ a b. a.object == b.object) work.old.context.now ≡ true }
+    requires distinct { AreDistinct work.old.context.now }
     ensures ok { OnOk result (now work.new ≡ works.with_base object (Some base) (now work.old)) }
     ensures err { IfErr result (λ cause. cause ≡ Cause.OutOfMemory) }
     ensures others { work.new ≡ record work.old { context = work.new.context } }
@@ -43,32 +44,28 @@ fn set_base(work: &mut UnitOfWork, object: usize, base: Base) -> Result<(), Caus
     Ok(())
 }
 
-/// An object takes the values and the version of its row, which is its new base. Fails for want of memory alone, with
+/// An object takes what its row has, with what it leads to unread; the row is its new base. Fails for want of memory alone, with
 /// `OutOfMemory`.
 fn reload(
     alloc: Global,
-    _metamodel: &Metamodel,
+    metamodel: &Metamodel,
     work: &mut UnitOfWork,
     object: usize,
-    id: Identity,
+    id: &Identity,
     row: Stored,
 ) -> Result<(), Cause>
-    requires flat { IsFlat _metamodel.now }
+    requires class { row.class < length metamodel.now.entities }
     requires object { object < length work.old.objects.now }
-    requires distinct { all_distinct (λ a b. a.object == b.object) work.old.context.now ≡ true }
-    ensures ok { (world : World) → OnOk result (now work.new
-        ≡ states.reloaded (record world { model = _metamodel.now }) object id row (now work.old)) }
+    requires distinct { AreDistinct work.old.context.now }
+    ensures ok { let w = now work.old in (world : World) → OnOk result (now work.new
+        ≡ states.reloaded (record world { model = metamodel.now }) object id.now row w) }
     ensures err { IfErr result (λ cause. cause ≡ Cause.OutOfMemory) }
     ensures count { length work.new.objects.now ≡ length work.old.objects.now }
     ensures view { work.new.view ≡ work.old.view }
     ensures since { since work.new ≡ since work.old }
 {
-    let live = object_loaded(alloc, work.manager, id, &row)?;
+    let (live, base) = object_of_row(alloc, metamodel, work.manager, &work.view, id, row)?;
     work.objects.set(object, live)?;
-    let base = Base {
-        stored: row,
-        members: Seq::new(alloc),
-    };
     set_base(work, object, base)
 }
 
@@ -99,10 +96,9 @@ fn refresh_managed<B: Behaviour>(
     work: &mut UnitOfWork,
     object: usize,
 ) -> Result<(), Cause>
-    requires flat { IsFlat metamodel.now }
     requires placed { IsPlaced metamodel.now (now work.old) }
     requires object { object < length work.old.objects.now }
-    requires distinct { all_distinct (λ a b. a.object == b.object) work.old.context.now ≡ true }
+    requires distinct { AreDistinct work.old.context.now }
     ensures meets { let world = world_of B.meaning metamodel.now registry.now in
         Meets result (now work.new) (states.refresh_managed world object (now work.old)) }
     ensures view { work.new.view ≡ work.old.view }
@@ -112,7 +108,7 @@ fn refresh_managed<B: Behaviour>(
         return Err(Cause::EntityNotFound);
     };
     let row = row_of(work, object, &id)?;
-    reload(alloc, metamodel, work, object, id, row)?;
+    reload(alloc, metamodel, work, object, &id, row)?;
     callback(
         alloc,
         metamodel,
@@ -123,9 +119,60 @@ fn refresh_managed<B: Behaviour>(
     )
 }
 
-/// Loads a managed object of a unit without relations again: it takes the values and the version of its row, which is
-/// what it is compared with at the next flush, and PostLoad happens to it (Jakarta Persistence 3.1, chapters 3.2.5 and
-/// 3.5.2). What was changed of it and not written is lost.
+/// An object that stands so for its manager is loaded again. Refused as `refresh` is.
+fn refresh_one<B: Behaviour>(
+    alloc: Global,
+    metamodel: &Metamodel,
+    registry: &Registry<B>,
+    work: &mut UnitOfWork,
+    object: usize,
+    state: EntityState,
+) -> Result<(), Cause>
+    requires placed { IsPlaced metamodel.now (now work.old) }
+    requires object { object < length work.old.objects.now }
+    requires distinct { AreDistinct work.old.context.now }
+    ensures meets { let world = world_of B.meaning metamodel.now registry.now in
+        Meets result (now work.new) (states.refresh_one world object state (now work.old)) }
+    ensures view { work.new.view ≡ work.old.view }
+    ensures since { since work.new ≡ since work.old }
+{
+    match state {
+        EntityState::New => Err(Cause::IllegalArgument(Argument::State)),
+        EntityState::Managed => refresh_managed(alloc, metamodel, registry, work, object),
+        EntityState::Removed => Err(Cause::IllegalArgument(Argument::State)),
+        EntityState::Detached => Err(Cause::IllegalArgument(Argument::State)),
+    }
+}
+
+/// A node of the cascade is refreshed: an object; a row without an instance is as it is. Refused as `refresh` is.
+fn refresh_node<B: Behaviour>(
+    alloc: Global,
+    metamodel: &Metamodel,
+    registry: &Registry<B>,
+    work: &mut UnitOfWork,
+    node: &Node,
+) -> Result<(), Cause>
+    requires placed { IsPlaced metamodel.now (now work.old) }
+    requires distinct { AreDistinct work.old.context.now }
+    requires there { IsThere (now work.old) node.now }
+    ensures meets { let world = world_of B.meaning metamodel.now registry.now in
+        Meets result (now work.new) (states.refresh_node world node.now (now work.old)) }
+    ensures view { work.new.view ≡ work.old.view }
+    ensures since { since work.new ≡ since work.old }
+{
+    match node {
+        Node::Live(object) => {
+            let state = state_of(work, *object);
+            refresh_one(alloc, metamodel, registry, work, *object, state)
+        }
+        Node::Bare(_) => Ok(()),
+    }
+}
+
+/// Loads a managed object again, and those that it leads to along relations that cascade it: each takes the values and the
+/// version of its row, which is what it is compared with at the next flush, with what it leads to unread, and PostLoad happens
+/// to it (Jakarta Persistence 3.1, chapters 3.2.5 and 3.5.2). What was changed of it and not written is lost. The objects are
+/// those of the waves of the cascade as it begins, in their order.
 ///
 /// `IllegalArgument(state)` for an object that is not managed; `EntityNotFound` where the manager sees no row under its
 /// identity, or one of another class; `Listener` with its text where a listener or callback throws, and
@@ -138,19 +185,18 @@ pub fn refresh<B: Behaviour>(
     work: &mut UnitOfWork,
     object: usize,
 ) -> Result<(), Cause>
-    requires flat { IsFlat metamodel.now }
-    requires placed { IsPlaced metamodel.now (now work.old) }
+    requires ready { IsReady metamodel.now (now work.old) }
     requires object { object < length work.old.objects.now }
-    requires distinct { all_distinct (λ a b. a.object == b.object) work.old.context.now ≡ true }
     ensures meets { let world = world_of B.meaning metamodel.now registry.now in
         Meets result (now work.new) (states.refresh world object (now work.old)) }
+    ensures ready { OnOk result (IsReady metamodel.now (now work.new)) }
+    ensures grown { OnOk result (HasGrown (now work.old) (now work.new)) }
     ensures view { work.new.view ≡ work.old.view }
     ensures since { since work.new ≡ since work.old }
 {
-    match state_of(work, object) {
-        EntityState::New => Err(Cause::IllegalArgument(Argument::State)),
-        EntityState::Managed => refresh_managed(alloc, metamodel, registry, work, object),
-        EntityState::Removed => Err(Cause::IllegalArgument(Argument::State)),
-        EntityState::Detached => Err(Cause::IllegalArgument(Argument::State)),
+    let nodes = waves(alloc, metamodel, work, Operation::Refresh, object)?;
+    for node in nodes.as_slice() {
+        refresh_node(alloc, metamodel, registry, work, node)?;
     }
+    Ok(())
 }

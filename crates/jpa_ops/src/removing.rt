@@ -1,19 +1,23 @@
 //! Removing an object.
-ghost use Rattle.std.specs.Prelude.{◌≡◌, ◌<◌, length};
+ghost use Rattle.std.specs.Prelude.{◌≡◌, ◌<◌, length, OnOk};
 ghost use Rattle.jpa_behaviour.specs.Registered.{world_of};
 ghost use Rattle.jpa_context.specs.Steps.{Meets};
 ghost use Rattle.jpa_context.specs.Undo.{now, since, IsPlaced};
+ghost use Rattle.jpa_context.specs.Work as works;
 ghost use Rattle.jpa_context.specs.declared.EntityState.{EntityState};
-ghost use Rattle.jpa_lifecycle.specs.Flat.{IsFlat};
+ghost use Rattle.jpa_cascade.specs.There.{IsThere};
+ghost use Rattle.jpa_fetch.specs.Grown.{HasGrown, IsReady};
 ghost use Rattle.jpa_ops.specs.States as states;
 
-use crate::context::{set_life, state_of};
+use crate::context::set_life;
 use jpa_behaviour::{Behaviour, Registry};
+use jpa_cascade::{Node, Operation, instance, state_of, waves};
 use jpa_context::{EntityState, UnitOfWork};
+use jpa_fetch::load;
 use jpa_heap::Life;
 use jpa_lifecycle::callback;
 use jpa_model::Metamodel;
-use jpa_value::{Argument, Cause, LifecycleEvent};
+use jpa_value::{Argument, Cause, Identity, LifecycleEvent, TryCopy};
 use std::alloc::Global;
 
 /// A managed object is removed, and PreRemove happens to it (chapter 3.5.2). Refused as a listener or callback refuses,
@@ -44,13 +48,111 @@ fn remove_managed<B: Behaviour>(
     )
 }
 
-/// Removes an object of a unit without relations: a managed one is removed, and PreRemove happens to it; its row is
-/// dropped at the next flush, if it has one. A new one stays new, a removed one stays removed (Jakarta Persistence 3.1,
-/// chapters 3.2.3 and 3.5.2).
+/// An object that stands so for its manager is removed. Refused as `remove` is.
+fn remove_one<B: Behaviour>(
+    alloc: Global,
+    metamodel: &Metamodel,
+    registry: &Registry<B>,
+    work: &mut UnitOfWork,
+    object: usize,
+    state: EntityState,
+) -> Result<(), Cause>
+    requires placed { IsPlaced metamodel.now (now work.old) }
+    requires object { object < length work.old.objects.now }
+    ensures meets { let world = world_of B.meaning metamodel.now registry.now in
+        Meets result (now work.new) (states.remove_one world object state (now work.old)) }
+    ensures view { work.new.view ≡ work.old.view }
+    ensures since { since work.new ≡ since work.old }
+{
+    match state {
+        EntityState::New => Ok(()),
+        EntityState::Managed => remove_managed(alloc, metamodel, registry, work, object),
+        EntityState::Removed => Ok(()),
+        EntityState::Detached => Err(Cause::IllegalArgument(Argument::State)),
+    }
+}
+
+/// An object is removed, as it stands by then. Refused as `remove` is.
+fn remove_live<B: Behaviour>(
+    alloc: Global,
+    metamodel: &Metamodel,
+    registry: &Registry<B>,
+    work: &mut UnitOfWork,
+    object: usize,
+) -> Result<(), Cause>
+    requires ready { IsReady metamodel.now (now work.old) }
+    requires object { object < length work.old.objects.now }
+    ensures meets { let world = world_of B.meaning metamodel.now registry.now in
+        Meets result (now work.new) (states.remove_live world object (now work.old)) }
+    ensures ready { OnOk result (IsReady metamodel.now (now work.new)) }
+    ensures grown { OnOk result (HasGrown (now work.old) (now work.new)) }
+    ensures view { work.new.view ≡ work.old.view }
+    ensures since { since work.new ≡ since work.old }
+{
+    let state = state_of(work, object);
+    remove_one(alloc, metamodel, registry, work, object, state)
+}
+
+/// What an identity means by then is removed: its instance; without one its row, which is loaded first. Refused as `remove` is.
+fn remove_under<B: Behaviour>(
+    alloc: Global,
+    metamodel: &Metamodel,
+    registry: &Registry<B>,
+    work: &mut UnitOfWork,
+    id: &Identity,
+) -> Result<(), Cause>
+    requires ready { IsReady metamodel.now (now work.old) }
+    ensures meets { let world = world_of B.meaning metamodel.now registry.now in
+        let w = now work.old in
+        Meets result (now work.new) (states.remove_under world id.now
+        (works.instance metamodel.now w id.now) (works.row w id.now) w) }
+    ensures ready { OnOk result (IsReady metamodel.now (now work.new)) }
+    ensures grown { OnOk result (HasGrown (now work.old) (now work.new)) }
+    ensures view { work.new.view ≡ work.old.view }
+    ensures since { since work.new ≡ since work.old }
+{
+    if let Some(object) = instance(metamodel, work, id) {
+        return remove_live(alloc, metamodel, registry, work, object);
+    }
+    let Some(row) = work.view.get(id) else {
+        return Ok(());
+    };
+    let row = row.try_copy()?;
+    let object = load(alloc, metamodel, registry, work, id, row)?;
+    remove_live(alloc, metamodel, registry, work, object)
+}
+
+/// A node of the cascade is removed. Refused as `remove` is.
+fn remove_node<B: Behaviour>(
+    alloc: Global,
+    metamodel: &Metamodel,
+    registry: &Registry<B>,
+    work: &mut UnitOfWork,
+    node: &Node,
+) -> Result<(), Cause>
+    requires ready { IsReady metamodel.now (now work.old) }
+    requires there { IsThere (now work.old) node.now }
+    ensures meets { let world = world_of B.meaning metamodel.now registry.now in
+        Meets result (now work.new) (states.remove_node world node.now (now work.old)) }
+    ensures ready { OnOk result (IsReady metamodel.now (now work.new)) }
+    ensures grown { OnOk result (HasGrown (now work.old) (now work.new)) }
+    ensures view { work.new.view ≡ work.old.view }
+    ensures since { since work.new ≡ since work.old }
+{
+    match node {
+        Node::Live(object) => remove_live(alloc, metamodel, registry, work, *object),
+        Node::Bare(id) => remove_under(alloc, metamodel, registry, work, id),
+    }
+}
+
+/// Removes an object, and those that it leads to along relations that cascade it, unread ones too: a managed one is removed,
+/// and PreRemove happens to it; its row is dropped at the next flush, if it has one. A new one stays new, a removed one stays
+/// removed; what has a row and no instance is loaded first (Jakarta Persistence 3.1, chapters 3.2.3 and 3.5.2). The objects
+/// and rows are those of the waves of the cascade as it begins, in their order.
 ///
-/// `IllegalArgument(state)` for a detached object; `Listener` with its text where a listener or callback throws, and
-/// `Persistence(callback)` where one assigns what is not allowed; `OutOfMemory` where a growth was refused. What a refused
-/// call changed is undone by `UnitOfWork::undo`.
+/// `IllegalArgument(state)` for a detached object; what loading refuses; `Listener` with its text where a listener or callback
+/// throws, and `Persistence(callback)` where one assigns what is not allowed; `OutOfMemory` where a growth was refused. What a
+/// refused call changed is undone by `UnitOfWork::undo`.
 pub fn remove<B: Behaviour>(
     alloc: Global,
     metamodel: &Metamodel,
@@ -58,18 +160,18 @@ pub fn remove<B: Behaviour>(
     work: &mut UnitOfWork,
     object: usize,
 ) -> Result<(), Cause>
-    requires flat { IsFlat metamodel.now }
-    requires placed { IsPlaced metamodel.now (now work.old) }
+    requires ready { IsReady metamodel.now (now work.old) }
     requires object { object < length work.old.objects.now }
     ensures meets { let world = world_of B.meaning metamodel.now registry.now in
         Meets result (now work.new) (states.remove world object (now work.old)) }
+    ensures ready { OnOk result (IsReady metamodel.now (now work.new)) }
+    ensures grown { OnOk result (HasGrown (now work.old) (now work.new)) }
     ensures view { work.new.view ≡ work.old.view }
     ensures since { since work.new ≡ since work.old }
 {
-    match state_of(work, object) {
-        EntityState::New => Ok(()),
-        EntityState::Managed => remove_managed(alloc, metamodel, registry, work, object),
-        EntityState::Removed => Ok(()),
-        EntityState::Detached => Err(Cause::IllegalArgument(Argument::State)),
+    let nodes = waves(alloc, metamodel, work, Operation::Remove, object)?;
+    for node in nodes.as_slice() {
+        remove_node(alloc, metamodel, registry, work, node)?;
     }
+    Ok(())
 }

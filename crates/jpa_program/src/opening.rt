@@ -10,7 +10,6 @@ ghost use Rattle.jpa_cells_meaning.specs.Store.{IsClean, IsOpen, IsOrderedIfFoun
 ghost use Rattle.jpa_rowspace.specs.Space.{HoldsRows, IsStoreCause};
 ghost use Rattle.jpa_functions.specs.Known as known;
 ghost use Rattle.jpa_provider.specs.Machine.{opened};
-ghost use Rattle.jpa_provider.specs.Served.{is_served};
 ghost use Rattle.jpa_program.specs.Opening.{OpensReading, KeepsOrMakes, EnduresMaking, HoldsCells, IsOpenCause};
 ghost use Rattle.jpa_program.specs.Run.{HoldsCommitted};
 
@@ -19,7 +18,7 @@ use jpa_cells::CellStore;
 use jpa_functions::names_are_known;
 use jpa_judgment::{Committed, read_store};
 use jpa_model::Metamodel;
-use jpa_provider::{Provider, is_served};
+use jpa_provider::Provider;
 use jpa_rows::Schema;
 use jpa_rowspace::RowSpace;
 use jpa_value::{Cause, MappingFault};
@@ -99,8 +98,8 @@ pub fn open_rows<S: Alter + Drop, B: Behaviour>(
 /// was made. A database that is empty gets the table of cells, and is held to have no object. Beside that the store counts
 /// one SELECT for each table of the metamodel, and no other statement and no fault. Refused, it hands the connection back.
 ///
-/// `Mapping(model)` for a unit that is not served, and then `Mapping(function)` where it names a listener, callback or
-/// converter that the registry lacks, both before the store is looked at. Then `OutOfMemory` where a growth was refused,
+/// `Mapping(function)` where it names a listener, callback or converter that the registry lacks, before the store is looked at.
+/// Then `OutOfMemory` where a growth was refused,
 /// `StoreFault` where the database holds anything else than cells, where the connection is in a transaction and where the
 /// store fails, and `Damaged` with its place where the cells of the metamodel's tables stand for no set of objects.
 pub fn open<S: Alter + Drop, B: Behaviour>(
@@ -119,17 +118,13 @@ pub fn open<S: Alter + Drop, B: Behaviour>(
     ensures opens { IfOk result (λ provider. KeepsOrMakes S.Store conn (provider.rows).store.conn) }
     ensures crash { IfOk result (λ provider. EnduresMaking S.Store conn (provider.rows).store.conn) }
     ensures counted { IfOk result (λ provider. OpensReading S.Store conn (provider.rows).store (length (schema_of metamodel).tables)) }
-    ensures unserved { is_served metamodel ≡ false → result ≡ Err (Cause.Mapping MappingFault.Model, conn) }
-    ensures unknown { is_served metamodel ≡ true → known.names_are_known registry metamodel ≡ false → result ≡ Err (Cause.Mapping MappingFault.Function, conn) }
-    ensures refused { IfErr result (λ e. is_served metamodel ≡ true → known.names_are_known registry metamodel ≡ true → IsOpenCause S.Store (world_of B.meaning metamodel registry) e.1 e.0) }
+    ensures unknown { known.names_are_known registry metamodel ≡ false → result ≡ Err (Cause.Mapping MappingFault.Function, conn) }
+    ensures refused { IfErr result (λ e. known.names_are_known registry metamodel ≡ true → IsOpenCause S.Store (world_of B.meaning metamodel registry) e.1 e.0) }
     ensures cause { IfErr result (λ e. e.0 ≡ Cause.StoreFault → IsClean S.Store e.1 → conn.in_transaction ≡ false → HoldsTable S.Store conn → HasFault S.Store conn e.1) }
     ensures kept { IfErr result (λ e. KeepsOrMakes S.Store conn e.1) }
     ensures crash_err { IfErr result (λ e. EnduresMaking S.Store conn e.1) }
     ensures again { IfErr result (λ e. IsOrderedIfFound S.Store e.1) }
 {
-    if !is_served(metamodel.unit()) {
-        return Err((Cause::Mapping(MappingFault::Model), conn));
-    }
     let (space, committed) = match open_rows(alloc, conn, &metamodel, &registry) {
         Ok(opened) => opened,
         Err(refused) => return Err(refused),

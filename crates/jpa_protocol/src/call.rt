@@ -32,6 +32,18 @@ pub enum Call {
         object: i64,
         name: Text,
     },
+    /// Adds an object as the last member of a collection of another, by the relation's name (chapter 2.2).
+    Add {
+        object: i64,
+        name: Text,
+        member: i64,
+    },
+    /// Takes an object out of a collection of another, by the relation's name (chapter 2.2).
+    TakeOut {
+        object: i64,
+        name: Text,
+        member: i64,
+    },
     /// Begins the transaction of a manager.
     Begin {
         em: i64,

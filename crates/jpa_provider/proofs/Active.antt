@@ -1,26 +1,28 @@
 -- What a flush of the manager at work stands on, and what it leaves.
 use Rattle.std.proofs.Common.{◌≡◌, ◌<◌, ℕ, true, List, length, ap, sym, subst, ◌∙◌}
-use Rattle.std.specs.Prelude.{◌==◌, All, T, nat_le}
+use Rattle.std.specs.Prelude.{All, T, nat_le}
 use Rattle.std.specs.FinMap.Entries.{is_sorted}
 use Rattle.jpa_value.specs.Value.{identity_cmp}
 use Rattle.std.proofs.lemmas.List.Elements.{All-weaker}
 use Rattle.jpa_behaviour.specs.Behaviour.{World}
-use Rattle.jpa_stored.specs.Sets.{IsSound, all_distinct, each_fits}
+use Rattle.jpa_stored.specs.Sets.{IsSound, each_fits}
 use Rattle.jpa_rows.specs.Cells.{CanBeHeld}
 use Rattle.jpa_context.specs.declared.Entry.{Entry}
 use Rattle.jpa_context.specs.Work.{Work}
 use Rattle.jpa_context.specs.Steps.{Done}
-use Rattle.jpa_context.specs.Undo.{since, Since}
+use Rattle.jpa_context.specs.Undo.{Since}
 use Rattle.jpa_flush.specs.Flush.{flush}
-use Rattle.jpa_flush.specs.Names.{has_distinct_entries}
-use Rattle.jpa_flush.proofs.Names.{distinct_objects}
+use Rattle.jpa_ops.specs.Names.{has_distinct_entries}
 use Rattle.jpa_provider.specs.declared.session.Session.{Session}
 use Rattle.jpa_provider.specs.Machine.{Machine, manager_at, is_begun, work_of}
 use Rattle.jpa_provider.specs.Invariant.{IsMachine, HasOneTransaction, context_of}
 use Rattle.jpa_provider.specs.Serving.{machine_of, manager_in, is_begun_status, EndsAlone, IsCommitting, IsServing, IsSettled, IsWorking}
-use Rattle.jpa_provider.proofs.AtWork.{IsAtWork, each_manager, taken}
+use Rattle.jpa_provider.proofs.AtWork.{IsAtWork, each_manager, others_of, taken}
 use Rattle.jpa_provider.proofs.AfterFlush.{still_at_work, numbers_rise}
 use Rattle.jpa_consistent.specs.Consistent.{IsEntry}
+use Rattle.jpa_consistent.specs.Going.{HoldsAfter}
+use Rattle.jpa_consistent.proofs.Going.{More}
+use Rattle.jpa_consistent.proofs.Unlocked.{AreUnlocked, flush_unlocked}
 use Rattle.jpa_provider.proofs.Serving.{entries_in}
 use Rattle.jpa_provider.proofs.Sessions.{manager_there, begun_there}
 
@@ -33,9 +35,6 @@ entries_since s m x h o c =
 -- each identity stands once in the manager's context
 pub entries_apart : (world : World) (s : Session) (m : ℕ) → IsServing world s → has_distinct_entries world.model (work_of (machine_of s) m) ≡ true
 entries_apart world s m h = (each_manager h.machine m).distinct
-
-pub objects_once : (world : World) (s : Session) (m : ℕ) → IsServing world s → all_distinct (λ (a b : Entry). a.object == b.object) (work_of (machine_of s) m).context ≡ true
-objects_once world s m h = distinct_objects world.model (work_of (machine_of s) m) (entries_apart world s m h)
 
 -- what the manager sees is sound
 pub view_sound : (world : World) (s : Session) (m : ℕ) → IsServing world s → IsSound world.model (work_of (machine_of s) m).view
@@ -58,10 +57,16 @@ ends_alone t m settled same one begun =
 
 module _ (world : World) (s : Session) (m : ℕ) (h : IsServing world s) (w : Work) (e : flush world (work_of (machine_of s) m) ≡ Done tt w) where
   pub after_it : IsAtWork world (machine_of s) m w
-  after_it = still_at_work (machine_of s) w h.flat h.regular (taken m h.machine) e
+  after_it = still_at_work (machine_of s) w h.orderly h.regular (taken m h.machine) e
 
   pub flushed_held : CanBeHeld world w.view w.numbers
   flushed_held = after_it.view
+
+  pub flushed_unlocked : AreUnlocked w
+  flushed_unlocked =
+      let M = machine_of s in
+      ((subst (HoldsAfter (λ u v. (IsAtWork world M m v × AreUnlocked v) × More (work_of M m) v)) e
+      (flush_unlocked (others_of M) m h.orderly h.regular (work_of M m) (taken m h.machine, h.unlocked m))).0).1
 
   pub flushed_rising : each_fits nat_le (machine_of s).stored_numbers w.numbers ≡ true
   flushed_rising = numbers_rise h.machine after_it

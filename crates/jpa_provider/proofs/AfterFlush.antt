@@ -5,7 +5,6 @@ use Rattle.jpa_behaviour.specs.Behaviour.{World, IsRegular}
 use Rattle.jpa_stored.specs.Sets.{each_fits}
 use Rattle.jpa_context.specs.Work.{Work}
 use Rattle.jpa_context.specs.Steps.{Done}
-use Rattle.jpa_lifecycle.specs.Flat.{IsFlat}
 use Rattle.jpa_flush.specs.Flush.{flush}
 use Rattle.jpa_provider.specs.Machine.{Machine}
 use Rattle.jpa_provider.specs.Invariant.{IsMachine}
@@ -14,11 +13,11 @@ use Rattle.jpa_consistent.specs.Going.{HoldsAfter}
 use Rattle.jpa_provider.proofs.AtWork.{IsAtWork}
 use Rattle.jpa_consistent.proofs.Flushed.{flush_goes}
 use Rattle.jpa_consistent.proofs.Going.{More}
-use Rattle.jpa_consistent.proofs.Orderly.{flat_orderly}
+use Rattle.jpa_fetch.specs.Orderly.{IsOrderly}
 
-pub still_at_work : {world : World} (M : Machine) {m : ℕ} {w : Work} (w' : Work) → IsFlat world.model → IsRegular world → IsAtWork world M m w → flush world w ≡ Done tt w' →
+pub still_at_work : {world : World} (M : Machine) {m : ℕ} {w : Work} (w' : Work) → IsOrderly world.model → IsRegular world → IsAtWork world M m w → flush world w ≡ Done tt w' →
     IsAtWork world M m w'
-still_at_work {world} M {m} {w} w' flat regular h e = (subst (HoldsAfter (λ u v. IsAtWork world M m v × More w v)) e (flush_goes (flat_orderly flat) regular h)).0
+still_at_work {world} M {m} {w} w' orderly regular h e = (subst (HoldsAfter (λ u v. IsAtWork world M m v × More w v)) e (flush_goes orderly regular h)).0
 
 -- no next number falls below the stored one
 pub numbers_rise : {world : World} {M : Machine} {m : ℕ} {w : Work} → IsMachine world M → IsAtWork world M m w → each_fits nat_le M.stored_numbers w.numbers ≡ true

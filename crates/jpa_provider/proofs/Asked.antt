@@ -1,6 +1,6 @@
 -- How contains and clear step.
-use Rattle.std.proofs.Common.{◌≡◌, ◌<◌, inl, ℕ, ℤ, Bool, List, [], length, refl, ap, sym, ◌∙◌}
-use Rattle.std.specs.Prelude.{slice_set, Option, Some, None}
+use Rattle.std.proofs.Common.{◌≡◌, inl, ℕ, ℤ, Bool, [], length, ap, sym, ◌∙◌}
+use Rattle.std.specs.Prelude.{slice_set, Some, None}
 use Rattle.jpa_value.specs.declared.refusal.Cause.{Cause}
 use Rattle.jpa_behaviour.specs.Behaviour.{World}
 use Rattle.jpa_heap.specs.Objects.{place_of, object_at}

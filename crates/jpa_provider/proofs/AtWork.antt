@@ -13,11 +13,11 @@ use Rattle.jpa_heap.specs.declared.Life.{Life}
 use Rattle.jpa_heap.specs.declared.LiveObject.{LiveObject}
 use Rattle.jpa_heap.specs.Objects.{object_at}
 use Rattle.jpa_context.specs.declared.Entry.{Entry}
-use Rattle.jpa_context.specs.Undo.{IsPlaced}
 use Rattle.jpa_context.specs.Work.{Work, object}
+use Rattle.jpa_fetch.specs.Grown.{IsReady}
 use Rattle.jpa_consistent.specs.Consistent.{Others, IsContext, IsConsistent, contexts, IsEntry, stands_in}
 use Rattle.jpa_consistent.proofs.Going.{stands_same}
-use Rattle.jpa_consistent.proofs.Placed.{placed_at_work}
+use Rattle.jpa_consistent.proofs.Ready.{ready_at_work}
 use Rattle.jpa_consistent.proofs.Kept.{KeepsHeld, others_kept}
 use Rattle.jpa_provider.specs.Machine.{Machine, Manager, Transaction, manager_at, no_manager, work_of, kept, seen_in, view_in}
 use Rattle.jpa_provider.specs.Routes.{holder_in}
@@ -101,8 +101,8 @@ taken {world} {M} m h =
       few = h.objects_few;
     }
 
-pub work_placed : {world : World} {M : Machine} (m : ℕ) → IsMachine world M → IsPlaced world.model (work_of M m)
-work_placed m h = placed_at_work (taken m h)
+pub work_ready : {world : World} {M : Machine} (m : ℕ) → IsMachine world M → IsReady world.model (work_of M m)
+work_ready m h = ready_at_work (taken m h)
 
 -- ---- the machine takes it back
 

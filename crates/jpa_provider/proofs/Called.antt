@@ -1,5 +1,5 @@
 -- What operations make of what is handed in.
-use Rattle.std.proofs.Common.{◌≡◌, ◌⊎◌, inl, inr, ℕ, ℤ, Bool, true, false, List, [], length, refl, ap, sym, subst, ◌∙◌}
+use Rattle.std.proofs.Common.{◌≡◌, ◌⊎◌, inl, inr, ℕ, ℤ, Bool, true, false, List, length, refl, ap, sym, subst, ◌∙◌}
 use Rattle.std.specs.Prelude.{slice_get, Option, Some, None, Result, Ok, Err}
 use Rattle.std.specs.List.{list_all}
 use Rattle.jpa_value.specs.declared.value.Value.{Value}
@@ -18,8 +18,8 @@ use Rattle.jpa_heap.specs.Objects.{object_at, is_new, place_of}
 use Rattle.jpa_heap.specs.Assign.{fits_part, fits_version, fits_plain, fits_link, unless_refused, set_member, set_in}
 use Rattle.jpa_context.specs.Work.{Work}
 use Rattle.jpa_context.specs.Steps.{Outcome, Op, Done, Refused, after, require, IsRefusedAs}
-use Rattle.jpa_ops.specs.Load.{find}
-use Rattle.jpa_ops.specs.Members.{placed, set}
+use Rattle.jpa_fetch.specs.Load.{find}
+use Rattle.jpa_fetch.specs.Members.{placed, set}
 use Rattle.jpa_provider.specs.Calls.{give_or, handed, is_short_given, class_named, key_given, whole_key, told_as, nothing, object_or_null}
 use Rattle.jpa_provider.specs.Routes.{set_call, find_call}
 use Rattle.jpa_provider.specs.Operations.{on_numbered}
@@ -31,6 +31,12 @@ numbered op world number k w e = ap (λ o. after (give_or Cause.NoSuchObject o w
 
 pub unnumbered : (op : World → ℕ → Op Answer) (world : World) (number : ℤ) (w : Work) → place_of (length w.objects) number ≡ None → on_numbered number op world w ≡ Refused Cause.NoSuchObject w.events
 unnumbered op world number w e = ap (λ o. after (give_or Cause.NoSuchObject o w) (op world)) e
+
+-- what is refused on the way is refused
+pub refused_on : {A B : Type 0} (r : Cause) (events : List Told) (o : Outcome A) (f : A → Op B) → IsRefusedAs r events o → IsRefusedAs r events (after o f)
+refused_on Cause.OutOfMemory events o f h = tt
+refused_on Cause.StoreFault events o f h = h
+refused_on r events o f h = ap (λ p. after p f) h
 
 -- ---- find
 

@@ -1,5 +1,5 @@
 -- How close steps.
-use Rattle.std.proofs.Common.{◌≡◌, ◌<◌, inl, ℕ, ℤ, true, false, List, [], refl, ap, sym, ◌∙◌}
+use Rattle.std.proofs.Common.{◌≡◌, inl, ℕ, ℤ, true, false, [], ap, sym, ◌∙◌}
 use Rattle.std.specs.Prelude.{slice_set, Some, None, if◌then◌else◌}
 use Rattle.jpa_value.specs.declared.refusal.Cause.{Cause}
 use Rattle.jpa_value.specs.declared.refusal.State.{State}

@@ -1,6 +1,6 @@
 -- How a commit steps.
 use Rattle.std.proofs.Common.{◌≡◌, ◌<◌, ◌⊎◌, inl, inr, ℕ, ℤ, Bool, true, false, List, [], ◌∷◌, map, refl, ap, sym, subst, ◌∙◌}
-use Rattle.std.specs.Prelude.{All, not, Some, None, Err, slice_set, if◌then◌else◌}
+use Rattle.std.specs.Prelude.{All, not, Some, None, Err, slice_set}
 use Rattle.std.specs.List.{AllByRecursion, filter}
 use Rattle.std.proofs.lemmas.Bool.{false≢true, true≢false, cond_both}
 use Rattle.std.proofs.lemmas.List.Elements.{recursion_from_All, All-from_recursion}

@@ -1,9 +1,8 @@
 -- The counts of a session: how many managers are open, and whether one has an open transaction.
-use Rattle.std.proofs.Common.{◌≡◌, ◌≢◌, ◌<◌, ◌≤◌, ◌+◌, ◌⊎◌, inl, inr, ℕ, zero, suc, Bool, true, false, cond, List, [], ◌∷◌, ◌++◌, length, refl, ap, sym, subst, ◌∙◌, arith}
-use Rattle.std.specs.Prelude.{slice_set, slice_index_or, count_by, sum_by, ◌||◌, if◌then◌else◌}
+use Rattle.std.proofs.Common.{◌≡◌, ◌<◌, ◌≤◌, ◌+◌, ℕ, zero, suc, Bool, true, false, cond, List, [], ◌∷◌, ◌++◌, length, refl, ap, sym, subst, ◌∙◌, arith}
+use Rattle.std.specs.Prelude.{slice_set, count_by, sum_by, ◌||◌, if◌then◌else◌}
 use Rattle.std.specs.List.{list_any}
-use Rattle.std.proofs.lemmas.Bool.{false≢true, true≢false}
-use Rattle.std.proofs.lemmas.List.{length-set}
+use Rattle.std.proofs.lemmas.Bool.{true≢false}
 use Rattle.std.proofs.lemmas.List.Sums.{sum_by-set, sum_by-append}
 use Rattle.std.proofs.lemmas.List.Folds.{list_any-append, list_any_at}
 use Rattle.jpa_stored.specs.Sets.{StoredSet}
@@ -11,7 +10,7 @@ use Rattle.jpa_open.specs.Opened.{Opened, with_kept, with_seen, after_keeping}
 use Rattle.jpa_provider.specs.declared.session.Status.{Status}
 use Rattle.jpa_provider.specs.declared.session.EntityManager.{EntityManager}
 use Rattle.jpa_provider.specs.declared.session.Session.{Session}
-use Rattle.jpa_provider.specs.Machine.{Machine, Manager, manager_at, no_manager, is_begun, has_transaction, is_busy}
+use Rattle.jpa_provider.specs.Machine.{Machine, Manager, manager_at, is_begun, has_transaction, is_busy}
 use Rattle.jpa_provider.specs.Invariant.{HasOneTransaction}
 use Rattle.jpa_provider.specs.Serving.{is_open_status, is_begun_status, manager_of, managers_of, manager_in, nobody, machine_of, IsAway, IsCounted}
 use Rattle.jpa_provider.proofs.Sessions.{there, begun_same, HasOthers, ended_all}

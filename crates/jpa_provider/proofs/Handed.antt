@@ -12,23 +12,23 @@ use Rattle.jpa_protocol.specs.declared.call.Given.{Given}
 use Rattle.jpa_protocol.specs.declared.reply.Answer.{Answer}
 use Rattle.jpa_heap.specs.Objects.{place_of}
 use Rattle.jpa_heap.specs.Shape.{IsInHeap}
-use Rattle.jpa_context.specs.Work.{Work}
+use Rattle.jpa_context.specs.Work.{Work, state_of}
 use Rattle.jpa_context.specs.Steps.{Outcome, Done, Refused, Op, after, give}
-use Rattle.jpa_lifecycle.specs.Flat.{IsFlat}
-use Rattle.jpa_ops.specs.Load.{find}
-use Rattle.jpa_ops.specs.Members.{get, set}
+use Rattle.jpa_fetch.specs.Load.{find}
+use Rattle.jpa_fetch.specs.Members.{get, set, add, take_out, is_held}
 use Rattle.jpa_ops.specs.States.{persist, remove, refresh, detach}
 use Rattle.jpa_flush.specs.Flush.{flush}
-use Rattle.jpa_provider.specs.Calls.{object_numbered, handed, got, nothing, object_or_null, told_as, give_or, class_named, key_given, is_short_given, whole_key}
+use Rattle.jpa_provider.specs.Calls.{object_numbered, handed, got, nothing, truth, object_or_null, told_as, give_or, class_named, key_given, is_short_given, whole_key}
 use Rattle.jpa_provider.specs.Transactions.{commit_work, reads_hold}
-use Rattle.jpa_provider.specs.Routes.{get_call, set_call, persist_call, remove_call, refresh_call, detach_call, flush_call, find_call, get_reference_call, there_must_be}
+use Rattle.jpa_provider.specs.Routes.{get_call, set_call, add_call, take_out_call, persist_call, remove_call, refresh_call, detach_call, flush_call, find_call, get_reference_call, there_must_be}
 use Rattle.jpa_provider.specs.Invariant.{given_representable}
 use Rattle.jpa_consistent.specs.Going.{HoldsAfter}
-use Rattle.jpa_consistent.specs.Orderly.{IsOrderly}
+use Rattle.jpa_fetch.specs.Orderly.{IsOrderly}
 use Rattle.jpa_consistent.proofs.Going.{after_holds, require_holds, require_holds_last, More, only}
 use Rattle.jpa_consistent.proofs.Setting.{handed_representable}
 use Rattle.jpa_consistent.proofs.Changed.{HasSet, set_holds}
-use Rattle.jpa_consistent.proofs.Got.{get_same}
+use Rattle.jpa_consistent.proofs.Fetching.{get_goes, add_goes, take_out_goes}
+use Rattle.jpa_consistent.proofs.Unheld.{get_unheld, add_unheld, take_out_unheld}
 use Rattle.jpa_consistent.proofs.Laws.{Steps, persist_goes, remove_goes, refresh_goes, detach_goes, find_goes}
 
 -- ---- what is handed in
@@ -72,8 +72,22 @@ set_call_holds world orderly w n name g l rep =
     (λ v w' h. subst (λ u. HoldsAfter (λ a w''. HasSet world w w'') (told_as nothing (set world n name v) u)) (sym h.1)
     (told_holds (HasSet world w) nothing (set world n name v w) (set_holds world orderly w n name v l (h.0).0 (h.0).1)))
 
-pub get_call_same : (world : World) → IsFlat world.model → (n : ℕ) (name : List ℕ) (w : Work) → HoldsAfter (λ a w'. w' ≡ w) (get_call world name n w)
-get_call_same world flat n name w = told_holds (λ w'. w' ≡ w) got (get world n name w) (get_same world flat n name w)
+weaker : {A : Type 0} (Q R : Work → Type 0) (o : Outcome A) → ((v : Work) → Q v → R v) → HoldsAfter (λ a v. Q v) o → HoldsAfter (λ a v. R v) o
+weaker Q R (Done a v) k h = k v h
+weaker Q R (Refused r events) k h = tt
+
+-- of an object that the manager doesn't hold
+pub get_call_unheld : (world : World) (name : List ℕ) (n : ℕ) (w : Work) → is_held (state_of w n) ≡ false → HoldsAfter (λ a v. v.context ≡ w.context) (get_call world name n w)
+get_call_unheld world name n w apart =
+    told_holds (λ v. v.context ≡ w.context) got (get world n name w)
+    (weaker (λ v. v ≡ w) (λ v. v.context ≡ w.context) (get world n name w) (λ v e. ap (λ (u : Work). u.context) e) (get_unheld world n w apart name))
+
+-- an operation that is handed another object by its number
+with_member : {A : Type 0} (R : Work → Work → Type 0) (f : A → Answer) (op : ℕ → Op A) (number : ℤ) (w : Work) → ((k : ℕ) → k < length w.objects → HoldsAfter (λ a v. R w v) (op k w)) →
+    HoldsAfter (λ a v. R w v) (after (object_numbered number w) (λ k. told_as f (op k)))
+with_member R f op number w goes =
+    after_holds (λ a v. R w v) (InHeap w) (object_numbered number w) (λ k. told_as f (op k)) (numbered_holds number w)
+    (λ k v e. subst (λ v'. HoldsAfter (λ a u. R w u) (told_as f (op k) v')) (sym e.1) (told_holds (R w) f (op k w) (goes k e.0)))
 
 given_or : {A : Type 0} (r : Cause) (o : Option A) (w : Work) → HoldsAfter (λ a w'. w' ≡ w) (give_or r o w)
 given_or r None w = tt
@@ -97,6 +111,30 @@ module _ {world : World} {P : Work → Type 0} (steps : Steps world P) where
   numbered_goes op goes number w p =
       after_holds (λ a v. P v) (InHeap w) (object_numbered number w) (λ n. told_as nothing (op n)) (numbered_holds number w)
       (λ n v e. subst (λ v'. HoldsAfter (λ a u. P u) (told_as nothing (op n) v')) (sym e.1) (told_holds P nothing (op n w) (only P w (op n w) (goes n w p e.0))))
+
+  pub get_call_goes : IsOrderly world.model → (name : List ℕ) (n : ℕ) (w : Work) → P w → n < length w.objects → HoldsAfter (λ a v. P v) (get_call world name n w)
+  get_call_goes orderly name n w p l = told_holds P got (get world n name w) (only P w (get world n name w) (get_goes orderly steps n name w p l))
+
+  pub add_call_goes : IsOrderly world.model → (name : List ℕ) (number : ℤ) (n : ℕ) (w : Work) → P w → n < length w.objects → HoldsAfter (λ a v. P v) (add_call world name number n w)
+  add_call_goes orderly name number n w p l =
+      with_member (λ u v. P v) nothing (add world n name) number w (λ k j. only P w (add world n name k w) (add_goes orderly steps n name k w p l j))
+
+  pub take_out_call_goes : IsOrderly world.model → (name : List ℕ) (number : ℤ) (n : ℕ) (w : Work) → P w → n < length w.objects → HoldsAfter (λ a v. P v) (take_out_call world name number n w)
+  take_out_call_goes orderly name number n w p l =
+      with_member (λ u v. P v) truth (take_out world n name) number w (λ k j. only P w (take_out world n name k w) (take_out_goes orderly steps n name k w p l j))
+
+  -- on an object that the manager doesn't hold: its context stays as it is
+  pub add_call_unheld : IsOrderly world.model → (name : List ℕ) (number : ℤ) (n : ℕ) (w : Work) → P w → n < length w.objects → is_held (state_of w n) ≡ false →
+      HoldsAfter (λ a v. v.context ≡ w.context) (add_call world name number n w)
+  add_call_unheld orderly name number n w p l apart =
+      with_member (λ u v. v.context ≡ u.context) nothing (add world n name) number w
+      (λ k j. weaker (HasSet world w) (λ v. v.context ≡ w.context) (add world n name k w) (λ v s. ap (λ (u : Work). u.context) s.4) (add_unheld orderly steps n name k w p l j apart))
+
+  pub take_out_call_unheld : IsOrderly world.model → (name : List ℕ) (number : ℤ) (n : ℕ) (w : Work) → P w → n < length w.objects → is_held (state_of w n) ≡ false →
+      HoldsAfter (λ a v. v.context ≡ w.context) (take_out_call world name number n w)
+  take_out_call_unheld orderly name number n w p l apart =
+      with_member (λ u v. v.context ≡ u.context) truth (take_out world n name) number w
+      (λ k j. weaker (HasSet world w) (λ v. v.context ≡ w.context) (take_out world n name k w) (λ v s. ap (λ (u : Work). u.context) s.4) (take_out_unheld orderly steps n name k w p l j apart))
 
   pub persist_call_goes : (number : ℤ) (w : Work) → P w → HoldsAfter (λ a v. P v) (persist_call world number w)
   persist_call_goes = numbered_goes (persist world) (persist_goes steps)

@@ -9,7 +9,6 @@ use Rattle.jpa_heap.specs.declared.Life.{Life}
 use Rattle.jpa_heap.specs.declared.LiveObject.{LiveObject}
 use Rattle.jpa_heap.specs.Objects.{object_at, no_object, with_life}
 use Rattle.jpa_context.specs.declared.Entry.{Entry}
-use Rattle.jpa_lifecycle.specs.Flat.{IsFlat}
 use Rattle.jpa_ops.specs.States.{detach_each}
 use Rattle.jpa_protocol.specs.declared.call.Call.{Call}
 use Rattle.jpa_protocol.specs.declared.reply.Reply.{Reply}
@@ -22,6 +21,7 @@ use Rattle.jpa_provider.specs.Left.{unmarked, unmarked_in, stateless, LivesAsBef
 use Rattle.jpa_consistent.proofs.Facts.{numbers_same}
 use Rattle.jpa_provider.proofs.Ways.{IsOther, Ways, does_something, on_route, on_step}
 use Rattle.jpa_provider.proofs.Operated.{IsDone, does}
+use Rattle.jpa_fetch.specs.Orderly.{IsOrderly}
 
 unmarked_same : (t : Option Transaction) → unmarked_in (marked_in t) ≡ unmarked_in t
 unmarked_same None = refl
@@ -149,7 +149,7 @@ step_undone M world call reply N step =
     let r = route call in
     on_step world call (IsUndone M r) (on_route r (undone_ways M world r) (does_something world M r)) (λ h. unchanged M) step
 
-pub step_rises : (M : Machine) {world : World} (call : Call) (reply : Reply) (N : Machine) → IsFlat world.model → IsRegular world → hands_representable call ≡ true → IsMachine world M → Step world M call reply N →
+pub step_rises : (M : Machine) {world : World} (call : Call) (reply : Reply) (N : Machine) → IsOrderly world.model → IsRegular world → hands_representable call ≡ true → IsMachine world M → Step world M call reply N →
     each_fits nat_le M.numbers N.numbers ≡ true
-step_rises M {world} call reply N flat regular rep h step =
-    on_step world call (Rises M) (on_route (route call) (rising_ways M world (route call)) (does world M flat regular call rep h)) (stay M) step
+step_rises M {world} call reply N orderly regular rep h step =
+    on_step world call (Rises M) (on_route (route call) (rising_ways M world (route call)) (does world M orderly regular call rep h)) (stay M) step

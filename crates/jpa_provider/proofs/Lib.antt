@@ -10,7 +10,6 @@ pub mod Outcome
 pub mod OneTransaction
 pub mod Plain
 pub mod Sessions
-pub mod FlatUnits
 pub mod AfterFlush
 pub mod Counted
 pub mod Worked

@@ -1,28 +1,28 @@
--- What the operation of each call leaves, in units without relations: one line for each call.
-use Rattle.std.proofs.Common.{◌≡◌, inl, ℕ, true, ap, sym, subst}
+-- What the operation of each call leaves: one line for each call.
+use Rattle.std.proofs.Common.{◌≡◌, inl, inr, ℕ, true, [], ap, sym, subst}
 use Rattle.jpa_behaviour.specs.Behaviour.{World, IsRegular}
 use Rattle.jpa_heap.specs.Objects.{object_at}
 use Rattle.jpa_context.specs.Work.{Work}
 use Rattle.jpa_context.specs.Steps.{Outcome, Done, Refused}
-use Rattle.jpa_lifecycle.specs.Flat.{IsFlat}
 use Rattle.jpa_protocol.specs.declared.call.Call.{Call}
 use Rattle.jpa_consistent.specs.Going.{HoldsAfter}
 use Rattle.jpa_consistent.proofs.Changed.{HasSet}
 use Rattle.jpa_consistent.proofs.Laws.{Steps}
 use Rattle.jpa_consistent.proofs.Going.{only}
 use Rattle.jpa_consistent.proofs.Instances.{at_work}
-use Rattle.jpa_consistent.proofs.Orderly.{flat_orderly}
+use Rattle.jpa_consistent.proofs.Unheld.{empty_unheld}
 use Rattle.jpa_consistent.proofs.Flushed.{flush_goes}
 use Rattle.jpa_consistent.proofs.Unlocked.{AreUnlocked, unlocked_at_work, flush_unlocked}
 use Rattle.jpa_provider.specs.Machine.{Machine, work_of}
 use Rattle.jpa_provider.specs.Transactions.{commit_work}
 use Rattle.jpa_flush.specs.Flush.{flush}
-use Rattle.jpa_provider.specs.Routes.{route, holder_in, get_call, set_call, persist_call, remove_call, refresh_call, detach_call, flush_call, find_call, get_reference_call}
+use Rattle.jpa_provider.specs.Routes.{route, holder_in, get_call, set_call, add_call, take_out_call, persist_call, remove_call, refresh_call, detach_call, flush_call, find_call, get_reference_call}
 use Rattle.jpa_provider.specs.Invariant.{IsMachine, hands_representable}
 use Rattle.jpa_provider.specs.Serving.{IsUnlocked}
 use Rattle.jpa_provider.proofs.AtWork.{others_of, IsAtWork, IsOpen, MayReturn, taken, holder_may, may_still}
-use Rattle.jpa_provider.proofs.Handed.{get_call_same, set_call_holds, persist_call_goes, remove_call_goes, refresh_call_goes, detach_call_goes, flush_call_goes, find_call_goes, get_reference_call_goes, commit_work_goes}
+use Rattle.jpa_provider.proofs.Handed.{get_call_goes, get_call_unheld, add_call_goes, add_call_unheld, take_out_call_goes, take_out_call_unheld, set_call_holds, persist_call_goes, remove_call_goes, refresh_call_goes, detach_call_goes, flush_call_goes, find_call_goes, get_reference_call_goes, commit_work_goes}
 use Rattle.jpa_provider.proofs.Ways.{Does}
+use Rattle.jpa_fetch.specs.Orderly.{IsOrderly}
 
 -- ---- of a manager that is open, and of whoever holds an object
 
@@ -35,36 +35,47 @@ module _ (world : World) (M : Machine) (P K : ℕ → Work → Type 0) (steps : 
   of_set m v p may (Done a w) s = give m w (subst (P m) (sym s.4) ((steps m).sets s.0 s.1 v p s.2 s.3)) (may_still v w (ap (λ (u : Work). u.context) s.4) may)
   of_set m v p may (Refused r events) s = tt
 
-  of_same : {A : Type 0} (m : ℕ) (v : Work) → P m v → MayReturn M m v → (o : Outcome A) → HoldsAfter (λ a w. w ≡ v) o → HoldsAfter (λ a w. K m w) o
-  of_same m v p may (Done a w) e = give m w (subst (P m) (sym e) p) (may_still v w (ap (λ (u : Work). u.context) e) may)
-  of_same m v p may (Refused r events) e = tt
+  -- its holder keeps what it did; nobody's context stays as it is
+  of_object : {A : Type 0} (m : ℕ) (v : Work) → MayReturn M m v → (o : Outcome A) → HoldsAfter (λ a w. P m w) o → (v.context ≡ [] → HoldsAfter (λ a w. w.context ≡ v.context) o) → HoldsAfter (λ a w. K m w) o
+  of_object m v may (Refused r events) p same = tt
+  of_object m v (inl o) (Done a w) p same = give m w p (inl o)
+  of_object m v (inr n) (Done a w) p same = give m w p (may_still v w (same n.1) (inr n))
 
   -- ---- each call
 
-  does_by : IsFlat world.model → IsMachine world M → ((m : ℕ) → P m (work_of M m)) → ((m : ℕ) (w : Work) → P m w → HoldsAfter (λ u v. P m v) (flush world w)) →
+  does_by : IsOrderly world.model → IsMachine world M → ((m : ℕ) → P m (work_of M m)) → ((m : ℕ) (w : Work) → P m w → HoldsAfter (λ u v. P m v) (flush world w)) →
       (call : Call) → hands_representable call ≡ true → Does world M K (route call)
-  does_by flat h start flushes Call.CreateEntityManager rep = tt
-  does_by flat h start flushes (Call.NewObject name) rep = tt
-  does_by flat h start flushes (Call.SetValue object name value) rep = λ n l.
+  does_by orderly h start flushes Call.CreateEntityManager rep = tt
+  does_by orderly h start flushes (Call.NewObject name) rep = tt
+  does_by orderly h start flushes (Call.SetValue object name value) rep = λ n l.
       let m = holder_in M (object_at M.objects n).life in
-      of_set m (work_of M m) (start m) (holder_may n l h) (set_call world name value n (work_of M m)) (set_call_holds world (flat_orderly flat) (work_of M m) n name value l rep)
-  does_by flat h start flushes (Call.Get object name) rep = λ n l.
+      of_set m (work_of M m) (start m) (holder_may n l h) (set_call world name value n (work_of M m)) (set_call_holds world orderly (work_of M m) n name value l rep)
+  does_by orderly h start flushes (Call.Get object name) rep = λ n l.
       let m = holder_in M (object_at M.objects n).life in
-      of_same m (work_of M m) (start m) (holder_may n l h) (get_call world name n (work_of M m)) (get_call_same world flat n name (work_of M m))
-  does_by flat h start flushes (Call.Begin em) rep = tt
-  does_by flat h start flushes (Call.Persist em object) rep = λ m o. of_open m o (persist_call world object (work_of M m)) (persist_call_goes (steps m) object (work_of M m) (start m))
-  does_by flat h start flushes (Call.Remove em object) rep = λ m o. of_open m o (remove_call world object (work_of M m)) (remove_call_goes (steps m) object (work_of M m) (start m))
-  does_by flat h start flushes (Call.Refresh em object) rep = λ m o. of_open m o (refresh_call world object (work_of M m)) (refresh_call_goes (steps m) object (work_of M m) (start m))
-  does_by flat h start flushes (Call.Detach em object) rep = λ m o. of_open m o (detach_call world object (work_of M m)) (detach_call_goes (steps m) object (work_of M m) (start m))
-  does_by flat h start flushes (Call.Flush em) rep = λ m o. of_open m o (flush_call world (work_of M m)) (flush_call_goes world (P m) (work_of M m) (flushes m (work_of M m) (start m)))
-  does_by flat h start flushes (Call.Commit em) rep = λ m o. of_open m o (commit_work world (work_of M m)) (commit_work_goes world (P m) (work_of M m) (flushes m (work_of M m) (start m)))
-  does_by flat h start flushes (Call.Rollback em) rep = tt
-  does_by flat h start flushes (Call.SetRollbackOnly em) rep = tt
-  does_by flat h start flushes (Call.GetReference em name key) rep = λ m o. of_open m o (get_reference_call world name key (work_of M m)) (get_reference_call_goes (steps m) name key (work_of M m) (start m))
-  does_by flat h start flushes (Call.Contains em object) rep = tt
-  does_by flat h start flushes (Call.Clear em) rep = tt
-  does_by flat h start flushes (Call.Close em) rep = tt
-  does_by flat h start flushes (Call.Find em name key) rep = λ m o. of_open m o (find_call world name key (work_of M m)) (find_call_goes (steps m) name key (work_of M m) (start m))
+      let w = work_of M m in
+      of_object m w (holder_may n l h) (get_call world name n w) (get_call_goes (steps m) orderly name n w (start m) l) (λ empty. get_call_unheld world name n w (empty_unheld (taken m h) empty n l))
+  does_by orderly h start flushes (Call.Add object name member) rep = λ n l.
+      let m = holder_in M (object_at M.objects n).life in
+      let w = work_of M m in
+      of_object m w (holder_may n l h) (add_call world name member n w) (add_call_goes (steps m) orderly name member n w (start m) l) (λ empty. add_call_unheld (steps m) orderly name member n w (start m) l (empty_unheld (taken m h) empty n l))
+  does_by orderly h start flushes (Call.TakeOut object name member) rep = λ n l.
+      let m = holder_in M (object_at M.objects n).life in
+      let w = work_of M m in
+      of_object m w (holder_may n l h) (take_out_call world name member n w) (take_out_call_goes (steps m) orderly name member n w (start m) l) (λ empty. take_out_call_unheld (steps m) orderly name member n w (start m) l (empty_unheld (taken m h) empty n l))
+  does_by orderly h start flushes (Call.Begin em) rep = tt
+  does_by orderly h start flushes (Call.Persist em object) rep = λ m o. of_open m o (persist_call world object (work_of M m)) (persist_call_goes (steps m) object (work_of M m) (start m))
+  does_by orderly h start flushes (Call.Remove em object) rep = λ m o. of_open m o (remove_call world object (work_of M m)) (remove_call_goes (steps m) object (work_of M m) (start m))
+  does_by orderly h start flushes (Call.Refresh em object) rep = λ m o. of_open m o (refresh_call world object (work_of M m)) (refresh_call_goes (steps m) object (work_of M m) (start m))
+  does_by orderly h start flushes (Call.Detach em object) rep = λ m o. of_open m o (detach_call world object (work_of M m)) (detach_call_goes (steps m) object (work_of M m) (start m))
+  does_by orderly h start flushes (Call.Flush em) rep = λ m o. of_open m o (flush_call world (work_of M m)) (flush_call_goes world (P m) (work_of M m) (flushes m (work_of M m) (start m)))
+  does_by orderly h start flushes (Call.Commit em) rep = λ m o. of_open m o (commit_work world (work_of M m)) (commit_work_goes world (P m) (work_of M m) (flushes m (work_of M m) (start m)))
+  does_by orderly h start flushes (Call.Rollback em) rep = tt
+  does_by orderly h start flushes (Call.SetRollbackOnly em) rep = tt
+  does_by orderly h start flushes (Call.GetReference em name key) rep = λ m o. of_open m o (get_reference_call world name key (work_of M m)) (get_reference_call_goes (steps m) name key (work_of M m) (start m))
+  does_by orderly h start flushes (Call.Contains em object) rep = tt
+  does_by orderly h start flushes (Call.Clear em) rep = tt
+  does_by orderly h start flushes (Call.Close em) rep = tt
+  does_by orderly h start flushes (Call.Find em name key) rep = λ m o. of_open m o (find_call world name key (work_of M m)) (find_call_goes (steps m) name key (work_of M m) (start m))
 
 -- ---- what holds of the machine
 
@@ -73,14 +84,14 @@ pub record IsDone (world : World) (M : Machine) (m : ℕ) (w : Work) : Type 0 wh
   pub at : IsAtWork world M m w
   pub back : MayReturn M m w
 
-pub does : (world : World) (M : Machine) → IsFlat world.model → IsRegular world → (call : Call) → hands_representable call ≡ true → IsMachine world M → Does world M (IsDone world M) (route call)
-does world M flat regular call rep h =
-    does_by world M (IsAtWork world M) (IsDone world M) (λ m. at_work (others_of M) m (flat_orderly flat) regular.heard) (λ m w p b. record { at = p; back = b }) flat h (λ m. taken m h)
-    (λ m w p. only (IsAtWork world M m) w (flush world w) (flush_goes (flat_orderly flat) regular p)) call rep
+pub does : (world : World) (M : Machine) → IsOrderly world.model → IsRegular world → (call : Call) → hands_representable call ≡ true → IsMachine world M → Does world M (IsDone world M) (route call)
+does world M orderly regular call rep h =
+    does_by world M (IsAtWork world M) (IsDone world M) (λ m. at_work (others_of M) m orderly regular.heard) (λ m w p b. record { at = p; back = b }) orderly h (λ m. taken m h)
+    (λ m w p. only (IsAtWork world M m) w (flush world w) (flush_goes orderly regular p)) call rep
 
 -- ---- no entry has a lock
 
-pub does_unlocked : (world : World) (M : Machine) → IsFlat world.model → IsRegular world → (call : Call) → hands_representable call ≡ true → IsMachine world M → IsUnlocked M → Does world M (λ m w. AreUnlocked w) (route call)
-does_unlocked world M flat regular call rep h free =
-    does_by world M (λ m w. IsAtWork world M m w × AreUnlocked w) (λ m w. AreUnlocked w) (λ m. unlocked_at_work (others_of M) m (flat_orderly flat) regular.heard) (λ m w p b. p.1) flat h (λ m. (taken m h, free m))
-    (λ m w p. only (λ v. IsAtWork world M m v × AreUnlocked v) w (flush world w) (flush_unlocked (others_of M) m (flat_orderly flat) regular w p)) call rep
+pub does_unlocked : (world : World) (M : Machine) → IsOrderly world.model → IsRegular world → (call : Call) → hands_representable call ≡ true → IsMachine world M → IsUnlocked M → Does world M (λ m w. AreUnlocked w) (route call)
+does_unlocked world M orderly regular call rep h free =
+    does_by world M (λ m w. IsAtWork world M m w × AreUnlocked w) (λ m w. AreUnlocked w) (λ m. unlocked_at_work (others_of M) m orderly regular.heard) (λ m w p b. p.1) orderly h (λ m. (taken m h, free m))
+    (λ m w p. only (λ v. IsAtWork world M m v × AreUnlocked v) w (flush world w) (flush_unlocked (others_of M) m orderly regular w p)) call rep

@@ -1,5 +1,5 @@
 -- How calls step whose route is an operation: of a manager that is named, or of whoever holds an object.
-use Rattle.std.proofs.Common.{◌≡◌, ◌<◌, inl, ℕ, ℤ, Bool, true, false, List, length, refl, ap, sym, subst, ◌∙◌}
+use Rattle.std.proofs.Common.{◌≡◌, ◌<◌, inl, ℕ, ℤ, true, false, length, refl, ap, sym, subst, ◌∙◌}
 use Rattle.std.specs.Prelude.{Option, Some, None, is_some, if◌then◌else◌}
 use Rattle.std.proofs.lemmas.Bool.{false≢true, true≢false}
 use Rattle.jpa_value.specs.declared.refusal.Cause.{Cause}
@@ -15,7 +15,7 @@ use Rattle.jpa_provider.specs.declared.replies.Rule.{Rule}
 use Rattle.jpa_provider.specs.declared.session.Session.{Session}
 use Rattle.jpa_provider.specs.Machine.{Machine, work_of}
 use Rattle.jpa_provider.specs.Calls.{because, ended, marks, marks_if_callback, give_or}
-use Rattle.jpa_provider.specs.Routes.{Route, OfManager, OfObject, by_route, holder, holder_in, if_begun, flush_call, is_free, route}
+use Rattle.jpa_provider.specs.Routes.{OfManager, OfObject, by_route, holder, holder_in, if_begun, flush_call, is_free, route}
 use Rattle.jpa_provider.specs.Operations.{on_numbered, operation_of, manager_holding, EndsSo}
 use Rattle.jpa_consistent.specs.Consistent.{stands_in}
 use Rattle.jpa_provider.specs.Invariant.{IsMachine, context_of}

@@ -1,5 +1,5 @@
 -- What holds between calls holds after each step.
-use Rattle.std.proofs.Common.{◌≡◌, ◌<◌, ◌≤◌, ◌⊎◌, inl, inr, ℕ, zero, suc, Bool, true, false, List, [], ◌∷◌, length, refl, sym, subst, arith}
+use Rattle.std.proofs.Common.{◌≡◌, ◌<◌, inl, ℕ, Bool, true, false, List, length, refl, sym, subst}
 use Rattle.std.specs.Prelude.{All}
 use Rattle.std.proofs.lemmas.Bool.{false≢true}
 use Rattle.std.proofs.lemmas.List.Elements.{All-nil, All-weaker}
@@ -7,7 +7,6 @@ use Rattle.jpa_behaviour.specs.Behaviour.{World, IsRegular}
 use Rattle.jpa_stored.specs.Sets.{StoredSet}
 use Rattle.jpa_rows.specs.Cells.{CanBeHeld}
 use Rattle.jpa_context.specs.declared.Entry.{Entry}
-use Rattle.jpa_lifecycle.specs.Flat.{IsFlat}
 use Rattle.jpa_protocol.specs.declared.call.Call.{Call}
 use Rattle.jpa_protocol.specs.declared.reply.Reply.{Reply}
 use Rattle.jpa_provider.specs.declared.session.Session.{Session}
@@ -23,16 +22,17 @@ use Rattle.jpa_provider.proofs.Settled.{opened_holds}
 use Rattle.jpa_provider.proofs.Outcome.{step_keeps}
 use Rattle.jpa_provider.proofs.Unlocked.{step_unlocked}
 use Rattle.jpa_provider.proofs.Still.{step_still}
+use Rattle.jpa_fetch.specs.Orderly.{IsOrderly}
 
 -- whichever call it was
 pub serves_on : (world : World) (s t : Session) (call : Call) (reply : Reply) → IsServing world s → hands_representable call ≡ true → Serves world s call reply t → IsSettled t → IsServing world t
 serves_on world s t call reply h rep step settled =
     record {
-      flat = h.flat;
+      orderly = h.orderly;
       regular = h.regular;
-      machine = step_keeps h.flat h.regular call rep h.machine step;
+      machine = step_keeps h.orderly h.regular call rep h.machine step;
       one = step_one world call h.one step;
-      unlocked = step_unlocked world h.flat h.regular call rep h.machine h.unlocked step;
+      unlocked = step_unlocked world h.orderly h.regular call rep h.machine h.unlocked step;
       settled = settled;
     }
 
@@ -62,10 +62,10 @@ entries_in {world} s h k =
 
 -- ---- as it is opened
 
-pub opened_serving : (world : World) (s : Session) (set : StoredSet) (numbers : List ℕ) → IsFlat world.model → IsRegular world → CanBeHeld world set numbers → machine_of s ≡ opened set numbers → IsSettled s → IsServing world s
-opened_serving world s set numbers flat regular held e settled =
+pub opened_serving : (world : World) (s : Session) (set : StoredSet) (numbers : List ℕ) → IsOrderly world.model → IsRegular world → CanBeHeld world set numbers → machine_of s ≡ opened set numbers → IsSettled s → IsServing world s
+opened_serving world s set numbers orderly regular held e settled =
     record {
-      flat = flat;
+      orderly = orderly;
       regular = regular;
       machine = subst (IsMachine world) (sym e) (opened_holds held);
       one = subst HasOneTransaction (sym e) (λ m k a b. absurd (false≢true a));

@@ -13,7 +13,7 @@ use Rattle.jpa_provider.specs.declared.session.Status.{Status}
 use Rattle.jpa_provider.specs.declared.session.EntityManager.{EntityManager}
 use Rattle.jpa_provider.specs.declared.session.Session.{Session}
 use Rattle.jpa_provider.specs.Machine.{Machine, Manager, Transaction, manager_at, with_manager, no_manager, is_begun, has_transaction, work_of, view_in, seen_in, kept, marked, marked_in}
-use Rattle.jpa_provider.specs.Invariant.{HasOneTransaction, context_of}
+use Rattle.jpa_provider.specs.Invariant.{HasOneTransaction}
 use Rattle.jpa_provider.specs.Serving.{transaction_in, is_open_status, is_begun_status, manager_of, managers_of, manager_in, nobody, machine_of, marked_status, IsCounted, IsSettled, IsAway, IsWorking}
 use Rattle.jpa_provider.proofs.AtWork.{manager_set}
 

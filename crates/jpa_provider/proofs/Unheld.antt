@@ -1,11 +1,11 @@
 -- A session in which nobody's manager works, on an object that no manager holds.
-use Rattle.std.proofs.Common.{◌≡◌, ◌≤◌, ℕ, Bool, true, false, List, [], ◌∷◌, length, refl, ap, sym, ◌∙◌, arith}
+use Rattle.std.proofs.Common.{◌≡◌, ◌≤◌, Bool, true, false, List, [], ◌∷◌, length, refl, ap, sym, ◌∙◌, arith}
 use Rattle.std.specs.Prelude.{slice_index_or}
 use Rattle.std.proofs.lemmas.List.{set_past}
 use Rattle.jpa_open.specs.Opened.{Opened, with_seen, with_shown, after_keeping}
 use Rattle.jpa_context.specs.Work.{Work}
 use Rattle.jpa_provider.specs.declared.session.Session.{Session}
-use Rattle.jpa_provider.specs.Machine.{Machine, Manager, manager_at, no_manager, work_of, kept, marked_in, view_in}
+use Rattle.jpa_provider.specs.Machine.{Manager, manager_at, no_manager, work_of, kept, marked_in, view_in}
 use Rattle.jpa_provider.specs.Calls.{marked_if}
 use Rattle.jpa_provider.specs.Serving.{machine_of, managers_of, IsSettled}
 use Rattle.jpa_provider.proofs.AtWork.{no_manager_kept}

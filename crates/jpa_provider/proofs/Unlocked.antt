@@ -7,7 +7,6 @@ use Rattle.jpa_behaviour.specs.Behaviour.{World, IsRegular}
 use Rattle.jpa_context.specs.declared.Entry.{Entry}
 use Rattle.jpa_context.specs.declared.Lock.{Lock}
 use Rattle.jpa_context.specs.Work.{Work}
-use Rattle.jpa_lifecycle.specs.Flat.{IsFlat}
 use Rattle.jpa_protocol.specs.declared.call.Call.{Call}
 use Rattle.jpa_protocol.specs.declared.reply.Reply.{Reply}
 use Rattle.jpa_provider.specs.Machine.{Machine, Manager, no_manager, new_manager, with_manager, rolled_back, committed_after, is_gone, unlocked}
@@ -19,6 +18,7 @@ use Rattle.jpa_provider.specs.Serving.{IsUnlocked}
 use Rattle.jpa_consistent.proofs.Unlocked.{AreUnlocked}
 use Rattle.jpa_provider.proofs.Operated.{does_unlocked}
 use Rattle.jpa_provider.proofs.Ways.{Ways, on_route, on_step}
+use Rattle.jpa_fetch.specs.Orderly.{IsOrderly}
 
 -- ---- lists of managers
 
@@ -78,7 +78,7 @@ module _ (M : Machine) (h : IsUnlocked M) where
         undoes = λ writes apart m events why o. rolled_unlocked m;
       }
 
-pub step_unlocked : {M N : Machine} {reply : Reply} (world : World) → IsFlat world.model → IsRegular world → (call : Call) → hands_representable call ≡ true → IsMachine world M → IsUnlocked M →
+pub step_unlocked : {M N : Machine} {reply : Reply} (world : World) → IsOrderly world.model → IsRegular world → (call : Call) → hands_representable call ≡ true → IsMachine world M → IsUnlocked M →
     Step world M call reply N → IsUnlocked N
-step_unlocked {M} world flat regular call rep machine h step =
-    on_step world call (λ o. IsUnlocked o.1) (on_route (route call) (ways M h world (route call)) (does_unlocked world M flat regular call rep machine h)) h step
+step_unlocked {M} world orderly regular call rep machine h step =
+    on_step world call (λ o. IsUnlocked o.1) (on_route (route call) (ways M h world (route call)) (does_unlocked world M orderly regular call rep machine h)) h step

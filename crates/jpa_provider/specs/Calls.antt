@@ -12,7 +12,7 @@ use Rattle.jpa_behaviour.specs.Behaviour.{World, is_short}
 use Rattle.jpa_heap.specs.declared.Handed.{Handed}
 use Rattle.jpa_heap.specs.Objects.{place_of}
 use Rattle.jpa_context.specs.Steps.{◌>>=◌, ◌>>◌, Outcome, Done, Refused, Op, give, refuse, require}
-use Rattle.jpa_ops.specs.declared.getting.Got.{Got}
+use Rattle.jpa_fetch.specs.declared.getting.Got.{Got}
 use Rattle.jpa_protocol.specs.declared.call.Given.{Given}
 use Rattle.jpa_protocol.specs.declared.event.Told.{Told}
 use Rattle.jpa_protocol.specs.declared.reply.Answer.{Answer}
@@ -108,6 +108,9 @@ ended rule M m (Refused r events) = refused events (Refusal.Because r) (marked_i
 
 abbrev pub nothing : Unit {0} → Answer
 nothing u = Answer.Null
+
+abbrev pub truth : Bool → Answer
+truth b = Answer.Truth b
 
 abbrev pub object_or_null : Option ℕ → Answer
 object_or_null None = Answer.Null

@@ -1,10 +1,9 @@
 -- What a call leaves as it was (Jakarta Persistence 3.1, chapters 3.3.3 rollback, 7.5 transactions; that a refused call changes
 -- nothing is this provider's own).
-use Rattle.std.specs.Prelude.{◌≡◌, Bool, true, false, map, Option, Some, None}
+use Rattle.std.specs.Prelude.{◌≡◌, false, map, Option, Some, None}
 use Rattle.jpa_heap.specs.declared.Life.{Life}
 use Rattle.jpa_heap.specs.declared.LiveObject.{LiveObject}
 use Rattle.jpa_heap.specs.Objects.{with_life}
-use Rattle.jpa_protocol.specs.declared.call.Call.{Call}
 use Rattle.jpa_provider.specs.Machine.{Machine, Manager, Transaction}
 
 -- a manager but for the mark of its transaction

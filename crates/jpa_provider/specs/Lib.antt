@@ -9,4 +9,3 @@ pub mod Serving
 pub mod Left
 pub mod Faults
 pub mod Provided
-pub mod Served

@@ -13,7 +13,7 @@ use Rattle.jpa_provider.specs.declared.operating.Operation.{Operation}
 use Rattle.jpa_provider.specs.declared.replies.Rule.{Rule}
 use Rattle.jpa_provider.specs.Machine.{Machine, kept}
 use Rattle.jpa_provider.specs.Calls.{ended, marks, marks_if_callback, marked_if, object_numbered}
-use Rattle.jpa_provider.specs.Routes.{get_call, set_call, persist_call, remove_call, refresh_call, detach_call, find_call, get_reference_call}
+use Rattle.jpa_provider.specs.Routes.{get_call, set_call, add_call, take_out_call, persist_call, remove_call, refresh_call, detach_call, find_call, get_reference_call}
 use Rattle.jpa_provider.specs.Step.{IsGivenUp}
 
 -- an operation on an object by its number
@@ -26,6 +26,8 @@ get_numbered number name = on_numbered number (λ world. get_call world name)
 abbrev pub operation_of : Operation → World → Op Answer
 operation_of (Operation.Get object name) = get_numbered object name
 operation_of (Operation.Set object name value) = on_numbered object (λ world. set_call world name value)
+operation_of (Operation.Add object name member) = on_numbered object (λ world. add_call world name member)
+operation_of (Operation.TakeOut object name member) = on_numbered object (λ world. take_out_call world name member)
 operation_of (Operation.Persist object) = λ world. persist_call world object
 operation_of (Operation.Remove object) = λ world. remove_call world object
 operation_of (Operation.Refresh object) = λ world. refresh_call world object

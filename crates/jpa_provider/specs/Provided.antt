@@ -1,6 +1,5 @@
 -- A provider, as its callers see it.
-use Rattle.std.specs.Prelude.{◌≡◌, ◌⊎◌, ◌+◌, ◌≤◌, ℕ, nat_le, true, false, List, IsErr, OnOk}
-use Rattle.std.specs.List.{sum_by}
+use Rattle.std.specs.Prelude.{◌≡◌, ◌⊎◌, nat_le, true, false, IsErr, OnOk}
 use Rattle.jpa_model.specs.declared.unit.PersistenceUnit.{PersistenceUnit}
 use Rattle.jpa_behaviour.specs.Behaviour.{World}
 use Rattle.jpa_behaviour.specs.Registered.{Meaning, Registered, world_of}

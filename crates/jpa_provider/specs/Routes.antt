@@ -12,8 +12,8 @@ use Rattle.jpa_heap.specs.declared.Life.{Life}
 use Rattle.jpa_heap.specs.Objects.{place_of, object_at, new_object}
 use Rattle.jpa_context.specs.Work.{is_managed, state_of}
 use Rattle.jpa_context.specs.Steps.{◌>>=◌, ◌>>◌, Op, give, refuse, require}
-use Rattle.jpa_ops.specs.Load.{find}
-use Rattle.jpa_ops.specs.Members.{get, set}
+use Rattle.jpa_fetch.specs.Load.{find}
+use Rattle.jpa_fetch.specs.Members.{get, set, add, take_out}
 use Rattle.jpa_ops.specs.States.{persist, remove, refresh, detach}
 use Rattle.jpa_flush.specs.Flush.{flush}
 use Rattle.jpa_protocol.specs.declared.call.Call.{Call}
@@ -21,7 +21,7 @@ use Rattle.jpa_protocol.specs.declared.call.Given.{Given}
 use Rattle.jpa_protocol.specs.declared.reply.Answer.{Answer}
 use Rattle.jpa_protocol.specs.declared.reply.Reply.{Reply}
 use Rattle.jpa_provider.specs.Machine.{Machine, new_manager, manager_at, has_transaction, work_of, cleared, closed}
-use Rattle.jpa_provider.specs.Calls.{accepted, because, marks, marks_if_callback, ended, told_as, nothing, object_or_null, got, object_numbered, handed, is_short_given, class_named, key_given}
+use Rattle.jpa_provider.specs.Calls.{accepted, because, marks, marks_if_callback, ended, told_as, nothing, truth, object_or_null, got, object_numbered, handed, is_short_given, class_named, key_given}
 use Rattle.jpa_provider.specs.Transactions.{begin, commit, rollback, set_rollback_only}
 
 -- ---- managers
@@ -69,6 +69,16 @@ abbrev pub set_call : World → List ℕ → Given → ℕ → Op Answer
 set_call world name value n = do
   v ← handed value
   told_as nothing (set world n name v)
+
+abbrev pub add_call : World → List ℕ → ℤ → ℕ → Op Answer
+add_call world name member n = do
+  k ← object_numbered member
+  told_as nothing (add world n name k)
+
+abbrev pub take_out_call : World → List ℕ → ℤ → ℕ → Op Answer
+take_out_call world name member n = do
+  k ← object_numbered member
+  told_as truth (take_out world n name k)
 
 abbrev pub persist_call : World → ℤ → Op Answer
 persist_call world number = do
@@ -172,6 +182,8 @@ route Call.CreateEntityManager = ToCreate
 route (Call.NewObject name) = ToMake name
 route (Call.Get object name) = OfObject object (λ world. get_call world name)
 route (Call.SetValue object name value) = OfObject object (λ world. set_call world name value)
+route (Call.Add object name member) = OfObject object (λ world. add_call world name member)
+route (Call.TakeOut object name member) = OfObject object (λ world. take_out_call world name member)
 route (Call.Begin em) = ToBegin em
 route (Call.Persist em object) = OfManager em (λ world. persist_call world object)
 route (Call.Remove em object) = OfManager em (λ world. remove_call world object)

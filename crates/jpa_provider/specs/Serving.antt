@@ -1,6 +1,6 @@
 -- The machine that live data stand for: managers, at most one of which has an open transaction, which sees what it wrote over
 -- the committed set.
-use Rattle.std.specs.Prelude.{◌≡◌, ◌<◌, ◌⊎◌, All, ℕ, ℤ, Bool, true, false, List, [], ◌∷◌, length, map, count_by, Option, Some, None, Result, Ok, Err, slice_index_or, slice_set, if◌then◌else◌}
+use Rattle.std.specs.Prelude.{◌≡◌, ◌<◌, ◌⊎◌, All, ℕ, ℤ, Bool, true, false, List, [], ◌∷◌, length, map, count_by, Option, Some, None, Ok, Err, slice_index_or, slice_set, if◌then◌else◌}
 use Rattle.std.specs.List.{list_any, filter}
 use Rattle.jpa_value.specs.declared.refusal.Cause.{Cause}
 use Rattle.jpa_value.specs.declared.refusal.Refusal.{Refusal}
@@ -15,19 +15,17 @@ use Rattle.jpa_protocol.specs.declared.reply.Reply.{Reply}
 use Rattle.jpa_context.specs.declared.Entry.{Entry}
 use Rattle.jpa_context.specs.declared.Lock.{Lock}
 use Rattle.jpa_context.specs.Work.{Work}
-use Rattle.jpa_context.specs.Steps.{Outcome, Done, IsRefusedAs}
 use Rattle.jpa_context.specs.Undo.{since, IsKept}
 use Rattle.jpa_heap.specs.declared.Life.{Life}
 use Rattle.jpa_heap.specs.declared.LiveObject.{LiveObject}
 use Rattle.jpa_heap.specs.Objects.{place_of, object_at, with_life}
-use Rattle.jpa_lifecycle.specs.Flat.{IsFlat}
 use Rattle.jpa_provider.specs.declared.session.Status.{Status}
 use Rattle.jpa_provider.specs.declared.session.EntityManager.{EntityManager}
 use Rattle.jpa_provider.specs.declared.session.Session.{Session}
-use Rattle.jpa_provider.specs.Machine.{Machine, Manager, Transaction, manager_at, is_begun, with_manager, kept, is_gone, committed_after, rolled_back}
-use Rattle.jpa_provider.specs.Calls.{marks, marked_if}
+use Rattle.jpa_provider.specs.Machine.{Machine, Manager, Transaction, manager_at, is_begun, with_manager, is_gone, committed_after, rolled_back}
 use Rattle.jpa_provider.specs.Step.{Step, gives_up}
 use Rattle.jpa_provider.specs.Invariant.{IsMachine, HasOneTransaction, context_of}
+use Rattle.jpa_fetch.specs.Orderly.{IsOrderly}
 
 -- ---- managers
 
@@ -102,7 +100,7 @@ pub record IsSettled (s : Session) : Type 0 where
 
 -- what holds between calls
 pub record IsServing (world : World) (s : Session) : Type 0 where
-  pub flat : IsFlat world.model
+  pub orderly : IsOrderly world.model
   pub regular : IsRegular world
   pub machine : IsMachine world (machine_of s)
   pub one : HasOneTransaction (machine_of s)

@@ -1,12 +1,12 @@
 //! The call flush (Jakarta Persistence 3.1, chapter 3.2.4).
-ghost use Rattle.std.specs.Prelude.{◌≡◌, All, T, false, true};
+ghost use Rattle.std.specs.Prelude.{◌≡◌, T, false, true};
 ghost use Rattle.std.specs.FinMap.Entries.{is_sorted};
 ghost use Rattle.jpa_behaviour.specs.Registered.{world_of};
 ghost use Rattle.jpa_context.specs.Steps.{Meets};
-ghost use Rattle.jpa_context.specs.Undo.{now, since, IsPlaced};
-ghost use Rattle.jpa_context.specs.declared.Lock.{Lock};
-ghost use Rattle.jpa_flush.specs.Names.{has_distinct_entries};
-ghost use Rattle.jpa_lifecycle.specs.Flat.{IsFlat};
+ghost use Rattle.jpa_context.specs.Undo.{now, since};
+ghost use Rattle.jpa_fetch.specs.Grown.{IsReady};
+ghost use Rattle.jpa_fetch.specs.Orderly.{IsOrderly};
+ghost use Rattle.jpa_ops.specs.Names.{has_distinct_entries};
 ghost use Rattle.jpa_protocol.specs.declared.call.Call.{Call};
 ghost use Rattle.jpa_provider.specs.Faults.{tells_fault};
 ghost use Rattle.jpa_provider.specs.Routes as routes;
@@ -32,9 +32,8 @@ fn flush_work<B: Behaviour>(
     registry: &Registry<B>,
     work: &mut UnitOfWork,
 ) -> Result<Answer, Cause>
-    requires flat { IsFlat metamodel.now }
-    requires placed { IsPlaced metamodel.now (now work.old) }
-    requires unlocked { All (λ e. e.lock ≡ Lock.Unlocked) (now work.old).context }
+    requires orderly { IsOrderly metamodel.now }
+    requires ready { IsReady metamodel.now (now work.old) }
     requires shown { work.old.view.is_shown ≡ true }
     requires sound { IsSound metamodel.now (now work.old).view }
     requires rising { T (is_sorted identity_cmp (now work.old).view) }

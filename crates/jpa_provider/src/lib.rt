@@ -14,9 +14,7 @@ mod opening;
 mod operating;
 mod provider;
 mod replies;
-mod served;
 mod session;
 mod working;
 
 pub use provider::Provider;
-pub use served::is_served;

@@ -1,15 +1,16 @@
 //! Operations on a unit of work, with what their calls hand in (Jakarta Persistence 3.1, chapters
 //! 2.2 and 3.1.1).
-ghost use Rattle.std.specs.Prelude.{◌≡◌, ◌==◌, All, OnErr, true};
-ghost use Rattle.jpa_stored.specs.Sets.{all_distinct};
+ghost use Rattle.std.specs.Prelude.{◌≡◌, ◌<◌, suc, All, IfOk, IfErr, OnErr, length, map};
+ghost use Rattle.jpa_value.specs.declared.refusal.Cause.{Cause};
 ghost use Rattle.jpa_behaviour.specs.Registered.{world_of};
 ghost use Rattle.jpa_context.specs.Steps.{Meets};
 ghost use Rattle.jpa_context.specs.Work.{Work};
-ghost use Rattle.jpa_context.specs.Undo.{now, since, IsPlaced};
+ghost use Rattle.jpa_context.specs.Undo.{now, since};
 ghost use Rattle.jpa_heap.specs.Shape.{HasShape};
-ghost use Rattle.jpa_lifecycle.specs.Flat.{IsFlat};
-ghost use Rattle.jpa_ops.specs.Members.{IsScalar};
-ghost use Rattle.jpa_ops.specs.declared.getting.Got.{Got};
+ghost use Rattle.jpa_fetch.specs.Grown.{IsReady};
+ghost use Rattle.jpa_fetch.specs.Members.{IsGotWithin};
+ghost use Rattle.jpa_fetch.specs.Orderly.{IsOrderly};
+ghost use Rattle.jpa_fetch.specs.declared.getting.Got.{Got};
 ghost use Rattle.jpa_provider.specs.Calls as calls;
 ghost use Rattle.jpa_provider.specs.Routes as routes;
 ghost use Rattle.jpa_provider.specs.Operations as operations;
@@ -18,9 +19,10 @@ ghost use Rattle.jpa_provider.specs.declared.operating.Operation.{Operation};
 use crate::handing::{are_short, handed, place_of, whole_key};
 use jpa_behaviour::{Behaviour, Registry};
 use jpa_context::UnitOfWork;
+use jpa_fetch::{Got, add, find, get, take_out};
 use jpa_heap::assign;
 use jpa_model::Metamodel;
-use jpa_ops::{Got, detach, find, get, persist, refresh, remove};
+use jpa_ops::{detach, persist, refresh, remove};
 use jpa_protocol::{Answer, Given};
 use jpa_value::{Argument, Cause, Seq, Text, Value};
 use std::alloc::Global;
@@ -38,6 +40,18 @@ pub enum Operation {
         object: i64,
         name: Text,
         value: Given,
+    },
+    /// An object stands last in a collection of another, by the relation's name (chapter 2.2).
+    Add {
+        object: i64,
+        name: Text,
+        member: i64,
+    },
+    /// An object is taken out of a collection of another, by the relation's name (chapter 2.2).
+    TakeOut {
+        object: i64,
+        name: Text,
+        member: i64,
     },
     /// Makes an object managed (chapter 3.2.2).
     Persist {
@@ -79,36 +93,108 @@ fn value_answered(value: Value) -> Answer
     }
 }
 
-/// What an object holds in a member that is no relation, as it is answered.
-fn answered(got: Got) -> Answer
-    requires { IsScalar got }
-    ensures { result ≡ calls.got got }
+/// The numbers of the objects at these places, in a heap of so many. Fails for want of memory alone, with `OutOfMemory`.
+fn numbers_of(alloc: Global, _count: usize, places: &[usize]) -> Result<Seq<u64>, Cause>
+    requires within { All (λ place. place < _count) places.now }
+    ensures ok { IfOk result (λ numbers. numbers ≡ map suc places.now) }
+    ensures err { IfErr result (λ cause. cause ≡ Cause.OutOfMemory) }
+{
+    let mut numbers = Seq::new(alloc);
+    for place in places {
+        numbers.push(*place as u64 + 1)?;
+    }
+    Ok(numbers)
+}
+
+/// What an object holds in a member, as it is answered, in a heap of so many objects. Fails for want of memory alone, with
+/// `OutOfMemory`.
+fn answered(alloc: Global, count: usize, got: Got) -> Result<Answer, Cause>
+    requires within { IsGotWithin count got }
+    ensures ok { IfOk result (λ answer. answer ≡ calls.got got) }
+    ensures err { IfErr result (λ cause. cause ≡ Cause.OutOfMemory) }
 {
     match got {
-        Got::Scalar(value) => value_answered(value),
-        Got::One(_) | Got::Many(_) => Answer::Null,
+        Got::Scalar(value) => Ok(value_answered(value)),
+        Got::One(place) => Ok(Answer::Object(place as u64 + 1)),
+        Got::Many(places) => Ok(Answer::Objects(numbers_of(alloc, count, places.as_slice())?)),
     }
 }
 
 /// What a member of an object, by its number, holds.
 fn get_numbered<B: Behaviour>(
+    alloc: Global,
     metamodel: &Metamodel,
     registry: &Registry<B>,
-    work: &UnitOfWork,
+    work: &mut UnitOfWork,
     object: i64,
     name: &str,
 ) -> Result<Answer, Cause>
-    requires flat { IsFlat metamodel.now }
-    requires shaped { All (HasShape metamodel.now) work.now.objects.now }
+    requires ready { IsReady metamodel.now (now work.old) }
     ensures meets { let world = world_of B.meaning metamodel.now registry.now in
-        Meets result (now work.now) (operations.operation_of
-        (Operation.Get object name.now) world (now work.now)) }
+        Meets result (now work.new) (operations.operation_of
+        (Operation.Get object name.now) world (now work.old)) }
+    ensures view { work.new.view ≡ work.old.view }
+    ensures since { since work.new ≡ since work.old }
 {
     let Some(place) = place_of(work.objects.len(), object) else {
         return Err(Cause::NoSuchObject);
     };
-    let got = get(metamodel, registry, work, place, name)?;
-    Ok(answered(got))
+    let got = get(alloc, metamodel, registry, work, place, name)?;
+    answered(alloc, work.objects.len(), got)
+}
+
+/// An object stands last in a collection of another, both by their numbers.
+fn add_numbered<B: Behaviour>(
+    alloc: Global,
+    metamodel: &Metamodel,
+    registry: &Registry<B>,
+    work: &mut UnitOfWork,
+    object: i64,
+    name: &str,
+    member: i64,
+) -> Result<Answer, Cause>
+    requires ready { IsReady metamodel.now (now work.old) }
+    ensures meets { let world = world_of B.meaning metamodel.now registry.now in
+        Meets result (now work.new) (operations.operation_of
+        (Operation.Add object name.now member) world (now work.old)) }
+    ensures view { work.new.view ≡ work.old.view }
+    ensures since { since work.new ≡ since work.old }
+{
+    let Some(place) = place_of(work.objects.len(), object) else {
+        return Err(Cause::NoSuchObject);
+    };
+    let Some(added) = place_of(work.objects.len(), member) else {
+        return Err(Cause::NoSuchObject);
+    };
+    add(alloc, metamodel, registry, work, place, name, added)?;
+    Ok(Answer::Null)
+}
+
+/// An object is taken out of a collection of another, both by their numbers; whether it stood there.
+fn take_out_numbered<B: Behaviour>(
+    alloc: Global,
+    metamodel: &Metamodel,
+    registry: &Registry<B>,
+    work: &mut UnitOfWork,
+    object: i64,
+    name: &str,
+    member: i64,
+) -> Result<Answer, Cause>
+    requires ready { IsReady metamodel.now (now work.old) }
+    ensures meets { let world = world_of B.meaning metamodel.now registry.now in
+        Meets result (now work.new) (operations.operation_of
+        (Operation.TakeOut object name.now member) world (now work.old)) }
+    ensures view { work.new.view ≡ work.old.view }
+    ensures since { since work.new ≡ since work.old }
+{
+    let Some(place) = place_of(work.objects.len(), object) else {
+        return Err(Cause::NoSuchObject);
+    };
+    let Some(taken) = place_of(work.objects.len(), member) else {
+        return Err(Cause::NoSuchObject);
+    };
+    let stood = take_out(alloc, metamodel, registry, work, place, name, taken)?;
+    Ok(Answer::Truth(stood))
 }
 
 /// A member of an object, by its number, takes what is handed in.
@@ -145,8 +231,8 @@ fn persist_numbered<B: Behaviour>(
     work: &mut UnitOfWork,
     object: i64,
 ) -> Result<Answer, Cause>
-    requires flat { IsFlat metamodel.now }
-    requires placed { IsPlaced metamodel.now (now work.old) }
+    requires orderly { IsOrderly metamodel.now }
+    requires ready { IsReady metamodel.now (now work.old) }
     ensures meets { let world = world_of B.meaning metamodel.now registry.now in
         Meets result (now work.new) (operations.operation_of (Operation.Persist object) world
         (now work.old)) }
@@ -168,8 +254,7 @@ fn remove_numbered<B: Behaviour>(
     work: &mut UnitOfWork,
     object: i64,
 ) -> Result<Answer, Cause>
-    requires flat { IsFlat metamodel.now }
-    requires placed { IsPlaced metamodel.now (now work.old) }
+    requires ready { IsReady metamodel.now (now work.old) }
     ensures meets { let world = world_of B.meaning metamodel.now registry.now in
         Meets result (now work.new) (operations.operation_of (Operation.Remove object) world
         (now work.old)) }
@@ -191,9 +276,7 @@ fn refresh_numbered<B: Behaviour>(
     work: &mut UnitOfWork,
     object: i64,
 ) -> Result<Answer, Cause>
-    requires flat { IsFlat metamodel.now }
-    requires placed { IsPlaced metamodel.now (now work.old) }
-    requires distinct { all_distinct (λ a b. a.object == b.object) work.old.context.now ≡ true }
+    requires ready { IsReady metamodel.now (now work.old) }
     ensures meets { let world = world_of B.meaning metamodel.now registry.now in
         Meets result (now work.new) (operations.operation_of (Operation.Refresh object) world
         (now work.old)) }
@@ -215,8 +298,7 @@ fn detach_numbered<B: Behaviour>(
     work: &mut UnitOfWork,
     object: i64,
 ) -> Result<Answer, Cause>
-    requires flat { IsFlat metamodel.now }
-    requires placed { IsPlaced metamodel.now (now work.old) }
+    requires ready { IsReady metamodel.now (now work.old) }
     ensures meets { let world = world_of B.meaning metamodel.now _registry.now in
         Meets result (now work.new) (operations.operation_of (Operation.Detach object) world
         (now work.old)) }
@@ -226,7 +308,7 @@ fn detach_numbered<B: Behaviour>(
     let Some(place) = place_of(work.objects.len(), object) else {
         return Err(Cause::NoSuchObject);
     };
-    detach(alloc, metamodel, work, place);
+    detach(alloc, metamodel, work, place)?;
     Ok(Answer::Null)
 }
 
@@ -249,8 +331,7 @@ fn find_slices<B: Behaviour>(
     entity: &str,
     key: &[Given],
 ) -> Result<Answer, Cause>
-    requires flat { IsFlat metamodel.now }
-    requires placed { IsPlaced metamodel.now (now work.old) }
+    requires ready { IsReady metamodel.now (now work.old) }
     ensures meets { let world = world_of B.meaning metamodel.now registry.now in
         let operation = Operation.Find entity.now key.now in
         Meets result (now work.new) (operations.operation_of operation world (now work.old)) }
@@ -283,8 +364,7 @@ fn find_by_key<B: Behaviour>(
     entity: &Text,
     key: &Seq<Given>,
 ) -> Result<Answer, Cause>
-    requires flat { IsFlat metamodel.now }
-    requires placed { IsPlaced metamodel.now (now work.old) }
+    requires ready { IsReady metamodel.now (now work.old) }
     ensures meets { let world = world_of B.meaning metamodel.now registry.now in
         let operation = Operation.Find entity.now key.now in
         Meets result (now work.new) (operations.operation_of operation world (now work.old)) }
@@ -311,8 +391,7 @@ fn get_reference_by_key<B: Behaviour>(
     entity: &Text,
     key: &Seq<Given>,
 ) -> Result<Answer, Cause>
-    requires flat { IsFlat metamodel.now }
-    requires placed { IsPlaced metamodel.now (now work.old) }
+    requires ready { IsReady metamodel.now (now work.old) }
     ensures meets { let world = world_of B.meaning metamodel.now registry.now in
         let operation = Operation.GetReference entity.now key.now in
         Meets result (now work.new) (operations.operation_of operation world (now work.old)) }
@@ -332,9 +411,8 @@ pub(crate) fn operate<B: Behaviour>(
     work: &mut UnitOfWork,
     operation: Operation,
 ) -> Result<Answer, Cause>
-    requires flat { IsFlat metamodel.now }
-    requires placed { IsPlaced metamodel.now (now work.old) }
-    requires distinct { all_distinct (λ a b. a.object == b.object) work.old.context.now ≡ true }
+    requires orderly { IsOrderly metamodel.now }
+    requires ready { IsReady metamodel.now (now work.old) }
     ensures meets { let world = world_of B.meaning metamodel.now registry.now in
         Meets result (now work.new) (operations.operation_of operation world (now work.old)) }
     ensures view { work.new.view ≡ work.old.view }
@@ -342,13 +420,39 @@ pub(crate) fn operate<B: Behaviour>(
 {
     match operation {
         Operation::Get { object, name } => {
-            get_numbered(metamodel, registry, work, object, name.as_str())
+            get_numbered(alloc, metamodel, registry, work, object, name.as_str())
         }
         Operation::Set {
             object,
             name,
             value,
         } => set_numbered(metamodel, registry, work, object, name.as_str(), value),
+        Operation::Add {
+            object,
+            name,
+            member,
+        } => add_numbered(
+            alloc,
+            metamodel,
+            registry,
+            work,
+            object,
+            name.as_str(),
+            member,
+        ),
+        Operation::TakeOut {
+            object,
+            name,
+            member,
+        } => take_out_numbered(
+            alloc,
+            metamodel,
+            registry,
+            work,
+            object,
+            name.as_str(),
+            member,
+        ),
         Operation::Persist { object } => {
             persist_numbered(alloc, metamodel, registry, work, object)
         }

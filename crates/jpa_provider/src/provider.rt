@@ -20,7 +20,6 @@ ghost use Rattle.jpa_provider.specs.Step.{IsGivenUp};
 ghost use Rattle.jpa_provider.specs.Routes.{is_commit, is_rollback};
 ghost use Rattle.jpa_object_store.specs.Written.{RunsAtMost, RunsDifference};
 ghost use Rattle.jpa_provider.specs.Provided.{rows_kept, rows_made, world_in, Stands};
-ghost use Rattle.jpa_provider.specs.Served.{is_served};
 ghost use Rattle.jpa_provider.specs.Serving.{machine_of, IsServing, IsSettled, Serves};
 
 use crate::asking::contains_call;
@@ -77,7 +76,7 @@ impl<R: RowSource, B: Behaviour> Model for Provider<R, B> {
 }
 
 impl<R: RowSource + Drop, B: Behaviour> Provider<R, B> {
-    /// A provider of a unit that is served, over a store of the rows of these objects and next numbers: no object lives, and
+    /// A provider of a unit, over a store of the rows of these objects and next numbers: no object lives, and
     /// no manager was made. For want of memory, which is `OutOfMemory` and the only refusal, it hands the store back.
     pub fn new(
         alloc: Global,
@@ -87,7 +86,6 @@ impl<R: RowSource + Drop, B: Behaviour> Provider<R, B> {
         committed: StoredSet,
         numbers: Seq<u64>,
     ) -> Result<Provider<R, B>, (Cause, R)>
-        requires served { is_served metamodel ≡ true }
         requires schema { R.schema rows ≡ schema_of metamodel }
         requires held { CanBeHeld (world_of B.meaning metamodel registry) committed numbers }
         requires holds { R.clean rows → R.holds rows (rows_of (world_of B.meaning metamodel registry) committed numbers) }
@@ -231,6 +229,30 @@ fn served<R: RowSource, B: Behaviour>(
         }
         Call::Get { object, name } => {
             let operation = Operation::Get { object, name };
+            held(alloc, metamodel, registry, session, object, operation)
+        }
+        Call::Add {
+            object,
+            name,
+            member,
+        } => {
+            let operation = Operation::Add {
+                object,
+                name,
+                member,
+            };
+            held(alloc, metamodel, registry, session, object, operation)
+        }
+        Call::TakeOut {
+            object,
+            name,
+            member,
+        } => {
+            let operation = Operation::TakeOut {
+                object,
+                name,
+                member,
+            };
             held(alloc, metamodel, registry, session, object, operation)
         }
         Call::Begin { em } => begin_call(alloc, metamodel, registry, session, em),

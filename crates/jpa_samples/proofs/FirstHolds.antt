@@ -3,7 +3,7 @@ use Rattle.std.proofs.Common.{ap, arith, subst, sym, ◌∙◌, ◌<◌}
 use Rattle.std.specs.List.{filter, Contains}
 use Rattle.std.specs.Str.{is_utf8}
 use Rattle.std.proofs.lemmas.Str.{is_utf8-from_IsUtf8, IsUtf8-from_ascii}
-use Rattle.std.specs.Prelude.{codes, slice_index, ◌↔◌, ◌&&◌, ◌≡◌, refl, nat_lt, ℕ, zero, suc, pos, true, [], ◌∷◌}
+use Rattle.std.specs.Prelude.{codes, slice_index, slice_get, is_some, List, Some, ◌↔◌, ◌&&◌, ◌≡◌, refl, nat_lt, ℕ, zero, suc, pos, true, [], ◌∷◌}
 use Rattle.std.proofs.lemmas.Bool.{false≢true}
 use Rattle.jpa_value.specs.declared.value.Value.{Value}
 use Rattle.jpa_model.specs.Chains.{relations_of, root_of, root_class}
@@ -11,21 +11,32 @@ use Rattle.jpa_behaviour.proofs.Regular.{regular_without}
 use Rattle.jpa_behaviour.specs.Behaviour.{IsRegular}
 use Rattle.jpa_stored.specs.Sets.{is_key_of}
 use Rattle.jpa_rows.specs.Cells.{Cell, CanBeHeld, StandFor, is_own_cell}
+use Rattle.jpa_model.specs.declared.unit.Relation.{Relation}
+use Rattle.jpa_fetch.specs.Orderly.{IsOrderly}
 use Rattle.jpa_provider.specs.Step.{machine_after}
 use Rattle.jpa_provider.specs.Invariant.{IsMachine}
-use Rattle.jpa_lifecycle.specs.Flat.{IsFlat}
 use Rattle.jpa_samples.proofs.Sample.{P1}
 use Rattle.jpa_samples.proofs.FirstRun.{fresh, first_run, after_first, person_cells, first_cells, set_key}
 use Rattle.jpa_samples.proofs.States.{removing, reviving}
 use Rattle.jpa_provider.proofs.Settled.{opened_holds}
 use Rattle.jpa_provider.proofs.Outcome.{machine_after_keeps}
 
-persons_flat : IsFlat P1.model
-persons_flat = record { relations = relations; rooted = rooted; generated = generated }
+persons_orderly : IsOrderly P1.model
+persons_orderly =
+    record {
+      rooted = rooted;
+      generated = generated;
+      kinds = λ class r x e kind l h. none_at class r x e;
+      tables = λ class r x e other l h. none_at class r x e;
+      places = λ class r x e other l h. none_at class r x e;
+    }
   where
     relations : (class : ℕ) → relations_of P1.model class ≡ []
     relations zero = refl
     relations (suc class) = refl
+
+    none_at : {A : Type 0} (class r : ℕ) (x : Relation) → slice_get (relations_of P1.model class) r ≡ Some x → A
+    none_at class r x e = absurd (false≢true (ap is_some (subst (λ (rs : List Relation). slice_get rs r ≡ Some x) (relations class) e)))
 
     rooted : (class : ℕ) → nat_lt class 1 ≡ true → nat_lt (root_class P1.model class) 1 ≡ true
     rooted zero h = refl
@@ -56,17 +67,17 @@ committed_held = record { representable = ap (λ b. ((b && true) && true) && tru
 
 -- between any two calls
 first_holds : IsMachine P1 after_first
-first_holds = machine_after_keeps persons_flat persons_regular fresh first_run (ap (λ b. b && true) ada_text) (opened_holds empty_held)
+first_holds = machine_after_keeps persons_orderly persons_regular fresh first_run (ap (λ b. b && true) ada_text) (opened_holds empty_held)
 
 set_key_holds : IsMachine P1 (machine_after P1 after_first set_key)
-set_key_holds = machine_after_keeps persons_flat persons_regular after_first set_key refl first_holds
+set_key_holds = machine_after_keeps persons_orderly persons_regular after_first set_key refl first_holds
 
 -- also where rows leave
 removing_holds : IsMachine P1 (machine_after P1 after_first removing)
-removing_holds = machine_after_keeps persons_flat persons_regular after_first removing refl first_holds
+removing_holds = machine_after_keeps persons_orderly persons_regular after_first removing refl first_holds
 
 reviving_holds : IsMachine P1 (machine_after P1 after_first reviving)
-reviving_holds = machine_after_keeps persons_flat persons_regular after_first reviving refl first_holds
+reviving_holds = machine_after_keeps persons_orderly persons_regular after_first reviving refl first_holds
 
 -- its cells stand for what was committed, whatever stands in tables of others
 abbrev foreign : Cell

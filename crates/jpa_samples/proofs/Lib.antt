@@ -6,3 +6,4 @@ pub mod States
 pub mod Functions
 pub mod Subclasses
 pub mod SubclassesHold
+pub mod Related

@@ -17,16 +17,15 @@ use Rattle.jpa_model.specs.Described.{unit_of}
 use Rattle.jpa_model.specs.Kept.{IsDescribed}
 use Rattle.jpa_behaviour.specs.Behaviour.{World, without_functions}
 use Rattle.jpa_rows.specs.Cells.{Cell, rows}
-use Rattle.jpa_lifecycle.specs.Flat.{IsFlat}
 use Rattle.jpa_protocol.specs.declared.call.Call.{Call}
 use Rattle.jpa_protocol.specs.declared.event.Told.{Told}
 use Rattle.jpa_protocol.specs.declared.reply.Answer.{Answer}
 use Rattle.jpa_protocol.specs.declared.reply.Reply.{Reply}
 use Rattle.jpa_provider.specs.Machine.{Machine, opened}
-use Rattle.jpa_provider.specs.Served.{is_served}
 use Rattle.jpa_provider.specs.Step.{replies_of, machine_after}
-use Rattle.jpa_provider.proofs.FlatUnits.{flat_of}
-use Rattle.jpa_samples.proofs.Sample.{P, text, int, saw, ok, quiet, no}
+use Rattle.jpa_fetch.specs.Orderly.{IsOrderly}
+use Rattle.jpa_consistent.proofs.Units.{described_orderly}
+use Rattle.jpa_samples.proofs.Sample.{text, int, saw, ok, quiet, no}
 
 -- ---- hierarchies
 
@@ -59,15 +58,8 @@ unit = unit_of payments
 described : IsDescribed unit
 described = (payments, (refl, refl))
 
-served : is_served unit ≡ true
-served = refl
-
-pub payments_flat : IsFlat unit
-payments_flat = flat_of unit described served
-
--- relations are not
-related : is_served P.model ≡ false
-related = refl
+pub payments_orderly : IsOrderly unit
+payments_orderly = described_orderly unit described
 
 abbrev pub H : World
 H = without_functions unit

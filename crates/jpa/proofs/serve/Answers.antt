@@ -3,7 +3,7 @@ use Rattle.jpa.proofs.Held.{holds_unit, is_servable}
 use Rattle.jpa.proofs.serve.Goals as goal
 
 pub returns-clause-served : goal.returns-clause-served
-returns-clause-served g c = is_servable c.args.unit c.open.result _ _ c.in-Ok.provider c.in-Ok.is c.open.ensures.unserved c.open.ensures.unknown
+returns-clause-served g c = is_servable c.args.unit c.open.result _ c.in-Ok.provider c.in-Ok.is c.open.ensures.unknown
 
 pub returns-clause-cells : goal.returns-clause-cells
 returns-clause-cells g c =

@@ -1,25 +1,54 @@
-use Rattle.std.proofs.Common.{sym, subst}
+use Rattle.std.proofs.Common.{◌∙◌, refl, ap}
 use Rattle.jpa_behaviour.specs.Registered.{world_of}
-use Rattle.jpa_context.specs.Steps.{Meets}
+use Rattle.jpa_open.specs.Opened as opened
+use Rattle.jpa_context.specs.Steps.{each}
 use Rattle.jpa_context.specs.Undo.{now}
-use Rattle.jpa_context.specs.declared.EntityState.{EntityState}
-use Rattle.jpa_ops.proofs.Alone.{persists_alone}
+use Rattle.jpa_cascade.specs.declared.Operation.{Operation}
+use Rattle.jpa_ops.specs.States.{persist_node}
+use Rattle.jpa_ops.proofs.Going.{done_holds}
+use Rattle.jpa_ops.proofs.Persisted.{IsNamedFrom, persist_node_goes}
+use Rattle.jpa_ops.proofs.Ready.{from_itself, there_still}
+use Rattle.jpa_ops.proofs.Rounds.{next_done, node_there}
 use Rattle.jpa_ops.proofs.persisting.persist.Goals as goal
 
-pub returns-in-New-clause-meets : goal.returns-in-New-clause-meets
-returns-in-New-clause-meets g c =
-    subst (Meets c.persist_new.result (now c.persist_new.new.work))
-    (persists_alone (world_of g.B.Behaviour.meaning c.args.metamodel.now c.args.registry.now) c.args.object (now c.args.work.now) EntityState.New c.requires.flat c.in-New.ensures) c.persist_new.ensures.meets
+pub loop-node-init : goal.loop-node-init
+loop-node-init g c =
+    let world = world_of g.B.Behaviour.meaning c.args.metamodel.now c.args.registry.now in
+    let w = now c.args.work.now in
+    record {
+      rest = ap (λ xs. each (persist_node world) xs w) (c.as_slice-node-items.ensures ∙ c.in_ok-nodes.ensures.waves);
+      goes = record { from = from_itself c.args.metamodel.now w c.requires.ready; named = λ d. d };
+      view = refl;
+      since = refl;
+    }
 
-pub returns-in-Managed-clause-meets : goal.returns-in-Managed-clause-meets
-returns-in-Managed-clause-meets g c =
-    sym (persists_alone (world_of g.B.Behaviour.meaning c.args.metamodel.now c.args.registry.now) c.args.object (now c.args.work.now) EntityState.Managed c.requires.flat c.in-Managed.ensures)
+-- a node of the waves is there still
+pub persist_node-requires-clause-there : goal.persist_node-requires-clause-there
+persist_node-requires-clause-there g c =
+    let m = c.args.metamodel.now in
+    let w0 = now c.args.work.now in
+    let w = now c.loop-node.work in
+    let x = c.node-item.result in
+    let first = node_there m Operation.Persist w0 c.args.object c.as_slice-node-items.result.now c.loop-node.node-index x c.requires.ready c.requires.object
+    (c.as_slice-node-items.ensures ∙ c.in_ok-nodes.ensures.waves) c.loop-node-test.true c.node-item.is in
+    there_still w0 w x c.loop-node.invariant.goes.from.grown.count (ap opened.now c.loop-node.invariant.view) first
 
-pub returns-in-Removed-clause-meets : goal.returns-in-Removed-clause-meets
-returns-in-Removed-clause-meets g c =
-    subst (Meets c.persist_removed.result (now c.persist_removed.new.work))
-    (persists_alone (world_of g.B.Behaviour.meaning c.args.metamodel.now c.args.registry.now) c.args.object (now c.args.work.now) EntityState.Removed c.requires.flat c.in-Removed.ensures) c.persist_removed.ensures.meets
-
-pub returns-in-Detached-clause-meets : goal.returns-in-Detached-clause-meets
-returns-in-Detached-clause-meets g c =
-    sym (persists_alone (world_of g.B.Behaviour.meaning c.args.metamodel.now c.args.registry.now) c.args.object (now c.args.work.now) EntityState.Detached c.requires.flat c.in-Detached.ensures)
+pub loop-node-preserved : goal.loop-node-preserved
+loop-node-preserved g c =
+    let m = c.args.metamodel.now in
+    let world = world_of g.B.Behaviour.meaning m c.args.registry.now in
+    let w0 = now c.args.work.now in
+    let w = now c.loop-node.work in
+    let w' = now c.persist_node.new.work in
+    let x = c.node-item.result in
+    let nodes = c.as_slice-node-items.result.now in
+    let goes = c.loop-node.invariant.goes in
+    let done = c.in_ok-persist_node.ensures.meets in
+    let first = node_there m Operation.Persist w0 c.args.object nodes c.loop-node.node-index x c.requires.ready c.requires.object
+    (c.as_slice-node-items.ensures ∙ c.in_ok-nodes.ensures.waves) c.loop-node-test.true c.node-item.is in
+    record {
+      rest = next_done (persist_node world) nodes c.loop-node.node-index x w w' c.loop-node-test.true c.node-item.is done ∙ c.loop-node.invariant.rest;
+      goes = done_holds (IsNamedFrom m w0) (persist_node world x w) tt w' done (persist_node_goes world c.requires.orderly w0 x w first goes);
+      view = c.persist_node.ensures.view ∙ c.loop-node.invariant.view;
+      since = c.persist_node.ensures.since ∙ c.loop-node.invariant.since;
+    }

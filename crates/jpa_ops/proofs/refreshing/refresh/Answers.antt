@@ -1,24 +1,54 @@
-use Rattle.std.proofs.Common.{sym, subst}
+use Rattle.std.proofs.Common.{◌∙◌, refl, ap}
 use Rattle.jpa_behaviour.specs.Registered.{world_of}
-use Rattle.jpa_context.specs.Steps.{Meets}
+use Rattle.jpa_open.specs.Opened as opened
+use Rattle.jpa_context.specs.Steps.{each}
 use Rattle.jpa_context.specs.Undo.{now}
-use Rattle.jpa_context.specs.declared.EntityState.{EntityState}
-use Rattle.jpa_ops.proofs.Alone.{refreshes_alone}
+use Rattle.jpa_cascade.specs.declared.Operation.{Operation}
+use Rattle.jpa_ops.specs.States.{refresh_node}
+use Rattle.jpa_ops.proofs.Going.{done_holds}
+use Rattle.jpa_ops.proofs.Refreshed.{refresh_node_goes}
+use Rattle.jpa_ops.proofs.Ready.{IsFrom, from_itself, there_still}
+use Rattle.jpa_ops.proofs.Rounds.{next_done, node_there}
 use Rattle.jpa_ops.proofs.refreshing.refresh.Goals as goal
 
-pub returns-in-New-clause-meets : goal.returns-in-New-clause-meets
-returns-in-New-clause-meets g c =
-    sym (refreshes_alone (world_of g.B.Behaviour.meaning c.args.metamodel.now c.args.registry.now) c.args.object (now c.args.work.now) EntityState.New c.requires.flat c.in-New.ensures)
+pub loop-node-init : goal.loop-node-init
+loop-node-init g c =
+    let world = world_of g.B.Behaviour.meaning c.args.metamodel.now c.args.registry.now in
+    let w = now c.args.work.now in
+    record {
+      rest = ap (λ xs. each (refresh_node world) xs w) (c.as_slice-node-items.ensures ∙ c.in_ok-nodes.ensures.waves);
+      goes = from_itself c.args.metamodel.now w c.requires.ready;
+      view = refl;
+      since = refl;
+    }
 
-pub returns-in-Managed-clause-meets : goal.returns-in-Managed-clause-meets
-returns-in-Managed-clause-meets g c =
-    subst (Meets c.refresh_managed.result (now c.refresh_managed.new.work))
-    (refreshes_alone (world_of g.B.Behaviour.meaning c.args.metamodel.now c.args.registry.now) c.args.object (now c.args.work.now) EntityState.Managed c.requires.flat c.in-Managed.ensures) c.refresh_managed.ensures.meets
+-- a node of the waves is there still
+pub refresh_node-requires-clause-there : goal.refresh_node-requires-clause-there
+refresh_node-requires-clause-there g c =
+    let m = c.args.metamodel.now in
+    let w0 = now c.args.work.now in
+    let w = now c.loop-node.work in
+    let x = c.node-item.result in
+    let first = node_there m Operation.Refresh w0 c.args.object c.as_slice-node-items.result.now c.loop-node.node-index x c.requires.ready c.requires.object
+    (c.as_slice-node-items.ensures ∙ c.in_ok-nodes.ensures.waves) c.loop-node-test.true c.node-item.is in
+    there_still w0 w x c.loop-node.invariant.goes.grown.count (ap opened.now c.loop-node.invariant.view) first
 
-pub returns-in-Removed-clause-meets : goal.returns-in-Removed-clause-meets
-returns-in-Removed-clause-meets g c =
-    sym (refreshes_alone (world_of g.B.Behaviour.meaning c.args.metamodel.now c.args.registry.now) c.args.object (now c.args.work.now) EntityState.Removed c.requires.flat c.in-Removed.ensures)
-
-pub returns-in-Detached-clause-meets : goal.returns-in-Detached-clause-meets
-returns-in-Detached-clause-meets g c =
-    sym (refreshes_alone (world_of g.B.Behaviour.meaning c.args.metamodel.now c.args.registry.now) c.args.object (now c.args.work.now) EntityState.Detached c.requires.flat c.in-Detached.ensures)
+pub loop-node-preserved : goal.loop-node-preserved
+loop-node-preserved g c =
+    let m = c.args.metamodel.now in
+    let world = world_of g.B.Behaviour.meaning m c.args.registry.now in
+    let w0 = now c.args.work.now in
+    let w = now c.loop-node.work in
+    let w' = now c.refresh_node.new.work in
+    let x = c.node-item.result in
+    let nodes = c.as_slice-node-items.result.now in
+    let goes = c.loop-node.invariant.goes in
+    let done = c.in_ok-refresh_node.ensures.meets in
+    let first = node_there m Operation.Refresh w0 c.args.object nodes c.loop-node.node-index x c.requires.ready c.requires.object
+    (c.as_slice-node-items.ensures ∙ c.in_ok-nodes.ensures.waves) c.loop-node-test.true c.node-item.is in
+    record {
+      rest = next_done (refresh_node world) nodes c.loop-node.node-index x w w' c.loop-node-test.true c.node-item.is done ∙ c.loop-node.invariant.rest;
+      goes = done_holds (IsFrom m w0) (refresh_node world x w) tt w' done (refresh_node_goes world w0 x w first goes);
+      view = c.refresh_node.ensures.view ∙ c.loop-node.invariant.view;
+      since = c.refresh_node.ensures.since ∙ c.loop-node.invariant.since;
+    }

@@ -14,7 +14,7 @@ use Rattle.jpa_ops.proofs.refreshing.refresh_managed.Goals as goal
 pub callback-requires-clause-shape : goal.callback-requires-clause-shape
 callback-requires-clause-shape g c =
     let world = world_of g.B.Behaviour.meaning c.args.metamodel.now c.args.registry.now in
-    reloaded_shape world c.args.object c.in-Some.id c.in_ok-row.row (now c.args.work.now) (now c.reload.new.work) c.requires.flat c.requires.placed.view c.in_ok-row.ensures.row c.requires.object
+    reloaded_shape world c.args.object c.in-Some.id c.in_ok-row.row (now c.args.work.now) (now c.reload.new.work) c.requires.placed.view c.in_ok-row.ensures.row c.requires.object
     (c.in_ok-reload.ensures.ok world)
 
 pub returns-clause-meets : goal.returns-clause-meets

@@ -2,7 +2,7 @@ use Rattle.std.proofs.Common.{◌≡◌, ◌∙◌, ◌<◌, ap, sym, subst, rul
 use Rattle.std.specs.Prelude.{slice_set}
 use Rattle.jpa_context.specs.declared.Entry.{Entry}
 use Rattle.jpa_context.specs.Undo.{now}
-use Rattle.jpa_ops.proofs.Based.{changed_if, none_changed, one_changed, place_within, entry_there}
+use Rattle.jpa_fetch.proofs.Based.{changed_if, none_changed, one_changed, place_within, entry_there}
 use Rattle.jpa_ops.proofs.refreshing.set_base.Goals as goal
 
 -- no entry is the object's

@@ -1,24 +1,51 @@
-use Rattle.std.proofs.Common.{sym, subst}
+use Rattle.std.proofs.Common.{◌∙◌, refl, ap}
 use Rattle.jpa_behaviour.specs.Registered.{world_of}
-use Rattle.jpa_context.specs.Steps.{Meets}
+use Rattle.jpa_open.specs.Opened as opened
+use Rattle.jpa_context.specs.Steps.{each}
 use Rattle.jpa_context.specs.Undo.{now}
-use Rattle.jpa_context.specs.declared.EntityState.{EntityState}
-use Rattle.jpa_ops.proofs.Alone.{removes_alone}
+use Rattle.jpa_cascade.specs.declared.Operation.{Operation}
+use Rattle.jpa_ops.specs.States.{remove_node}
+use Rattle.jpa_fetch.proofs.Grown.{grown_on}
+use Rattle.jpa_ops.proofs.Ready.{from_itself, there_still}
+use Rattle.jpa_ops.proofs.Rounds.{next_done, node_there}
 use Rattle.jpa_ops.proofs.removing.remove.Goals as goal
 
-pub returns-in-New-clause-meets : goal.returns-in-New-clause-meets
-returns-in-New-clause-meets g c =
-    sym (removes_alone (world_of g.B.Behaviour.meaning c.args.metamodel.now c.args.registry.now) c.args.object (now c.args.work.now) EntityState.New c.requires.flat c.in-New.ensures)
+pub loop-node-init : goal.loop-node-init
+loop-node-init g c =
+    let world = world_of g.B.Behaviour.meaning c.args.metamodel.now c.args.registry.now in
+    let w = now c.args.work.now in
+    record {
+      rest = ap (λ xs. each (remove_node world) xs w) (c.as_slice-node-items.ensures ∙ c.in_ok-nodes.ensures.waves);
+      goes = from_itself c.args.metamodel.now w c.requires.ready;
+      view = refl;
+      since = refl;
+    }
 
-pub returns-in-Managed-clause-meets : goal.returns-in-Managed-clause-meets
-returns-in-Managed-clause-meets g c =
-    subst (Meets c.remove_managed.result (now c.remove_managed.new.work))
-    (removes_alone (world_of g.B.Behaviour.meaning c.args.metamodel.now c.args.registry.now) c.args.object (now c.args.work.now) EntityState.Managed c.requires.flat c.in-Managed.ensures) c.remove_managed.ensures.meets
+-- a node of the waves is there still
+pub remove_node-requires-clause-there : goal.remove_node-requires-clause-there
+remove_node-requires-clause-there g c =
+    let m = c.args.metamodel.now in
+    let w0 = now c.args.work.now in
+    let w = now c.loop-node.work in
+    let x = c.node-item.result in
+    let first = node_there m Operation.Remove w0 c.args.object c.as_slice-node-items.result.now c.loop-node.node-index x c.requires.ready c.requires.object
+    (c.as_slice-node-items.ensures ∙ c.in_ok-nodes.ensures.waves) c.loop-node-test.true c.node-item.is in
+    there_still w0 w x c.loop-node.invariant.goes.grown.count (ap opened.now c.loop-node.invariant.view) first
 
-pub returns-in-Removed-clause-meets : goal.returns-in-Removed-clause-meets
-returns-in-Removed-clause-meets g c =
-    sym (removes_alone (world_of g.B.Behaviour.meaning c.args.metamodel.now c.args.registry.now) c.args.object (now c.args.work.now) EntityState.Removed c.requires.flat c.in-Removed.ensures)
-
-pub returns-in-Detached-clause-meets : goal.returns-in-Detached-clause-meets
-returns-in-Detached-clause-meets g c =
-    sym (removes_alone (world_of g.B.Behaviour.meaning c.args.metamodel.now c.args.registry.now) c.args.object (now c.args.work.now) EntityState.Detached c.requires.flat c.in-Detached.ensures)
+pub loop-node-preserved : goal.loop-node-preserved
+loop-node-preserved g c =
+    let m = c.args.metamodel.now in
+    let world = world_of g.B.Behaviour.meaning m c.args.registry.now in
+    let w0 = now c.args.work.now in
+    let w = now c.loop-node.work in
+    let w' = now c.remove_node.new.work in
+    let x = c.node-item.result in
+    let nodes = c.as_slice-node-items.result.now in
+    let goes = c.loop-node.invariant.goes in
+    let done = c.in_ok-remove_node.ensures.meets in
+    record {
+      rest = next_done (remove_node world) nodes c.loop-node.node-index x w w' c.loop-node-test.true c.node-item.is done ∙ c.loop-node.invariant.rest;
+      goes = record { ready = c.in_ok-remove_node.ensures.ready; grown = grown_on w0 w w' goes.grown c.in_ok-remove_node.ensures.grown };
+      view = c.remove_node.ensures.view ∙ c.loop-node.invariant.view;
+      since = c.remove_node.ensures.since ∙ c.loop-node.invariant.since;
+    }

@@ -1,4 +1,4 @@
-use Rattle.std.proofs.Common.{◌≡◌, refl, ap, sym, ◌∙◌}
+use Rattle.std.proofs.Common.{refl, ap, sym, ◌∙◌}
 use Rattle.jpa_open.specs.Opened.{Opened}
 use Rattle.jpa_context.specs.Work.{Work}
 use Rattle.jpa_provider.specs.declared.session.Session.{Session}

@@ -1,5 +1,5 @@
 use Rattle.std.proofs.Common.{◌≡◌, ℕ, List, inl, inr, refl, ap, sym, subst, ◌∙◌}
-use Rattle.std.specs.Prelude.{◌⊎◌, T, true, nat_le, All, OnOk, if◌then◌else◌}
+use Rattle.std.specs.Prelude.{◌⊎◌, T, true, nat_le, OnOk, if◌then◌else◌}
 use Rattle.std.specs.FinMap.Entries.{is_sorted}
 use Rattle.jpa_value.specs.Value.{identity_cmp}
 use Rattle.jpa_behaviour.specs.Registered.{world_of}
@@ -7,32 +7,26 @@ use Rattle.jpa_stored.specs.Sets.{StoredSet, IsSound, each_fits}
 use Rattle.jpa_rows.specs.Cells.{CanBeHeld}
 use Rattle.jpa_rows.specs.Rows.{Rows}
 use Rattle.jpa_object_rows.specs.Sets.{rows_of}
-use Rattle.jpa_context.specs.declared.Entry.{Entry}
-use Rattle.jpa_context.specs.declared.Lock.{Lock}
 use Rattle.jpa_context.specs.Work.{Work}
 use Rattle.jpa_context.specs.Steps.{Done, IsRefusedAs}
-use Rattle.jpa_context.specs.Undo.{now, since, IsPlaced}
+use Rattle.jpa_context.specs.Undo.{now, since}
 use Rattle.jpa_flush.specs.Flush.{flush}
-use Rattle.jpa_flush.specs.Names.{has_distinct_entries}
+use Rattle.jpa_fetch.specs.Grown.{IsReady}
+use Rattle.jpa_ops.specs.Names.{has_distinct_entries}
 use Rattle.jpa_protocol.specs.declared.call.Call.{Call}
-use Rattle.jpa_provider.specs.Machine.{Machine}
 use Rattle.jpa_object_store.specs.Written.{RunsAtMost, RunsDifference}
-use Rattle.jpa_provider.specs.Provided.{rows_kept, rows_made}
+use Rattle.jpa_provider.specs.Provided.{rows_made}
 use Rattle.jpa_provider.specs.Serving.{machine_of, is_begun_status}
-use Rattle.jpa_provider.proofs.Active.{committing, entries_since, entries_apart, view_sound, view_rises, flushed_held, flushed_rising, flushed_within}
+use Rattle.jpa_provider.proofs.Active.{committing, entries_since, entries_apart, view_sound, view_rises, flushed_held, flushed_rising, flushed_unlocked, flushed_within}
 use Rattle.jpa_provider.proofs.Commits.{refused_step, stored_step, refused_still}
 use Rattle.jpa_provider.proofs.Crashed.{made_by, not_accepted}
-use Rattle.jpa_provider.proofs.AtWork.{work_placed}
+use Rattle.jpa_provider.proofs.AtWork.{work_ready}
 use Rattle.jpa_provider.proofs.Sessions.{begun_there}
 use Rattle.jpa_provider.proofs.Worked.{still_working}
 use Rattle.jpa_provider.proofs.committing.commit_active.Goals as goal
 
-pub flush-requires-clause-placed : goal.flush-requires-clause-placed
-flush-requires-clause-placed g c = subst (IsPlaced c.args.metamodel.now) (sym c.take_work.ensures.work) (work_placed c.args.manager (c.requires.serving).machine)
-
-pub flush-requires-clause-unlocked : goal.flush-requires-clause-unlocked
-flush-requires-clause-unlocked g c =
-    subst (λ (v : Work). All (λ (e : Entry). e.lock ≡ Lock.Unlocked) v.context) (sym c.take_work.ensures.work) ((c.requires.serving).unlocked c.args.manager)
+pub flush-requires-clause-ready : goal.flush-requires-clause-ready
+flush-requires-clause-ready g c = subst (IsReady c.args.metamodel.now) (sym c.take_work.ensures.work) (work_ready c.args.manager (c.requires.serving).machine)
 
 pub flush-requires-clause-shown : goal.flush-requires-clause-shown
 flush-requires-clause-shown g c =
@@ -81,6 +75,13 @@ pub store_commit-requires-clause-shown : goal.store_commit-requires-clause-shown
 store_commit-requires-clause-shown g c =
     let away = (still_working c.take_work.new.session c.flush.new.work c.take_work.ensures.working c.flush.ensures.since).away in
     away.shown ∙ begun_there c.args.session.now c.args.manager ∙ ap is_begun_status c.requires.active
+
+pub store_commit-requires-clause-unlocked : goal.store_commit-requires-clause-unlocked
+store_commit-requires-clause-unlocked g c =
+    let world = world_of g.B.Behaviour.meaning c.args.metamodel.now c.args.registry.now in
+    let w : Work = now c.flush.new.work in
+    let done = subst (λ (v : Work). flush world v ≡ Done tt w) c.take_work.ensures.work c.in-Ok.ensures.meets in
+    flushed_unlocked world c.args.session.now c.args.manager c.requires.serving w done
 
 pub store_commit-requires-clause-rising : goal.store_commit-requires-clause-rising
 store_commit-requires-clause-rising g c =
@@ -155,7 +156,7 @@ returns-in-Ok-clause-step g c = λ em named.
     let u = c.flush.new.work in
     let working = still_working c.take_work.new.session u c.take_work.ensures.working c.flush.ensures.since in
     let done = subst (λ (v : Work). flush world v ≡ Done tt (now u)) c.take_work.ensures.work c.in-Ok.ensures.meets in
-    stored_step world s c.store_commit.new.session em m named c.requires.active (now u) c.store_commit.result done c.in-Ok.ensures.unlocked
+    stored_step world s c.store_commit.new.session em m named c.requires.active (now u) c.store_commit.result done (flushed_unlocked world s m c.requires.serving (now u) done)
     (c.store_commit.ensures.stores (machine_of s) (committing s _ m c.requires.serving (ap is_begun_status c.requires.active) working))
 
 pub returns-in-Ok-clause-settled : goal.returns-in-Ok-clause-settled
@@ -184,7 +185,7 @@ returns-in-Ok-clause-crash g c = λ em named clean.
     let done = subst (λ (v : Work). flush world v ≡ Done tt (now u)) c.take_work.ensures.work c.in-Ok.ensures.meets in
     let held = subst (g.R.RowSource.holds rows) (λ i. rows_of world (sym away.committed i) (sym away.stored i)) (c.requires.holds (c.store_commit.ensures.was_clean clean)) in
     let made : rows_of world (u.view).seen u.numbers.now ≡ rows_made world (machine_of s) (Call.Commit em) =
-    ap (λ b. rows_of world (if b then (u.view).seen else (u.view).committed) u.numbers.now) (sym shown) ∙ made_by world s em m named c.requires.active (now u) done c.in-Ok.ensures.unlocked in
+    ap (λ b. rows_of world (if b then (u.view).seen else (u.view).committed) u.numbers.now) (sym shown) ∙ made_by world s em m named c.requires.active (now u) done (flushed_unlocked world s m c.requires.serving (now u) done) in
     subst (λ (stood : Rows). g.R.RowSource.endures rows c.store_commit.new.rows (λ left. left ≡ stood)) made (c.store_commit.ensures.crash held)
 
 pub returns-in-Ok-clause-counted : goal.returns-in-Ok-clause-counted
@@ -197,7 +198,7 @@ returns-in-Ok-clause-counted g c = λ em named.
     let shown = away.shown ∙ begun_there s m ∙ ap is_begun_status c.requires.active in
     let done = subst (λ (v : Work). flush world v ≡ Done tt (now u)) c.take_work.ensures.work c.in-Ok.ensures.meets in
     let made : rows_of world (u.view).seen u.numbers.now ≡ rows_made world (machine_of s) (Call.Commit em) =
-    ap (λ b. rows_of world (if b then (u.view).seen else (u.view).committed) u.numbers.now) (sym shown) ∙ made_by world s em m named c.requires.active (now u) done c.in-Ok.ensures.unlocked in
+    ap (λ b. rows_of world (if b then (u.view).seen else (u.view).committed) u.numbers.now) (sym shown) ∙ made_by world s em m named c.requires.active (now u) done (flushed_unlocked world s m c.requires.serving (now u) done) in
     subst (λ (p : Rows × Rows). OnOk c.store_commit.result.answer (RunsDifference p.0 p.1 (g.R.RowSource.writes c.args.rows.now) (g.R.RowSource.writes c.store_commit.new.rows)))
     (λ i. (rows_of world (away.committed i) (away.stored i), made i)) c.store_commit.ensures.counted
 
@@ -212,7 +213,7 @@ returns-in-Ok-clause-bounded g c = λ em named refused.
     let shown = away.shown ∙ begun_there s m ∙ ap is_begun_status c.requires.active in
     let done = subst (λ (v : Work). flush world v ≡ Done tt (now u)) c.take_work.ensures.work c.in-Ok.ensures.meets in
     let made : rows_of world (u.view).seen u.numbers.now ≡ rows_made world (machine_of s) (Call.Commit em) =
-    ap (λ b. rows_of world (if b then (u.view).seen else (u.view).committed) u.numbers.now) (sym shown) ∙ made_by world s em m named c.requires.active (now u) done c.in-Ok.ensures.unlocked in
+    ap (λ b. rows_of world (if b then (u.view).seen else (u.view).committed) u.numbers.now) (sym shown) ∙ made_by world s em m named c.requires.active (now u) done (flushed_unlocked world s m c.requires.serving (now u) done) in
     subst (λ (p : Rows × Rows). (c.store_commit.new.rows ≡ rows) ⊎ RunsAtMost p.0 p.1 (g.R.RowSource.writes rows) (g.R.RowSource.writes c.store_commit.new.rows))
     (λ i. (rows_of world (away.committed i) (away.stored i), made i)) (c.store_commit.ensures.bounded refused)
 

@@ -2,7 +2,7 @@ use Rattle.std.proofs.Common.{◌≡◌, ◌<◌, false, List, length, refl, ap,
 use Rattle.std.specs.Prelude.{slice_set, All, if◌then◌else◌}
 use Rattle.std.specs.List.{filter}
 use Rattle.jpa_undo.specs.Undo.{Changes}
-use Rattle.jpa_open.specs.Opened.{Opened, with_committed, with_kept}
+use Rattle.jpa_open.specs.Opened.{Opened}
 use Rattle.jpa_heap.specs.declared.LiveObject.{LiveObject}
 use Rattle.jpa_context.specs.declared.Entry.{Entry}
 use Rattle.jpa_context.specs.Places.{without_removed}

@@ -1,5 +1,3 @@
-use Rattle.std.proofs.Common.{◌≡◌, refl}
-use Rattle.jpa_behaviour.specs.Registered.{world_of}
 use Rattle.jpa_provider.proofs.committing.store_commit.Goals as goal
 
 pub returns-in-Err-clause-crash : goal.returns-in-Err-clause-crash

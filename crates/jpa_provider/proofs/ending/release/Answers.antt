@@ -1,4 +1,4 @@
-use Rattle.std.proofs.Common.{◌≡◌, false, List, [], refl, ap, sym, ◌∙◌}
+use Rattle.std.proofs.Common.{false, List, [], refl, ap, sym, ◌∙◌}
 use Rattle.std.specs.Prelude.{slice_set}
 use Rattle.jpa_open.specs.Opened.{Opened}
 use Rattle.jpa_provider.specs.declared.session.EntityManager.{EntityManager}

@@ -1,35 +1,30 @@
 use Rattle.std.proofs.Common.{◌≡◌, false, true, ap, sym, subst, ◌∙◌}
-use Rattle.std.specs.Prelude.{All, T, Some}
+use Rattle.std.specs.Prelude.{T, Some}
 use Rattle.std.specs.FinMap.Entries.{is_sorted}
 use Rattle.std.proofs.Math.Facts.{to_z-of_z}
 use Rattle.jpa_value.specs.Value.{identity_cmp}
 use Rattle.jpa_behaviour.specs.Registered.{world_of}
 use Rattle.jpa_stored.specs.Sets.{IsSound}
-use Rattle.jpa_context.specs.declared.Entry.{Entry}
-use Rattle.jpa_context.specs.declared.Lock.{Lock}
 use Rattle.jpa_context.specs.Work.{Work}
 use Rattle.jpa_context.specs.Steps.{Meets}
-use Rattle.jpa_context.specs.Undo.{now, IsPlaced}
-use Rattle.jpa_flush.specs.Names.{has_distinct_entries}
+use Rattle.jpa_context.specs.Undo.{now}
+use Rattle.jpa_fetch.specs.Grown.{IsReady}
+use Rattle.jpa_ops.specs.Names.{has_distinct_entries}
 use Rattle.jpa_protocol.specs.declared.call.Call.{Call}
 use Rattle.jpa_provider.specs.declared.replies.Rule.{Rule}
 use Rattle.jpa_provider.specs.Machine.{work_of}
 use Rattle.jpa_provider.specs.Routes.{flush_call}
 use Rattle.jpa_provider.specs.Serving.{machine_of, manager_in, is_begun_status, named, Serves}
 use Rattle.jpa_provider.proofs.Active.{entries_apart, view_sound, view_rises}
-use Rattle.jpa_provider.proofs.AtWork.{work_placed}
+use Rattle.jpa_provider.proofs.AtWork.{work_ready}
 use Rattle.jpa_provider.proofs.Routed.{flush_idle, flush_so}
 use Rattle.jpa_provider.proofs.Sessions.{begun_there}
 use Rattle.jpa_provider.proofs.Told.{no_fault}
 use Rattle.jpa_provider.proofs.Worked.{still_working, if_refused, ends_so}
 use Rattle.jpa_provider.proofs.flushing.flush_call.Goals as goal
 
-pub flush_work-answered-requires-clause-placed : goal.flush_work-answered-requires-clause-placed
-flush_work-answered-requires-clause-placed g c = subst (IsPlaced c.args.metamodel.now) (sym c.take_work.ensures.work) (work_placed c.in-Some.manager (c.requires.serving).machine)
-
-pub flush_work-answered-requires-clause-unlocked : goal.flush_work-answered-requires-clause-unlocked
-flush_work-answered-requires-clause-unlocked g c =
-    subst (λ (v : Work). All (λ (e : Entry). e.lock ≡ Lock.Unlocked) v.context) (sym c.take_work.ensures.work) ((c.requires.serving).unlocked c.in-Some.manager)
+pub flush_work-answered-requires-clause-ready : goal.flush_work-answered-requires-clause-ready
+flush_work-answered-requires-clause-ready g c = subst (IsReady c.args.metamodel.now) (sym c.take_work.ensures.work) (work_ready c.in-Some.manager (c.requires.serving).machine)
 
 pub flush_work-answered-requires-clause-shown : goal.flush_work-answered-requires-clause-shown
 flush_work-answered-requires-clause-shown g c =

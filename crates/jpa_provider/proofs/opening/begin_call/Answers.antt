@@ -5,7 +5,7 @@ use Rattle.jpa_behaviour.specs.Registered.{world_of}
 use Rattle.jpa_protocol.specs.declared.call.Call.{Call}
 use Rattle.jpa_provider.specs.declared.session.Session.{Session}
 use Rattle.jpa_provider.specs.declared.session.Status.{Status}
-use Rattle.jpa_provider.specs.Serving.{is_begun_status, is_open_status, manager_in, named, Serves}
+use Rattle.jpa_provider.specs.Serving.{is_begun_status, manager_in, named, Serves}
 use Rattle.jpa_provider.proofs.Counted.{counted_begun}
 use Rattle.jpa_provider.proofs.Opened.{begin_begins, begin_busy}
 use Rattle.jpa_provider.proofs.Worked.{named_open}

@@ -48,7 +48,7 @@ returns-clause-undone g c =
 
 pub returns-clause-rising : goal.returns-clause-rising
 returns-clause-rising g c =
-    step_rises (machine_of c.args.session.now) c.args.call c.served.result (machine_of c.served.new.session) c.requires.serving.flat c.requires.serving.regular c.hands_representable.ensures c.requires.serving.machine c.served.ensures.step
+    step_rises (machine_of c.args.session.now) c.args.call c.served.result (machine_of c.served.new.session) c.requires.serving.orderly c.requires.serving.regular c.hands_representable.ensures c.requires.serving.machine c.served.ensures.step
 
 pub returns-clause-refused : goal.returns-clause-refused
 returns-clause-refused g c = λ refused.

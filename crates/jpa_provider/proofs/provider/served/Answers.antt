@@ -4,7 +4,7 @@ use Rattle.jpa_behaviour.specs.Behaviour.{World}
 use Rattle.jpa_behaviour.specs.Registered.{world_of}
 use Rattle.jpa_context.specs.Steps.{Op}
 use Rattle.jpa_protocol.specs.declared.reply.Answer.{Answer}
-use Rattle.jpa_provider.specs.Routes.{OfManager, OfObject, route, get_call, set_call, persist_call, remove_call, refresh_call, detach_call, find_call, get_reference_call}
+use Rattle.jpa_provider.specs.Routes.{OfManager, OfObject, route, get_call, set_call, add_call, take_out_call, persist_call, remove_call, refresh_call, detach_call, find_call, get_reference_call}
 use Rattle.jpa_protocol.specs.declared.call.Call.{Call}
 use Rattle.jpa_object_store.specs.Written.{RunsAtMost}
 use Rattle.jpa_provider.specs.Provided.{rows_kept, rows_made}
@@ -47,6 +47,24 @@ returns-in-Get-clause-step g c =
     let op : World → ℕ → Op Answer = λ world. get_call world c.in-Get.name in
     let same : to_z w64 (of_z w64 object) ≡ object = search rules in
     c.held-in-Get.ensures.step c.args.call op (ap route c.in-Get.is ∙ ap (λ z. OfObject z op) (sym same)) refl
+
+pub returns-in-Add-clause-step : goal.returns-in-Add-clause-step
+returns-in-Add-clause-step g c =
+    let object = c.in-Add.object in
+    let member = c.in-Add.member in
+    let same : to_z w64 (of_z w64 object) ≡ object = search rules in
+    let named : to_z w64 (of_z w64 member) ≡ member = search rules in
+    c.held-in-Add.ensures.step c.args.call (λ world. add_call world c.in-Add.name (to_z w64 (of_z w64 member)))
+    (ap route c.in-Add.is ∙ (λ i. OfObject (sym same i) (λ world. add_call world c.in-Add.name (sym named i)))) refl
+
+pub returns-in-TakeOut-clause-step : goal.returns-in-TakeOut-clause-step
+returns-in-TakeOut-clause-step g c =
+    let object = c.in-TakeOut.object in
+    let member = c.in-TakeOut.member in
+    let same : to_z w64 (of_z w64 object) ≡ object = search rules in
+    let named : to_z w64 (of_z w64 member) ≡ member = search rules in
+    c.held-in-TakeOut.ensures.step c.args.call (λ world. take_out_call world c.in-TakeOut.name (to_z w64 (of_z w64 member)))
+    (ap route c.in-TakeOut.is ∙ (λ i. OfObject (sym same i) (λ world. take_out_call world c.in-TakeOut.name (sym named i)))) refl
 
 pub returns-in-Persist-clause-step : goal.returns-in-Persist-clause-step
 returns-in-Persist-clause-step g c =

@@ -1,30 +1,21 @@
-use Rattle.std.proofs.Common.{◌≡◌, true, ap, sym, subst, ◌∙◌}
-use Rattle.std.specs.Prelude.{◌==◌}
-use Rattle.jpa_stored.specs.Sets.{all_distinct}
+use Rattle.std.proofs.Common.{ap, sym, subst}
 use Rattle.jpa_open.specs.Opened.{Opened}
 use Rattle.jpa_behaviour.specs.Registered.{world_of}
-use Rattle.jpa_context.specs.declared.Entry.{Entry}
 use Rattle.jpa_context.specs.Work.{Work}
 use Rattle.jpa_context.specs.Steps.{Meets}
-use Rattle.jpa_context.specs.Undo.{now, IsPlaced}
+use Rattle.jpa_context.specs.Undo.{now}
+use Rattle.jpa_fetch.specs.Grown.{IsReady}
 use Rattle.jpa_provider.specs.Machine.{work_of}
 use Rattle.jpa_provider.specs.Operations.{operation_of}
 use Rattle.jpa_provider.specs.Serving.{machine_of}
-use Rattle.jpa_provider.proofs.Active.{objects_once}
-use Rattle.jpa_provider.proofs.AtWork.{work_placed}
+use Rattle.jpa_provider.proofs.AtWork.{work_ready}
 use Rattle.jpa_provider.proofs.Told.{no_fault}
 use Rattle.jpa_provider.proofs.Worked.{still_away, still_working, on_err, ends_so}
 use Rattle.jpa_provider.proofs.working.at_work.Goals as goal
 
-pub operate-answered-requires-clause-placed : goal.operate-answered-requires-clause-placed
-operate-answered-requires-clause-placed g c =
-    subst (IsPlaced c.args.metamodel.now) (sym c.take_work.ensures.work) (work_placed c.args.manager (c.requires.serving).machine)
-
-pub operate-answered-requires-clause-distinct : goal.operate-answered-requires-clause-distinct
-operate-answered-requires-clause-distinct g c =
-    let world = world_of g.B.Behaviour.meaning c.args.metamodel.now c.args.registry.now in
-    subst (λ (w : Work). all_distinct (λ (a b : Entry). a.object == b.object) w.context ≡ true) (sym c.take_work.ensures.work)
-    (objects_once world c.args.session.now c.args.manager c.requires.serving)
+pub operate-answered-requires-clause-ready : goal.operate-answered-requires-clause-ready
+operate-answered-requires-clause-ready g c =
+    subst (IsReady c.args.metamodel.now) (sym c.take_work.ensures.work) (work_ready c.args.manager (c.requires.serving).machine)
 
 pub returns-clause-ends : goal.returns-clause-ends
 returns-clause-ends g c =

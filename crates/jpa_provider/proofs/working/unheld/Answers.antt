@@ -1,38 +1,33 @@
-use Rattle.std.proofs.Common.{◌≡◌, true, List, refl, ap, sym, subst, ◌∙◌, arith}
-use Rattle.std.specs.Prelude.{◌==◌, length, [], Ok, Err, OnErr}
-use Rattle.jpa_stored.specs.Sets.{all_distinct}
+use Rattle.std.proofs.Common.{◌≡◌, refl, ap, sym, subst, ◌∙◌, arith}
+use Rattle.std.specs.Prelude.{length, Ok, Err, OnErr}
 use Rattle.jpa_value.specs.declared.refusal.Refusal.{Refusal}
 use Rattle.jpa_open.specs.Opened.{Opened, after_undoing}
 use Rattle.jpa_open.specs.Opened as opened
 use Rattle.jpa_context.specs.Undo as undoing
 use Rattle.jpa_behaviour.specs.Registered.{world_of}
-use Rattle.jpa_context.specs.declared.Entry.{Entry}
 use Rattle.jpa_context.specs.Work.{Work}
 use Rattle.jpa_context.specs.Steps.{Meets}
-use Rattle.jpa_context.specs.Undo.{now, Since, IsPlaced}
+use Rattle.jpa_context.specs.Undo.{now, Since}
+use Rattle.jpa_fetch.specs.Grown.{IsReady}
 use Rattle.jpa_provider.specs.declared.replies.Rule.{Rule}
 use Rattle.jpa_provider.specs.declared.session.Session.{Session}
 use Rattle.jpa_provider.specs.Machine.{work_of}
 use Rattle.jpa_provider.specs.Operations.{operation_of, is_marked_by, told_of}
 use Rattle.jpa_provider.specs.Serving.{machine_of}
-use Rattle.jpa_provider.proofs.AtWork.{work_placed}
-use Rattle.jpa_provider.proofs.Told.{of_operation}
+use Rattle.jpa_provider.proofs.AtWork.{work_ready}
 use Rattle.jpa_provider.proofs.Counted.{counted_here}
 use Rattle.jpa_provider.proofs.Unheld.{hidden_keep, nobody_works, nobody_keeps, nobody_restores}
 use Rattle.jpa_provider.proofs.Worked.{ends_so}
 use Rattle.jpa_provider.proofs.working.unheld.Goals as goal
 
-pub operate-answered-requires-clause-placed : goal.operate-answered-requires-clause-placed
-operate-answered-requires-clause-placed g c =
+pub operate-answered-requires-clause-ready : goal.operate-answered-requires-clause-ready
+operate-answered-requires-clause-ready g c =
     let s = c.args.session.now in
     let n = length s.managers.items in
     let w : Work = record { manager = c.len-session.result; objects = s.work.objects.now; context = c.new.result.now; numbers = s.work.numbers.now; view = (s.work.view).committed; events = s.work.events } in
     let counted : c.len-session.result ≡ n = let a = c.len-session.ensures in omega (arith, a) in
     let same : w ≡ work_of (machine_of s) n = nobody_works s w (c.requires.serving).settled (λ i. record w { manager = counted i; context = c.new.ensures.now i }) in
-    subst (IsPlaced c.args.metamodel.now) (sym ((λ i. record w { view = opened.now (c.show.ensures i) }) ∙ same)) (work_placed n (c.requires.serving).machine)
-
-pub operate-answered-requires-clause-distinct : goal.operate-answered-requires-clause-distinct
-operate-answered-requires-clause-distinct g c = subst (λ (es : List Entry). all_distinct (λ (a b : Entry). a.object == b.object) es ≡ true) (sym c.new.ensures.now) refl
+    subst (IsReady c.args.metamodel.now) (sym ((λ i. record w { view = opened.now (c.show.ensures i) }) ∙ same)) (work_ready n (c.requires.serving).machine)
 
 pub returns-in-Ok-clause-ends : goal.returns-in-Ok-clause-ends
 returns-in-Ok-clause-ends g c =

@@ -1,0 +1,209 @@
+//! Collections of objects, changed.
+ghost use Rattle.std.specs.Prelude.{◌≡◌, ◌<◌, ◌==◌, All, length, IfOk, IfSome, OnOk};
+ghost use Rattle.std.specs.List.{list_any, position};
+ghost use Rattle.jpa_model.specs.Chains.{relation_at, relations_of};
+ghost use Rattle.jpa_behaviour.specs.Registered.{world_of};
+ghost use Rattle.jpa_heap.specs.declared.Handed.{Handed};
+ghost use Rattle.jpa_heap.specs.Assign.{fits_link};
+ghost use Rattle.jpa_heap.specs.Objects.{object_at};
+ghost use Rattle.jpa_heap.specs.Shape.{IsPlaced as IsMemberOf};
+ghost use Rattle.jpa_context.specs.Steps.{Meets};
+ghost use Rattle.jpa_context.specs.Undo.{now, since};
+ghost use Rattle.jpa_fetch.specs.Grown.{HasGrown, IsReady};
+ghost use Rattle.jpa_fetch.specs.Members as members;
+
+use crate::changing::set_relation;
+use crate::getting::member_named;
+use crate::reading::fetch;
+use jpa_behaviour::{Behaviour, Registry};
+use jpa_context::UnitOfWork;
+use jpa_heap::{Collection, Held};
+use jpa_model::{Member, Metamodel};
+use jpa_value::{Argument, Cause, Seq};
+use std::alloc::Global;
+
+/// The relation at which a class has a collection that a member names.
+fn collection_in(metamodel: &Metamodel, class: usize, member: Option<Member>) -> Option<usize>
+    requires class { class < length metamodel.now.entities }
+    requires member { IsMemberOf metamodel.now class member }
+    ensures collection { result ≡ members.collection_in metamodel.now class member }
+    ensures within { IfSome result (λ r. r < length (relations_of metamodel.now class)) }
+{
+    match member {
+        Some(Member::Relation(relation)) => {
+            if metamodel.relation_at(class, relation).side.is_to_one() {
+                None
+            } else {
+                Some(relation)
+            }
+        }
+        _ => None,
+    }
+}
+
+/// Whether a relation of an object takes another, in whatever state.
+fn fits(
+    metamodel: &Metamodel,
+    work: &UnitOfWork,
+    object: usize,
+    relation: usize,
+    member: usize,
+) -> bool
+    requires ready { IsReady metamodel.now (now work.now) }
+    requires object { object < length work.now.objects.now }
+    requires relation { relation
+        < length (relations_of metamodel.now (object_at work.now.objects.now object).class) }
+    requires member { member < length work.now.objects.now }
+    ensures { let class = (object_at work.now.objects.now object).class in
+        result ≡ fits_link metamodel.now work.now.objects.now
+        (relation_at metamodel.now class relation).target (Handed.Object member) }
+{
+    let objects = work.objects.as_slice();
+    let along = &metamodel.relations_of(objects[object].class)[relation];
+    metamodel.is_kind_of(objects[member].class, along.target)
+}
+
+/// A collection of an object, once it is read, with what it holds; the other object is to be one of its kind. Refused as `add` is.
+fn read_for<B: Behaviour>(
+    alloc: Global,
+    metamodel: &Metamodel,
+    registry: &Registry<B>,
+    work: &mut UnitOfWork,
+    object: usize,
+    member: usize,
+    collection: Option<usize>,
+) -> Result<(usize, Seq<usize>), Cause>
+    requires ready { IsReady metamodel.now (now work.old) }
+    requires object { object < length work.old.objects.now }
+    requires member { member < length work.old.objects.now }
+    requires collection { IfSome collection (λ r. r
+        < length (relations_of metamodel.now (object_at work.old.objects.now object).class)) }
+    ensures meets { let world = world_of B.meaning metamodel.now registry.now in
+        Meets result (now work.new)
+        (members.read_for world object member collection (now work.old)) }
+    ensures relation { IfOk result (λ read. read.0
+        < length (relations_of metamodel.now (object_at work.new.objects.now object).class)) }
+    ensures places { IfOk result
+        (λ read. All (λ k. k < length work.new.objects.now) read.1) }
+    ensures ready { OnOk result (IsReady metamodel.now (now work.new)) }
+    ensures grown { OnOk result (HasGrown (now work.old) (now work.new)) }
+    ensures view { work.new.view ≡ work.old.view }
+    ensures since { since work.new ≡ since work.old }
+{
+    let Some(relation) = collection else {
+        return Err(Cause::IllegalArgument(Argument::Name));
+    };
+    if !fits(metamodel, work, object, relation, member) {
+        return Err(Cause::IllegalArgument(Argument::Type));
+    }
+    let places = fetch(alloc, metamodel, registry, work, object, relation)?;
+    Ok((relation, places))
+}
+
+/// The collection of an object by its name, as `read_for`.
+fn read_named<B: Behaviour>(
+    alloc: Global,
+    metamodel: &Metamodel,
+    registry: &Registry<B>,
+    work: &mut UnitOfWork,
+    object: usize,
+    name: &str,
+    member: usize,
+) -> Result<(usize, Seq<usize>), Cause>
+    requires ready { IsReady metamodel.now (now work.old) }
+    requires object { object < length work.old.objects.now }
+    requires member { member < length work.old.objects.now }
+    ensures meets { let world = world_of B.meaning metamodel.now registry.now in
+        Meets result (now work.new)
+        (members.read_named world object name.now member (now work.old)) }
+    ensures relation { IfOk result (λ read. read.0
+        < length (relations_of metamodel.now (object_at work.new.objects.now object).class)) }
+    ensures places { IfOk result
+        (λ read. All (λ k. k < length work.new.objects.now) read.1) }
+    ensures ready { OnOk result (IsReady metamodel.now (now work.new)) }
+    ensures grown { OnOk result (HasGrown (now work.old) (now work.new)) }
+    ensures view { work.new.view ≡ work.old.view }
+    ensures since { since work.new ≡ since work.old }
+{
+    let named = member_named(metamodel, work, object, name);
+    let collection = collection_in(metamodel, work.objects.as_slice()[object].class, named);
+    read_for(alloc, metamodel, registry, work, object, member, collection)
+}
+
+/// The first place at which an object stands in a list. Takes no memory.
+fn first_place(places: &[usize], object: usize) -> Option<usize>
+    ensures { result ≡ position (λ x. x == object) places.now }
+{
+    places.iter().position(|place| *place == object)
+}
+
+/// The first place at which an object stands in a list goes; whether there was one. Takes no memory.
+fn drop_first(places: &mut Vec<usize>, object: usize) -> bool
+    ensures rest { places.new.items ≡ members.without_first object places.old.items }
+    ensures stood { result ≡ list_any (λ x. x == object) places.old.items }
+{
+    match first_place(places.as_slice(), object) {
+        Some(at) => {
+            places.remove(at);
+            true
+        }
+        None => false,
+    }
+}
+
+/// An object stands last in a collection of another, by the relation's name, which is read first (chapters 2.2 and 3.2.7).
+///
+/// `IllegalArgument(name)` where the object's class has no collection of the name; `IllegalArgument(type)` where the member is
+/// not of the relation's target class or below it; what reading the collection refuses; `OutOfMemory`. What a refused call
+/// changed is undone by `UnitOfWork::undo`.
+pub fn add<B: Behaviour>(
+    alloc: Global,
+    metamodel: &Metamodel,
+    registry: &Registry<B>,
+    work: &mut UnitOfWork,
+    object: usize,
+    name: &str,
+    member: usize,
+) -> Result<(), Cause>
+    requires ready { IsReady metamodel.now (now work.old) }
+    requires object { object < length work.old.objects.now }
+    requires member { member < length work.old.objects.now }
+    ensures meets { let world = world_of B.meaning metamodel.now registry.now in
+        Meets result (now work.new) (members.add world object name.now member (now work.old)) }
+    ensures view { work.new.view ≡ work.old.view }
+    ensures since { since work.new ≡ since work.old }
+{
+    let (relation, mut places) = read_named(
+        alloc, metamodel, registry, work, object, name, member,
+    )?;
+    places.push(member)?;
+    let held = Held::Many(Collection::Fetched(places));
+    set_relation(metamodel, work, object, relation, held)
+}
+
+/// The first place at which an object stands in a collection of another goes; whether there was one. Refused as `add` is.
+pub fn take_out<B: Behaviour>(
+    alloc: Global,
+    metamodel: &Metamodel,
+    registry: &Registry<B>,
+    work: &mut UnitOfWork,
+    object: usize,
+    name: &str,
+    member: usize,
+) -> Result<bool, Cause>
+    requires ready { IsReady metamodel.now (now work.old) }
+    requires object { object < length work.old.objects.now }
+    requires member { member < length work.old.objects.now }
+    ensures meets { let world = world_of B.meaning metamodel.now registry.now in
+        Meets result (now work.new)
+        (members.take_out world object name.now member (now work.old)) }
+    ensures view { work.new.view ≡ work.old.view }
+    ensures since { since work.new ≡ since work.old }
+{
+    let (relation, places) = read_named(alloc, metamodel, registry, work, object, name, member)?;
+    let mut places = places.into_vec();
+    let stood = drop_first(&mut places, member);
+    let held = Held::Many(Collection::Fetched(Seq::of(places)));
+    set_relation(metamodel, work, object, relation, held)?;
+    Ok(stood)
+}

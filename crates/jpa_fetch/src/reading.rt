@@ -1,0 +1,249 @@
+//! What an object holds in a relation, read where it was not read yet.
+ghost use Rattle.std.specs.Prelude.{◌≡◌, ◌<◌, All, List, length, IfOk, IfSome, OnOk};
+ghost use Rattle.jpa_value.specs.declared.refusal.Cause.{Cause};
+ghost use Rattle.jpa_model.specs.Chains.{relations_of};
+ghost use Rattle.jpa_behaviour.specs.Registered.{world_of};
+ghost use Rattle.jpa_heap.specs.declared.Collection.{Collection};
+ghost use Rattle.jpa_heap.specs.declared.Held.{Held};
+ghost use Rattle.jpa_heap.specs.declared.Link.{Link};
+ghost use Rattle.jpa_heap.specs.Objects as objects;
+ghost use Rattle.jpa_heap.specs.Objects.{object_at};
+ghost use Rattle.jpa_context.specs.Steps.{Meets};
+ghost use Rattle.jpa_context.specs.Undo.{now, since};
+ghost use Rattle.jpa_context.specs.Work as works;
+ghost use Rattle.jpa_fetch.specs.Grown.{HasGrown, IsReady, objects_held};
+ghost use Rattle.jpa_fetch.specs.Load as load;
+ghost use Rattle.jpa_fetch.specs.Members as members;
+
+use crate::changing::{set_fetched, set_relation};
+use crate::finding::reach;
+use jpa_behaviour::{Behaviour, Registry};
+use jpa_cascade::{members_now, state_of};
+use jpa_context::{EntityState, UnitOfWork};
+use jpa_heap::{Collection, Held, Link};
+use jpa_model::Metamodel;
+use jpa_value::{Cause, Identity, Seq, State, TryCopy};
+use std::alloc::Global;
+
+/// Whether this manager holds an object: what it holds and was not read, can be read. Takes no memory.
+fn is_held(work: &UnitOfWork, object: usize) -> bool
+    requires { object < length work.now.objects.now }
+    ensures { result ≡ members.is_held (works.state_of (now work.now) object) }
+{
+    matches!(
+        state_of(work, object),
+        EntityState::Managed | EntityState::Removed
+    )
+}
+
+/// What an object holds in a relation of its class. Takes no memory.
+fn held_at<'a>(
+    _metamodel: &Metamodel,
+    work: &'a UnitOfWork,
+    object: usize,
+    relation: usize,
+) -> &'a Held
+    requires ready { IsReady _metamodel.now (now work.now) }
+    requires object { object < length work.now.objects.now }
+    requires relation { relation
+        < length (relations_of _metamodel.now (object_at work.now.objects.now object).class) }
+    ensures held { result.now ≡ objects.held_at (works.object (now work.now) object) relation }
+    ensures within { All (λ k. k < length work.now.objects.now) (objects_held result.now) }
+{
+    &work.objects.as_slice()[object].relations.as_slice()[relation]
+}
+
+/// The objects of these identities, in their order. Refused as `reach` is, at the first that is refused.
+fn reach_all<B: Behaviour>(
+    alloc: Global,
+    metamodel: &Metamodel,
+    registry: &Registry<B>,
+    work: &mut UnitOfWork,
+    ids: &[Identity],
+) -> Result<Seq<usize>, Cause>
+    requires ready { IsReady metamodel.now (now work.old) }
+    ensures meets { let world = world_of B.meaning metamodel.now registry.now in
+        Meets result (now work.new)
+        (members.collect (load.reach world Cause.EntityNotFound) ids.now (now work.old)) }
+    ensures within { IfOk result (λ places. All (λ k. k < length (now work.new).objects) places) }
+    ensures ready { OnOk result (IsReady metamodel.now (now work.new)) }
+    ensures grown { OnOk result (HasGrown (now work.old) (now work.new)) }
+    ensures view { work.new.view ≡ work.old.view }
+    ensures since { since work.new ≡ since work.old }
+{
+    let mut places = Seq::new(alloc);
+    for id in ids {
+        let place = reach(alloc, metamodel, registry, work, id)?;
+        places.push(place)?;
+    }
+    Ok(places)
+}
+
+/// The members of a collection that was not read. Refused as `fetch` is.
+fn fetch_unread<B: Behaviour>(
+    alloc: Global,
+    metamodel: &Metamodel,
+    registry: &Registry<B>,
+    work: &mut UnitOfWork,
+    object: usize,
+    relation: usize,
+) -> Result<Seq<usize>, Cause>
+    requires ready { IsReady metamodel.now (now work.old) }
+    requires object { object < length work.old.objects.now }
+    requires relation { relation
+        < length (relations_of metamodel.now (object_at work.old.objects.now object).class) }
+    ensures meets { let world = world_of B.meaning metamodel.now registry.now in
+        Meets result (now work.new) (members.fetch_held world object relation
+        (Held.Many Collection.Unfetched) (now work.old)) }
+    ensures within { IfOk result (λ places. All (λ k. k < length (now work.new).objects) places) }
+    ensures ready { OnOk result (IsReady metamodel.now (now work.new)) }
+    ensures grown { OnOk result (HasGrown (now work.old) (now work.new)) }
+    ensures view { work.new.view ≡ work.old.view }
+    ensures since { since work.new ≡ since work.old }
+{
+    if !is_held(work, object) {
+        return Err(Cause::IllegalState(State::Unfetched));
+    }
+    let ids = members_now(metamodel, work, object, relation)?;
+    let places = reach_all(alloc, metamodel, registry, work, ids.as_slice())?;
+    set_fetched(
+        alloc,
+        metamodel,
+        work,
+        object,
+        relation,
+        &ids,
+        places.as_slice(),
+    )?;
+    Ok(places)
+}
+
+/// The places of the objects that a collection of an object holds, read of the set that the manager sees where it was not read
+/// yet (Jakarta Persistence 3.1, chapters 2.2 and 3.2.7). A to-one relation holds none.
+///
+/// `IllegalState(unfetched)` where it was not read and the object is in no context of this manager; what `reach` refuses; and
+/// `OutOfMemory`.
+pub(crate) fn fetch<B: Behaviour>(
+    alloc: Global,
+    metamodel: &Metamodel,
+    registry: &Registry<B>,
+    work: &mut UnitOfWork,
+    object: usize,
+    relation: usize,
+) -> Result<Seq<usize>, Cause>
+    requires ready { IsReady metamodel.now (now work.old) }
+    requires object { object < length work.old.objects.now }
+    requires relation { relation
+        < length (relations_of metamodel.now (object_at work.old.objects.now object).class) }
+    ensures meets { let world = world_of B.meaning metamodel.now registry.now in
+        Meets result (now work.new) (members.fetch world object relation (now work.old)) }
+    ensures within { IfOk result (λ places. All (λ k. k < length (now work.new).objects) places) }
+    ensures ready { OnOk result (IsReady metamodel.now (now work.new)) }
+    ensures grown { OnOk result (HasGrown (now work.old) (now work.new)) }
+    ensures view { work.new.view ≡ work.old.view }
+    ensures since { since work.new ≡ since work.old }
+{
+    match held_at(metamodel, work, object, relation) {
+        Held::Many(Collection::Fetched(places)) => {
+            Ok(Seq::of(Vec::from_slice(alloc, places.as_slice())?))
+        }
+        Held::Many(Collection::Unfetched) => {
+            fetch_unread(alloc, metamodel, registry, work, object, relation)
+        }
+        Held::One(_) => Ok(Seq::new(alloc)),
+    }
+}
+
+/// The object of an identity that a to-one relation of an object holds unresolved. Refused as `resolve` is.
+fn resolve_unread<B: Behaviour>(
+    alloc: Global,
+    metamodel: &Metamodel,
+    registry: &Registry<B>,
+    work: &mut UnitOfWork,
+    object: usize,
+    relation: usize,
+    id: &Identity,
+) -> Result<Option<usize>, Cause>
+    requires ready { IsReady metamodel.now (now work.old) }
+    requires object { object < length work.old.objects.now }
+    requires relation { relation
+        < length (relations_of metamodel.now (object_at work.old.objects.now object).class) }
+    ensures meets { let world = world_of B.meaning metamodel.now registry.now in
+        Meets result (now work.new) (members.resolve_link world object relation
+        (Held.One (Link.Key id.now)) (now work.old)) }
+    ensures within { IfOk result
+        (λ found. IfSome found (λ n. n < length (now work.new).objects)) }
+    ensures view { work.new.view ≡ work.old.view }
+    ensures since { since work.new ≡ since work.old }
+{
+    if !is_held(work, object) {
+        return Err(Cause::IllegalState(State::Unfetched));
+    }
+    let place = reach(alloc, metamodel, registry, work, id)?;
+    let held = Held::One(Link::Object(place));
+    set_relation(metamodel, work, object, relation, held)?;
+    Ok(Some(place))
+}
+
+/// The place of the object that a to-one relation of an object leads to, where it holds this. Refused as `resolve` is.
+fn resolve_link<B: Behaviour>(
+    alloc: Global,
+    metamodel: &Metamodel,
+    registry: &Registry<B>,
+    work: &mut UnitOfWork,
+    object: usize,
+    relation: usize,
+    link: Link,
+) -> Result<Option<usize>, Cause>
+    requires ready { IsReady metamodel.now (now work.old) }
+    requires object { object < length work.old.objects.now }
+    requires relation { relation
+        < length (relations_of metamodel.now (object_at work.old.objects.now object).class) }
+    requires link { All (λ k. k < length work.old.objects.now) (objects_held (Held.One link)) }
+    ensures meets { let world = world_of B.meaning metamodel.now registry.now in
+        Meets result (now work.new)
+        (members.resolve_link world object relation (Held.One link) (now work.old)) }
+    ensures within { IfOk result
+        (λ found. IfSome found (λ n. n < length (now work.new).objects)) }
+    ensures view { work.new.view ≡ work.old.view }
+    ensures since { since work.new ≡ since work.old }
+{
+    match link {
+        Link::None => Ok(None),
+        Link::Object(place) => Ok(Some(place)),
+        Link::Key(id) => resolve_unread(alloc, metamodel, registry, work, object, relation, &id),
+    }
+}
+
+/// The place of the object that a to-one relation of an object leads to, loaded where it was not resolved yet (Jakarta
+/// Persistence 3.1, chapters 2.2 and 3.2.7). A collection leads to none.
+///
+/// `IllegalState(unfetched)` where it was not resolved and the object is in no context of this manager; what `reach` refuses; and
+/// `OutOfMemory`.
+pub(crate) fn resolve<B: Behaviour>(
+    alloc: Global,
+    metamodel: &Metamodel,
+    registry: &Registry<B>,
+    work: &mut UnitOfWork,
+    object: usize,
+    relation: usize,
+) -> Result<Option<usize>, Cause>
+    requires ready { IsReady metamodel.now (now work.old) }
+    requires object { object < length work.old.objects.now }
+    requires relation { relation
+        < length (relations_of metamodel.now (object_at work.old.objects.now object).class) }
+    ensures meets { let world = world_of B.meaning metamodel.now registry.now in
+        Meets result (now work.new) (members.resolve world object relation (now work.old)) }
+    ensures within { IfOk result
+        (λ found. IfSome found (λ n. n < length (now work.new).objects)) }
+    ensures view { work.new.view ≡ work.old.view }
+    ensures since { since work.new ≡ since work.old }
+{
+    match held_at(metamodel, work, object, relation) {
+        Held::One(link) => {
+            let link = link.try_copy()?;
+            resolve_link(alloc, metamodel, registry, work, object, relation, link)
+        }
+        Held::Many(_) => Ok(None),
+    }
+}

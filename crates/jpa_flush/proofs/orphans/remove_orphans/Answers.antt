@@ -1,0 +1,48 @@
+use Rattle.std.proofs.Common.{◌≡◌, ◌<◌, ◌∙◌, ap, subst, get_or, length, List, arith, rules}
+use Rattle.std.proofs.lemmas.Result.{err_from_is_err_and}
+use Rattle.jpa_behaviour.specs.Registered.{world_of}
+use Rattle.jpa_context.specs.declared.Entry.{Entry}
+use Rattle.jpa_context.specs.Steps.{IsRefusedAs, Done}
+use Rattle.jpa_context.specs.Undo.{now}
+use Rattle.jpa_context.specs.Work.{state_of}
+use Rattle.jpa_ops.proofs.Front.{IsOnward}
+use Rattle.jpa_ops.proofs.Going.{done_holds}
+use Rattle.jpa_flush.specs.Flush.{orphans_of}
+use Rattle.jpa_flush.proofs.Orphaned.{orphans_go, removed_of, turn_done, turn_refused}
+use Rattle.jpa_flush.proofs.orphans.remove_orphans.Goals as goal
+
+pub returns-in_err-remove_orphans_of-clause-meets : goal.returns-in_err-remove_orphans_of-clause-meets
+returns-in_err-remove_orphans_of-clause-meets g c =
+    let world = world_of g.B.Behaviour.meaning c.args.metamodel.now c.args.registry.now in
+    let u = now c.args.work.now in
+    let w = now c.loop-i.work in
+    let i = c.loop-i.i in
+    let e = c.index-as_slice-i.result in
+    let within : i < length u.context = omega (arith, c.loop-i-test.true, c.len-i-end.ensures) in
+    let is : e ≡ get_or w.context i e = c.index-as_slice-i.is ∙ ap (λ (es : List Entry). get_or es i e) c.as_slice.ensures in
+    let r = c.in_err-remove_orphans_of.field-0.0 in
+    let events = (now c.remove_orphans_of.new.work).events in
+    let refused : IsRefusedAs r events (removed_of world e.object w) = search rules in
+    let p = err_from_is_err_and c.from_residual.result c.from_residual.ensures.1 in
+    rw (p.1, p.2)
+    (subst (IsRefusedAs r events) c.loop-i.invariant.rest (turn_refused world u w i e c.loop-i.invariant.goes within is r events refused))
+
+pub loop-i-preserved : goal.loop-i-preserved
+loop-i-preserved g c =
+    let m = c.args.metamodel.now in
+    let world = world_of g.B.Behaviour.meaning m c.args.registry.now in
+    let u = now c.args.work.now in
+    let w = now c.loop-i.work in
+    let w' = now c.remove_orphans_of.new.work in
+    let i = c.loop-i.i in
+    let e = c.index-as_slice-i.result in
+    let within : i < length u.context = omega (arith, c.loop-i-test.true, c.len-i-end.ensures) in
+    let is : e ≡ get_or w.context i e = c.index-as_slice-i.is ∙ ap (λ (es : List Entry). get_or es i e) c.as_slice.ensures in
+    let done : removed_of world e.object w ≡ Done tt w' = search rules in
+    let before = c.loop-i.invariant in
+    record {
+      rest = turn_done world u w i e before.goes within is w' done ∙ before.rest;
+      goes = done_holds (IsOnward m u) (removed_of world e.object w) tt w' done (orphans_go world u (orphans_of m w e.object (state_of w e.object)) w before.goes);
+      view = c.remove_orphans_of.ensures.view ∙ before.view;
+      since = c.remove_orphans_of.ensures.since ∙ before.since;
+    }

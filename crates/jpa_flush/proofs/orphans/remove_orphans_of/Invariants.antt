@@ -1,0 +1,18 @@
+use Rattle.std.proofs.Common.{◌≡◌, drop}
+use Rattle.jpa_behaviour.specs.Registered.{world_of}
+use Rattle.jpa_context.specs.Steps.{each}
+use Rattle.jpa_context.specs.Undo.{now, since}
+use Rattle.jpa_ops.proofs.Front.{IsOnward}
+use Rattle.jpa_flush.specs.Flush.{remove_orphan}
+use Rattle.jpa_flush.proofs.Orphaned.{removed_of}
+use Rattle.jpa_flush.proofs.orphans.remove_orphans_of.Given as goal
+
+-- what is left gives what all was to give
+abbrev pub invariant-loop-id : goal.invariant-loop-id
+invariant-loop-id g l =
+    let world = world_of g.B.Behaviour.meaning l.metamodel l.registry in record {
+      rest : each (remove_orphan world) (drop l.id-index l.id-items) (now l.work) ≡ removed_of world l.object (now l.fn.work);
+      goes : IsOnward l.metamodel (now l.fn.work) (now l.work);
+      view : (l.work).view ≡ (l.fn.work).view;
+      since : since l.work ≡ since l.fn.work;
+    }

@@ -1,0 +1,13 @@
+use Rattle.std.proofs.Common.{◌≡◌}
+use Rattle.jpa_context.specs.Undo.{now, since}
+use Rattle.jpa_fetch.specs.Grown.{IsReady}
+use Rattle.jpa_flush.specs.Flush.{remembered}
+use Rattle.jpa_flush.proofs.Settled.{partly}
+use Rattle.jpa_flush.proofs.remembering.remember.Given as goal
+
+abbrev pub invariant-loop-i : goal.invariant-loop-i
+invariant-loop-i l = record {
+  same : now l.work ≡ record (now l.fn.work) { context = partly (remembered l.metamodel (now l.fn.work)) l.i (now l.fn.work).context };
+  ready : IsReady l.metamodel (now l.work);
+  since : since l.work ≡ since l.fn.work;
+}

@@ -1,0 +1,33 @@
+-- What a plan changes of a set: where it writes or takes out, and of which class what stood there was.
+use Rattle.std.specs.Prelude.{◌≡◌, ℕ, T, All, List, [], ◌∷◌, map, Option, Some, None}
+use Rattle.std.specs.List.{flat_map}
+use Rattle.std.specs.FinMap.Entries.{is_sorted}
+use Rattle.jpa_value.specs.declared.value.Identity.{Identity}
+use Rattle.jpa_value.specs.Value.{identity_cmp}
+use Rattle.jpa_model.specs.declared.unit.PersistenceUnit.{PersistenceUnit}
+use Rattle.jpa_stored.specs.Sets.{StoredSet, IsSound}
+use Rattle.jpa_judge.specs.declared.change.Change.{Change}
+use Rattle.jpa_context.specs.Work.{Work, row_at}
+use Rattle.jpa_flush.specs.declared.planning.Planned.{Planned}
+use Rattle.jpa_flush.specs.Plan.{class_there, write_each}
+
+abbrev pub place_in : Option Identity → Option ℕ → List (Identity × Option ℕ)
+place_in None class = []
+place_in (Some id) class = (id, class) ∷ []
+
+abbrev pub places_of : List Planned → List (Identity × Option ℕ)
+places_of plan = flat_map (λ (p : Planned). place_in p.id p.class_before) plan
+
+abbrev pub place_of : Change → Identity × Option ℕ
+place_of c = (c.id.now, c.class_before)
+
+-- the changes are where the plan writes or takes out
+abbrev pub ArePlanned : List Planned → List Change → Type 0
+ArePlanned plan changes = map place_of changes ≡ places_of plan
+
+-- the set is what a plan made of the sound one that a work saw
+pub record IsWritten (m : PersistenceUnit) (w : Work) (plan : List Planned) (after : StoredSet) : Type 0 where
+  pub rising : T (is_sorted identity_cmp w.view)
+  pub sound : IsSound m w.view
+  pub classes : All (λ p. p.class_before ≡ class_there (row_at w p.id)) plan
+  pub written : after ≡ write_each plan w.view

@@ -1,0 +1,111 @@
+//! Whether an object differs from its base.
+ghost use Rattle.std.specs.Prelude.{◌≡◌, ◌<◌, ◌||◌, All, Some, not, length, IfOk, IfErr};
+ghost use Rattle.std.specs.Option.{option_copied};
+ghost use Rattle.jpa_value.specs.declared.refusal.Cause.{Cause};
+ghost use Rattle.jpa_context.specs.Undo.{now, IsPlaced};
+ghost use Rattle.jpa_fetch.specs.Grown.{IsReady, objects_held};
+ghost use Rattle.jpa_flush.specs.Flush as flushes;
+
+use crate::held::held_now;
+use jpa_context::{Base, UnitOfWork};
+use jpa_heap::Held;
+use jpa_model::{Metamodel, Relation, Side};
+use jpa_value::{Cause, Identity, Seq, Value, is_same_identity, order_keys};
+use std::cmp::Ordering;
+
+/// Whether two lists hold the same values.
+fn are_same_values(a: &[Value], b: &[Value]) -> bool
+    ensures { result ≡ flushes.same_values a.now b.now }
+{
+    matches!(order_keys(a, b), Ordering::Equal)
+}
+
+/// Whether two lists hold the same identities.
+pub(crate) fn are_same_identities(a: &[Identity], b: &[Identity]) -> bool
+    ensures { result ≡ flushes.same_identities a.now b.now }
+{
+    if a.len() != b.len() {
+        return false;
+    }
+    for (i, id) in a.iter().enumerate() {
+        if !is_same_identity(id, &b[i]) {
+            return false;
+        }
+    }
+    true
+}
+
+/// Whether a side of a relation is the owner's, which is written (chapter 2.9).
+pub(crate) fn is_owner(side: Side) -> bool
+    ensures { result ≡ flushes.is_owner side }
+{
+    side.owner().is_none()
+}
+
+/// What a base knows of a relation, if it was read.
+fn known(base: &Base, relation: usize) -> Option<&Seq<Identity>>
+    ensures { option_copied result ≡ flushes.in_base (Some base.now) relation }
+{
+    match base.members.as_slice().get(relation) {
+        Some(Some(ids)) => Some(ids),
+        _ => None,
+    }
+}
+
+/// Whether a relation, which stands at this place, is not written, was not read, or holds what the base knows of it.
+fn is_same_along(
+    metamodel: &Metamodel,
+    work: &UnitOfWork,
+    base: &Base,
+    place: usize,
+    relation: &Relation,
+    held: &Held,
+) -> Result<bool, Cause>
+    requires placed { IsPlaced metamodel.now (now work.now) }
+    requires within { All (λ k. k < length work.now.objects.now) (objects_held held.now) }
+    ensures ok { IfOk result (λ same. same ≡ (not (flushes.is_owner relation.now.side)
+        || flushes.same_if_read (flushes.in_base (Some base.now) place)
+        (flushes.held_now metamodel.now (now work.now) held.now))) }
+    ensures err { IfErr result (λ cause. cause ≡ Cause.OutOfMemory) }
+{
+    let Some(before) = known(base, place) else {
+        return Ok(true);
+    };
+    if !is_owner(relation.side) {
+        return Ok(true);
+    }
+    match held_now(metamodel, work, held)? {
+        None => Ok(true),
+        Some(now) => Ok(are_same_identities(before.as_slice(), now.as_slice())),
+    }
+}
+
+/// Whether an object has another value than its base, or holds others in a relation that it owns and that was read: whether a
+/// flush is to write it (Jakarta Persistence 3.1, chapter 3.2.4). Fails for want of memory alone, with `OutOfMemory`.
+///
+/// It looks at values first, and builds what a relation holds only of those that are compared.
+pub(crate) fn differs(
+    metamodel: &Metamodel,
+    work: &UnitOfWork,
+    object: usize,
+    base: &Base,
+) -> Result<bool, Cause>
+    requires ready { IsReady metamodel.now (now work.now) }
+    requires object { object < length work.now.objects.now }
+    ensures ok { IfOk result (λ differs. differs
+        ≡ flushes.differs metamodel.now (now work.now) object base.now) }
+    ensures err { IfErr result (λ cause. cause ≡ Cause.OutOfMemory) }
+{
+    let live = &work.objects.as_slice()[object];
+    if !are_same_values(live.values.as_slice(), base.stored.values.as_slice()) {
+        return Ok(true);
+    }
+    let relations = metamodel.relations_of(live.class);
+    for relation in 0..relations.len() {
+        let held = &live.relations.as_slice()[relation];
+        if !is_same_along(metamodel, work, base, relation, &relations[relation], held)? {
+            return Ok(true);
+        }
+    }
+    Ok(false)
+}

@@ -1,0 +1,105 @@
+//! Persist along cascades, as a flush begins.
+ghost use Rattle.std.specs.Prelude.{◌≡◌, ◌<◌, ◌≤◌, true, All, length, OnOk};
+ghost use Rattle.jpa_behaviour.specs.Registered.{world_of};
+ghost use Rattle.jpa_context.specs.Steps.{Meets, each};
+ghost use Rattle.jpa_context.specs.Undo.{now, since};
+ghost use Rattle.jpa_context.specs.Work.{state_of};
+ghost use Rattle.jpa_fetch.specs.Grown.{IsReady};
+ghost use Rattle.jpa_fetch.specs.Orderly.{IsOrderly};
+ghost use Rattle.jpa_ops.specs.Names.{has_distinct_entries};
+ghost use Rattle.jpa_ops.specs.States as states;
+ghost use Rattle.jpa_flush.specs.Flush as flushes;
+
+use jpa_behaviour::{Behaviour, Registry};
+use jpa_cascade::{Operation, live_targets, state_of};
+use jpa_context::{EntityState, UnitOfWork};
+use jpa_model::Metamodel;
+use jpa_ops::persist;
+use jpa_value::Cause;
+use std::alloc::Global;
+
+/// Persists each of these objects, in order. Refused as the first `persist` that is.
+fn persist_each<B: Behaviour>(
+    alloc: Global,
+    metamodel: &Metamodel,
+    registry: &Registry<B>,
+    work: &mut UnitOfWork,
+    objects: &[usize],
+) -> Result<(), Cause>
+    requires orderly { IsOrderly metamodel.now }
+    requires ready { IsReady metamodel.now (now work.old) }
+    requires within { All (λ k. k < length work.old.objects.now) objects.now }
+    ensures meets { let world = world_of B.meaning metamodel.now registry.now in
+        Meets result (now work.new) (each (states.persist world) objects.now (now work.old)) }
+    ensures ready { OnOk result (IsReady metamodel.now (now work.new)) }
+    ensures named { has_distinct_entries metamodel.now (now work.old) ≡ true →
+        OnOk result (has_distinct_entries metamodel.now (now work.new) ≡ true) }
+    ensures view { work.new.view ≡ work.old.view }
+    ensures since { since work.new ≡ since work.old }
+{
+    for object in objects {
+        persist(alloc, metamodel, registry, work, *object)?;
+    }
+    Ok(())
+}
+
+/// Persists the objects that a managed one leads to, along relations that cascade persist. Refused as `persist_each`.
+fn persist_targets<B: Behaviour>(
+    alloc: Global,
+    metamodel: &Metamodel,
+    registry: &Registry<B>,
+    work: &mut UnitOfWork,
+    object: usize,
+) -> Result<(), Cause>
+    requires orderly { IsOrderly metamodel.now }
+    requires ready { IsReady metamodel.now (now work.old) }
+    requires object { object < length work.old.objects.now }
+    ensures meets { let world = world_of B.meaning metamodel.now registry.now in
+        Meets result (now work.new) (flushes.persist_targets world object
+        (state_of (now work.old) object) (now work.old)) }
+    ensures ready { OnOk result (IsReady metamodel.now (now work.new)) }
+    ensures named { has_distinct_entries metamodel.now (now work.old) ≡ true →
+        OnOk result (has_distinct_entries metamodel.now (now work.new) ≡ true) }
+    ensures view { work.new.view ≡ work.old.view }
+    ensures since { since work.new ≡ since work.old }
+{
+    match state_of(work, object) {
+        EntityState::Managed => {
+            let targets = live_targets(alloc, metamodel, work, Operation::Persist, object)?;
+            persist_each(alloc, metamodel, registry, work, targets.as_slice())
+        }
+        EntityState::New | EntityState::Removed | EntityState::Detached => Ok(()),
+    }
+}
+
+/// Persists what the managed objects of a context lead to along relations that cascade persist, and what those lead to that
+/// enter meanwhile (Jakarta Persistence 3.1, chapter 3.2.4). Refused as `persist`; what a refused call changed is undone by
+/// `UnitOfWork::undo`.
+///
+/// It looks at each entry once, and walks the whole cascade of each object that a managed one leads to.
+pub(crate) fn persist_reachable<B: Behaviour>(
+    alloc: Global,
+    metamodel: &Metamodel,
+    registry: &Registry<B>,
+    work: &mut UnitOfWork,
+) -> Result<(), Cause>
+    requires orderly { IsOrderly metamodel.now }
+    requires ready { IsReady metamodel.now (now work.old) }
+    ensures meets { let world = world_of B.meaning metamodel.now registry.now in
+        Meets result (now work.new) (flushes.persist_reachable world (now work.old)) }
+    ensures ready { OnOk result (IsReady metamodel.now (now work.new)) }
+    ensures named { has_distinct_entries metamodel.now (now work.old) ≡ true →
+        OnOk result (has_distinct_entries metamodel.now (now work.new) ≡ true) }
+    ensures view { work.new.view ≡ work.old.view }
+    ensures since { since work.new ≡ since work.old }
+{
+    // only live objects enter, so their number bounds the places
+    for i in 0..work.objects.len() {
+        if i >= work.context.len() {
+            return Ok(());
+        }
+        let object = work.context.as_slice()[i].object;
+        persist_targets(alloc, metamodel, registry, work, object)?;
+    }
+    Ok(())
+}

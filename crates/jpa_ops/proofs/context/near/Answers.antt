@@ -1,9 +1,0 @@
-use Rattle.std.proofs.Common.{rules, ◌<◌, length}
-use Rattle.jpa_context.specs.Undo.{now}
-use Rattle.jpa_context.proofs.Found.{near_within}
-use Rattle.jpa_ops.proofs.context.near.Goals as goal
-
-pub returns-clause-within : goal.returns-clause-within
-returns-clause-within c =
-    let w = now c.args.work.now in
-    search (rules, near_within (λ n. n < length w.objects) c.args.key.now w.context c.requires.placed.entries)

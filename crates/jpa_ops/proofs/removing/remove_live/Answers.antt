@@ -1,0 +1,32 @@
+use Rattle.std.proofs.Common.{subst}
+use Rattle.std.proofs.lemmas.Result.{on_ok_weaker}
+use Rattle.jpa_behaviour.specs.Registered.{world_of}
+use Rattle.jpa_context.specs.Steps.{Meets}
+use Rattle.jpa_context.specs.Undo.{now}
+use Rattle.jpa_ops.specs.States.{remove_live, remove_one}
+use Rattle.jpa_ops.proofs.Going.{met_holds}
+use Rattle.jpa_ops.proofs.Ready.{IsFrom, from_itself}
+use Rattle.jpa_ops.proofs.Refreshed.{remove_live_goes}
+use Rattle.jpa_ops.proofs.removing.remove_live.Goals as goal
+
+pub returns-clause-ready : goal.returns-clause-ready
+returns-clause-ready g c =
+    let m = c.args.metamodel.now in
+    let world = world_of g.B.Behaviour.meaning m c.args.registry.now in
+    let w = now c.args.work.now in
+    let n = c.args.object in
+    let r = c.remove_one.result in
+    let v = now c.remove_one.new.work in
+    let met = subst (λ s. Meets r v (remove_one world n s w)) c.state_of-state.ensures c.remove_one.ensures.meets in
+    on_ok_weaker r (λ (h : IsFrom m w v). h.ready) (met_holds (IsFrom m w) r v (remove_live world n w) met (remove_live_goes world w n w c.requires.object (from_itself m w c.requires.ready)))
+
+pub returns-clause-grown : goal.returns-clause-grown
+returns-clause-grown g c =
+    let m = c.args.metamodel.now in
+    let world = world_of g.B.Behaviour.meaning m c.args.registry.now in
+    let w = now c.args.work.now in
+    let n = c.args.object in
+    let r = c.remove_one.result in
+    let v = now c.remove_one.new.work in
+    let met = subst (λ s. Meets r v (remove_one world n s w)) c.state_of-state.ensures c.remove_one.ensures.meets in
+    on_ok_weaker r (λ (h : IsFrom m w v). h.grown) (met_holds (IsFrom m w) r v (remove_live world n w) met (remove_live_goes world w n w c.requires.object (from_itself m w c.requires.ready)))
