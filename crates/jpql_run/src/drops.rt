@@ -1,16 +1,18 @@
 //! Whether a tuple has a null step in a path, outside nested blocks: such a tuple is dropped (chapter 4.4.4).
 ghost use Rattle.std.specs.Prelude.{◌≡◌};
 ghost use Rattle.std.specs.List.{list_any};
+ghost use Rattle.jpql_plan.specs.Meaning as meaning;
 ghost use Rattle.jpql_run.specs.Runs as runs;
 
 use crate::paths::is_broken;
 use crate::run::Run;
 use crate::tuple::Tuple;
+use jpa_value::Boxed;
 use jpql_types::{TypedCondition, TypedValue};
 
 /// Whether it has one in a value.
 #[cycle(value_drops)]
-pub(crate) fn value_drops<'a>(run: &Run<'a>, tuple: &Tuple<'a>, value: &TypedValue) -> bool
+pub fn value_drops<'a>(run: &Run<'a>, tuple: &Tuple<'a>, value: &TypedValue) -> bool
     ensures { result ≡ runs.value_drops run.now value.now tuple.now }
 {
     match value {
@@ -28,7 +30,7 @@ pub(crate) fn value_drops<'a>(run: &Run<'a>, tuple: &Tuple<'a>, value: &TypedVal
 
 /// Whether it has one in some of these values.
 #[cycle(value_drops)]
-pub(crate) fn any_drops<'a>(run: &Run<'a>, tuple: &Tuple<'a>, all: &[TypedValue]) -> bool
+pub fn any_drops<'a>(run: &Run<'a>, tuple: &Tuple<'a>, all: &[TypedValue]) -> bool
     ensures { result ≡ list_any (λ v. runs.value_drops run.now v tuple.now) all.now }
 {
     for one in all {
@@ -40,11 +42,7 @@ pub(crate) fn any_drops<'a>(run: &Run<'a>, tuple: &Tuple<'a>, all: &[TypedValue]
 }
 
 /// Whether it has one in a condition.
-pub(crate) fn condition_drops<'a>(
-    run: &Run<'a>,
-    tuple: &Tuple<'a>,
-    condition: &TypedCondition,
-) -> bool
+fn condition_drops<'a>(run: &Run<'a>, tuple: &Tuple<'a>, condition: &TypedCondition) -> bool
     ensures { result ≡ (runs.condition run.now condition.now).drops tuple.now }
 {
     match condition {
@@ -75,5 +73,19 @@ pub(crate) fn condition_drops<'a>(
             value_drops(run, tuple, one) || is_broken(run, tuple, path)
         }
         TypedCondition::Exists(_) | TypedCondition::Type(_, _) => false,
+    }
+}
+
+/// Whether it has one in a condition, where there is one.
+pub fn filter_drops<'a>(
+    run: &Run<'a>,
+    tuple: &Tuple<'a>,
+    filter: &Option<Boxed<TypedCondition>>,
+) -> bool
+    ensures { result ≡ meaning.drops_any (runs.any_condition run.now filter.now) tuple.now }
+{
+    match filter {
+        None => false,
+        Some(condition) => condition_drops(run, tuple, condition.get()),
     }
 }

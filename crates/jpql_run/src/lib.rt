@@ -1,7 +1,7 @@
 //! Statements run over a set of stored objects (Jakarta Persistence 3.1, chapter 4).
 //!
 //! Objects are borrowed from the set, and none is copied while tuples are joined. What is found is what the
-//! definitions of jpql_plan say: the same rows in the same order, or the same Overflow.
+//! definitions of jpql_plan say: the same tuples in the same order, or the same Overflow.
 #![tactic(auto)]
 
 mod classes;
@@ -16,3 +16,12 @@ mod simple;
 mod tuple;
 mod tuples;
 mod values;
+
+pub use conditions::{kept, truth, tuples_of};
+pub use drops::{any_drops, filter_drops, value_drops};
+pub use object::Object;
+pub use paths::{is_broken, path};
+pub use run::Run;
+pub use tuple::Tuple;
+pub use tuples::objects_of;
+pub use values::value;

@@ -8,9 +8,11 @@ use jpa_value::Identity;
 
 /// An object of a set, with its identity.
 #[derive(Clone, Copy)]
-pub(crate) struct Object<'a> {
-    pub(crate) id: &'a Identity,
-    pub(crate) stored: &'a Stored,
+pub struct Object<'a> {
+    /// Its identity.
+    pub id: &'a Identity,
+    /// What is stored of it.
+    pub stored: &'a Stored,
 }
 
 /// The object under an identity, if one stands there.

@@ -112,14 +112,14 @@ fn breaks<'a>(run: &Run<'a>, object: Option<Object<'a>>, steps: &[Step]) -> bool
 }
 
 /// What a path of a tuple leads to.
-pub(crate) fn path<'a>(run: &Run<'a>, tuple: &Tuple<'a>, path: &TypedPath) -> Seen<'a>
+pub fn path<'a>(run: &Run<'a>, tuple: &Tuple<'a>, path: &TypedPath) -> Seen<'a>
     ensures { seen result ≡ paths.path_datum run.now.metamodel.now run.now.set.now tuple.now path.now }
 {
     walked(run, tuple.get(path.variable), path.steps.as_slice())
 }
 
 /// Whether a path of a tuple has a null step before its last.
-pub(crate) fn is_broken<'a>(run: &Run<'a>, tuple: &Tuple<'a>, path: &TypedPath) -> bool
+pub fn is_broken<'a>(run: &Run<'a>, tuple: &Tuple<'a>, path: &TypedPath) -> bool
     ensures { result ≡ paths.is_broken run.now.metamodel.now run.now.set.now tuple.now path.now }
 {
     breaks(run, tuple.get(path.variable), path.steps.as_slice())

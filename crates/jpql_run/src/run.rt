@@ -5,8 +5,11 @@ use jpql_eval::Datum;
 
 /// What a statement is run over.
 #[derive(Clone, Copy)]
-pub(crate) struct Run<'a> {
-    pub(crate) metamodel: &'a Metamodel,
-    pub(crate) set: &'a StoredSet,
-    pub(crate) parameters: &'a [Datum],
+pub struct Run<'a> {
+    /// What is known of the classes.
+    pub metamodel: &'a Metamodel,
+    /// The objects.
+    pub set: &'a StoredSet,
+    /// What stands for the parameters, by place.
+    pub parameters: &'a [Datum],
 }

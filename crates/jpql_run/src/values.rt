@@ -26,7 +26,7 @@ fn parameter<'a>(parameters: &'a [Datum], place: usize) -> Seen<'a>
 
 /// What a value gives.
 #[cycle(value)]
-pub(crate) fn value<'a>(
+pub fn value<'a>(
     alloc: Global,
     run: &Run<'a>,
     tuple: &Tuple<'a>,

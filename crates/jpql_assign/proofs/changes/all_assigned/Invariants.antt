@@ -1,0 +1,12 @@
+use Rattle.std.proofs.Common.{◌≡◌, drop}
+use Rattle.jpql_assign.specs.Throwing.{throws_in}
+use Rattle.jpql_bulk.specs.Changes.{members_in}
+use Rattle.jpql_plan.specs.Bulk as bulk
+use Rattle.jpql_assign.proofs.changes.all_assigned.Given as goal
+
+-- what is left to assign makes of what was made what all make of the object
+abbrev pub invariant-loop-member : goal.invariant-loop-member
+invariant-loop-member g l =
+    let throws = throws_in g.B.Behaviour.meaning l.registry in
+    bulk.all_assigned l.metamodel throws l.fn.object (members_in l.members)
+    ≡ bulk.all_assigned l.metamodel throws l.made (members_in (drop l.member-index l.members))

@@ -1,0 +1,12 @@
+use Rattle.std.proofs.Common.{◌≡◌, map, drop}
+use Rattle.jpql_assign.specs.Throwing.{throws_in}
+use Rattle.jpql_assign.proofs.Made.{after}
+use Rattle.jpql_bulk.specs.Changes.{change_in}
+use Rattle.jpql_plan.specs.Bulk as bulk
+use Rattle.jpql_assign.proofs.changes.assign.Given as goal
+
+-- what was made, and what is left
+abbrev pub invariant-loop-change : goal.invariant-loop-change
+invariant-loop-change g l =
+    let throws = throws_in g.B.Behaviour.meaning l.registry in
+    bulk.each_assigned l.metamodel throws (map change_in l.changes) ≡ after l.metamodel throws l.made.items (map change_in (drop l.change-index l.changes))

@@ -1,0 +1,10 @@
+-- Why nothing was assigned, as a call tells it.
+use Rattle.jpa_value.specs.declared.refusal.Cause.{Cause}
+use Rattle.jpa_value.specs.declared.refusal.Persist.{Persist}
+use Rattle.jpql_assign.specs.declared.refused.Refused.{Refused}
+
+abbrev pub cause_of : Refused → Cause
+cause_of Refused.Memory = Cause.OutOfMemory
+cause_of Refused.Limit = Cause.Limit
+cause_of Refused.Converter = Cause.Persistence Persist.Converter
+cause_of Refused.Null = Cause.Persistence Persist.Null

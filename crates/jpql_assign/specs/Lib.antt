@@ -1,0 +1,3 @@
+pub mod Assigns
+pub mod Causes
+pub mod Throwing

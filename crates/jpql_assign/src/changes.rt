@@ -1,0 +1,58 @@
+//! All assignments of an UPDATE.
+ghost use Rattle.std.specs.Prelude.{◌≡◌, map};
+ghost use Rattle.jpql_assign.specs.Assigns.{Assigns, same};
+ghost use Rattle.jpql_assign.specs.Throwing.{throws_in};
+ghost use Rattle.jpql_bulk.specs.Changes.{members_in, change_in};
+ghost use Rattle.jpql_plan.specs.Bulk as bulk;
+
+use crate::members::{assigned, copied};
+use crate::refused::Refused;
+use jpa_behaviour::{Behaviour, Registry};
+use jpa_model::{Member, Metamodel};
+use jpa_stored::Stored;
+use jpa_value::Identity;
+use jpql_bulk::Change;
+use jpql_eval::Seen;
+use std::alloc::Global;
+
+/// The members of an object set, as written.
+fn all_assigned<'a, B: Behaviour>(
+    alloc: Global,
+    metamodel: &Metamodel,
+    registry: &Registry<B>,
+    object: Stored,
+    members: &[(Member, Seen<'a>)],
+) -> Result<Stored, Refused>
+    ensures { Assigns same result
+        (bulk.all_assigned metamodel.now (throws_in B.meaning registry.now) object
+        (members_in members.now)) }
+{
+    let mut made = object;
+    for (member, datum) in members {
+        made = assigned(alloc, metamodel, registry, made, *member, datum)?;
+    }
+    Ok(made)
+}
+
+/// The objects of an UPDATE with their members set, in rising order, under their identities.
+///
+/// `Limit` where a value is longer than a text or a byte value may be, `Converter` where an attribute's converter
+/// throws for its value, and `Null` where a version is set to null: whichever comes first, object by object and
+/// assignment by assignment. `Memory` where a growth was refused.
+pub fn assign<'a, B: Behaviour>(
+    alloc: Global,
+    metamodel: &Metamodel,
+    registry: &Registry<B>,
+    changes: &[Change<'a>],
+) -> Result<Vec<(Identity, Stored)>, Refused>
+    ensures { Assigns (λ v. v.items) result (bulk.each_assigned metamodel.now
+        (throws_in B.meaning registry.now) (map change_in changes.now)) }
+{
+    let mut made = Vec::new(alloc);
+    for change in changes {
+        let old = copied(change.object.stored)?;
+        let new = all_assigned(alloc, metamodel, registry, old, &change.members)?;
+        made.push((copied(change.object.id)?, new))?;
+    }
+    Ok(made)
+}

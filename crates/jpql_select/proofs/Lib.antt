@@ -1,0 +1,4 @@
+pub mod Calls
+pub mod Grouping
+pub mod Kept
+pub mod Placed

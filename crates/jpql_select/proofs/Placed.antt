@@ -1,0 +1,144 @@
+-- Where groups stand, and one more tuple among them.
+use Rattle.std.proofs.Common.{◌≡◌, ◌∙◌, ap, sym, refl, ℕ, zero, suc, ◌<◌, Bool, true, false, cond, List, [], ◌∷◌, ◌++◌, length, Option, Some, None, option_map, slice_index_or, slice_set, subst, arith}
+use Rattle.std.specs.Cmp.{IsEquivalence, eq_by_cmp_equiv}
+use Rattle.std.specs.Global.{Vec}
+use Rattle.std.proofs.lemmas.Bool.{false≢true}
+use Rattle.std.proofs.lemmas.List.{length-map}
+use Rattle.jpql_eval.specs.declared.datum.Datum.{Datum}
+use Rattle.jpql_eval.specs.Data.{same_data}
+use Rattle.jpql_plan.specs.Paths.{Tuple}
+use Rattle.jpql_plan.specs.Selection.{put_tuple, put_tuples}
+use Rattle.jpql_rows.specs.Keys.{data_total}
+use Rattle.jpql_rows.proofs.Keys.{same_by_cmp}
+use Rattle.jpql_select.specs.Groups.{groups_in, add_at, begins_with, place_of, all_some}
+
+pub added : {T : Type 0} (gs : List (Vec T)) (i : ℕ) (x y : Vec T) (t : T) → i < length gs → x ≡ slice_index_or gs i x → y.items ≡ x.items ++ t ∷ []
+    → groups_in (slice_set gs i y) ≡ add_at (groups_in gs) i t
+added [] i x y t l at e = absurd (omega (arith, l))
+added (g ∷ gs) zero x y t l at e = ap (λ h. h ∷ groups_in gs) (e ∙ ap (λ (v : Vec _). v.items ++ t ∷ []) at)
+added (g ∷ gs) (suc i) x y t l at e = ap (λ more. g.items ∷ more) (added gs i x y t (omega (arith, l)) at e)
+
+same_laws : IsEquivalence same_data
+same_laws = record {
+  refl = λ x. sym (same_by_cmp x x) ∙ (eq_by_cmp_equiv data_total).refl x;
+  symm = λ x y. sym (same_by_cmp x y) ∙ (eq_by_cmp_equiv data_total).symm x y ∙ same_by_cmp y x;
+  congr = λ x y z e. sym (same_by_cmp x z) ∙ (eq_by_cmp_equiv data_total).congr x y z (same_by_cmp x y ∙ e) ∙ same_by_cmp y z;
+}
+
+module _ (key : Tuple → List Datum) where
+  -- ---- a group of the key is there
+
+  is_none_of : {A : Type 0} → Option A → Bool
+  is_none_of None = true
+  is_none_of (Some a) = false
+
+  suc_none : (o : Option ℕ) → option_map suc o ≡ None → o ≡ None
+  unfolding is_none_of
+  suc_none None e = refl
+  suc_none (Some n) e = absurd (false≢true (ap is_none_of e))
+
+  suc_some : (o : Option ℕ) (i : ℕ) → option_map suc o ≡ Some (suc i) → o ≡ Some i
+  suc_some None i e = cc
+  suc_some (Some n) i e = cc
+
+  suc_zero : (o : Option ℕ) → option_map suc o ≡ Some 0 → ⊥
+  suc_zero None e = cc
+  suc_zero (Some n) e = cc
+
+  found_by : (b : Bool) (o : Option ℕ) (i : ℕ) → cond b (Some 0) (option_map suc o) ≡ Some (suc i) → (b ≡ false) × (o ≡ Some i)
+  found_by true o i e = absurd (cc)
+  found_by false o i e = (refl, suc_some o i e)
+
+  first_by : (b : Bool) (o : Option ℕ) → cond b (Some 0) (option_map suc o) ≡ Some 0 → b ≡ true
+  first_by true o e = refl
+  first_by false o e = absurd (suc_zero o e)
+
+  none_by : (b : Bool) (o : Option ℕ) → cond b (Some 0) (option_map suc o) ≡ None → (b ≡ false) × (o ≡ None)
+  none_by true o e = absurd (cc)
+  none_by false o e = (refl, suc_none o e)
+
+  pub put_there : (t : Tuple) (gs : List (List Tuple)) (i : ℕ) → all_some gs ≡ true → place_of key (key t) gs ≡ Some i → put_tuple key t gs ≡ add_at gs i t
+  put_there t [] i s h = cc
+  put_there t ([] ∷ gs) i s h = absurd (false≢true s)
+  put_there t ((one ∷ more) ∷ gs) zero s h =
+      ap (λ b. cond b ((one ∷ more ++ t ∷ []) ∷ gs) ((one ∷ more) ∷ put_tuple key t gs)) (first_by (same_data (key one) (key t)) (place_of key (key t) gs) h)
+  put_there t ((one ∷ more) ∷ gs) (suc i) s h =
+      let by = found_by (same_data (key one) (key t)) (place_of key (key t) gs) i h in
+      ap (λ b. cond b ((one ∷ more ++ t ∷ []) ∷ gs) ((one ∷ more) ∷ put_tuple key t gs)) by.0
+      ∙ ap (λ hs. (one ∷ more) ∷ hs) (put_there t gs i s by.1)
+
+  pub place_below : (q : List Datum) (gs : List (List Tuple)) (i : ℕ) → place_of key q gs ≡ Some i → i < length gs
+  place_below q [] i h = absurd (cc)
+  place_below q (g ∷ gs) zero h = omega arith
+  place_below q (g ∷ gs) (suc i) h =
+      let by = found_by (begins_with key q g) (place_of key q gs) i h in
+      let below = place_below q gs i by.1 in omega (arith, below)
+
+  pub place_within : (q : List Datum) (groups : List (Vec Tuple)) (i : ℕ) → place_of key q (groups_in groups) ≡ Some i → i < length groups
+  place_within q groups i h = subst (λ n. i < n) (length-map groups (λ g. g.items)) (place_below q (groups_in groups) i h)
+
+  -- the first of each group stays
+  pub place_stays : (q : List Datum) (gs : List (List Tuple)) (i : ℕ) (t : Tuple) → all_some gs ≡ true → place_of key q (add_at gs i t) ≡ place_of key q gs
+  place_stays q [] i t s = refl
+  place_stays q ([] ∷ gs) i t s = absurd (false≢true s)
+  place_stays q ((one ∷ more) ∷ gs) zero t s = refl
+  place_stays q ((one ∷ more) ∷ gs) (suc i) t s = ap (λ o. cond (same_data (key one) q) (Some 0) (option_map suc o)) (place_stays q gs i t s)
+
+  pub some_stay : (gs : List (List Tuple)) (i : ℕ) (t : Tuple) → all_some gs ≡ true → all_some (add_at gs i t) ≡ true
+  some_stay [] i t s = s
+  some_stay ([] ∷ gs) i t s = absurd (false≢true s)
+  some_stay ((one ∷ more) ∷ gs) zero t s = s
+  some_stay ((one ∷ more) ∷ gs) (suc i) t s = some_stay gs i t s
+
+  -- ---- none is there
+
+  pub put_new : (t : Tuple) (gs : List (List Tuple)) → all_some gs ≡ true → place_of key (key t) gs ≡ None → put_tuple key t gs ≡ gs ++ (t ∷ []) ∷ []
+  put_new t [] s h = refl
+  put_new t ([] ∷ gs) s h = absurd (false≢true s)
+  put_new t ((one ∷ more) ∷ gs) s h =
+      let by = none_by (same_data (key one) (key t)) (place_of key (key t) gs) h in
+      ap (λ b. cond b ((one ∷ more ++ t ∷ []) ∷ gs) ((one ∷ more) ∷ put_tuple key t gs)) by.0
+      ∙ ap (λ hs. (one ∷ more) ∷ hs) (put_new t gs s by.1)
+
+  pub some_more : (gs : List (List Tuple)) (t : Tuple) → all_some gs ≡ true → all_some (gs ++ (t ∷ []) ∷ []) ≡ true
+  some_more [] t s = refl
+  some_more ([] ∷ gs) t s = absurd (false≢true s)
+  some_more ((one ∷ more) ∷ gs) t s = some_more gs t s
+
+  apart : (a k q : List Datum) (b : Bool) → same_data a q ≡ b → same_data a k ≡ false → same_data k q ≡ true → same_data a q ≡ false
+  apart a k q true e n h =
+      absurd (false≢true (sym n ∙ sym (same_laws.symm k a) ∙ same_laws.congr k q a h ∙ sym (same_laws.symm a q) ∙ e))
+  apart a k q false e n h = e
+
+  new_here : (t : Tuple) (gs : List (List Tuple)) (q : List Datum) → all_some gs ≡ true → place_of key (key t) gs ≡ None → same_data (key t) q ≡ true
+      → place_of key q (gs ++ (t ∷ []) ∷ []) ≡ Some (length gs)
+  new_here t [] q s h e = ap (λ b. cond b (Some 0) (option_map suc None)) e
+  new_here t ([] ∷ gs) q s h e = absurd (false≢true s)
+  new_here t ((one ∷ more) ∷ gs) q s h e =
+      let by = none_by (same_data (key one) (key t)) (place_of key (key t) gs) h in
+      ap (λ b. cond b (Some 0) (option_map suc (place_of key q (gs ++ (t ∷ []) ∷ [])))) (apart (key one) (key t) q (same_data (key one) q) refl by.0 e)
+      ∙ ap (option_map suc) (new_here t gs q s by.1 e)
+
+  new_not_here : (t : Tuple) (gs : List (List Tuple)) (q : List Datum) → same_data (key t) q ≡ false → place_of key q (gs ++ (t ∷ []) ∷ []) ≡ place_of key q gs
+  new_not_here t [] q e = ap (λ b. cond b (Some 0) (option_map suc None)) e
+  new_not_here t (g ∷ gs) q e = ap (λ o. cond (begins_with key q g) (Some 0) (option_map suc o)) (new_not_here t gs q e)
+
+  pub place_new : (t : Tuple) (gs : List (List Tuple)) (q : List Datum) → all_some gs ≡ true → place_of key (key t) gs ≡ None
+      → place_of key q (gs ++ (t ∷ []) ∷ []) ≡ cond (same_data (key t) q) (Some (length gs)) (place_of key q gs)
+  place_new t gs q s h = by (same_data (key t) q) refl
+    where
+      by : (b : Bool) → same_data (key t) q ≡ b → place_of key q (gs ++ (t ∷ []) ∷ []) ≡ cond (same_data (key t) q) (Some (length gs)) (place_of key q gs)
+      by true e = new_here t gs q s h e ∙ ap (λ b. cond b (Some (length gs)) (place_of key q gs)) (sym e)
+      by false e = new_not_here t gs q e ∙ ap (λ b. cond b (Some (length gs)) (place_of key q gs)) (sym e)
+
+  -- ---- one more tuple of those that are left
+
+  pub joined_there : (all gs hs : List (List Tuple)) (rest later : List Tuple) (t : Tuple) (i : ℕ) → rest ≡ t ∷ later → all_some gs ≡ true
+      → place_of key (key t) gs ≡ Some i → hs ≡ add_at gs i t → all ≡ put_tuples key gs rest → all ≡ put_tuples key hs later
+  joined_there all gs hs rest later t i at s p e h =
+      h ∙ ap (put_tuples key gs) at ∙ ap (λ groups. put_tuples key groups later) (put_there t gs i s p ∙ sym e)
+
+  pub joined_new : (all gs hs : List (List Tuple)) (rest later : List Tuple) (t : Tuple) → rest ≡ t ∷ later → all_some gs ≡ true
+      → place_of key (key t) gs ≡ None → hs ≡ gs ++ (t ∷ []) ∷ [] → all ≡ put_tuples key gs rest → all ≡ put_tuples key hs later
+  joined_new all gs hs rest later t at s p e h =
+      h ∙ ap (put_tuples key gs) at ∙ ap (λ groups. put_tuples key groups later) (put_new t gs s p ∙ sym e)

@@ -1,0 +1,79 @@
+use Rattle.std.proofs.Common.{◌≡◌, ◌+◌, ◌++◌, [], ◌∷◌, cond, List, length, drop, Some, None, sym, ap, ◌∙◌}
+use Rattle.std.specs.BTreeMap.{get}
+use Rattle.std.specs.Option.{option_copied}
+use Rattle.std.proofs.lemmas.Iterator.Adapters.{YieldsList-from_vec}
+use Rattle.std.proofs.lemmas.Iterator.Consumers.{YieldsList-turn}
+use Rattle.std.proofs.lemmas.List.{drop_more, length_push, length-map}
+use Rattle.jpql_eval.specs.declared.datum.Datum.{Datum}
+use Rattle.jpql_eval.specs.Data.{same_data}
+use Rattle.jpql_rows.specs.Keys.{data_cmp}
+use Rattle.jpql_rows.proofs.Keys.{same_by_cmp}
+use Rattle.jpql_select.specs.Groups.{groups_in, add_at, place_of, all_some}
+use Rattle.jpql_select.specs.Selects.{group_key}
+use Rattle.jpql_select.proofs.Placed.{place_within, joined_there, joined_new, some_stay, some_more, place_stays, place_new}
+use Rattle.jpql_select.proofs.groups.grouped.Goals as goal
+
+pub add-requires : goal.add-requires
+add-requires c =
+    let key = group_key c.args.run.now c.args.paths.now in
+    let k = c.in_ok-key.key in
+    place_within key k c.loop-tuple.groups.items c.in-Some-get.place.now
+    (sym (c.loop-tuple.invariant.places k) ∙ sym c.get.ensures.value ∙ ap option_copied c.in-Some-get.is)
+
+-- a group of the key is there
+pub loop-tuple-preserved-in-Some-get : goal.loop-tuple-preserved-in-Some-get
+loop-tuple-preserved-in-Some-get c =
+    let key = group_key c.args.run.now c.args.paths.now in
+    let all = c.args.tuples.items in
+    let xs = c.loop-tuple.yielded in
+    let x = c.in-Some.tuple in
+    let gs = groups_in c.loop-tuple.groups.items in
+    let k = c.in_ok-key.key in
+    let i = c.in-Some-get.place.now in
+    let some = c.loop-tuple.invariant.some in
+    let keyed : k ≡ key x = c.in_ok-key.ensures in
+    let place : place_of key (key x) gs ≡ Some i =
+    ap (λ (q : List Datum). place_of key q gs) (sym keyed) ∙ sym (c.loop-tuple.invariant.places k) ∙ sym c.get.ensures.value ∙ ap option_copied c.in-Some-get.is in
+    let road = YieldsList-from_vec {s = c.into_iter-tuple-iterator.result} all (cc) (cc) in
+    let turn = YieldsList-turn road xs c.loop-tuple.tuple-iterator c.loop-tuple.yielded_by c.next.result c.next.new.self x c.in-Some.is c.next.ensures.steps in
+    let at : drop (length xs) all ≡ x ∷ drop (length (xs ++ x ∷ [])) all =
+    drop_more all (length xs) x turn.0 ∙ ap (λ y. y ∷ drop (length xs + 1) all) (sym turn.1) ∙ ap (λ n. x ∷ drop n all) (sym (length_push xs x)) in
+    let added : groups_in c.add.new.groups.items ≡ add_at gs i x = c.in_ok-add-in-Some-get.ensures in
+    record {
+      groups = joined_there key _ gs _ (drop (length xs) all) _ x i at some place added c.loop-tuple.invariant.groups;
+      some = ap all_some added ∙ some_stay key gs i x some;
+      places = λ q. c.loop-tuple.invariant.places q ∙ sym (ap (place_of key q) added ∙ place_stays key q gs i x some);
+    }
+
+-- none is there
+pub loop-tuple-preserved : goal.loop-tuple-preserved
+loop-tuple-preserved c =
+    let key = group_key c.args.run.now c.args.paths.now in
+    let all = c.args.tuples.items in
+    let xs = c.loop-tuple.yielded in
+    let x = c.in-Some.tuple in
+    let gs = groups_in c.loop-tuple.groups.items in
+    let k = c.in_ok-key.key in
+    let n = c.len.result in
+    let some = c.loop-tuple.invariant.some in
+    let keyed : k ≡ key x = c.in_ok-key.ensures in
+    let none : place_of key (key x) gs ≡ None =
+    ap (λ (q : List Datum). place_of key q gs) (sym keyed) ∙ sym (c.loop-tuple.invariant.places k) ∙ sym c.get.ensures.value ∙ ap option_copied c.in-None-get.is in
+    let road = YieldsList-from_vec {s = c.into_iter-tuple-iterator.result} all (cc) (cc) in
+    let turn = YieldsList-turn road xs c.loop-tuple.tuple-iterator c.loop-tuple.yielded_by c.next.result c.next.new.self x c.in-Some.is c.next.ensures.steps in
+    let at : drop (length xs) all ≡ x ∷ drop (length (xs ++ x ∷ [])) all =
+    drop_more all (length xs) x turn.0 ∙ ap (λ y. y ∷ drop (length xs + 1) all) (sym turn.1) ∙ ap (λ n. x ∷ drop n all) (sym (length_push xs x)) in
+    let begun : groups_in c.begin.new.groups.items ≡ gs ++ (x ∷ []) ∷ [] = c.in_ok-begin-in-None-get.ensures in
+    let count : n ≡ length gs = c.len.ensures ∙ c.loop-tuple.groups.ok.0 ∙ sym (length-map c.loop-tuple.groups.items _) in
+    record {
+      groups = joined_new key _ gs _ (drop (length xs) all) _ x at some none begun c.loop-tuple.invariant.groups;
+      some = ap all_some begun ∙ some_more key gs x some;
+      places = λ q.
+          c.in_ok-insert-in-None-get.ensures.updates.0 q
+          ∙ ap (λ b. cond b (Some n) (get data_cmp c.loop-tuple.places q)) (same_by_cmp k q)
+          ∙ ap (λ o. cond (same_data k q) (Some n) o) (c.loop-tuple.invariant.places q)
+          ∙ ap (λ (v : List Datum). cond (same_data v q) (Some n) (place_of key q gs)) keyed
+          ∙ ap (λ m. cond (same_data (key x) q) (Some m) (place_of key q gs)) count
+          ∙ sym (place_new key x gs q some none)
+          ∙ ap (place_of key q) (sym begun);
+    }

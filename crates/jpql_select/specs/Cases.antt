@@ -1,0 +1,6 @@
+-- What items are computed for, as the code has it.
+use Rattle.jpql_plan.specs.Meaning as meaning
+use Rattle.jpql_select.specs.declared.case.Case.{Case}
+
+abbrev pub case_in : Case → meaning.Case
+case_in c = record { tuple = c.tuple; group = c.group.items }

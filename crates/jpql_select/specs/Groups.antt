@@ -1,0 +1,30 @@
+-- Groups of tuples, and where they stand.
+use Rattle.std.specs.Prelude.{ℕ, zero, suc, Bool, true, false, List, [], ◌∷◌, ◌++◌, map, Option, Some, None, option_map, if◌then◌else◌}
+use Rattle.std.specs.Global.{Vec}
+use Rattle.jpql_eval.specs.declared.datum.Datum.{Datum}
+use Rattle.jpql_eval.specs.Data.{same_data}
+use Rattle.jpql_plan.specs.Paths.{Tuple}
+
+abbrev pub groups_in : {T : Type 0} → List (Vec T) → List (List T)
+groups_in groups = map (λ g. g.items) groups
+
+-- one more in the group at a place
+abbrev pub add_at : {T : Type 0} → List (List T) → ℕ → T → List (List T)
+add_at [] place t = []
+add_at (g ∷ gs) zero t = (g ++ t ∷ []) ∷ gs
+add_at (g ∷ gs) (suc place) t = g ∷ add_at gs place t
+
+abbrev pub begins_with : (Tuple → List Datum) → List Datum → List Tuple → Bool
+begins_with key k [] = false
+begins_with key k (one ∷ more) = same_data (key one) k
+
+-- the place of the group of a key
+abbrev pub place_of : (Tuple → List Datum) → List Datum → List (List Tuple) → Option ℕ
+place_of key k [] = None
+place_of key k (g ∷ gs) = if begins_with key k g then Some 0 else option_map suc (place_of key k gs)
+
+-- whether each group has a tuple
+abbrev pub all_some : List (List Tuple) → Bool
+all_some [] = true
+all_some ([] ∷ gs) = false
+all_some ((t ∷ ts) ∷ gs) = all_some gs

@@ -1,0 +1,15 @@
+//! SELECT statements run over a set of stored objects (Jakarta Persistence 3.1, chapters 4.2.1 and 4.7
+//! to 4.9).
+//!
+//! `select` gives the table of a statement: its tuples stand alone or in groups, HAVING keeps some, each
+//! gives a row, and the rows come in their order. What a row has stays borrowed from the set, the
+//! statement or its parameters.
+#![tactic(auto)]
+
+mod case;
+mod groups;
+mod rows;
+mod statement;
+mod tuples;
+
+pub use statement::select;

@@ -1,0 +1,49 @@
+//! SELECT statements.
+ghost use Rattle.jpql_eval.specs.Finds.{Finds};
+ghost use Rattle.jpql_plan.specs.Selection as selection;
+ghost use Rattle.jpql_rows.specs.Tables.{rows_in};
+
+use crate::case::cases_of;
+use crate::rows::rows_of;
+use crate::tuples::selected_tuples;
+use jpa_model::Metamodel;
+use jpa_stored::StoredSet;
+use jpql_eval::{Datum, Failure};
+use jpql_rows::{Table, ordered};
+use jpql_run::Run;
+use jpql_types::TypedSelect;
+use std::alloc::Global;
+
+/// The table of a statement over a set (chapter 4.2.1), with what stands for its parameters, by place.
+///
+/// It has a row of each tuple, or of each group where there is GROUP BY, HAVING or an aggregate; with
+/// DISTINCT the first of the rows that are the same; in the order of ORDER BY, in which rows that tie
+/// stay in the order of their tuples. Every part is computed.
+///
+/// `Overflow` where some part is an integer outside 64 bits; `Memory` where a growth was refused.
+pub fn select<'a>(
+    alloc: Global,
+    metamodel: &'a Metamodel,
+    set: &'a StoredSet,
+    parameters: &'a [Datum],
+    statement: &'a TypedSelect,
+) -> Result<Table<'a>, Failure>
+    ensures { Finds rows_in result
+        (selection.selected metamodel.now set.now parameters.now statement.now) }
+{
+    let run = Run {
+        metamodel,
+        set,
+        parameters,
+    };
+    let tuples = selected_tuples(alloc, &run, statement)?;
+    let cases = cases_of(alloc, &run, statement, tuples)?;
+    let rows = rows_of(alloc, &run, statement, cases)?;
+    let table = ordered(
+        alloc,
+        statement.order.as_slice(),
+        statement.is_distinct,
+        rows,
+    )?;
+    Ok(table)
+}
