@@ -45,7 +45,7 @@ class LinkPlots:
 
     def unlinked(self, live, relation, other=None):
         if relation.is_many:
-            held = [other] if other else live.read_of(relation)
+            held = [other] if other else live.read_of(relation) if live.entity.has(relation) else []
             number = self.random.choice(held).number if held else self.object()
             return "takeOut", {"object": live.number, "name": relation.name, "member": number}
         return "set", {"object": live.number, "name": relation.name, "value": None}

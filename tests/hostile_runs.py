@@ -58,6 +58,17 @@ def difference(folder, unit):
     return None if after is None or cells_of(after) == state.cells(unit) else f"cells {state.cells(unit)}"
 
 
+def stands(folder):
+    """The cells that stand after so many lines of a run, from none to all, as the model has them."""
+    unit = Unit(mapping_of(folder))
+    machine = Machine(unit, state_of(unit, cells_of(read(folder, "cells-before.txt"))))
+    found = [machine.committed.cells(unit)]
+    for line in lines_of(read(folder, "calls.jsonl")):
+        machine.answer(line)
+        found.append(machine.committed.cells(unit))
+    return found
+
+
 def mapping_of(folder):
     """The mapping of a run, if it is JSON."""
     text = read(folder, "mapping.json")

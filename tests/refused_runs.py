@@ -4,11 +4,13 @@
 tests/refused-growths jpa calls it; REFUSE is the library with the malloc that refuses. The first growth is refused, then the second, and so
 on to the last one (of a run that grows more than MOST times the first half of MOST, and then every so manyth). A call that is refused
 for want of memory is made again, and must then be answered as in the run; where the program ends, it must say that memory is
-refused, or break off with status 4, the replies must be a front of the run's, and the cells those before the run or after it.
+refused, or break off with status 4, the replies must be a front of the run's, and the cells those that the model of
+tests/hostile_model.py has after as many lines, or after one more, which was served and not answered.
 """
 import mmap, os, struct, subprocess, sys, tempfile
 
 sys.dont_write_bytecode = True
+from hostile_runs import cells_of, stands
 from runs import SECONDS, cells, fill, read, words_of
 
 WANT = b'{"error":{"name":"OutOfMemory","no":1},"events":[]}\n'
@@ -32,7 +34,7 @@ def answered(process, line):
     return reply
 
 
-def see_refused(program, refuse, folder, growth):
+def see_refused(program, refuse, folder, stood, growth):
     """Runs with this growth refused, 0 for none, and gives how many there were."""
     calls, wanted = read(folder, "calls.jsonl").splitlines(keepends=True), read(folder, "replies.jsonl").splitlines(keepends=True)
     with tempfile.TemporaryDirectory() as place:
@@ -62,7 +64,9 @@ def see_refused(program, refuse, folder, growth):
             raise Differs(told)
         if status == 0 and (replies != wanted or left != after):
             raise Differs(f"{told}, cells {left}")
-        if status and (status not in (3, 4) or status == 3 and said != b"jpa: OutOfMemory\n" or left not in (before.decode(), after)):
+        if status and (status not in (3, 4) or status == 3 and said != b"jpa: OutOfMemory\n"):
+            raise Differs(told)
+        if status and cells_of(left.encode()) not in stood[len(replies):len(replies) + 2]:
             raise Differs(f"{told}, cells {left}")
         with open(count, "rb") as file:
             return struct.unpack("q", file.read())[0], status
@@ -77,10 +81,11 @@ def main(given):
         if read(folder, "status") or read(folder, "calls-2.jsonl") or read(folder, "words"):
             continue
         try:
-            growths, _ = see_refused(program, refuse, folder, 0)
+            stood = stands(folder)
+            growths, _ = see_refused(program, refuse, folder, stood, 0)
             stride = (growths - most // 2) * 2 // most + 1 if growths > most else 1
             tried = sorted({*range(1, min(growths, most // 2) + 1), *range(most // 2 + 1, growths + 1, stride)})
-            ended = sum(see_refused(program, refuse, folder, growth)[1] != 0 for growth in tried)
+            ended = sum(see_refused(program, refuse, folder, stood, growth)[1] != 0 for growth in tried)
             print(f"jpa: {name}: {len(tried)} of {growths} growths refused in turn; {ended} runs ended for it", flush=True)
         except Differs as why:
             failed += 1

@@ -1,25 +1,20 @@
 -- A flush is its plan: what is written, taken out, settled and told is what the definition's actions say.
-use Rattle.std.proofs.Common.{◌≡◌, ◌∙◌, ℕ, ◌+◌, ◌<◌, Bool, true, false, List, [], ◌∷◌, ◌++◌, map, length, refl, ap, sym, subst, T}
-use Rattle.std.specs.Prelude.{All, is_some, not, ◌||◌, Option, Some, None, if◌then◌else◌}
-use Rattle.std.specs.List.{list_all, filter, flat_map, enumerate_from}
+use Rattle.std.proofs.Common.{◌≡◌, ◌∙◌, ℕ, ◌<◌, Bool, true, false, List, [], ◌∷◌, ◌++◌, map, length, refl, ap, sym, subst, T}
+use Rattle.std.specs.Prelude.{All, is_some, ◌||◌, Option, Some, None}
+use Rattle.std.specs.List.{filter, flat_map}
 use Rattle.std.specs.FinMap.Entries.{is_sorted}
-use Rattle.std.proofs.lemmas.Bool.{and_from, and_parts, not-true}
+use Rattle.std.proofs.lemmas.Bool.{and_from}
 use Rattle.jpa_value.specs.declared.value.Identity.{Identity}
 use Rattle.jpa_value.specs.declared.refusal.Cause.{Cause}
 use Rattle.jpa_value.specs.declared.refusal.Persist.{Persist}
 use Rattle.jpa_value.specs.Value.{identity_cmp, same_identity}
 use Rattle.jpa_protocol.specs.declared.event.Told.{Told}
 use Rattle.jpa_model.specs.declared.unit.PersistenceUnit.{PersistenceUnit}
-use Rattle.jpa_model.specs.declared.unit.Relation.{Relation}
-use Rattle.jpa_model.specs.Chains.{relations_of}
 use Rattle.jpa_behaviour.specs.Behaviour.{World}
 use Rattle.jpa_stored.specs.declared.stored.Stored.{Stored}
 use Rattle.jpa_stored.specs.Sets.{StoredSet, IsSound, without, all_distinct, fault_of}
-use Rattle.jpa_heap.specs.Objects.{held_at}
 use Rattle.jpa_heap.specs.Shape.{HasShape}
-use Rattle.jpa_context.specs.declared.Entry.{Entry}
-use Rattle.jpa_context.specs.declared.EntityState.{EntityState}
-use Rattle.jpa_context.specs.Work.{Work, object, state_of, identity_at, row_at, base_of}
+use Rattle.jpa_context.specs.Work.{Work, identity_at, row_at}
 use Rattle.jpa_context.specs.Steps.{◌>>◌, Outcome, Done, Refused, Op, after, change, each, IsRefusedAs}
 use Rattle.jpa_fetch.specs.Grown.{IsReady}
 use Rattle.jpa_ops.specs.Names.{has_distinct_entries}
@@ -34,7 +29,7 @@ use Rattle.jpa_flush.proofs.Names.{plan_apart}
 use Rattle.jpa_flush.proofs.Settled.{settled_alike, settled_events}
 use Rattle.jpa_flush.proofs.Written.{of_one, is_replacing, writes_of, names_of, applied_each}
 
--- ---- one part after another
+-- ---- its parts, one after another
 
 -- the flush from its last part back
 abbrev pub updating : World → Op (Unit {0})
@@ -59,8 +54,7 @@ pub linked : (world : World) (w0 w x : Work) → persist_reachable world w0 ≡ 
 linked world w0 w x e r l = orphaned world w0 w x e r ∙ ap (λ o. after o (λ _. updating world)) l
 
 -- and PreUpdate happened
-pub updated : (world : World) (w0 w x v : Work) → persist_reachable world w0 ≡ Done tt w → remove_orphans world w ≡ Done tt x → check_links world x ≡ Done tt x → pre_update world x ≡ Done tt v →
-    flush world w0 ≡ writing world v
+pub updated : (world : World) (w0 w x v : Work) → persist_reachable world w0 ≡ Done tt w → remove_orphans world w ≡ Done tt x → check_links world x ≡ Done tt x → pre_update world x ≡ Done tt v → flush world w0 ≡ writing world v
 updated world w0 w x v e r l u = linked world w0 w x e r l ∙ ap (λ o. after o (λ _. writing world)) u
 
 -- ---- the actions are the plan

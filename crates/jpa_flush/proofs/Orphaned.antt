@@ -29,12 +29,13 @@ use Rattle.jpa_heap.specs.declared.Collection.{Collection}
 use Rattle.jpa_heap.specs.declared.Held.{Held}
 use Rattle.jpa_context.specs.declared.Entry.{Entry}
 use Rattle.jpa_context.specs.declared.EntityState.{EntityState}
-use Rattle.jpa_context.specs.Steps.{Op, Outcome, Done, after, each, IsRefusedAs, Meets}
+use Rattle.jpa_context.specs.Steps.{Op, Done, after, each, IsRefusedAs, Meets}
 use Rattle.jpa_context.specs.Work.{Work, identity_at, instance, row, state_of}
 use Rattle.jpa_fetch.specs.Load.{load}
 use Rattle.jpa_ops.specs.States.{remove}
 use Rattle.jpa_ops.proofs.Front.{IsOnward, front_object, instance_within, loaded_goes, remove_onward}
 use Rattle.jpa_ops.proofs.Going.{HoldsAfter, after_holds}
+use Rattle.jpa_flush.proofs.Rounds.{refused_after}
 use Rattle.jpa_flush.specs.Flush.{held_now, into_rising, listed, orphans_of, remove_instance, remove_orphan, remove_orphan_in, remove_orphans_of, rising}
 
 -- an entry that is lent is the one at its place
@@ -169,22 +170,6 @@ removes_loaded world id x y n w v new r none stored same done h =
     ∙ ap (λ s. remove_orphan_in world id None s w) stored
     ∙ ap (λ z. after (load world id z w) (λ k. remove world k)) (sym same)
     ∙ ap (λ o. after o (λ k. remove world k)) done)) h
-
-refused_after : {A B : Type 0} (r : Cause) (events : List Told) (o : Outcome A) (f : A → Op B) → IsRefusedAs r events o → IsRefusedAs r events (after o f)
-refused_after Cause.OutOfMemory events o f h = tt
-refused_after Cause.StoreFault events o f h = h
-refused_after r events o f h = ap (λ p. after p f) h
-
-next : {X : Type 0} (f : X → Op (Unit {0})) (xs : List X) (i : ℕ) (x : X) (w : Work) → i < length xs → x ≡ get_or xs i x → each f (drop i xs) w ≡ after (f x w) (λ _. each f (drop (i + 1) xs))
-next f xs i x w l is = at_drop_more (λ ys. each f ys w) xs i x l ∙ ap (λ y. after (f y w) (λ _. each f (drop (i + 1) xs))) (sym is)
-
-pub next_done : {X : Type 0} (f : X → Op (Unit {0})) (xs : List X) (i : ℕ) (x : X) (w w' : Work) → i < length xs → x ≡ get_or xs i x → f x w ≡ Done tt w' →
-    each f (drop (i + 1) xs) w' ≡ each f (drop i xs) w
-next_done f xs i x w w' l is done = sym (next f xs i x w l is ∙ ap (λ o. after o (λ _. each f (drop (i + 1) xs))) done)
-
-pub next_refused : {X : Type 0} (f : X → Op (Unit {0})) (xs : List X) (i : ℕ) (x : X) (w : Work) (r : Cause) (events : List Told) → i < length xs → x ≡ get_or xs i x → IsRefusedAs r events (f x w) →
-    IsRefusedAs r events (each f (drop i xs) w)
-next_refused f xs i x w r events l is h = subst (IsRefusedAs r events) (sym (next f xs i x w l is)) (refused_after r events (f x w) (λ _. each f (drop (i + 1) xs)) h)
 
 -- ---- one entry after another
 

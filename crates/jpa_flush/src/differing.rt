@@ -43,7 +43,7 @@ pub(crate) fn is_owner(side: Side) -> bool
 }
 
 /// What a base knows of a relation, if it was read.
-fn known(base: &Base, relation: usize) -> Option<&Seq<Identity>>
+pub(crate) fn known(base: &Base, relation: usize) -> Option<&Seq<Identity>>
     ensures { option_copied result ≡ flushes.in_base (Some base.now) relation }
 {
     match base.members.as_slice().get(relation) {

@@ -56,11 +56,11 @@ fn write_changes<B: Behaviour>(
 
 /// Writes what the objects of a manager's context differ in from the set that it sees, and takes out the rows of removed ones
 /// (Jakarta Persistence 3.1, chapters 2.9, 3.2.3, 3.2.4, 3.4 and 3.5). What managed objects lead to along relations that cascade
-/// persist becomes managed before, and what left a relation that removes orphans is removed. The work sees the new set then.
+/// persist becomes managed before, and the orphans of managed objects are removed. The work sees the new set then.
 ///
-/// What persisting refuses, and what removing does; `IllegalState(reference)` where a managed object leads to one that is not stored; `EntityExists`
-/// where an object that is new to the set has the identity of one in it; `OptimisticLock` where the set has not the version
-/// that a changed or a removed object was loaded with; `Persistence(version)` where a version can't rise;
+/// What persisting, loading and removing refuse; `IllegalState(reference)` where a managed object leads to one that is not
+/// stored; `EntityExists` where an object that is new to the set has the identity of one in it; `OptimisticLock` where the set
+/// has not the version that a changed or a removed object was loaded with; `Persistence(version)` where a version can't rise;
 /// `Persistence(converter)` where a converter throws; `Persistence` with `Null`, `Reference` or `Unique` where the new set
 /// would not be sound; `Listener` with its text where a listener or callback throws, and `Persistence(callback)` where one
 /// assigns what is not allowed; `OutOfMemory` where a growth was refused. What a refused call changed is undone by

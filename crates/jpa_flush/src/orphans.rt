@@ -13,6 +13,7 @@ ghost use Rattle.jpa_fetch.specs.Grown.{IsReady};
 ghost use Rattle.jpa_ops.specs.Names.{has_distinct_entries};
 ghost use Rattle.jpa_flush.specs.Flush as flushes;
 
+use crate::differing::known;
 use crate::held::held_now;
 use jpa_behaviour::{Behaviour, Registry};
 use jpa_cascade::{instance, state_of};
@@ -50,10 +51,7 @@ fn known_before(work: &UnitOfWork, object: usize, relation: usize) -> Option<&Se
         ≡ flushes.in_base (works.base_of (now work.now) object) relation }
 {
     match base_of(work, object) {
-        Some(base) => match base.members.as_slice().get(relation) {
-            Some(Some(ids)) => Some(ids),
-            _ => None,
-        },
+        Some(base) => known(base, relation),
         None => None,
     }
 }

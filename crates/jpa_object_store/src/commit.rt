@@ -39,7 +39,8 @@ fn difference_of<B: Behaviour>(
         view.now.committed before.now }
     requires storable { let world = world_of B.meaning metamodel.now registry.now in
         AllByRecursion (λ e. is_storable_if_any world e.0 e.1 ≡ true) (entries_in objects.now) }
-    requires distinct { all_distinct (λ a b. same_identity a.0 b.0) (entries_in objects.now) ≡ true }
+    requires distinct { all_distinct (λ a b. same_identity a.0 b.0)
+        (entries_in objects.now) ≡ true }
     requires numbers { are_numbers metamodel.now next.now ≡ true }
     requires rising { each_fits nat_le before.now next.now ≡ true }
     ensures ok { let world = world_of B.meaning metamodel.now registry.now in
@@ -85,7 +86,8 @@ fn write_changes<R: RowSource, B: Behaviour>(
         view.now.committed before.now }
     requires storable { let world = world_of B.meaning metamodel.now registry.now in
         AllByRecursion (λ e. is_storable_if_any world e.0 e.1 ≡ true) (entries_in objects.now) }
-    requires distinct { all_distinct (λ a b. same_identity a.0 b.0) (entries_in objects.now) ≡ true }
+    requires distinct { all_distinct (λ a b. same_identity a.0 b.0)
+        (entries_in objects.now) ≡ true }
     requires numbers { are_numbers metamodel.now next.now ≡ true }
     requires rising { each_fits nat_le before.now next.now ≡ true }
     ensures ok { let world = world_of B.meaning metamodel.now registry.now in
@@ -93,7 +95,8 @@ fn write_changes<R: RowSource, B: Behaviour>(
         → R.holds source.new (rows_of world
         (set_after (entries_in objects.now) view.now.committed) next.now)) }
     ensures err { OnErr result ((rows : Rows) → R.holds source.old rows → R.holds source.new rows) }
-    ensures cause { IfErr result (λ cause. (cause ≡ Cause.OutOfMemory) ⊎ (cause ≡ Cause.StoreFault)) }
+    ensures cause { IfErr result
+        (λ cause. (cause ≡ Cause.OutOfMemory) ⊎ (cause ≡ Cause.StoreFault)) }
     ensures told { R.faults source.new ≡ faults_after result (R.faults source.old) }
     ensures was_clean { R.clean source.new → R.clean source.old }
     ensures schema { R.schema source.new ≡ R.schema source.old }
@@ -152,7 +155,8 @@ pub fn write<R: RowSource, B: Behaviour>(
         OnOk result (R.holds source.old (rows_of world view.now.committed before.now)
         → R.holds source.new (rows_of world view.now.seen next.now)) }
     ensures err { OnErr result ((rows : Rows) → R.holds source.old rows → R.holds source.new rows) }
-    ensures cause { IfErr result (λ cause. (cause ≡ Cause.OutOfMemory) ⊎ (cause ≡ Cause.StoreFault)) }
+    ensures cause { IfErr result
+        (λ cause. (cause ≡ Cause.OutOfMemory) ⊎ (cause ≡ Cause.StoreFault)) }
     ensures told { R.faults source.new ≡ faults_after result (R.faults source.old) }
     ensures was_clean { R.clean source.new → R.clean source.old }
     ensures schema { R.schema source.new ≡ R.schema source.old }

@@ -67,8 +67,14 @@ pub(crate) fn change_numbers(
     requires before { are_numbers metamodel.now before.now ≡ true }
     requires numbers { are_numbers metamodel.now next.now ≡ true }
     requires rising { each_fits nat_le before.now next.now ≡ true }
-    ensures ok { OnOk result ((world : World) (base : Rows) (set : StoredSet) → world.model ≡ metamodel.now → IsRegular world → Show world base overlay.old set before.now → Show world base overlay.new set next.now) }
-    ensures noted { OnOk result ((world : World) (set : StoredSet) → world.model ≡ metamodel.now → IsRegular world → AreStorable world set → Recall (rows_of world set before.now) stood.old overlay.old → Recall (rows_of world set before.now) stood.new overlay.new) }
+    ensures ok { OnOk result ((world : World) (base : Rows) (set : StoredSet)
+        → world.model ≡ metamodel.now → IsRegular world
+        → Show world base overlay.old set before.now
+        → Show world base overlay.new set next.now) }
+    ensures noted { OnOk result ((world : World) (set : StoredSet)
+        → world.model ≡ metamodel.now → IsRegular world → AreStorable world set
+        → Recall (rows_of world set before.now) stood.old overlay.old
+        → Recall (rows_of world set before.now) stood.new overlay.new) }
     ensures err { IfErr result (λ cause. cause ≡ Cause.OutOfMemory) }
 {
     // what the rows of a unit rest on

@@ -108,7 +108,8 @@ fn change_object<B: Behaviour>(
     id: &Identity,
     object: Option<&Stored>,
 ) -> Result<(), Cause>
-    requires committed { AreStorable (world_of B.meaning metamodel.now registry.now) view.now.committed }
+    requires committed { AreStorable (world_of B.meaning metamodel.now registry.now)
+        view.now.committed }
     requires storable { is_storable_if_any (world_of B.meaning metamodel.now registry.now)
         id.now (option_copied object) ≡ true }
     ensures ok { OnOk result (Replaces (world_of B.meaning metamodel.now registry.now) id.now
@@ -137,10 +138,12 @@ pub(crate) fn change_objects<B: Behaviour>(
     view: &OpenSet,
     changes: &[ObjectChange<'_>],
 ) -> Result<(), Cause>
-    requires committed { AreStorable (world_of B.meaning metamodel.now registry.now) view.now.committed }
+    requires committed { AreStorable (world_of B.meaning metamodel.now registry.now)
+        view.now.committed }
     requires storable { AllByRecursion (λ e. is_storable_if_any
         (world_of B.meaning metamodel.now registry.now) e.0 e.1 ≡ true) (entries_in changes.now) }
-    requires distinct { sets.all_distinct (λ a b. same_identity a.0 b.0) (entries_in changes.now) ≡ true }
+    requires distinct { sets.all_distinct (λ a b. same_identity a.0 b.0)
+        (entries_in changes.now) ≡ true }
     ensures ok { OnOk result (Brings (world_of B.meaning metamodel.now registry.now)
         view.now.committed (set_after (entries_in changes.now) view.now.committed)
         overlay.old overlay.new) }

@@ -7,22 +7,20 @@ use Rattle.std.specs.Option.{unwrap_or}
 use Rattle.std.specs.Ordering.{is_eq}
 use Rattle.std.specs.Cmp.{Equal-is}
 use Rattle.std.specs.FinMap.Entries.{find as entry_found}
-use Rattle.std.proofs.lemmas.Bool.{true≢false, false≢true, and_parts, and_from, eqb-true}
+use Rattle.std.proofs.lemmas.Bool.{true≢false, and_parts, eqb-true}
 use Rattle.std.proofs.lemmas.List.{append-nil, append_assoc, map-append, length-append, length-map, length-set, get_or-map, get_or_append_left, get_or_push}
 use Rattle.std.proofs.lemmas.List.Elements.{All-push, All-weaker, recursion_from_All}
 use Rattle.jpa_value.specs.Limits.{most_objects}
-use Rattle.jpa_value.specs.declared.value.Value.{Value}
 use Rattle.jpa_value.specs.declared.value.Identity.{Identity}
 use Rattle.jpa_value.specs.declared.refusal.Cause.{Cause}
 use Rattle.jpa_value.specs.declared.event.LifecycleEvent.{LifecycleEvent}
-use Rattle.jpa_value.specs.Value.{identity_cmp, is_null, fits}
+use Rattle.jpa_value.specs.Value.{identity_cmp}
 use Rattle.jpa_value.proofs.Orders.{identity_exact}
 use Rattle.jpa_model.specs.declared.unit.PersistenceUnit.{PersistenceUnit}
-use Rattle.jpa_model.specs.declared.unit.Part.{Part}
 use Rattle.jpa_model.specs.Chains.{root_of}
 use Rattle.jpa_behaviour.specs.Behaviour.{World}
 use Rattle.jpa_stored.specs.declared.stored.Stored.{Stored}
-use Rattle.jpa_stored.specs.Sets.{StoredSet, stored_at, all_distinct, all_shaped, is_shaped, is_identity_of, is_key_of, each_fits}
+use Rattle.jpa_stored.specs.Sets.{StoredSet, stored_at, all_distinct, all_shaped, is_shaped, is_identity_of, is_key_of}
 use Rattle.jpa_heap.specs.declared.Life.{Life}
 use Rattle.jpa_heap.specs.declared.LiveObject.{LiveObject}
 use Rattle.jpa_heap.specs.Objects.{no_object, object_at, identity_of, is_whole, with_life}
@@ -41,9 +39,9 @@ use Rattle.jpa_cascade.proofs.There.{waves_are_there}
 use Rattle.jpa_lifecycle.specs.Callbacks.{callback}
 use Rattle.jpa_lifecycle.proofs.Keeps.{happened}
 use Rattle.jpa_fetch.specs.Grown.{AreLinked, HasGrown, IsLinked, IsReady}
+use Rattle.jpa_fetch.specs.Load.{base_loaded, load, made, object_loaded}
 use Rattle.jpa_fetch.proofs.Grown.{grown_happened, grown_on, placed_happened}
 use Rattle.jpa_fetch.proofs.Loaded.{loaded_links, loaded_shape}
-use Rattle.jpa_fetch.specs.Load.{base_loaded, load, made, object_loaded}
 use Rattle.jpa_ops.specs.Names.{are_one, has_distinct_entries, name_of}
 use Rattle.jpa_ops.specs.States.{has_instance, remove, remove_live, remove_node, remove_one, remove_under}
 use Rattle.jpa_ops.proofs.Entered.{entered_apart, entered_names, named}
@@ -131,19 +129,6 @@ row_shaped m (y ∷ ys) id x h e =
     let a = and_parts (is_shaped m y.0 y.1) (all_shaped m ys) h in
     found_shaped m id x y (entry_found identity_cmp id ys) (is_eq (identity_cmp id y.0)) refl (row_shaped m ys id x a.1) a.0 e
 
-there : (fit null : Bool) → (fit && not null) ≡ true → not null ≡ true
-there true null h = h
-there false null h = absurd (false≢true h)
-
--- a key of a root has no part that is null
-key_is_whole : (ps : List Part) (vs : List Value) → each_fits (λ (part : Part) v. fits part.kind v && not (is_null v)) ps vs ≡ true → is_whole vs ≡ true
-key_is_whole [] [] h = refl
-key_is_whole [] (v ∷ vs) h = absurd (false≢true h)
-key_is_whole (p ∷ ps) [] h = absurd (false≢true h)
-key_is_whole (p ∷ ps) (v ∷ vs) h =
-    let a = and_parts (fits p.kind v && not (is_null v)) (each_fits (λ (part : Part) u. fits part.kind u && not (is_null u)) ps vs) h in
-    and_from (not (is_null v)) (is_whole vs) (there (fits p.kind v) (is_null v) a.0) (key_is_whole ps vs a.1)
-
 -- its identity is that of its object, whose key is whole
 record IsNamedBy (m : PersistenceUnit) (id : Identity) (y : LiveObject) : Type 0 where
   name : name_of m y ≡ id
@@ -155,7 +140,7 @@ loaded_name m s manager id x h e =
     let b = and_parts (is_identity_of (root_of m x.class) id) _ a.1 in
     let c = and_parts (id.table == (root_of m x.class).table) (is_key_of (root_of m x.class) id.key) b.0 in
     let table = eqb-true id.table (root_of m x.class).table c.0 in
-    record { name = λ i. record { table = sym table i; key = id.key }; whole = key_is_whole (root_of m x.class).key id.key c.1 }
+    record { name = λ i. record { table = sym table i; key = id.key }; whole = (loaded_shape m s manager id x h e).1 }
 
 -- ---- an object that is not in the context yet
 

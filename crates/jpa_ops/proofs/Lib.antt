@@ -1,5 +1,5 @@
 mod Based
-pub mod Entered
+mod Entered
 mod Examples
 mod Fitting
 pub mod Front

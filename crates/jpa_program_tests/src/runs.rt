@@ -130,7 +130,7 @@ fn see_run<S: Alter + Drop>(
     Ok(())
 }
 
-// The opening makes the table and looks at two tables; the commit writes two rows, the person and the next number.
+// The opening makes the table and looks at three tables; the commit writes two rows, the person and the next number.
 #[test]
 fn first_run(rt: HostRuntime) -> Result<(), Fail> {
     let a = rt.alloc();
@@ -140,7 +140,7 @@ fn first_run(rt: HostRuntime) -> Result<(), Fail> {
     seen?;
     assert_eq!(rt;
         [store.selects(), store.writes(), store.statements()],
-        [2u64, 6, 9]
+        [3u64, 6, 10]
     );
     assert_eq!(rt;
         cells_in(a, store.into_connection())?,

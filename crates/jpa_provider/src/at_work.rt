@@ -107,7 +107,8 @@ pub(crate) fn conclude(
         → OnErr answered (IsWorking M manager session.old)
         → Concludes rule M manager (now session.old.work) answered result (machine_of session.new) }
     ensures settled { (M : Machine) → IsAway M manager session.old → IsSettled session.new }
-    ensures untold { IfErr answered (λ cause. is_store_fault cause ≡ false) → tells_fault result ≡ false }
+    ensures untold { IfErr answered (λ cause. is_store_fault cause ≡ false)
+        → tells_fault result ≡ false }
 {
     let events = mem::replace(&mut session.work.events, Seq::new(alloc));
     match answered {

@@ -73,7 +73,8 @@ fn clear(alloc: Global, session: &mut Session, manager: usize)
     ensures cleared { machine_of session.new ≡ cleared (machine_of session.old) manager }
     ensures managers { session.new.managers.items
         ≡ slice_set session.old.managers.items manager
-        (record (manager_in session.old.managers.items manager) { context = record { now = []; since = [] } }) }
+        (record (manager_in session.old.managers.items manager)
+        { context = record { now = []; since = [] } }) }
     ensures settled { IsSettled session.old → IsSettled session.new }
     ensures view { session.new.work.view ≡ session.old.work.view }
     ensures counts { (session.new.open_managers ≡ session.old.open_managers)
@@ -98,8 +99,10 @@ pub(crate) fn clear_call<B: Behaviour>(
     em: i64,
 ) -> Reply
     requires settled { IsSettled session.old }
-    requires entries { (k : ℕ) → All (λ e. e.object < length session.old.work.objects.now) (manager_in session.old.managers.items k).context.now }
-    ensures step { Serves (world_of B.meaning _metamodel.now _registry.now) session.old (Call.Clear em) result session.new }
+    requires entries { (k : ℕ) → All (λ e. e.object < length session.old.work.objects.now)
+        (manager_in session.old.managers.items k).context.now }
+    ensures step { let world = world_of B.meaning _metamodel.now _registry.now in
+        Serves world session.old (Call.Clear em) result session.new }
     ensures untold { tells_fault result ≡ false }
     ensures settled { IsSettled session.new }
 {
@@ -180,8 +183,10 @@ pub(crate) fn rollback_call<B: Behaviour>(
 ) -> Reply
     requires settled { IsSettled session.old }
     requires one { HasOneTransaction (machine_of session.old) }
-    requires entries { (k : ℕ) → All (λ e. e.object < length session.old.work.objects.now) (manager_in session.old.managers.items k).context.now }
-    ensures step { Serves (world_of B.meaning _metamodel.now _registry.now) session.old (Call.Rollback em) result session.new }
+    requires entries { (k : ℕ) → All (λ e. e.object < length session.old.work.objects.now)
+        (manager_in session.old.managers.items k).context.now }
+    ensures step { let world = world_of B.meaning _metamodel.now _registry.now in
+        Serves world session.old (Call.Rollback em) result session.new }
     ensures untold { tells_fault result ≡ false }
     ensures settled { IsSettled session.new }
 {
@@ -205,7 +210,8 @@ pub(crate) fn set_rollback_only_call<B: Behaviour>(
     em: i64,
 ) -> Reply
     requires settled { IsSettled session.old }
-    ensures step { Serves (world_of B.meaning _metamodel.now _registry.now) session.old (Call.SetRollbackOnly em) result session.new }
+    ensures step { let world = world_of B.meaning _metamodel.now _registry.now in
+        Serves world session.old (Call.SetRollbackOnly em) result session.new }
     ensures untold { tells_fault result ≡ false }
     ensures settled { IsSettled session.new }
 {

@@ -54,7 +54,8 @@ pub(crate) fn are_short(given: &[Given]) -> bool
 /// number that names none.
 pub(crate) fn handed(count: usize, given: Given) -> Result<Handed, Cause>
     ensures meets { (w : Work) → length w.objects ≡ count → Meets result w (calls.handed given w) }
-    ensures within { IfOk result (λ h. (w : Work) → length w.objects ≡ count → IsInHeap w.objects h) }
+    ensures within { IfOk result
+        (λ h. (w : Work) → length w.objects ≡ count → IsInHeap w.objects h) }
     ensures refused { IfErr result (λ cause. (cause ≡ Cause.Limit) ⊎ (cause ≡ Cause.NoSuchObject)) }
 {
     match given {

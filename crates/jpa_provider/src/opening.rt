@@ -86,7 +86,8 @@ pub(crate) fn new_call<B: Behaviour>(
     entity: &str,
 ) -> Reply
     requires settled { IsSettled session.old }
-    ensures step { Serves (world_of B.meaning metamodel.now _registry.now) session.old (Call.NewObject entity.now) result session.new }
+    ensures step { let world = world_of B.meaning metamodel.now _registry.now in
+        Serves world session.old (Call.NewObject entity.now) result session.new }
     ensures untold { tells_fault result ≡ false }
     ensures settled { IsSettled session.new }
 {

@@ -88,7 +88,8 @@ impl<R: RowSource + Drop, B: Behaviour> Provider<R, B> {
     ) -> Result<Provider<R, B>, (Cause, R)>
         requires schema { R.schema rows ≡ schema_of metamodel }
         requires held { CanBeHeld (world_of B.meaning metamodel registry) committed numbers }
-        requires holds { R.clean rows → R.holds rows (rows_of (world_of B.meaning metamodel registry) committed numbers) }
+        requires holds { R.clean rows
+            → R.holds rows (rows_of (world_of B.meaning metamodel registry) committed numbers) }
         ensures model { IfOk result (λ provider. provider.model ≡ metamodel) }
         ensures registry { IfOk result (λ provider. provider.registry ≡ registry) }
         ensures machine { IfOk result (λ provider. provider.machine ≡ opened committed numbers) }
@@ -138,11 +139,13 @@ impl<R: RowSource, B: Behaviour> Provider<R, B> {
     pub fn stands(&self)
         ensures stands { Stands B.meaning R.clean R.holds self.now }
         ensures schema { R.schema self.now.rows ≡ schema_of self.now.model }
-        ensures held { CanBeHeld (world_in B.meaning self.now) (self.now.machine).committed (self.now.machine).stored_numbers }
+        ensures held { let M = self.now.machine in
+            CanBeHeld (world_in B.meaning self.now) M.committed M.stored_numbers }
         ensures machine { IsMachine (world_in B.meaning self.now) self.now.machine }
         ensures one { HasOneTransaction self.now.machine }
         ensures described { IsDescribed self.now.model }
-        ensures discriminators { (class : ℕ) → is_class self.now.model class ≡ true → is_discriminator (entity_at self.now.model class) ≡ true }
+        ensures discriminators { let m = self.now.model in
+            (class : ℕ) → is_class m class ≡ true → is_discriminator (entity_at m class) ≡ true }
     {
         self.metamodel.unit();
         discriminator_law(&self.metamodel);
@@ -196,18 +199,34 @@ fn served<R: RowSource, B: Behaviour>(
 ) -> Reply
     requires serving { IsServing (world_of B.meaning metamodel.now registry.now) session.old }
     requires schema { R.schema rows.old ≡ schema_of metamodel.now }
-    requires holds { R.clean rows.old → R.holds rows.old (rows_of (world_of B.meaning metamodel.now registry.now) (machine_of session.old).committed (machine_of session.old).stored_numbers) }
-    ensures step { Serves (world_of B.meaning metamodel.now registry.now) session.old call result session.new }
+    requires holds { let world = world_of B.meaning metamodel.now registry.now in
+        R.clean rows.old → R.holds rows.old (rows_kept world (machine_of session.old)) }
+    ensures step { let world = world_of B.meaning metamodel.now registry.now in
+        Serves world session.old call result session.new }
     ensures settled { IsSettled session.new }
-    ensures holds { is_commit call ≡ true → R.clean rows.new → R.holds rows.new (rows_of (world_of B.meaning metamodel.now registry.now) (machine_of session.new).committed (machine_of session.new).stored_numbers) }
+    ensures holds { let world = world_of B.meaning metamodel.now registry.now in
+        is_commit call ≡ true → R.clean rows.new
+        → R.holds rows.new (rows_kept world (machine_of session.new)) }
     ensures others { is_commit call ≡ false → rows.new ≡ rows.old }
     ensures was_clean { R.clean rows.new → R.clean rows.old }
-    ensures crash { is_commit call ≡ true → R.clean rows.new → R.endures rows.old rows.new (λ left. left ≡ rows_made (world_of B.meaning metamodel.now registry.now) (machine_of session.old) call) }
-    ensures counted { is_commit call ≡ true → OnOk result.answer (RunsDifference (rows_kept (world_of B.meaning metamodel.now registry.now) (machine_of session.old)) (rows_made (world_of B.meaning metamodel.now registry.now) (machine_of session.old) call) (R.writes rows.old) (R.writes rows.new)) }
-    ensures bounded { is_commit call ≡ true → IsErr result.answer → (rows.new ≡ rows.old) ⊎ RunsAtMost (rows_kept (world_of B.meaning metamodel.now registry.now) (machine_of session.old)) (rows_made (world_of B.meaning metamodel.now registry.now) (machine_of session.old) call) (R.writes rows.old) (R.writes rows.new) }
+    ensures crash { let world = world_of B.meaning metamodel.now registry.now in
+        let made = rows_made world (machine_of session.old) call in
+        is_commit call ≡ true → R.clean rows.new
+        → R.endures rows.old rows.new (λ left. left ≡ made) }
+    ensures counted { let world = world_of B.meaning metamodel.now registry.now in
+        let M = machine_of session.old in
+        is_commit call ≡ true → OnOk result.answer
+        (RunsDifference (rows_kept world M) (rows_made world M call)
+        (R.writes rows.old) (R.writes rows.new)) }
+    ensures bounded { let world = world_of B.meaning metamodel.now registry.now in
+        let M = machine_of session.old in
+        is_commit call ≡ true → IsErr result.answer → (rows.new ≡ rows.old)
+        ⊎ RunsAtMost (rows_kept world M) (rows_made world M call)
+        (R.writes rows.old) (R.writes rows.new) }
     ensures unread { R.reads rows.new ≡ R.reads rows.old }
     ensures told { R.faults rows.new ≡ faults_after_reply result (R.faults rows.old) }
-    ensures refused { is_commit call ≡ true → IsErr result.answer → IsGivenUp result ⊎ (rows.new ≡ rows.old) }
+    ensures refused { is_commit call ≡ true → IsErr result.answer
+        → IsGivenUp result ⊎ (rows.new ≡ rows.old) }
     ensures schema { R.schema rows.new ≡ schema_of metamodel.now }
 {
     match call {
@@ -305,21 +324,39 @@ fn serve<R: RowSource, B: Behaviour>(
 ) -> Reply
     requires serving { IsServing (world_of B.meaning metamodel.now registry.now) session.old }
     requires schema { R.schema rows.old ≡ schema_of metamodel.now }
-    requires holds { R.clean rows.old → R.holds rows.old (rows_of (world_of B.meaning metamodel.now registry.now) (machine_of session.old).committed (machine_of session.old).stored_numbers) }
+    requires holds { let world = world_of B.meaning metamodel.now registry.now in
+        R.clean rows.old → R.holds rows.old (rows_kept world (machine_of session.old)) }
     ensures serving { IsServing (world_of B.meaning metamodel.now registry.now) session.new }
-    ensures step { Serves (world_of B.meaning metamodel.now registry.now) session.old call result session.new }
-    ensures holds { R.clean rows.new → R.holds rows.new (rows_of (world_of B.meaning metamodel.now registry.now) (machine_of session.new).committed (machine_of session.new).stored_numbers) }
+    ensures step { let world = world_of B.meaning metamodel.now registry.now in
+        Serves world session.old call result session.new }
+    ensures holds { let world = world_of B.meaning metamodel.now registry.now in
+        R.clean rows.new → R.holds rows.new (rows_kept world (machine_of session.new)) }
     ensures was_clean { R.clean rows.new → R.clean rows.old }
-    ensures crash { R.clean rows.new → R.endures rows.old rows.new (λ left. left ≡ rows_made (world_of B.meaning metamodel.now registry.now) (machine_of session.old) call) }
+    ensures crash { let world = world_of B.meaning metamodel.now registry.now in
+        let made = rows_made world (machine_of session.old) call in
+        R.clean rows.new → R.endures rows.old rows.new (λ left. left ≡ made) }
     ensures others { is_commit call ≡ false → rows.new ≡ rows.old }
-    ensures counted { is_commit call ≡ true → OnOk result.answer (RunsDifference (rows_kept (world_of B.meaning metamodel.now registry.now) (machine_of session.old)) (rows_made (world_of B.meaning metamodel.now registry.now) (machine_of session.old) call) (R.writes rows.old) (R.writes rows.new)) }
-    ensures bounded { is_commit call ≡ true → IsErr result.answer → (rows.new ≡ rows.old) ⊎ RunsAtMost (rows_kept (world_of B.meaning metamodel.now registry.now) (machine_of session.old)) (rows_made (world_of B.meaning metamodel.now registry.now) (machine_of session.old) call) (R.writes rows.old) (R.writes rows.new) }
+    ensures counted { let world = world_of B.meaning metamodel.now registry.now in
+        let M = machine_of session.old in
+        is_commit call ≡ true → OnOk result.answer
+        (RunsDifference (rows_kept world M) (rows_made world M call)
+        (R.writes rows.old) (R.writes rows.new)) }
+    ensures bounded { let world = world_of B.meaning metamodel.now registry.now in
+        let M = machine_of session.old in
+        is_commit call ≡ true → IsErr result.answer → (rows.new ≡ rows.old)
+        ⊎ RunsAtMost (rows_kept world M) (rows_made world M call)
+        (R.writes rows.old) (R.writes rows.new) }
     ensures unread { R.reads rows.new ≡ R.reads rows.old }
     ensures told { R.faults rows.new ≡ faults_after_reply result (R.faults rows.old) }
-    ensures still { (is_commit call ≡ false) ⊎ IsErr result.answer → IsStoredAs (machine_of session.old) (machine_of session.new) }
-    ensures left { is_commit call ≡ false → IsErr result.answer → LivesAsBefore (machine_of session.old) (machine_of session.new) }
-    ensures undone { (is_rollback call ≡ true) ⊎ ((is_commit call ≡ true) × IsErr result.answer) → HoldsSameValues (machine_of session.old) (machine_of session.new) }
-    ensures rising { each_fits nat_le (machine_of session.old).numbers (machine_of session.new).numbers ≡ true }
+    ensures still { (is_commit call ≡ false) ⊎ IsErr result.answer
+        → IsStoredAs (machine_of session.old) (machine_of session.new) }
+    ensures left { is_commit call ≡ false → IsErr result.answer
+        → LivesAsBefore (machine_of session.old) (machine_of session.new) }
+    ensures undone { (is_rollback call ≡ true) ⊎ ((is_commit call ≡ true) × IsErr result.answer)
+        → HoldsSameValues (machine_of session.old) (machine_of session.new) }
+    ensures rising { let M = machine_of session.old in
+        let N = machine_of session.new in
+        each_fits nat_le M.numbers N.numbers ≡ true }
     ensures refused { IsErr result.answer → IsGivenUp result ⊎ (rows.new ≡ rows.old) }
     ensures schema { R.schema rows.new ≡ schema_of metamodel.now }
 {

@@ -81,7 +81,8 @@ pub(crate) fn exchange(
     context: &mut PersistenceContext,
 )
     requires { manager < length managers.old.items }
-    ensures managers { managers.new.items ≡ slice_set managers.old.items manager (record (manager_in managers.old.items manager) { context = context.old }) }
+    ensures managers { managers.new.items ≡ slice_set managers.old.items manager
+        (record (manager_in managers.old.items manager) { context = context.old }) }
     ensures context { context.new ≡ (manager_in managers.old.items manager).context }
 {
     mem::swap(&mut managers[manager].context, context);
@@ -90,7 +91,8 @@ pub(crate) fn exchange(
 /// The manager's transaction is in another state. Takes no memory.
 pub(crate) fn set_status(managers: &mut Vec<EntityManager>, manager: usize, status: Status)
     requires { manager < length managers.old.items }
-    ensures { managers.new.items ≡ slice_set managers.old.items manager (record (manager_in managers.old.items manager) { status = status }) }
+    ensures { managers.new.items ≡ slice_set managers.old.items manager
+        (record (manager_in managers.old.items manager) { status = status }) }
 {
     managers[manager].status = status;
 }

@@ -7,3 +7,4 @@ pub mod Functions
 pub mod Subclasses
 pub mod SubclassesHold
 pub mod Related
+pub mod Orphans

@@ -25,12 +25,12 @@ pub returns-in_err-remove_orphans-clause-meets : goal.returns-in_err-remove_orph
 returns-in_err-remove_orphans-clause-meets g c =
     let world = world_of g.B.Behaviour.meaning c.args.metamodel.now c.args.registry.now in
     let w = now c.persist_reachable.new.work in
-    let events = (now c.remove_orphans.new.work).events in
+    let x = now c.remove_orphans.new.work in
     let r = c.in_err-remove_orphans.field-0.0 in
     let p = err_from_is_err_and c.from_residual-in_err-remove_orphans.result c.from_residual-in_err-remove_orphans.ensures.1 in
     rw (p.1, p.2)
-    (subst (IsRefusedAs r events) (sym (reached world (now c.args.work.now) w c.in_ok-persist_reachable.ensures.meets))
-    (refused_after r events (remove_orphans world w) (λ _. linking world) c.in_err-remove_orphans.ensures.meets))
+    (subst (IsRefusedAs r x.events) (sym (reached world (now c.args.work.now) w c.in_ok-persist_reachable.ensures.meets))
+    (refused_after r x.events (remove_orphans world w) (λ _. linking world) c.in_err-remove_orphans.ensures.meets))
 
 pub returns-in_err-check_links-clause-meets : goal.returns-in_err-check_links-clause-meets
 returns-in_err-check_links-clause-meets g c =
@@ -52,7 +52,8 @@ returns-in_err-tell_updates-clause-meets g c =
     let r = c.in_err-tell_updates.field-0.0 in
     let p = err_from_is_err_and c.from_residual-in_err-tell_updates.result c.from_residual-in_err-tell_updates.ensures.1 in
     rw (p.1, p.2)
-    (subst (IsRefusedAs r v.events) (sym (linked world (now c.args.work.now) w x c.in_ok-persist_reachable.ensures.meets c.in_ok-remove_orphans.ensures.meets (c.in_ok-check_links.ensures.meets world)))
+    (subst (IsRefusedAs r v.events)
+    (sym (linked world (now c.args.work.now) w x c.in_ok-persist_reachable.ensures.meets c.in_ok-remove_orphans.ensures.meets (c.in_ok-check_links.ensures.meets world)))
     (refused_after r v.events (pre_update world x) (λ _. writing world) c.in_err-tell_updates.ensures.meets))
 
 -- PreUpdate gave objects other values at most
@@ -64,10 +65,9 @@ write_changes-requires g c =
     let v = now c.tell_updates.new.work in
     let u = by_updates world x v c.in_ok-tell_updates.ensures.meets in
     let set : v.view ≡ (now c.args.work.now).view = u.view ∙ ap opened.now (c.remove_orphans.ensures.view ∙ c.persist_reachable.ensures.view) in
-    let same = c.tell_updates.ensures.since ∙ c.remove_orphans.ensures.since ∙ c.persist_reachable.ensures.since in
     record {
       ready = updated_ready m x v u c.in_ok-remove_orphans.ensures.ready;
-      shown = ap (λ (s : Since). s.is_shown) same ∙ c.requires.shown;
+      shown = ap (λ (s : Since). s.is_shown) (c.tell_updates.ensures.since ∙ c.remove_orphans.ensures.since ∙ c.persist_reachable.ensures.since) ∙ c.requires.shown;
       sound = subst (IsSound m) (sym set) c.requires.sound;
       rising = subst (λ (s : StoredSet). T (is_sorted identity_cmp s)) (sym set) c.requires.rising;
       distinct = updated_distinct m x v u (c.in_ok-remove_orphans.ensures.named (c.in_ok-persist_reachable.ensures.named c.requires.distinct));

@@ -4,7 +4,8 @@ use Rattle.jpa_context.specs.Undo.{now}
 use Rattle.jpa_ops.proofs.Front.{IsOnward}
 use Rattle.jpa_ops.proofs.Going.{done_holds}
 use Rattle.jpa_flush.specs.Flush.{remove_orphan}
-use Rattle.jpa_flush.proofs.Orphaned.{next_done, orphan_goes}
+use Rattle.jpa_flush.proofs.Orphaned.{orphan_goes}
+use Rattle.jpa_flush.proofs.Rounds.{next_done}
 use Rattle.jpa_flush.proofs.orphans.remove_orphans_of.Goals as goal
 
 pub loop-id-preserved : goal.loop-id-preserved
