@@ -58,8 +58,8 @@ fn write_changes<B: Behaviour>(
 /// (Jakarta Persistence 3.1, chapters 2.9, 3.2.3, 3.2.4, 3.4 and 3.5). What managed objects lead to along relations that cascade
 /// persist becomes managed before, and the orphans of managed objects are removed. The work sees the new set then.
 ///
-/// What persisting, loading and removing refuse; `IllegalState(reference)` where a managed object leads to one that is not
-/// stored; `EntityExists` where an object that is new to the set has the identity of one in it; `OptimisticLock` where the set
+/// What persisting, loading and removing refuse; `IllegalState(reference)` where a managed object leads to a new
+/// or a removed one along a relation that doesn't cascade persist; `EntityExists` where an object that is new to the set has the identity of one in it; `OptimisticLock` where the set
 /// has not the version that a changed or a removed object was loaded with; `Persistence(version)` where a version can't rise;
 /// `Persistence(converter)` where a converter throws; `Persistence` with `Null`, `Reference` or `Unique` where the new set
 /// would not be sound; `Listener` with its text where a listener or callback throws, and `Persistence(callback)` where one

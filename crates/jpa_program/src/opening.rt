@@ -98,10 +98,10 @@ pub fn open_rows<S: Alter + Drop, B: Behaviour>(
 /// was made. A database that is empty gets the table of cells, and is held to have no object. Beside that the store counts
 /// one SELECT for each table of the metamodel, and no other statement and no fault. Refused, it hands the connection back.
 ///
-/// `Mapping(function)` where it names a listener, callback or converter that the registry lacks, before the store is looked at.
-/// Then `OutOfMemory` where a growth was refused,
-/// `StoreFault` where the database holds anything else than cells, where the connection is in a transaction and where the
-/// store fails, and `Damaged` with its place where the cells of the metamodel's tables stand for no set of objects.
+/// `Mapping(function)` where the metamodel names a listener, callback or converter that the registry lacks, before the store is
+/// looked at. Then `OutOfMemory` where a growth was refused, `StoreFault` where the database holds anything else than cells,
+/// where the connection is in a transaction and where the store fails, and `Damaged` with its place where the cells of the
+/// metamodel's tables stand for no set of objects.
 pub fn open<S: Alter + Drop, B: Behaviour>(
     alloc: Global,
     conn: Connection<S>,

@@ -50,7 +50,7 @@ const FIRST_CELLS: [&str; 4] = [
 
 // ---- runs
 
-/// A provider of persons over a store in memory.
+/// A provider of persons with their orders over a store in memory.
 fn opened(alloc: Global) -> Result<Provider<RowSpace<MemStore>, ProgramFunctions>, Fail> {
     let metamodel = first_unit(alloc)?;
     let conn = Connection::open_in_memory(alloc)?;

@@ -2,7 +2,7 @@
 
 use jpa_value::{Seq, Text, Value};
 
-/// What a call hands in as a value: of an attribute, or of a part of a key.
+/// What a call hands in as a value: of an attribute or a link, or of a part of a key.
 #[derive(Drop)]
 pub enum Given {
     /// A value, or null.
@@ -38,7 +38,7 @@ pub enum Call {
         name: Text,
         member: i64,
     },
-    /// Takes an object out of a collection of another, by the relation's name (chapter 2.2).
+    /// Takes the first occurrence of an object out of a collection of another, by the relation's name (chapter 2.2).
     TakeOut {
         object: i64,
         name: Text,

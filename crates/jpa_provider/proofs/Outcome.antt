@@ -1,4 +1,4 @@
--- What holds of the machine between calls is kept by each call: here for units without relations.
+-- What holds of the machine between calls is kept by each call, in every orderly unit whose functions are regular.
 use Rattle.std.proofs.Common.{◌≡◌, ℕ, Bool, true, false, List, [], ◌∷◌, sym, subst}
 use Rattle.std.specs.List.{list_all}
 use Rattle.std.proofs.lemmas.Bool.{and_parts}

@@ -47,7 +47,7 @@ pub enum Operation {
         name: Text,
         member: i64,
     },
-    /// An object is taken out of a collection of another, by the relation's name (chapter 2.2).
+    /// The first occurrence of an object is taken out of a collection of another, by the relation's name (chapter 2.2).
     TakeOut {
         object: i64,
         name: Text,
@@ -170,7 +170,7 @@ fn add_numbered<B: Behaviour>(
     Ok(Answer::Null)
 }
 
-/// An object is taken out of a collection of another, both by their numbers; whether it stood there.
+/// The first occurrence of an object is taken out of a collection of another, both by their numbers; whether it stood there.
 fn take_out_numbered<B: Behaviour>(
     alloc: Global,
     metamodel: &Metamodel,

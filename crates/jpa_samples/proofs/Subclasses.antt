@@ -1,4 +1,4 @@
--- Subclasses in the table of their root: new ones, found by their class and by others, changed, removed, and what is served.
+-- Subclasses in the table of their root: new ones, found by their class and by others, changed and removed, and who hears.
 use Rattle.std.specs.Prelude.{codes, ◌≡◌, refl, ℕ, pos, Bool, true, false, Option, Some, None, List, [], ◌∷◌, ◌++◌}
 use Rattle.jpa_value.specs.declared.value.Value.{Value}
 use Rattle.jpa_value.specs.declared.value.Kind.{Kind}

@@ -1,4 +1,4 @@
-//! A listener that is heard: the program serves no unit with listeners yet.
+//! A listener that is heard, without a run of the program.
 use jpa_behaviour::{Heard, Image, Named, Registry};
 use jpa_functions::{ProgramFunctions, read_functions, registry_of};
 use jpa_value::{Cause, LifecycleEvent, Seq, Text, Value};

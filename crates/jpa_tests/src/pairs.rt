@@ -1,4 +1,4 @@
-//! Pairs of keys, by which the rows of join tables are named: the program serves no unit with join tables yet.
+//! Pairs of keys, by which the rows of join tables are named.
 use jpa_key::{decode_front, decode_pair, encode_pair};
 use jpa_value::{Cause, Key, Kind, Seq, Text, Value, order_keys};
 use std::alloc::Global;

@@ -1,4 +1,4 @@
-//! The numbers and the texts of refusals, many of which no call of the program meets yet.
+//! The numbers and the texts of refusals, some of which no call of the program meets yet.
 use jpa_value::{
     Argument, Cause, LifecycleEvent, MappingFault, Persist, Refusal, State, Text, refusal_text,
 };

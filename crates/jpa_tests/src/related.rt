@@ -1,4 +1,4 @@
-//! The members of a relation: the program serves no unit with relations yet.
+//! The members of a relation, without a run of the program.
 //!
 //! A person (class 0, table 1) has orders, the inverse of an order's person (class 1, table 2).
 use jpa_mapping::read_mapping;
