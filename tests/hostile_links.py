@@ -209,16 +209,22 @@ class LinkPlots:
             yield from self.reading(each)
         yield self.random.choice(["commit", "rollback"]), {"em": em}
 
-    def removed_family(self):
-        """An object is removed, of which relations were read or not; what leads to it is taken out or not; and perhaps it is persisted again."""
+    def one_found(self, operation):
+        """Calls that store related objects along a cascade of the operation and find one of them: the manager, it, all and the relation."""
         em = yield from self.at_work()
-        made = em and (yield from self.stored(em, cascading("REMOVE")))
+        made = em and (yield from self.stored(em, cascading(operation)))
         if not made:
-            return
+            return None
         lives, relation = made
         live = yield from self.found(em, lives[0] if self.random.random() < 0.7 else self.random.choice(lives))
-        if live is None:
+        return None if live is None else (em, live, lives, relation)
+
+    def removed_family(self):
+        """An object is removed, of which relations were read or not; what leads to it is taken out or not; and perhaps it is persisted again."""
+        begun = yield from self.one_found("REMOVE")
+        if begun is None:
             return
+        em, live, lives, relation = begun
         if self.random.random() < 0.25:
             yield from self.reading(live)
         if self.random.random() < 0.3:
@@ -274,14 +280,10 @@ class LinkPlots:
 
     def read_again(self):
         """What an object holds is changed and refreshed, also along cascades."""
-        em = yield from self.at_work()
-        made = em and (yield from self.stored(em, cascading("REFRESH")))
-        if not made:
+        begun = yield from self.one_found("REFRESH")
+        if begun is None:
             return
-        lives, _ = made
-        live = yield from self.found(em, lives[0] if self.random.random() < 0.7 else self.random.choice(lives))
-        if live is None:
-            return
+        em, live, lives, _ = begun
         yield from self.reading(live)
         for _ in range(self.random.randint(1, 3)):
             relations = [each for each in live.entity.relations.values() if live.read_of(each)]

@@ -15,7 +15,7 @@ use std::alloc::{AllocError, Global};
 
 /// The identities of objects.
 fn identities_of<'a>(alloc: Global, objects: &[Object<'a>]) -> Result<Vec<&'a Identity>, AllocError>
-    ensures { IfOk result (λ ids. identities ids.items ≡ map (λ e. e.0) (map entry objects.now)) }
+    ensures { IfOk result (λ v. identities v.items ≡ map (λ e. e.0) (map entry objects.now)) }
 {
     let mut ids = Vec::new(alloc);
     for object in objects {
