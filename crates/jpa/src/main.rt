@@ -123,7 +123,8 @@ fn serve<S: Alter + Drop>(
     unit: Unit,
 ) -> Result<(Stop, Connection<S>), Cause>
     requires { IsOrderedIfFound S.Store conn }
-    ensures unknown { known.names_are_known unit.registry unit.metamodel ≡ false → IsErrAnd result (λ cause. cause ≡ Cause.Mapping MappingFault.Function) }
+    ensures unknown { known.names_are_known unit.registry unit.metamodel ≡ false
+        → IsErrAnd result (λ cause. cause ≡ Cause.Mapping MappingFault.Function) }
     ensures served { OnOk result (spec.IsServable unit) }
     ensures cells { IfOk result (λ served. spec.HoldsUnit S.Store unit served.1) }
 {

@@ -24,7 +24,8 @@ fn is_storable(state: EntityState) -> bool
 /// Whether each of these objects may be led to.
 fn all_storable(work: &UnitOfWork, objects: &[usize]) -> bool
     requires { All (λ k. k < length work.now.objects.now) objects.now }
-    ensures { result ≡ list_all (λ k. flushes.is_storable (state_of (now work.now) k)) objects.now }
+    ensures { result
+        ≡ list_all (λ k. flushes.is_storable (state_of (now work.now) k)) objects.now }
 {
     for object in objects {
         if !is_storable(state_of(work, *object)) {

@@ -36,7 +36,8 @@ fn rows_over<S: Alter + Drop>(
     ensures opens { IfOk result (λ space. Opens S.Store conn space.store) }
     ensures crash { IfOk result (λ space. EnduresMaking S.Store conn space.store.conn) }
     ensures refused { IfErr result (λ e. IsStoreCause e.0) }
-    ensures takes { IfErr result (λ e. e.0 ≡ Cause.StoreFault → conn.in_transaction ≡ false → HoldsTable S.Store conn → ⊥) }
+    ensures takes { IfErr result (λ e. e.0 ≡ Cause.StoreFault → conn.in_transaction ≡ false
+        → HoldsTable S.Store conn → ⊥) }
     ensures kept { IfErr result (λ e. Keeps S.Store conn e.1) }
     ensures crash_err { IfErr result (λ e. EnduresMaking S.Store conn e.1) }
     ensures again { IfErr result (λ e. IsOrderedIfFound S.Store e.1) }
@@ -74,8 +75,10 @@ pub fn open_rows<S: Alter + Drop, B: Behaviour>(
     ensures opens { IfOk result (λ o. KeepsOrMakes S.Store conn o.0.store.conn) }
     ensures crash { IfOk result (λ o. EnduresMaking S.Store conn o.0.store.conn) }
     ensures counted { IfOk result (λ o. OpensReading S.Store conn o.0.store (length (schema_of metamodel.now).tables)) }
-    ensures unknown { known.names_are_known registry.now metamodel.now ≡ false → result ≡ Err (Cause.Mapping MappingFault.Function, conn) }
-    ensures refused { IfErr result (λ e. known.names_are_known registry.now metamodel.now ≡ true → IsOpenCause S.Store (world_of B.meaning metamodel.now registry.now) e.1 e.0) }
+    ensures unknown { known.names_are_known registry.now metamodel.now ≡ false
+        → result ≡ Err (Cause.Mapping MappingFault.Function, conn) }
+    ensures refused { IfErr result (λ e. known.names_are_known registry.now metamodel.now ≡ true
+        → IsOpenCause S.Store (world_of B.meaning metamodel.now registry.now) e.1 e.0) }
     ensures cause { IfErr result (λ e. e.0 ≡ Cause.StoreFault → IsClean S.Store e.1 → conn.in_transaction ≡ false → HoldsTable S.Store conn → HasFault S.Store conn e.1) }
     ensures kept { IfErr result (λ e. KeepsOrMakes S.Store conn e.1) }
     ensures crash_err { IfErr result (λ e. EnduresMaking S.Store conn e.1) }
@@ -118,8 +121,10 @@ pub fn open<S: Alter + Drop, B: Behaviour>(
     ensures opens { IfOk result (λ provider. KeepsOrMakes S.Store conn (provider.rows).store.conn) }
     ensures crash { IfOk result (λ provider. EnduresMaking S.Store conn (provider.rows).store.conn) }
     ensures counted { IfOk result (λ provider. OpensReading S.Store conn (provider.rows).store (length (schema_of metamodel).tables)) }
-    ensures unknown { known.names_are_known registry metamodel ≡ false → result ≡ Err (Cause.Mapping MappingFault.Function, conn) }
-    ensures refused { IfErr result (λ e. known.names_are_known registry metamodel ≡ true → IsOpenCause S.Store (world_of B.meaning metamodel registry) e.1 e.0) }
+    ensures unknown { known.names_are_known registry metamodel ≡ false
+        → result ≡ Err (Cause.Mapping MappingFault.Function, conn) }
+    ensures refused { IfErr result (λ e. known.names_are_known registry metamodel ≡ true
+        → IsOpenCause S.Store (world_of B.meaning metamodel registry) e.1 e.0) }
     ensures cause { IfErr result (λ e. e.0 ≡ Cause.StoreFault → IsClean S.Store e.1 → conn.in_transaction ≡ false → HoldsTable S.Store conn → HasFault S.Store conn e.1) }
     ensures kept { IfErr result (λ e. KeepsOrMakes S.Store conn e.1) }
     ensures crash_err { IfErr result (λ e. EnduresMaking S.Store conn e.1) }

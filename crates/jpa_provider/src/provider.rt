@@ -352,7 +352,8 @@ fn serve<R: RowSource, B: Behaviour>(
         → IsStoredAs (machine_of session.old) (machine_of session.new) }
     ensures left { is_commit call ≡ false → IsErr result.answer
         → LivesAsBefore (machine_of session.old) (machine_of session.new) }
-    ensures undone { (is_rollback call ≡ true) ⊎ ((is_commit call ≡ true) × IsErr result.answer)
+    ensures undone { (is_rollback call ≡ true)
+        ⊎ ((is_commit call ≡ true) × IsErr result.answer)
         → HoldsSameValues (machine_of session.old) (machine_of session.new) }
     ensures rising { let M = machine_of session.old in
         let N = machine_of session.new in
