@@ -4,5 +4,7 @@ pub mod Gathered
 pub mod Held
 pub mod Indexed
 pub mod Layers
+pub mod Lowest
+pub mod Merged
 pub mod Placed
 pub mod Subclasses

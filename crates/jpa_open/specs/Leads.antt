@@ -1,9 +1,10 @@
 -- Which objects of a set lead to an identity: whether any does, whether those that do want the class that stands there,
 -- and whether another has a claim to it.
-use Rattle.std.specs.Prelude.{ℕ, Bool, false, not, ◌&&◌, ◌==◌, List, [], ◌∷◌, Option, Some, None}
+use Rattle.std.specs.Prelude.{ℕ, Bool, false, not, cond, ◌&&◌, ◌==◌, List, [], ◌∷◌, map, filter, slice_get, Option, Some, None}
 use Rattle.std.specs.List.{list_any, zip}
+use Rattle.std.specs.Ordering.{is_lt}
 use Rattle.jpa_value.specs.declared.value.Identity.{Identity}
-use Rattle.jpa_value.specs.Value.{same_identity}
+use Rattle.jpa_value.specs.Value.{identity_cmp, same_identity}
 use Rattle.jpa_model.specs.declared.unit.PersistenceUnit.{PersistenceUnit}
 use Rattle.jpa_model.specs.declared.unit.Relation.{Relation}
 use Rattle.jpa_model.specs.Chains.{relations_of}
@@ -44,3 +45,13 @@ is_column column (Some other) = other == column
 
 abbrev pub is_of_column : ℕ → Relation → Bool
 is_of_column column r = is_column column (one_to_one_column r.side)
+
+-- the lower of two identities, where there are two
+abbrev pub lower : Option Identity → Option Identity → Option Identity
+lower None other = other
+lower (Some x) None = Some x
+lower (Some x) (Some y) = cond (is_lt (identity_cmp y x)) (Some y) (Some x)
+
+-- the first identity of a set whose object passes
+abbrev pub first_of : (Identity × Stored → Bool) → StoredSet → Option Identity
+first_of p s = slice_get (map (λ e. e.0) (filter p s)) 0

@@ -1,8 +1,10 @@
 -- A set under two layers of changes: what a transaction wrote before a call, and what is written in it.
-use Rattle.std.specs.Prelude.{◌≡◌, Bool, true, false, List, map, if◌then◌else◌}
+use Rattle.std.specs.Prelude.{◌≡◌, Bool, true, false, List, map, Option, Some, None, if◌then◌else◌}
+use Rattle.std.specs.Borrow.{Bor}
+use Rattle.std.specs.declared.cmp.Ordering.{Ordering}
 use Rattle.std.specs.List.{list_any}
 use Rattle.jpa_value.specs.declared.value.Identity.{Identity}
-use Rattle.jpa_value.specs.Value.{same_identity}
+use Rattle.jpa_value.specs.Value.{identity_cmp, same_identity}
 use Rattle.jpa_stored.specs.declared.stored.Stored.{Stored}
 use Rattle.jpa_stored.specs.Sets.{StoredSet, stored_at}
 use Rattle.jpa_open.specs.Layers.{Layer}
@@ -50,3 +52,16 @@ layer puts drops = record { puts = puts; drops = map (λ (e : Identity × Unit {
 -- what any other identity has in the set seen it has in the committed one
 abbrev pub AreAllChanged : Opened → List Identity → Type 0
 AreAllChanged v ids = (q : Identity) → list_any (same_identity q) ids ≡ false → stored_at v.seen q ≡ stored_at v.committed q
+
+-- objects where they stand
+abbrev pub lent : List (Bor (Identity × Stored)) → StoredSet
+lent es = map (λ (e : Bor (Identity × Stored)). e.now) es
+
+-- identities where they stand
+abbrev pub lent_ids : List (Bor Identity) → List Identity
+lent_ids ids = map (λ (id : Bor Identity). id.now) ids
+
+-- how the next of some entries and an identity compare; none is above all
+abbrev pub next_cmp : Option (Identity × Stored) → Identity → Ordering
+next_cmp None id = Ordering.Greater
+next_cmp (Some e) id = identity_cmp e.0 id

@@ -20,8 +20,10 @@ use std::collections::BTreeSet;
 use std::marker::Model;
 use std::mem;
 
+mod entries;
 mod leading;
 mod leads;
+mod owners;
 
 /// The stored objects that a transaction sees (chapter 3.2.4): the committed ones, and over them two layers: what the
 /// transaction wrote before the call at hand, and what is written in it. A layer is objects put over identities taken out.

@@ -1,6 +1,7 @@
 -- What the parts of UPDATE and DELETE mean, over what they are run over.
 use Rattle.std.specs.Prelude.{ℕ, Bool, not, ◌||◌, List, Option}
 use Rattle.std.specs.List.{list_any, filter}
+use Rattle.jpa_open.specs.Opened.{now}
 use Rattle.jpql_types.specs.declared.typed.TypedAssignment.{TypedAssignment}
 use Rattle.jpql_types.specs.declared.typed.TypedCondition.{TypedCondition}
 use Rattle.jpa_model.specs.declared.unit.Member.{Member}
@@ -13,11 +14,11 @@ use Rattle.jpql_run.specs.Runs.{any_condition}
 use Rattle.jpql_run.specs.declared.run.Run.{Run}
 
 abbrev pub tuple_of : Run → Bool → Entry → Tuple
-tuple_of run is_named e = bulk.tuple_of run.metamodel.now run.set.now run.parameters.now is_named e
+tuple_of run is_named e = bulk.tuple_of run.metamodel.now (now run.set.now) run.parameters.now is_named e
 
 -- whether a tuple has a null step in what is assigned
 abbrev pub set_drops : Run → List TypedAssignment → Tuple → Bool
-set_drops run all t = list_any (bulk.assignment_drops run.metamodel.now run.set.now run.parameters.now t) all
+set_drops run all t = list_any (bulk.assignment_drops run.metamodel.now (now run.set.now) run.parameters.now t) all
 
 -- those whose tuple has no null step
 abbrev pub there : Run → Bool → List TypedAssignment → Option TypedCondition → List Entry → List Entry
@@ -30,10 +31,10 @@ kept_of run is_named where_ es = kept (λ e. truth_of_any (any_condition run whe
 
 abbrev pub concerned : Run → ℕ → Bool → List TypedAssignment → Option TypedCondition → Answer (List Entry)
 concerned run class is_named all where_ =
-    bulk.concerned run.metamodel.now run.set.now run.parameters.now class is_named (set_drops run all) where_
+    bulk.concerned run.metamodel.now (now run.set.now) run.parameters.now class is_named (set_drops run all) where_
 
 abbrev pub assignment_datum : Run → Entry → TypedAssignment → Answer (Member × Datum)
-assignment_datum run e a = bulk.assignment_datum run.metamodel.now run.set.now run.parameters.now e a
+assignment_datum run e a = bulk.assignment_datum run.metamodel.now (now run.set.now) run.parameters.now e a
 
 abbrev pub assignments_for : Run → List TypedAssignment → Entry → Answer (Entry × List (Member × Datum))
-assignments_for run all e = bulk.assignments_for run.metamodel.now run.set.now run.parameters.now all e
+assignments_for run all e = bulk.assignments_for run.metamodel.now (now run.set.now) run.parameters.now all e

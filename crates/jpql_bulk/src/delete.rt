@@ -1,12 +1,13 @@
 //! DELETE (chapter 4.10).
 ghost use Rattle.std.specs.Prelude.{◌≡◌, map, IfOk};
+ghost use Rattle.jpa_open.specs.Opened as opened;
 ghost use Rattle.jpql_bulk.specs.Changes as changes;
 ghost use Rattle.jpql_eval.specs.Finds.{Finds};
 ghost use Rattle.jpql_run.specs.Objects.{entry, identities};
 
 use crate::concerned::concerned;
 use jpa_model::Metamodel;
-use jpa_stored::StoredSet;
+use jpa_open::OpenSet;
 use jpa_value::{Boxed, Identity};
 use jpql_eval::{Datum, Failure};
 use jpql_run::{Object, Run};
@@ -31,13 +32,13 @@ fn identities_of<'a>(alloc: Global, objects: &[Object<'a>]) -> Result<Vec<&'a Id
 pub fn found_by_delete<'a>(
     alloc: Global,
     metamodel: &'a Metamodel,
-    set: &'a StoredSet,
+    set: &'a OpenSet,
     parameters: &'a [Datum],
     class: usize,
     is_named: bool,
     filter: &'a Option<Boxed<TypedCondition>>,
 ) -> Result<Vec<&'a Identity>, Failure>
-    ensures { Finds (λ v. identities v.items) result (changes.found_by_delete metamodel.now set.now
+    ensures { Finds (λ v. identities v.items) result (changes.found_by_delete metamodel.now (opened.now set.now)
         parameters.now class is_named filter.now) }
 {
     let run = Run {

@@ -1,5 +1,6 @@
 //! UPDATE (chapter 4.10).
 ghost use Rattle.std.specs.Prelude.{◌≡◌, map};
+ghost use Rattle.jpa_open.specs.Opened as opened;
 ghost use Rattle.jpql_bulk.specs.Bulks as bulks;
 ghost use Rattle.jpql_bulk.specs.Changes as changes;
 ghost use Rattle.jpql_bulk.specs.Changes.{member_in, members_in, change_in};
@@ -14,7 +15,7 @@ ghost use Rattle.jpql_run.specs.Runs as runs;
 
 use crate::concerned::{concerned, tuple_of};
 use jpa_model::{Member, Metamodel};
-use jpa_stored::StoredSet;
+use jpa_open::OpenSet;
 use jpa_value::Boxed;
 use jpql_eval::{Datum, Failure, Seen};
 use jpql_run::{Object, Run, Tuple, value};
@@ -118,14 +119,14 @@ fn each_change<'a>(
 pub fn found_by_update<'a>(
     alloc: Global,
     metamodel: &'a Metamodel,
-    set: &'a StoredSet,
+    set: &'a OpenSet,
     parameters: &'a [Datum],
     class: usize,
     assignments: &'a [TypedAssignment],
     filter: &'a Option<Boxed<TypedCondition>>,
 ) -> Result<Vec<Change<'a>>, Failure>
     ensures { Finds (λ v. map change_in v.items) result
-        (changes.found_by_update metamodel.now set.now parameters.now class assignments.now
+        (changes.found_by_update metamodel.now (opened.now set.now) parameters.now class assignments.now
         filter.now) }
 {
     let run = Run {

@@ -2,6 +2,7 @@
 ghost use Rattle.std.specs.Prelude.{◌≡◌};
 ghost use Rattle.std.specs.List.{list_any};
 ghost use Rattle.jpa_value.specs.Value.{same_identity};
+ghost use Rattle.jpa_open.specs.Opened as opened;
 ghost use Rattle.jpql_eval.specs.Answers.{gives};
 ghost use Rattle.jpql_eval.specs.Finds.{Finds, same};
 ghost use Rattle.jpql_eval.specs.Seen.{seen};
@@ -24,7 +25,7 @@ pub(crate) fn size<'a>(
     tuple: &Tuple<'a>,
     path: &TypedPath,
 ) -> Result<Seen<'a>, Failure>
-    ensures { Finds seen result (gives (meaning.size (paths.collection run.now.metamodel.now run.now.set.now tuple.now path.now))) }
+    ensures { Finds seen result (gives (meaning.size (paths.collection run.now.metamodel.now (opened.now run.now.set.now) tuple.now path.now))) }
 {
     match collection(alloc, run, tuple, path)? {
         None => Ok(Seen::Null),
@@ -39,7 +40,7 @@ pub(crate) fn is_empty<'a>(
     tuple: &Tuple<'a>,
     path: &TypedPath,
 ) -> Result<Truth, Failure>
-    ensures { Finds same result (gives (meaning.emptiness (paths.collection run.now.metamodel.now run.now.set.now tuple.now path.now))) }
+    ensures { Finds same result (gives (meaning.emptiness (paths.collection run.now.metamodel.now (opened.now run.now.set.now) tuple.now path.now))) }
 {
     match collection(alloc, run, tuple, path)? {
         None => Ok(Truth::Unknown),
@@ -81,7 +82,7 @@ pub(crate) fn is_member<'a>(
     element: &Seen<'a>,
     path: &TypedPath,
 ) -> Result<Truth, Failure>
-    ensures { Finds same result (gives (meaning.membership (seen element.now) (paths.collection run.now.metamodel.now run.now.set.now tuple.now path.now))) }
+    ensures { Finds same result (gives (meaning.membership (seen element.now) (paths.collection run.now.metamodel.now (opened.now run.now.set.now) tuple.now path.now))) }
 {
     match collection(alloc, run, tuple, path)? {
         None => Ok(Truth::Unknown),

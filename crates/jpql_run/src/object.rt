@@ -1,9 +1,11 @@
 //! Objects where they stand in a set.
 ghost use Rattle.std.specs.Prelude.{◌≡◌, option_map};
 ghost use Rattle.jpa_stored.specs.Sets.{stored_at};
+ghost use Rattle.jpa_open.specs.Opened as opened;
 ghost use Rattle.jpql_run.specs.Objects.{entry};
 
-use jpa_stored::{Stored, StoredSet};
+use jpa_open::OpenSet;
+use jpa_stored::Stored;
 use jpa_value::Identity;
 
 /// An object of a set, with its identity.
@@ -16,8 +18,8 @@ pub struct Object<'a> {
 }
 
 /// The object under an identity, if one stands there.
-pub(crate) fn object_of<'a>(set: &'a StoredSet, id: &'a Identity) -> Option<Object<'a>>
-    ensures { option_map entry result ≡ option_map (λ x. (id.now, x)) (stored_at set.now id.now) }
+pub(crate) fn object_of<'a>(set: &'a OpenSet, id: &'a Identity) -> Option<Object<'a>>
+    ensures { option_map entry result ≡ option_map (λ x. (id.now, x)) (stored_at (opened.now set.now) id.now) }
 {
     match set.get(id) {
         None => None,

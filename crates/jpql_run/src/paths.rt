@@ -2,6 +2,7 @@
 ghost use Rattle.std.specs.Prelude.{◌≡◌, slice_index_or, option_map, Some, IfOk};
 ghost use Rattle.std.specs.Option.{option_copied};
 ghost use Rattle.jpa_value.specs.declared.value.Value.{Value};
+ghost use Rattle.jpa_open.specs.Opened as opened;
 ghost use Rattle.jpql_plan.specs.Paths as paths;
 ghost use Rattle.jpql_eval.specs.declared.datum.Datum.{Datum};
 ghost use Rattle.jpql_eval.specs.Seen.{seen};
@@ -56,7 +57,7 @@ fn entity<'a>(object: Option<Object<'a>>) -> Seen<'a>
 
 /// What a member of an object is.
 fn member<'a>(run: &Run<'a>, object: &Object<'a>, step: Step) -> Seen<'a>
-    ensures { seen result ≡ paths.member_datum run.now.metamodel.now run.now.set.now (entry object.now) step.class step.member }
+    ensures { seen result ≡ paths.member_datum run.now.metamodel.now (opened.now run.now.set.now) (entry object.now) step.class step.member }
 {
     match step.member {
         Member::KeyPart(place) => part(object.id.key.as_slice(), place),
@@ -68,7 +69,7 @@ fn member<'a>(run: &Run<'a>, object: &Object<'a>, step: Step) -> Seen<'a>
 
 /// The last step of a path.
 fn last<'a>(run: &Run<'a>, object: Option<Object<'a>>, step: Step) -> Seen<'a>
-    ensures { seen result ≡ paths.step_datum run.now.metamodel.now run.now.set.now (option_map entry object.entry) step }
+    ensures { seen result ≡ paths.step_datum run.now.metamodel.now (opened.now run.now.set.now) (option_map entry object.entry) step }
 {
     match object {
         None => Seen::Null,
@@ -78,7 +79,7 @@ fn last<'a>(run: &Run<'a>, object: Option<Object<'a>>, step: Step) -> Seen<'a>
 
 /// A step before the last.
 fn next<'a>(run: &Run<'a>, object: Option<Object<'a>>, step: Step) -> Option<Object<'a>>
-    ensures { option_map entry result ≡ paths.next run.now.metamodel.now run.now.set.now (option_map entry object.entry) step }
+    ensures { option_map entry result ≡ paths.next run.now.metamodel.now (opened.now run.now.set.now) (option_map entry object.entry) step }
 {
     let object = object?;
     let Member::Relation(place) = step.member else {
@@ -89,7 +90,7 @@ fn next<'a>(run: &Run<'a>, object: Option<Object<'a>>, step: Step) -> Option<Obj
 }
 
 fn walked<'a>(run: &Run<'a>, object: Option<Object<'a>>, steps: &[Step]) -> Seen<'a>
-    ensures { seen result ≡ paths.walked run.now.metamodel.now run.now.set.now (option_map entry object.entry) steps.now }
+    ensures { seen result ≡ paths.walked run.now.metamodel.now (opened.now run.now.set.now) (option_map entry object.entry) steps.now }
 {
     match steps {
         [] => entity(object),
@@ -99,7 +100,7 @@ fn walked<'a>(run: &Run<'a>, object: Option<Object<'a>>, steps: &[Step]) -> Seen
 }
 
 fn breaks<'a>(run: &Run<'a>, object: Option<Object<'a>>, steps: &[Step]) -> bool
-    ensures { result ≡ paths.breaks run.now.metamodel.now run.now.set.now (option_map entry object.entry) steps.now }
+    ensures { result ≡ paths.breaks run.now.metamodel.now (opened.now run.now.set.now) (option_map entry object.entry) steps.now }
 {
     let [step, rest @ ..] = steps else {
         return false;
@@ -113,14 +114,14 @@ fn breaks<'a>(run: &Run<'a>, object: Option<Object<'a>>, steps: &[Step]) -> bool
 
 /// What a path of a tuple leads to.
 pub fn path<'a>(run: &Run<'a>, tuple: &Tuple<'a>, path: &TypedPath) -> Seen<'a>
-    ensures { seen result ≡ paths.path_datum run.now.metamodel.now run.now.set.now tuple.now path.now }
+    ensures { seen result ≡ paths.path_datum run.now.metamodel.now (opened.now run.now.set.now) tuple.now path.now }
 {
     walked(run, tuple.get(path.variable), path.steps.as_slice())
 }
 
 /// Whether a path of a tuple has a null step before its last.
 pub fn is_broken<'a>(run: &Run<'a>, tuple: &Tuple<'a>, path: &TypedPath) -> bool
-    ensures { result ≡ paths.is_broken run.now.metamodel.now run.now.set.now tuple.now path.now }
+    ensures { result ≡ paths.is_broken run.now.metamodel.now (opened.now run.now.set.now) tuple.now path.now }
 {
     breaks(run, tuple.get(path.variable), path.steps.as_slice())
 }
@@ -132,7 +133,7 @@ pub(crate) fn related_along<'a>(
     object: &Object<'a>,
     step: Step,
 ) -> Result<Vec<&'a Identity>, AllocError>
-    ensures { IfOk result (λ found. identities found.items ≡ paths.related run.now.metamodel.now run.now.set.now (entry object.now) step) }
+    ensures { IfOk result (λ found. identities found.items ≡ paths.related run.now.metamodel.now (opened.now run.now.set.now) (entry object.now) step) }
 {
     match step.member {
         Member::Relation(place) => related(alloc, run, step.class, object, place),
@@ -147,7 +148,7 @@ fn last_collection<'a>(
     object: Option<Object<'a>>,
     step: Step,
 ) -> Result<Option<Vec<&'a Identity>>, AllocError>
-    ensures { IfOk result (λ found. option_map (λ ids. identities ids.items) found ≡ option_map (λ e. paths.related run.now.metamodel.now run.now.set.now e step) (option_map entry object.entry)) }
+    ensures { IfOk result (λ found. option_map (λ ids. identities ids.items) found ≡ option_map (λ e. paths.related run.now.metamodel.now (opened.now run.now.set.now) e step) (option_map entry object.entry)) }
 {
     match object {
         None => Ok(None),
@@ -161,7 +162,7 @@ fn gathered<'a>(
     object: Option<Object<'a>>,
     steps: &[Step],
 ) -> Result<Option<Vec<&'a Identity>>, AllocError>
-    ensures { IfOk result (λ found. option_map (λ ids. identities ids.items) found ≡ paths.gathered run.now.metamodel.now run.now.set.now (option_map entry object.entry) steps.now) }
+    ensures { IfOk result (λ found. option_map (λ ids. identities ids.items) found ≡ paths.gathered run.now.metamodel.now (opened.now run.now.set.now) (option_map entry object.entry) steps.now) }
 {
     match steps {
         [] => Ok(None),
@@ -177,7 +178,7 @@ pub(crate) fn collection<'a>(
     tuple: &Tuple<'a>,
     path: &TypedPath,
 ) -> Result<Option<Vec<&'a Identity>>, AllocError>
-    ensures { IfOk result (λ found. option_map (λ ids. identities ids.items) found ≡ paths.collection run.now.metamodel.now run.now.set.now tuple.now path.now) }
+    ensures { IfOk result (λ found. option_map (λ ids. identities ids.items) found ≡ paths.collection run.now.metamodel.now (opened.now run.now.set.now) tuple.now path.now) }
 {
     gathered(alloc, run, tuple.get(path.variable), path.steps.as_slice())
 }

@@ -1,6 +1,6 @@
 //! What a statement is run over.
 use jpa_model::Metamodel;
-use jpa_stored::StoredSet;
+use jpa_open::OpenSet;
 use jpql_eval::Datum;
 
 /// What a statement is run over.
@@ -8,8 +8,8 @@ use jpql_eval::Datum;
 pub struct Run<'a> {
     /// What is known of the classes.
     pub metamodel: &'a Metamodel,
-    /// The objects.
-    pub set: &'a StoredSet,
+    /// The objects that the manager at work sees.
+    pub set: &'a OpenSet,
     /// What stands for the parameters, by place.
     pub parameters: &'a [Datum],
 }

@@ -1,5 +1,6 @@
 //! Tests of values.
 ghost use Rattle.std.specs.Prelude.{◌≡◌, map};
+ghost use Rattle.jpa_open.specs.Opened as opened;
 ghost use Rattle.jpql_eval.specs.Answers.{every, both, under};
 ghost use Rattle.jpql_eval.specs.Data as data_;
 ghost use Rattle.jpql_eval.specs.Calls as calls;
@@ -149,7 +150,7 @@ pub(crate) fn member<'a>(
     one: &'a TypedValue,
     path: &TypedPath,
 ) -> Result<Truth, Failure>
-    ensures { Finds same result (under (λ x. meaning.membership x (paths.collection run.now.metamodel.now run.now.set.now tuple.now path.now)) (runs.value run.now one.now (runs.case tuple.now group.now))) }
+    ensures { Finds same result (under (λ x. meaning.membership x (paths.collection run.now.metamodel.now (opened.now run.now.set.now) tuple.now path.now)) (runs.value run.now one.now (runs.case tuple.now group.now))) }
 {
     let one = value(alloc, run, tuple, group, one)?;
     is_member(alloc, run, tuple, &one, path)

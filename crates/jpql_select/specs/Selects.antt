@@ -1,5 +1,6 @@
 -- What the parts of a SELECT mean, over what it is run over.
 use Rattle.std.specs.Prelude.{Bool, List}
+use Rattle.jpa_open.specs.Opened.{now}
 use Rattle.jpql_types.specs.declared.scope.TypedPath.{TypedPath}
 use Rattle.jpql_types.specs.declared.typed.TypedKey.{TypedKey}
 use Rattle.jpql_types.specs.declared.typed.TypedSelect.{TypedSelect}
@@ -13,31 +14,31 @@ use Rattle.jpql_plan.specs.Selection.{Row}
 use Rattle.jpql_run.specs.declared.run.Run.{Run}
 
 abbrev pub is_broken : Run → Tuple → TypedPath → Bool
-is_broken run t p = paths.is_broken run.metamodel.now run.set.now t p
+is_broken run t p = paths.is_broken run.metamodel.now (now run.set.now) t p
 
 abbrev pub key_breaks : Run → Tuple → TypedKey → Bool
-key_breaks run t k = selection.key_breaks run.metamodel.now run.set.now run.parameters.now t k
+key_breaks run t k = selection.key_breaks run.metamodel.now (now run.set.now) run.parameters.now t k
 
 abbrev pub drops : Run → TypedSelect → Tuple → Bool
-drops run q t = selection.select_drops run.metamodel.now run.set.now run.parameters.now q t
+drops run q t = selection.select_drops run.metamodel.now (now run.set.now) run.parameters.now q t
 
 abbrev pub tuples : Run → TypedSelect → Answer (List Tuple)
-tuples run q = selection.selected_tuples run.metamodel.now run.set.now run.parameters.now q
+tuples run q = selection.selected_tuples run.metamodel.now (now run.set.now) run.parameters.now q
 
 abbrev pub group_key : Run → List TypedPath → Tuple → List Datum
-group_key run ps t = selection.group_key run.metamodel.now run.set.now run.parameters.now ps t
+group_key run ps t = selection.group_key run.metamodel.now (now run.set.now) run.parameters.now ps t
 
 abbrev pub groups_of : Run → List TypedPath → List Tuple → List Case
-groups_of run ps ts = selection.groups_of run.metamodel.now run.set.now run.parameters.now ps ts
+groups_of run ps ts = selection.groups_of run.metamodel.now (now run.set.now) run.parameters.now ps ts
 
 abbrev pub cases_of : Run → TypedSelect → List Tuple → List Case
-cases_of run q ts = selection.cases_of run.metamodel.now run.set.now run.parameters.now q ts
+cases_of run q ts = selection.cases_of run.metamodel.now (now run.set.now) run.parameters.now q ts
 
 abbrev pub key_datum : Run → List Datum → Case → TypedKey → Datum
-key_datum run items at k = selection.key_datum run.metamodel.now run.set.now run.parameters.now items at k
+key_datum run items at k = selection.key_datum run.metamodel.now (now run.set.now) run.parameters.now items at k
 
 abbrev pub row_of : Run → TypedSelect → Case → Answer Row
-row_of run q at = selection.row_of run.metamodel.now run.set.now run.parameters.now q at
+row_of run q at = selection.row_of run.metamodel.now (now run.set.now) run.parameters.now q at
 
 abbrev pub rows_of : Run → TypedSelect → List Case → Answer (List Row)
-rows_of run q cases = selection.rows_of run.metamodel.now run.set.now run.parameters.now q cases
+rows_of run q cases = selection.rows_of run.metamodel.now (now run.set.now) run.parameters.now q cases

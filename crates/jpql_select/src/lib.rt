@@ -1,4 +1,4 @@
-//! SELECT statements run over a set of stored objects (Jakarta Persistence 3.1, chapters 4.2.1 and 4.7
+//! SELECT statements run over the set that a transaction sees (Jakarta Persistence 3.1, chapters 4.2.1 and 4.7
 //! to 4.9).
 //!
 //! `select` gives the table of a statement: its tuples stand alone or in groups, HAVING keeps some, each

@@ -1,4 +1,5 @@
 //! SELECT statements.
+ghost use Rattle.jpa_open.specs.Opened as opened;
 ghost use Rattle.jpql_eval.specs.Finds.{Finds};
 ghost use Rattle.jpql_plan.specs.Selection as selection;
 ghost use Rattle.jpql_rows.specs.Tables.{rows_in};
@@ -7,14 +8,15 @@ use crate::case::cases_of;
 use crate::rows::rows_of;
 use crate::tuples::selected_tuples;
 use jpa_model::Metamodel;
-use jpa_stored::StoredSet;
+use jpa_open::OpenSet;
 use jpql_eval::{Datum, Failure};
 use jpql_rows::{Table, ordered};
 use jpql_run::Run;
 use jpql_types::TypedSelect;
 use std::alloc::Global;
 
-/// The table of a statement over a set (chapter 4.2.1), with what stands for its parameters, by place.
+/// The table of a statement over what the manager at work sees (chapter 4.2.1), with what stands for its
+/// parameters, by place.
 ///
 /// It has a row of each tuple, or of each group where there is GROUP BY, HAVING or an aggregate; with
 /// DISTINCT the first of the rows that are the same; in the order of ORDER BY, in which rows that tie
@@ -24,12 +26,12 @@ use std::alloc::Global;
 pub fn select<'a>(
     alloc: Global,
     metamodel: &'a Metamodel,
-    set: &'a StoredSet,
+    set: &'a OpenSet,
     parameters: &'a [Datum],
     statement: &'a TypedSelect,
 ) -> Result<Table<'a>, Failure>
     ensures { Finds rows_in result
-        (selection.selected metamodel.now set.now parameters.now statement.now) }
+        (selection.selected metamodel.now (opened.now set.now) parameters.now statement.now) }
 {
     let run = Run {
         metamodel,

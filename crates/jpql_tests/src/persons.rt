@@ -2,6 +2,7 @@
 use jpa_model::{
     Draft, DraftAttribute, DraftEntity, DraftOrigin, DraftRoot, Member, Metamodel, Part, check,
 };
+use jpa_open::OpenSet;
 use jpa_stored::{Stored, StoredSet};
 use jpa_value::{Boxed, Cause, Identity, Kind, Seq, Text, Value};
 use jpql_tree::{Aggregate, Comparison};
@@ -63,27 +64,40 @@ pub(crate) fn metamodel(alloc: Global) -> Result<Metamodel, Cause> {
     check(alloc, &draft)
 }
 
-fn put(alloc: Global, set: &mut StoredSet, id: i64, city: &str, age: i64) -> Result<(), Cause> {
+fn identity(alloc: Global, id: i64) -> Result<Identity, Cause> {
     let mut key = Seq::new(alloc);
     key.push(Value::Int(id))?;
+    Ok(Identity { table: 1, key })
+}
+
+fn stored(alloc: Global, city: &str, age: i64) -> Result<Stored, Cause> {
     let mut values = Seq::new(alloc);
     values.push(Value::Text(Text::of(alloc, city)?))?;
     values.push(Value::Int(age))?;
-    let stored = Stored {
+    Ok(Stored {
         class: 0,
         version: None,
         values,
         owned: Seq::new(alloc),
-    };
-    set.put(Identity { table: 1, key }, stored)
+    })
 }
 
-/// Two persons of Oslo, of 30 and 20, and between them one of Bern, of 5.
-pub(crate) fn persons(alloc: Global) -> Result<StoredSet, Cause> {
+/// Of Oslo one of 30, of Bern one of 5, and of Rome one of 50.
+fn committed(alloc: Global) -> Result<StoredSet, Cause> {
     let mut set = StoredSet::new(alloc);
-    put(alloc, &mut set, 1, "Oslo", 30)?;
-    put(alloc, &mut set, 2, "Bern", 5)?;
-    put(alloc, &mut set, 3, "Oslo", 20)?;
+    set.put(identity(alloc, 1)?, stored(alloc, "Oslo", 30)?)?;
+    set.put(identity(alloc, 2)?, stored(alloc, "Bern", 5)?)?;
+    set.put(identity(alloc, 4)?, stored(alloc, "Rome", 50)?)?;
+    Ok(set)
+}
+
+/// Two persons of Oslo, of 30 and 20, and between them one of Bern, of 5. The one of 20 is written over what is committed,
+/// and one of Rome is taken out.
+pub(crate) fn persons(alloc: Global) -> Result<OpenSet, Cause> {
+    let mut set = OpenSet::new(alloc, committed(alloc)?.into_entries())?;
+    set.put(identity(alloc, 3)?, stored(alloc, "Oslo", 20)?)?;
+    set.keep();
+    set.remove(&identity(alloc, 4)?)?;
     Ok(set)
 }
 

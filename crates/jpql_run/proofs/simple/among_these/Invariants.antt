@@ -1,4 +1,5 @@
 use Rattle.std.proofs.Common.{◌≡◌, drop, map}
+use Rattle.jpa_open.specs.Opened.{now}
 use Rattle.jpql_tree.specs.declared.Comparison.{Comparison}
 use Rattle.jpql_types.specs.declared.typed.TypedValue.{TypedValue}
 use Rattle.jpql_eval.specs.Answers.{every, under}
@@ -11,6 +12,6 @@ use Rattle.jpql_run.proofs.simple.among_these.Given as goal
 -- what those before give, and what is left
 abbrev pub invariant-loop-one : goal.invariant-loop-one
 invariant-loop-one l =
-    let of = λ (v : TypedValue). meaning.value l.run.metamodel.now l.run.set.now l.run.parameters.now v (record { tuple = l.tuple; group = l.group }) in
+    let of = λ (v : TypedValue). meaning.value l.run.metamodel.now (now l.run.set.now) l.run.parameters.now v (record { tuple = l.tuple; group = l.group }) in
     meaning.among_all (seen l.found) (map of l.all)
     ≡ under (λ more. or3 l.truth (any3 (map (compared Comparison.Equal (seen l.found)) more))) (every (map of (drop l.one-index l.all)))

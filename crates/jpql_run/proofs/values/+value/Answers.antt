@@ -1,4 +1,5 @@
 use Rattle.std.proofs.Common.{subst, ap, sym, ◌∙◌, map}
+use Rattle.jpa_open.specs.Opened.{now}
 use Rattle.jpql_types.specs.declared.typed.TypedValue.TheVariants as v
 use Rattle.jpql_plan.specs.Meaning.{Case, value, call}
 use Rattle.jpql_eval.specs.Finds.{Finds}
@@ -9,7 +10,7 @@ use Rattle.jpql_run.proofs.values.+value.Goals as goal
 pub value-returns-in-Call : goal.value-returns-in-Call
 value-returns-in-Call t c =
     let m = c.args.run.now.metamodel.now in
-    let s = c.args.run.now.set.now in
+    let s = now c.args.run.now.set.now in
     let ps = c.args.run.now.parameters.now in
     let at : Case = record { tuple = c.args.tuple.now; group = c.args.group.now } in
     subst (Finds seen c.call.result)
@@ -21,7 +22,7 @@ value-returns-in-Call t c =
 pub value-returns-in-Aggregate : goal.value-returns-in-Aggregate
 value-returns-in-Aggregate t c =
     let m = c.args.run.now.metamodel.now in
-    let s = c.args.run.now.set.now in
+    let s = now c.args.run.now.set.now in
     let ps = c.args.run.now.parameters.now in
     let at : Case = record { tuple = c.args.tuple.now; group = c.args.group.now } in
     subst (Finds seen c.over_group.result)
