@@ -2,4 +2,5 @@ pub mod Found
 mod Placed
 mod First
 mod Staying
+mod Unlocked
 mod Examples

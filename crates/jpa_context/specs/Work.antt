@@ -94,6 +94,10 @@ with_entry n f w = record w { context = map (λ e. if e.object == n then f e els
 abbrev pub with_base : ℕ → Option Base → Work → Work
 with_base n b w = with_entry n (λ e. record e { base = b }) w
 
+-- the entry without a lock
+abbrev pub unlocked : Entry → Entry
+unlocked e = record e { lock = Lock.Unlocked }
+
 -- another lock of the object
 abbrev pub with_lock : ℕ → Lock → Work → Work
 with_lock n l w = with_entry n (λ e. record e { lock = l }) w

@@ -1,14 +1,16 @@
 //! The entries of a persistence context, found by key and by object.
-ghost use Rattle.std.specs.Prelude.{◌≡◌, ◌<◌, ◌≤◌, [], ◌∷◌, ◌++◌, length, take, slice_set, OnOk, OnErr};
+ghost use Rattle.std.specs.Prelude.{◌≡◌, ◌<◌, ◌≤◌, [], ◌∷◌, ◌++◌, length, map, take, slice_set, OnOk, OnErr};
 ghost use Rattle.jpa_context.specs.Indexed as indexed;
 ghost use Rattle.jpa_context.specs.Near.{places_near};
 ghost use Rattle.jpa_context.specs.Places.{StaysAt, entry_place, without_objects, without_removed};
+ghost use Rattle.jpa_context.specs.Work.{unlocked};
 
 use crate::Entry;
 use crate::fingerprint::fingerprint;
 use crate::index::PlaceIndex;
 use crate::leaving::{drop_unplaced, forget_objects, forget_removed};
 use crate::object_places::ObjectPlaces;
+use crate::unlocking::unlock_each;
 use jpa_heap::LiveObject;
 use jpa_undo::UndoList;
 use jpa_value::Value;
@@ -171,6 +173,16 @@ impl PersistenceContext {
     {
         forget_removed(&mut self.at, self.list.as_slice(), objects, manager);
         self.kept = drop_unplaced(&mut self.list, &mut self.index, &mut self.at);
+    }
+
+    /// The locks end, as at the end of a commit, for good: neither that nor a change before it can be undone. Takes no memory,
+    /// and time for each entry.
+    pub fn unlock(&mut self, alloc: Global)
+        ensures now { self.new.now ≡ map unlocked self.old.now }
+        ensures since { self.new.since ≡ self.new.now }
+    {
+        unlock_each(alloc, &mut self.list);
+        self.kept = self.list.len();
     }
 
     /// All entries leave for good. Takes no memory.

@@ -5,12 +5,14 @@
 //! `specs/Steps.antt` says what an operation on a work is. The crate stands on live objects and stored sets.
 #![tactic(auto)]
 
+mod copy;
 mod entries;
 mod fingerprint;
 mod index;
 mod laws;
 mod leaving;
 mod object_places;
+mod unlocking;
 mod work;
 
 pub use entries::PersistenceContext;

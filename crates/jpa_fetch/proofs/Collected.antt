@@ -26,12 +26,15 @@ module _ {A B : Type 0} (f : A → Op B) where
       assoc (x ∷ xs) = ap (λ l. x ∷ l) (assoc xs)
   joins ys y (Refused r events) = refl
 
-  -- one more is done, and its answer stands last among those so far
+  -- the first is done, and its answer stands last among those so far
+  pub first_done : (x : A) (xs : List A) (ys : List B) (y : B) (w v : Work) → f x w ≡ Done y v → behind (ys ++ y ∷ []) (collect f xs v) ≡ behind ys (collect f (x ∷ xs) w)
+  first_done x xs ys y w v done =
+      sym (ap (behind ys) (ap (λ o. after o (λ z u. after (collect f xs u) (λ zs t. Done (z ∷ zs) t))) done) ∙ joins ys y (collect f xs v))
+
+  -- the same of one of a list, at its place
   pub one_done : (xs : List A) (i : ℕ) (x : A) (ys : List B) (y : B) (w v : Work) → i < length xs → x ≡ get_or xs i x → f x w ≡ Done y v →
       behind (ys ++ y ∷ []) (collect f (drop (i + 1) xs) v) ≡ behind ys (collect f (drop i xs) w)
-  one_done xs i x ys y w v l read done =
-      sym (ap (behind ys) (one xs i x w l read ∙ ap (λ o. after o (λ z u. after (collect f (drop (i + 1) xs) u) (λ zs t. Done (z ∷ zs) t))) done)
-      ∙ joins ys y (collect f (drop (i + 1) xs) v))
+  one_done xs i x ys y w v l read done = first_done x (drop (i + 1) xs) ys y w v done ∙ sym (ap (behind ys) (one xs i x w l read))
 
   -- or it is refused, and so are all
   pub one_refused : (xs : List A) (i : ℕ) (x : A) (ys : List B) (w : Work) (r : Cause) (events : List Told) → i < length xs → x ≡ get_or xs i x → IsRefusedAs r events (f x w) →

@@ -39,7 +39,7 @@ linked_set os n y own h =
     let more : length os ≤ length (slice_set os n y) = omega (arith, e) in
     All-set (IsLinked (slice_set os n y)) os n y (linked_more os (slice_set os n y) more y own) (all_linked_more os (slice_set os n y) os more h)
 
-linked_push : (os : List LiveObject) (x : LiveObject) → IsLinked os x → AreLinked os → AreLinked (os ++ x ∷ [])
+pub linked_push : (os : List LiveObject) (x : LiveObject) → IsLinked os x → AreLinked os → AreLinked (os ++ x ∷ [])
 linked_push os x own h =
     let e = length-append os (x ∷ []) in
     let more : length os ≤ length (os ++ x ∷ []) = omega (arith, e) in
@@ -152,7 +152,7 @@ grown_map w f same = record { count = omega arith; classes = λ n l. refl; disti
 
 -- ---- an object and its entry are added
 
-keyed_push : (os : List LiveObject) (x : LiveObject) (es : List Entry) → All (λ (e : Entry). e.object < length os) es → All (IsKeyed os) es → All (IsKeyed (os ++ x ∷ [])) es
+pub keyed_push : (os : List LiveObject) (x : LiveObject) (es : List Entry) → All (λ (e : Entry). e.object < length os) es → All (IsKeyed os) es → All (IsKeyed (os ++ x ∷ [])) es
 keyed_push os x es within h i d l =
     let k = h i d l in
     record { same = ap (λ (z : LiveObject). z.key) (get_or_append_left os (x ∷ []) no_object _ (within i d l)) ∙ k.same; whole = k.whole }

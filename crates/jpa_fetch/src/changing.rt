@@ -16,7 +16,7 @@ use jpa_value::{Cause, Identity, Seq, TryCopy};
 use std::alloc::Global;
 
 /// An object holds something else in a relation. Fails for want of memory alone, with `OutOfMemory`.
-pub(crate) fn set_relation(
+pub fn set_relation(
     _metamodel: &Metamodel,
     work: &mut UnitOfWork,
     object: usize,
@@ -138,7 +138,7 @@ fn set_read(
 
 /// A collection of an object holds these objects, which were read as these identities. Fails for want of memory alone, with
 /// `OutOfMemory`.
-pub(crate) fn set_fetched(
+pub fn set_fetched(
     alloc: Global,
     metamodel: &Metamodel,
     work: &mut UnitOfWork,

@@ -31,7 +31,7 @@ fn row_of(work: &UnitOfWork, id: &Identity) -> Result<Option<Stored>, Cause>
 
 /// The object of an identity: the context's instance, else the row, loaded. `EntityNotFound` where there is neither, and what
 /// `load` refuses.
-pub(crate) fn reach<B: Behaviour>(
+pub fn reach<B: Behaviour>(
     alloc: Global,
     metamodel: &Metamodel,
     registry: &Registry<B>,

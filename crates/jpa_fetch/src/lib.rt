@@ -12,7 +12,9 @@ mod getting;
 mod loading;
 mod reading;
 
+pub use changing::{set_fetched, set_relation};
 pub use collections::{add, take_out};
-pub use finding::find;
+pub use finding::{find, reach};
 pub use getting::{Got, get};
 pub use loading::{load, object_of_row};
+pub use reading::{held_at, is_held};

@@ -26,7 +26,7 @@ use jpa_value::{Cause, Identity, Seq, State, TryCopy};
 use std::alloc::Global;
 
 /// Whether this manager holds an object: what it holds and was not read, can be read. Takes no memory.
-fn is_held(work: &UnitOfWork, object: usize) -> bool
+pub fn is_held(work: &UnitOfWork, object: usize) -> bool
     requires { object < length work.now.objects.now }
     ensures { result ≡ members.is_held (works.state_of (now work.now) object) }
 {
@@ -37,7 +37,7 @@ fn is_held(work: &UnitOfWork, object: usize) -> bool
 }
 
 /// What an object holds in a relation of its class. Takes no memory.
-fn held_at<'a>(
+pub fn held_at<'a>(
     _metamodel: &Metamodel,
     work: &'a UnitOfWork,
     object: usize,

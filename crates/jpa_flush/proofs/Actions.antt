@@ -18,7 +18,7 @@ use Rattle.jpa_flush.specs.Plan.{step_as, step_of, update, has_version, check, i
 
 -- ---- the checks
 
-same_row : (row : Option Stored) (b : Base) → row_is_base row b ≡ has_version row (b.stored).version
+pub same_row : (row : Option Stored) (b : Base) → row_is_base row b ≡ has_version row (b.stored).version
 same_row None b = refl
 same_row (Some x) b = refl
 

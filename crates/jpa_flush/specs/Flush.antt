@@ -392,3 +392,21 @@ flush world = do
   pre_update world
   check_actions world
   write_all world
+
+-- ---- locks at a commit (chapter 3.4.4.1)
+
+abbrev pub is_read_lock : Lock → Bool
+is_read_lock Lock.Read = true
+is_read_lock Lock.Write = false
+is_read_lock Lock.Unlocked = false
+
+abbrev pub base_is_row : PersistenceUnit → Work → Entry → Option Base → Bool
+base_is_row m w e None = true
+base_is_row m w e (Some b) = row_is_base (row_at w (identity_at m w e.object)) b
+
+-- an object that is managed and locked READ has the version that its row has
+abbrev pub read_holds : PersistenceUnit → Work → Entry → Bool
+read_holds m w e = not (is_read_lock e.lock && is_managed (state_of w e.object)) || base_is_row m w e e.base
+
+abbrev pub reads_hold : PersistenceUnit → Work → Bool
+reads_hold m w = list_all (read_holds m w) w.context

@@ -10,6 +10,7 @@ mod flushing;
 mod held;
 mod judging;
 mod links;
+mod locks;
 mod orphans;
 mod planning;
 mod reaching;
@@ -21,3 +22,4 @@ mod telling;
 mod writing;
 
 pub use flushing::flush;
+pub use locks::reads_hold;

@@ -5,6 +5,7 @@ mod Fitting
 pub mod Front
 pub mod Going
 mod LetGo
+mod Locked
 mod Persisted
 pub mod Ready
 mod Refreshed

@@ -22,21 +22,22 @@ use Rattle.jpa_context.specs.Undo.{IsKeyed, IsPlaced}
 use Rattle.jpa_context.specs.declared.Base.{Base}
 use Rattle.jpa_context.specs.declared.EntityState.{EntityState}
 use Rattle.jpa_context.specs.declared.Lock.{Lock}
+use Rattle.jpa_context.specs.Steps.{Done}
 use Rattle.jpa_context.specs.Work.{Work, object, base_of, entered, identity_at, state_of, with_life_of}
 use Rattle.jpa_cascade.specs.declared.Node.{Node}
 use Rattle.jpa_cascade.specs.There.{IsThere}
 use Rattle.jpa_lifecycle.specs.Callbacks.{callback}
 use Rattle.jpa_lifecycle.proofs.Keeps.{happened}
-use Rattle.jpa_fetch.specs.Grown.{HasGrown}
+use Rattle.jpa_fetch.specs.Grown.{HasGrown, IsReady}
 use Rattle.jpa_fetch.specs.Orderly.{IsOrderly}
 use Rattle.jpa_ops.specs.Names.{has_distinct_entries}
 use Rattle.jpa_ops.specs.States.{become_managed, give_key, has_instance, last_number, number_part, persist_node, persist_one, pre_persist_if, with_key, with_number}
 use Rattle.jpa_ops.proofs.Entered.{entered_names, entered_apart}
 use Rattle.jpa_ops.proofs.Fitting.{each_fits_length}
-use Rattle.jpa_ops.proofs.Going.{HoldsAfter, after_holds, holds_where, require_holds, require_holds_last}
+use Rattle.jpa_ops.proofs.Going.{HoldsAfter, after_holds, done_holds, holds_where, require_holds, require_holds_last}
 use Rattle.jpa_ops.proofs.Names.{names_kept}
 use Rattle.jpa_fetch.proofs.Grown.{grown_happened, grown_set, placed_happened}
-use Rattle.jpa_ops.proofs.Ready.{IsFrom, from_on, grown_entered, grown_life, links_same, placed_entered, placed_life}
+use Rattle.jpa_ops.proofs.Ready.{IsFrom, from_itself, from_on, grown_entered, grown_life, links_same, placed_entered, placed_life}
 
 -- ---- a work whose object took a number as its key
 
@@ -189,3 +190,9 @@ module _ (world : World) (orderly : IsOrderly world.model) (u : Work) where
   pub persist_node_goes : (x : Node) (w : Work) → IsThere u x → Goes w → HoldsAfter Goes (persist_node world x w)
   persist_node_goes (Node.Live n) w l h = persist_one_goes n (state_of w n) w l h
   persist_node_goes (Node.Bare id) w l h = h
+
+-- a new object that became managed
+pub became : (world : World) (n : ℕ) (w v : Work) → IsOrderly world.model → IsReady world.model w → n < length w.objects → become_managed world n w ≡ Done tt v → IsNamedFrom world.model w v
+became world n w v orderly ready l done =
+    let m = world.model in
+    done_holds (IsNamedFrom m w) (become_managed world n w) tt v done (becomes world orderly w n w l (record { from = from_itself m w ready; named = λ d. d }))

@@ -6,11 +6,13 @@
 
 mod context;
 mod detaching;
+mod locking;
 mod persisting;
 mod refreshing;
 mod removing;
 
 pub use detaching::detach;
-pub use persisting::persist;
+pub use locking::lock;
+pub use persisting::{become_managed, persist};
 pub use refreshing::refresh;
 pub use removing::remove;

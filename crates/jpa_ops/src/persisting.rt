@@ -121,20 +121,26 @@ fn give_key(
     Ok(())
 }
 
-/// A new object becomes managed: its key is there or given, and no other object of the context has its identity.
-/// Refused as `persist` is.
-fn become_managed(
+/// A new object becomes managed: its key is there or given, and no other object of the context has its identity. No callback
+/// happens to it.
+///
+/// `EntityExists`, `Persistence(key)`, `Persistence(generator)` and `OutOfMemory` as `persist`, which calls it.
+pub fn become_managed(
     alloc: Global,
     metamodel: &Metamodel,
     work: &mut UnitOfWork,
     object: usize,
 ) -> Result<(), Cause>
     requires orderly { IsOrderly metamodel.now }
-    requires placed { IsPlaced metamodel.now (now work.old) }
+    requires ready { IsReady metamodel.now (now work.old) }
     requires object { object < length work.old.objects.now }
     ensures meets { (world : World) → Meets result (now work.new)
         (states.become_managed (record world { model = metamodel.now }) object (now work.old)) }
     ensures shape { OnOk result (HasShape metamodel.now (works.object (now work.new) object)) }
+    ensures ready { OnOk result (IsReady metamodel.now (now work.new)) }
+    ensures grown { OnOk result (HasGrown (now work.old) (now work.new)) }
+    ensures named { has_distinct_entries metamodel.now (now work.old) ≡ true →
+        OnOk result (has_distinct_entries metamodel.now (now work.new) ≡ true) }
     ensures count { length work.new.objects.now ≡ length work.old.objects.now }
     ensures view { work.new.view ≡ work.old.view }
     ensures since { since work.new ≡ since work.old }
@@ -163,7 +169,7 @@ fn persist_new<B: Behaviour>(
     object: usize,
 ) -> Result<(), Cause>
     requires orderly { IsOrderly metamodel.now }
-    requires placed { IsPlaced metamodel.now (now work.old) }
+    requires ready { IsReady metamodel.now (now work.old) }
     requires object { object < length work.old.objects.now }
     ensures meets { let world = world_of B.meaning metamodel.now registry.now in
         Meets result (now work.new)
@@ -223,7 +229,7 @@ fn persist_one<B: Behaviour>(
     state: EntityState,
 ) -> Result<(), Cause>
     requires orderly { IsOrderly metamodel.now }
-    requires placed { IsPlaced metamodel.now (now work.old) }
+    requires ready { IsReady metamodel.now (now work.old) }
     requires object { object < length work.old.objects.now }
     ensures meets { let world = world_of B.meaning metamodel.now registry.now in
         Meets result (now work.new) (states.persist_one world object state (now work.old)) }
@@ -247,7 +253,7 @@ fn persist_node<B: Behaviour>(
     node: &Node,
 ) -> Result<(), Cause>
     requires orderly { IsOrderly metamodel.now }
-    requires placed { IsPlaced metamodel.now (now work.old) }
+    requires ready { IsReady metamodel.now (now work.old) }
     requires there { IsThere (now work.old) node.now }
     ensures meets { let world = world_of B.meaning metamodel.now registry.now in
         Meets result (now work.new) (states.persist_node world node.now (now work.old)) }

@@ -1,0 +1,46 @@
+//! How locks end for good, without memory.
+ghost use Rattle.std.specs.Prelude.{◌≡◌, ◌<◌, length, map, slice_set, slice_index_or};
+ghost use Rattle.jpa_context.specs.Work.{unlocked};
+ghost use Rattle.jpa_context.specs.declared.Entry.{Entry};
+
+use crate::{Entry, Lock};
+use jpa_undo::UndoList;
+use jpa_value::Seq;
+use std::alloc::Global;
+
+/// An entry that holds the place of another while that changes. Takes no memory.
+fn no_entry(alloc: Global) -> Entry {
+    Entry {
+        object: 0,
+        key: Seq::new(alloc),
+        lock: Lock::Unlocked,
+        base: None,
+    }
+}
+
+/// The lock of the entry at a place ends, for good. Takes no memory.
+fn unlock_at(alloc: Global, entries: &mut UndoList<Entry>, place: usize)
+    requires { place < length entries.old.now }
+    ensures now { (e : Entry) → entries.new.now
+        ≡ slice_set entries.old.now place (unlocked (slice_index_or entries.old.now place e)) }
+    ensures since { entries.new.since ≡ entries.new.now }
+{
+    let mut entry = entries.put(place, no_entry(alloc));
+    entry.lock = Lock::Unlocked;
+    entries.put(place, entry);
+}
+
+/// The locks of all entries end, for good. Takes no memory, and time for each entry.
+pub(crate) fn unlock_each(alloc: Global, entries: &mut UndoList<Entry>)
+    ensures now { entries.new.now ≡ map unlocked entries.old.now }
+    ensures since { entries.new.since ≡ entries.new.now }
+{
+    entries.keep();
+    for place in 0..entries.len() {
+        let entry = &entries.as_slice()[place];
+        match entry.lock {
+            Lock::Unlocked => {}
+            Lock::Read | Lock::Write => unlock_at(alloc, entries, place),
+        }
+    }
+}
