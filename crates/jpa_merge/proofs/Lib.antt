@@ -1,0 +1,6 @@
+mod Found
+mod Fresh
+mod Kept
+mod Passes
+mod Sought
+mod Examples

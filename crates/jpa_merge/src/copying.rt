@@ -1,0 +1,173 @@
+//! The second pass of a merge: images take what their nodes hold.
+ghost use Rattle.std.specs.Prelude.{◌≡◌, IfErr, OnOk};
+ghost use Rattle.jpa_value.specs.declared.refusal.Cause.{Cause};
+ghost use Rattle.jpa_behaviour.specs.Registered.{world_of};
+ghost use Rattle.jpa_context.specs.Steps.{Meets, each};
+ghost use Rattle.jpa_context.specs.Undo.{now, since};
+ghost use Rattle.jpa_context.specs.Work as works;
+ghost use Rattle.jpa_fetch.specs.Grown.{HasGrown, IsReady};
+ghost use Rattle.jpa_merge.specs.Imaged.{AreImaged, IsImaged};
+ghost use Rattle.jpa_merge.specs.Merge as merges;
+
+use crate::images::{Images, NodeImage};
+use crate::relations::copy_relation;
+use jpa_behaviour::{Behaviour, Registry};
+use jpa_context::UnitOfWork;
+use jpa_model::{Metamodel, Relation};
+use jpa_value::{Cause, TryCopy};
+use std::alloc::Global;
+
+/// Whether a node's version is that of its image; a node without a version is of any.
+fn version_is(node: Option<i64>, image: Option<i64>) -> bool
+    ensures { result ≡ merges.version_is node image }
+{
+    match (node, image) {
+        (None, _) => true,
+        (Some(_), None) => false,
+        (Some(node), Some(image)) => node == image,
+    }
+}
+
+/// Whether an image has its node's version, or the node has none. Takes no memory.
+fn is_current(work: &UnitOfWork, image: NodeImage) -> bool
+    requires { IsImaged (now work.now) image }
+    ensures { let w = now work.now in result ≡ merges.version_is
+        (works.object w image.node).version (works.object w image.image).version }
+{
+    let objects = work.objects.as_slice();
+    version_is(objects[image.node].version, objects[image.image].version)
+}
+
+/// An image takes the values of its node's attributes. Fails for want of memory alone, with `OutOfMemory`.
+fn copy_values(_metamodel: &Metamodel, work: &mut UnitOfWork, image: NodeImage) -> Result<(), Cause>
+    requires ready { IsReady _metamodel.now (now work.old) }
+    requires imaged { IsImaged (now work.old) image }
+    ensures ok { OnOk result
+        (now work.new ≡ merges.with_values_of image (now work.old)) }
+    ensures err { IfErr result (λ cause. cause ≡ Cause.OutOfMemory) }
+    ensures ready { OnOk result (IsReady _metamodel.now (now work.new)) }
+    ensures grown { OnOk result (HasGrown (now work.old) (now work.new)) }
+    ensures view { work.new.view ≡ work.old.view }
+    ensures since { since work.new ≡ since work.old }
+{
+    let objects = work.objects.as_slice();
+    let mut live = objects[image.image].try_copy()?;
+    live.values = objects[image.node].values.try_copy()?;
+    work.objects.set(image.image, live)?;
+    Ok(())
+}
+
+/// Whether an image takes what its node holds in a relation: a managed node, which is its own image, has its targets replaced along
+/// relations that cascade merge alone.
+fn takes(image: NodeImage, relation: &Relation) -> bool
+    ensures { result ≡ merges.takes image relation.now }
+{
+    image.node != image.image || relation.cascade.merge
+}
+
+/// An image takes what its node holds in its relations, as far as it was read. Refused as `merge` is.
+fn copy_relations<B: Behaviour>(
+    alloc: Global,
+    metamodel: &Metamodel,
+    registry: &Registry<B>,
+    work: &mut UnitOfWork,
+    images: &Images,
+    image: NodeImage,
+) -> Result<(), Cause>
+    requires ready { IsReady metamodel.now (now work.old) }
+    requires imaged { AreImaged (now work.old) images.now }
+    requires image { IsImaged (now work.old) image }
+    ensures meets { let world = world_of B.meaning metamodel.now registry.now in
+        Meets result (now work.new)
+        (merges.copy_relations world images.now image (now work.old)) }
+    ensures ready { OnOk result (IsReady metamodel.now (now work.new)) }
+    ensures grown { OnOk result (HasGrown (now work.old) (now work.new)) }
+    ensures view { work.new.view ≡ work.old.view }
+    ensures since { since work.new ≡ since work.old }
+{
+    let relations = metamodel.relations_of(work.objects.as_slice()[image.node].class);
+    for relation in 0..relations.len() {
+        if takes(image, &relations[relation]) {
+            copy_relation(alloc, metamodel, registry, work, images, image, relation)?;
+        }
+    }
+    Ok(())
+}
+
+/// An image takes the values and the read relations of its node. `OptimisticLock` where the node's version is not the image's;
+/// what `replaced` refuses.
+fn copy_to_other<B: Behaviour>(
+    alloc: Global,
+    metamodel: &Metamodel,
+    registry: &Registry<B>,
+    work: &mut UnitOfWork,
+    images: &Images,
+    image: NodeImage,
+) -> Result<(), Cause>
+    requires ready { IsReady metamodel.now (now work.old) }
+    requires imaged { AreImaged (now work.old) images.now }
+    requires image { IsImaged (now work.old) image }
+    ensures meets { let world = world_of B.meaning metamodel.now registry.now in
+        Meets result (now work.new)
+        (merges.copy_to_other world images.now image (now work.old)) }
+    ensures ready { OnOk result (IsReady metamodel.now (now work.new)) }
+    ensures grown { OnOk result (HasGrown (now work.old) (now work.new)) }
+    ensures view { work.new.view ≡ work.old.view }
+    ensures since { since work.new ≡ since work.old }
+{
+    if !is_current(work, image) {
+        return Err(Cause::OptimisticLock);
+    }
+    copy_values(metamodel, work, image)?;
+    copy_relations(alloc, metamodel, registry, work, images, image)
+}
+
+/// A node is copied into its image; where it is its own, its targets are replaced. Refused as `merge` is.
+fn copy_node<B: Behaviour>(
+    alloc: Global,
+    metamodel: &Metamodel,
+    registry: &Registry<B>,
+    work: &mut UnitOfWork,
+    images: &Images,
+    image: NodeImage,
+) -> Result<(), Cause>
+    requires ready { IsReady metamodel.now (now work.old) }
+    requires imaged { AreImaged (now work.old) images.now }
+    requires image { IsImaged (now work.old) image }
+    ensures meets { let world = world_of B.meaning metamodel.now registry.now in
+        Meets result (now work.new) (merges.copy_node world images.now image (now work.old)) }
+    ensures ready { OnOk result (IsReady metamodel.now (now work.new)) }
+    ensures grown { OnOk result (HasGrown (now work.old) (now work.new)) }
+    ensures view { work.new.view ≡ work.old.view }
+    ensures since { since work.new ≡ since work.old }
+{
+    if image.node == image.image {
+        copy_relations(alloc, metamodel, registry, work, images, image)
+    } else {
+        copy_to_other(alloc, metamodel, registry, work, images, image)
+    }
+}
+
+/// Each node is copied into its image, in the order of the waves. Refused as `merge` is, at the first that is refused.
+pub(crate) fn copy_nodes<B: Behaviour>(
+    alloc: Global,
+    metamodel: &Metamodel,
+    registry: &Registry<B>,
+    work: &mut UnitOfWork,
+    images: &Images,
+) -> Result<(), Cause>
+    requires ready { IsReady metamodel.now (now work.old) }
+    requires imaged { AreImaged (now work.old) images.now }
+    ensures meets { let world = world_of B.meaning metamodel.now registry.now in
+        Meets result (now work.new)
+        (each (merges.copy_node world images.now) images.now (now work.old)) }
+    ensures ready { OnOk result (IsReady metamodel.now (now work.new)) }
+    ensures grown { OnOk result (HasGrown (now work.old) (now work.new)) }
+    ensures view { work.new.view ≡ work.old.view }
+    ensures since { since work.new ≡ since work.old }
+{
+    for image in images.as_slice() {
+        copy_node(alloc, metamodel, registry, work, images, *image)?;
+    }
+    Ok(())
+}

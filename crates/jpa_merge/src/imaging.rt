@@ -1,0 +1,304 @@
+//! The first pass of a merge: the image of each node.
+ghost use Rattle.std.specs.Prelude.{◌≡◌, ◌<◌, All, length, suc, IfOk, IfErr, OnOk, Some};
+ghost use Rattle.jpa_value.specs.declared.refusal.Cause.{Cause};
+ghost use Rattle.jpa_behaviour.specs.Behaviour.{World};
+ghost use Rattle.jpa_behaviour.specs.Registered.{world_of};
+ghost use Rattle.jpa_context.specs.Steps.{Meets};
+ghost use Rattle.jpa_context.specs.Undo.{now, since};
+ghost use Rattle.jpa_context.specs.Work as works;
+ghost use Rattle.jpa_cascade.specs.There.{IsThere};
+ghost use Rattle.jpa_cascade.specs.Waves.{live_nodes};
+ghost use Rattle.jpa_fetch.specs.Grown.{HasGrown, IsReady};
+ghost use Rattle.jpa_fetch.specs.Load as load;
+ghost use Rattle.jpa_fetch.specs.Members.{collect};
+ghost use Rattle.jpa_fetch.specs.Orderly.{IsOrderly};
+ghost use Rattle.jpa_merge.specs.Imaged.{AreImaged, IsImaged};
+ghost use Rattle.jpa_merge.specs.Merge as merges;
+
+use crate::images::NodeImage;
+use jpa_behaviour::{Behaviour, Registry};
+use jpa_cascade::{Node, instance, state_of};
+use jpa_context::{EntityState, UnitOfWork};
+use jpa_fetch::load;
+use jpa_heap::{LiveObject, identity_of, new_object};
+use jpa_model::Metamodel;
+use jpa_ops::become_managed;
+use jpa_stored::Stored;
+use jpa_value::{Argument, Cause, Identity, MOST_OBJECTS, Seq, TryCopy};
+use std::alloc::Global;
+
+/// A new object of the class of another, with its key where keys are not generated. Fails for want of memory alone, with
+/// `OutOfMemory`.
+fn fresh_object(
+    alloc: Global,
+    metamodel: &Metamodel,
+    node: &LiveObject,
+) -> Result<LiveObject, Cause>
+    requires { node.now.class < length metamodel.now.entities }
+    ensures ok { IfOk result (λ fresh. fresh ≡ merges.fresh_object metamodel.now node.now) }
+    ensures err { IfErr result (λ cause. cause ≡ Cause.OutOfMemory) }
+{
+    let mut fresh = new_object(alloc, metamodel, node.class)?;
+    if metamodel.root_of(node.class).generated {
+        return Ok(fresh);
+    }
+    fresh.key = node.key.try_copy()?;
+    Ok(fresh)
+}
+
+/// A new object of the class of a node stands last in the heap. Fails for want of memory alone, with `OutOfMemory`.
+fn push_fresh(
+    alloc: Global,
+    metamodel: &Metamodel,
+    work: &mut UnitOfWork,
+    node: usize,
+) -> Result<(), Cause>
+    requires ready { IsReady metamodel.now (now work.old) }
+    requires node { node < length work.old.objects.now }
+    ensures ok { let w = now work.old in OnOk result (now work.new
+        ≡ load.made (merges.fresh_object metamodel.now (works.object w node)) w) }
+    ensures err { IfErr result (λ cause. cause ≡ Cause.OutOfMemory) }
+    ensures count { OnOk result
+        (length work.new.objects.now ≡ suc (length work.old.objects.now)) }
+    ensures view { work.new.view ≡ work.old.view }
+    ensures since { since work.new ≡ since work.old }
+{
+    let fresh = fresh_object(alloc, metamodel, &work.objects.as_slice()[node])?;
+    work.objects.push(fresh)?;
+    Ok(())
+}
+
+/// A new object of the class of a node becomes its image, and managed. `OptimisticLock` where the node has a version; `Limit`
+/// where there are 1,000,000 live objects already; what `become_managed` refuses.
+fn fresh_image(
+    alloc: Global,
+    metamodel: &Metamodel,
+    work: &mut UnitOfWork,
+    node: usize,
+) -> Result<NodeImage, Cause>
+    requires orderly { IsOrderly metamodel.now }
+    requires ready { IsReady metamodel.now (now work.old) }
+    requires node { node < length work.old.objects.now }
+    ensures meets { (world : World) → Meets result (now work.new)
+        (merges.fresh_image (record world { model = metamodel.now }) node (now work.old)) }
+    ensures imaged { IfOk result (IsImaged (now work.new)) }
+    ensures ready { OnOk result (IsReady metamodel.now (now work.new)) }
+    ensures grown { OnOk result (HasGrown (now work.old) (now work.new)) }
+    ensures view { work.new.view ≡ work.old.view }
+    ensures since { since work.new ≡ since work.old }
+{
+    if work.objects.as_slice()[node].version.is_some() {
+        return Err(Cause::OptimisticLock);
+    }
+    let image = work.objects.len();
+    if image >= MOST_OBJECTS {
+        return Err(Cause::Limit);
+    }
+    push_fresh(alloc, metamodel, work, node)?;
+    become_managed(alloc, metamodel, work, image)?;
+    Ok(NodeImage {
+        node,
+        image,
+        fresh: true,
+    })
+}
+
+/// An object as the image of a node, which is to be of its very class: else `IllegalArgument(type)`.
+fn of_class_of(work: &UnitOfWork, node: usize, image: usize) -> Result<NodeImage, Cause>
+    requires node { node < length work.now.objects.now }
+    requires image { image < length work.now.objects.now }
+    ensures meets { Meets result (now work.now) (merges.of_class_of node image (now work.now)) }
+    ensures imaged { IfOk result (IsImaged (now work.now)) }
+{
+    let objects = work.objects.as_slice();
+    if objects[node].class != objects[image].class {
+        return Err(Cause::IllegalArgument(Argument::Type));
+    }
+    Ok(NodeImage {
+        node,
+        image,
+        fresh: false,
+    })
+}
+
+/// The context's instance of a node's identity as its image. `IllegalArgument(state)` where it is removed,
+/// `IllegalArgument(type)` where it is of another class.
+fn image_of_instance(work: &UnitOfWork, node: usize, image: usize) -> Result<NodeImage, Cause>
+    requires node { node < length work.now.objects.now }
+    requires image { image < length work.now.objects.now }
+    ensures meets { Meets result (now work.now)
+        (merges.image_of_instance node image (now work.now)) }
+    ensures imaged { IfOk result (IsImaged (now work.now)) }
+{
+    if matches!(state_of(work, image), EntityState::Removed) {
+        return Err(Cause::IllegalArgument(Argument::State));
+    }
+    of_class_of(work, node, image)
+}
+
+/// The row of a node's identity, loaded, as its image. What `load` refuses; then `IllegalArgument(type)` where it is of another
+/// class.
+fn image_of_row<B: Behaviour>(
+    alloc: Global,
+    metamodel: &Metamodel,
+    registry: &Registry<B>,
+    work: &mut UnitOfWork,
+    node: usize,
+    id: &Identity,
+    row: Stored,
+) -> Result<NodeImage, Cause>
+    requires ready { IsReady metamodel.now (now work.old) }
+    requires node { node < length work.old.objects.now }
+    requires row { works.row (now work.old) id.now ≡ Some row }
+    ensures meets { let world = world_of B.meaning metamodel.now registry.now in
+        Meets result (now work.new) (merges.image_of_row world node id.now row (now work.old)) }
+    ensures imaged { IfOk result (IsImaged (now work.new)) }
+    ensures ready { OnOk result (IsReady metamodel.now (now work.new)) }
+    ensures grown { OnOk result (HasGrown (now work.old) (now work.new)) }
+    ensures view { work.new.view ≡ work.old.view }
+    ensures since { since work.new ≡ since work.old }
+{
+    let image = load(alloc, metamodel, registry, work, id, row)?;
+    of_class_of(work, node, image)
+}
+
+/// The image of a node with an identity: the context's instance, else its row, loaded, else a new object. Refused as `merge` is.
+fn image_named<B: Behaviour>(
+    alloc: Global,
+    metamodel: &Metamodel,
+    registry: &Registry<B>,
+    work: &mut UnitOfWork,
+    node: usize,
+    id: &Identity,
+) -> Result<NodeImage, Cause>
+    requires orderly { IsOrderly metamodel.now }
+    requires ready { IsReady metamodel.now (now work.old) }
+    requires node { node < length work.old.objects.now }
+    ensures meets { let world = world_of B.meaning metamodel.now registry.now in
+        Meets result (now work.new)
+        (merges.image_named world node (Some id.now) (now work.old)) }
+    ensures imaged { IfOk result (IsImaged (now work.new)) }
+    ensures ready { OnOk result (IsReady metamodel.now (now work.new)) }
+    ensures grown { OnOk result (HasGrown (now work.old) (now work.new)) }
+    ensures view { work.new.view ≡ work.old.view }
+    ensures since { since work.new ≡ since work.old }
+{
+    if let Some(image) = instance(metamodel, work, id) {
+        return image_of_instance(work, node, image);
+    }
+    let Some(row) = work.view.get(id) else {
+        return fresh_image(alloc, metamodel, work, node);
+    };
+    let row = row.try_copy()?;
+    image_of_row(alloc, metamodel, registry, work, node, id, row)
+}
+
+/// The image of a node that the manager does not hold. Refused as `merge` is.
+fn image_elsewhere<B: Behaviour>(
+    alloc: Global,
+    metamodel: &Metamodel,
+    registry: &Registry<B>,
+    work: &mut UnitOfWork,
+    node: usize,
+) -> Result<NodeImage, Cause>
+    requires orderly { IsOrderly metamodel.now }
+    requires ready { IsReady metamodel.now (now work.old) }
+    requires node { node < length work.old.objects.now }
+    ensures meets { let world = world_of B.meaning metamodel.now registry.now in
+        Meets result (now work.new) (merges.image_elsewhere world node (now work.old)) }
+    ensures imaged { IfOk result (IsImaged (now work.new)) }
+    ensures ready { OnOk result (IsReady metamodel.now (now work.new)) }
+    ensures grown { OnOk result (HasGrown (now work.old) (now work.new)) }
+    ensures view { work.new.view ≡ work.old.view }
+    ensures since { since work.new ≡ since work.old }
+{
+    match identity_of(metamodel, &work.objects.as_slice()[node])? {
+        Some(id) => image_named(alloc, metamodel, registry, work, node, &id),
+        None => fresh_image(alloc, metamodel, work, node),
+    }
+}
+
+/// The image of a node that stands so for the manager: a managed one is its own. Refused as `merge` is.
+fn image_in<B: Behaviour>(
+    alloc: Global,
+    metamodel: &Metamodel,
+    registry: &Registry<B>,
+    work: &mut UnitOfWork,
+    node: usize,
+    state: EntityState,
+) -> Result<NodeImage, Cause>
+    requires orderly { IsOrderly metamodel.now }
+    requires ready { IsReady metamodel.now (now work.old) }
+    requires node { node < length work.old.objects.now }
+    ensures meets { let world = world_of B.meaning metamodel.now registry.now in
+        Meets result (now work.new) (merges.image_in world node state (now work.old)) }
+    ensures imaged { IfOk result (IsImaged (now work.new)) }
+    ensures ready { OnOk result (IsReady metamodel.now (now work.new)) }
+    ensures grown { OnOk result (HasGrown (now work.old) (now work.new)) }
+    ensures view { work.new.view ≡ work.old.view }
+    ensures since { since work.new ≡ since work.old }
+{
+    match state {
+        EntityState::New => image_elsewhere(alloc, metamodel, registry, work, node),
+        EntityState::Managed => Ok(NodeImage {
+            node,
+            image: node,
+            fresh: false,
+        }),
+        EntityState::Removed => Err(Cause::IllegalArgument(Argument::State)),
+        EntityState::Detached => image_elsewhere(alloc, metamodel, registry, work, node),
+    }
+}
+
+/// The image of a node, as it stands by then. Refused as `merge` is.
+fn image_of_node<B: Behaviour>(
+    alloc: Global,
+    metamodel: &Metamodel,
+    registry: &Registry<B>,
+    work: &mut UnitOfWork,
+    node: usize,
+) -> Result<NodeImage, Cause>
+    requires orderly { IsOrderly metamodel.now }
+    requires ready { IsReady metamodel.now (now work.old) }
+    requires node { node < length work.old.objects.now }
+    ensures meets { let world = world_of B.meaning metamodel.now registry.now in
+        Meets result (now work.new) (merges.image_of_node world node (now work.old)) }
+    ensures imaged { IfOk result (IsImaged (now work.new)) }
+    ensures ready { OnOk result (IsReady metamodel.now (now work.new)) }
+    ensures grown { OnOk result (HasGrown (now work.old) (now work.new)) }
+    ensures view { work.new.view ≡ work.old.view }
+    ensures since { since work.new ≡ since work.old }
+{
+    let state = state_of(work, node);
+    image_in(alloc, metamodel, registry, work, node, state)
+}
+
+/// The images of the objects among the nodes of a cascade, in their order. Refused as `merge` is.
+pub(crate) fn images_of<B: Behaviour>(
+    alloc: Global,
+    metamodel: &Metamodel,
+    registry: &Registry<B>,
+    work: &mut UnitOfWork,
+    nodes: &[Node],
+) -> Result<Seq<NodeImage>, Cause>
+    requires orderly { IsOrderly metamodel.now }
+    requires ready { IsReady metamodel.now (now work.old) }
+    requires there { All (IsThere (now work.old)) nodes.now }
+    ensures meets { let world = world_of B.meaning metamodel.now registry.now in
+        Meets result (now work.new)
+        (collect (merges.image_of_node world) (live_nodes nodes.now) (now work.old)) }
+    ensures imaged { IfOk result (AreImaged (now work.new)) }
+    ensures ready { OnOk result (IsReady metamodel.now (now work.new)) }
+    ensures grown { OnOk result (HasGrown (now work.old) (now work.new)) }
+    ensures view { work.new.view ≡ work.old.view }
+    ensures since { since work.new ≡ since work.old }
+{
+    let mut images = Seq::new(alloc);
+    for node in nodes {
+        if let Node::Live(object) = node {
+            let image = image_of_node(alloc, metamodel, registry, work, *object)?;
+            images.push(image)?;
+        }
+    }
+    Ok(images)
+}

@@ -1,0 +1,112 @@
+//! Merging an object.
+ghost use Rattle.std.specs.Prelude.{◌≡◌, ◌<◌, All, length, IfOk, OnOk};
+ghost use Rattle.jpa_behaviour.specs.Registered.{world_of};
+ghost use Rattle.jpa_context.specs.Steps.{Meets, each};
+ghost use Rattle.jpa_context.specs.Undo.{now, since};
+ghost use Rattle.jpa_fetch.specs.Grown.{HasGrown, IsReady};
+ghost use Rattle.jpa_fetch.specs.Orderly.{IsOrderly};
+ghost use Rattle.jpa_merge.specs.Imaged.{AreImaged, IsImaged};
+ghost use Rattle.jpa_merge.specs.Merge as merges;
+
+use crate::copying::copy_nodes;
+use crate::images::{Images, NodeImage};
+use crate::imaging::images_of;
+use jpa_behaviour::{Behaviour, Registry};
+use jpa_cascade::{Operation, waves};
+use jpa_context::UnitOfWork;
+use jpa_lifecycle::callback;
+use jpa_model::Metamodel;
+use jpa_value::{Cause, LifecycleEvent};
+use std::alloc::Global;
+
+/// PrePersist happens to an image that the merge made (chapter 3.5.2). Refused as a listener or callback refuses, and with
+/// `OutOfMemory`.
+fn pre_persist_fresh<B: Behaviour>(
+    alloc: Global,
+    metamodel: &Metamodel,
+    registry: &Registry<B>,
+    work: &mut UnitOfWork,
+    image: NodeImage,
+) -> Result<(), Cause>
+    requires ready { IsReady metamodel.now (now work.old) }
+    requires image { IsImaged (now work.old) image }
+    ensures meets { let world = world_of B.meaning metamodel.now registry.now in
+        Meets result (now work.new) (merges.pre_persist_fresh world image (now work.old)) }
+    ensures ready { OnOk result (IsReady metamodel.now (now work.new)) }
+    ensures grown { OnOk result (HasGrown (now work.old) (now work.new)) }
+    ensures view { work.new.view ≡ work.old.view }
+    ensures since { since work.new ≡ since work.old }
+{
+    if !image.fresh {
+        return Ok(());
+    }
+    let event = LifecycleEvent::PrePersist;
+    callback(alloc, metamodel, registry, work, event, image.image)
+}
+
+/// PrePersist happens to each image that the merge made, in the order of the waves. Refused as `pre_persist_fresh`.
+fn pre_persist_each<B: Behaviour>(
+    alloc: Global,
+    metamodel: &Metamodel,
+    registry: &Registry<B>,
+    work: &mut UnitOfWork,
+    images: &[NodeImage],
+) -> Result<(), Cause>
+    requires ready { IsReady metamodel.now (now work.old) }
+    requires imaged { AreImaged (now work.old) images.now }
+    ensures meets { let world = world_of B.meaning metamodel.now registry.now in
+        Meets result (now work.new)
+        (each (merges.pre_persist_fresh world) images.now (now work.old)) }
+    ensures ready { OnOk result (IsReady metamodel.now (now work.new)) }
+    ensures grown { OnOk result (HasGrown (now work.old) (now work.new)) }
+    ensures view { work.new.view ≡ work.old.view }
+    ensures since { since work.new ≡ since work.old }
+{
+    for image in images {
+        pre_persist_fresh(alloc, metamodel, registry, work, *image)?;
+    }
+    Ok(())
+}
+
+/// The image of the node at which a merge starts, the first of them.
+fn first_image(start: usize, images: &[NodeImage]) -> usize
+    ensures { result ≡ merges.first_image start images.now }
+{
+    match images.first() {
+        Some(first) => first.image,
+        None => start,
+    }
+}
+
+/// Makes what an object holds, and what those hold that it leads to along relations that cascade merge, the state of managed
+/// objects (Jakarta Persistence 3.1, chapter 3.2.7.1). Answers the place of the object's image.
+///
+/// `IllegalArgument(state)` where one of them is removed, or the instance of its identity is; `IllegalArgument(type)` where what
+/// stands under its identity is of another class; `OptimisticLock` where a version is not the image's; `IllegalState(reference)`
+/// where a relation leads to what has neither an image, an instance nor a row; `Limit` where no more objects can be made; what
+/// loading and persisting refuse; `OutOfMemory`. What a refused call changed is undone by `UnitOfWork::undo`.
+pub fn merge<B: Behaviour>(
+    alloc: Global,
+    metamodel: &Metamodel,
+    registry: &Registry<B>,
+    work: &mut UnitOfWork,
+    object: usize,
+) -> Result<usize, Cause>
+    requires orderly { IsOrderly metamodel.now }
+    requires ready { IsReady metamodel.now (now work.old) }
+    requires object { object < length work.old.objects.now }
+    ensures meets { let world = world_of B.meaning metamodel.now registry.now in
+        Meets result (now work.new) (merges.merge world object (now work.old)) }
+    ensures within { IfOk result (λ n. n < length (now work.new).objects) }
+    ensures ready { OnOk result (IsReady metamodel.now (now work.new)) }
+    ensures grown { OnOk result (HasGrown (now work.old) (now work.new)) }
+    ensures view { work.new.view ≡ work.old.view }
+    ensures since { since work.new ≡ since work.old }
+{
+    let nodes = waves(alloc, metamodel, work, Operation::Merge, object)?;
+    let list = images_of(alloc, metamodel, registry, work, nodes.as_slice())?;
+    let images = Images::of(alloc, list.into_vec())?;
+    copy_nodes(alloc, metamodel, registry, work, &images)?;
+    pre_persist_each(alloc, metamodel, registry, work, images.as_slice())?;
+    Ok(first_image(object, images.as_slice()))
+}

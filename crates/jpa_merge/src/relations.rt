@@ -1,0 +1,217 @@
+//! What an object holds in a relation, copied into an image.
+ghost use Rattle.std.specs.Prelude.{◌≡◌, ◌<◌, All, length, IfErr, OnOk};
+ghost use Rattle.jpa_value.specs.declared.refusal.Cause.{Cause};
+ghost use Rattle.jpa_model.specs.Chains.{relations_of};
+ghost use Rattle.jpa_behaviour.specs.Behaviour.{World};
+ghost use Rattle.jpa_behaviour.specs.Registered.{world_of};
+ghost use Rattle.jpa_heap.specs.Objects.{object_at};
+ghost use Rattle.jpa_context.specs.Steps.{Meets};
+ghost use Rattle.jpa_context.specs.Undo.{now, since};
+ghost use Rattle.jpa_fetch.specs.Grown.{HasGrown, IsReady, objects_held};
+ghost use Rattle.jpa_fetch.specs.Members as members;
+ghost use Rattle.jpa_merge.specs.Imaged.{AreImaged, IsImaged};
+ghost use Rattle.jpa_merge.specs.Merge as merges;
+
+use crate::images::{Images, NodeImage};
+use crate::replacing::{replace_all, replaced};
+use jpa_behaviour::{Behaviour, Registry};
+use jpa_cascade::members_now;
+use jpa_context::UnitOfWork;
+use jpa_fetch::{held_at, set_fetched, set_relation};
+use jpa_heap::{Collection, Held, Link};
+use jpa_model::Metamodel;
+use jpa_value::{Cause, Seq, TryCopy};
+use std::alloc::Global;
+
+/// An image holds this in a relation. Fails for want of memory alone, with `OutOfMemory`.
+fn set_held(
+    metamodel: &Metamodel,
+    work: &mut UnitOfWork,
+    image: usize,
+    relation: usize,
+    held: Held,
+) -> Result<(), Cause>
+    requires ready { IsReady metamodel.now (now work.old) }
+    requires image { image < length work.old.objects.now }
+    requires relation { relation
+        < length (relations_of metamodel.now (object_at work.old.objects.now image).class) }
+    requires within { All (λ k. k < length work.old.objects.now) (objects_held held) }
+    ensures ok { OnOk result
+        (now work.new ≡ members.with_relation image relation held (now work.old)) }
+    ensures err { IfErr result (λ cause. cause ≡ Cause.OutOfMemory) }
+    ensures ready { OnOk result (IsReady metamodel.now (now work.new)) }
+    ensures grown { OnOk result (HasGrown (now work.old) (now work.new)) }
+    ensures view { work.new.view ≡ work.old.view }
+    ensures since { since work.new ≡ since work.old }
+{
+    set_relation(metamodel, work, image, relation, held)
+}
+
+/// A collection of an image holds these objects; the image's base takes what the view has in it, where it was not read. Fails for
+/// want of memory alone, with `OutOfMemory`.
+fn settle_members(
+    alloc: Global,
+    metamodel: &Metamodel,
+    work: &mut UnitOfWork,
+    image: usize,
+    relation: usize,
+    targets: Seq<usize>,
+) -> Result<(), Cause>
+    requires ready { IsReady metamodel.now (now work.old) }
+    requires image { image < length work.old.objects.now }
+    requires relation { relation
+        < length (relations_of metamodel.now (object_at work.old.objects.now image).class) }
+    requires within { All (λ k. k < length work.old.objects.now) targets }
+    ensures meets { (world : World) → Meets result (now work.new) (merges.settle_members
+        (record world { model = metamodel.now }) image relation targets (now work.old)) }
+    ensures ready { OnOk result (IsReady metamodel.now (now work.new)) }
+    ensures grown { OnOk result (HasGrown (now work.old) (now work.new)) }
+    ensures view { work.new.view ≡ work.old.view }
+    ensures since { since work.new ≡ since work.old }
+{
+    if let Held::Many(Collection::Unfetched) = held_at(metamodel, work, image, relation) {
+        let ids = members_now(metamodel, work, image, relation)?;
+        let targets = targets.as_slice();
+        return set_fetched(alloc, metamodel, work, image, relation, &ids, targets);
+    }
+    let held = Held::Many(Collection::Fetched(targets));
+    set_held(metamodel, work, image, relation, held)
+}
+
+/// A to-one relation of an image leads to what stands for a target. Refused as `replaced` is.
+fn copy_target<B: Behaviour>(
+    alloc: Global,
+    metamodel: &Metamodel,
+    registry: &Registry<B>,
+    work: &mut UnitOfWork,
+    images: &Images,
+    image: usize,
+    relation: usize,
+    target: usize,
+) -> Result<(), Cause>
+    requires ready { IsReady metamodel.now (now work.old) }
+    requires imaged { AreImaged (now work.old) images.now }
+    requires image { image < length work.old.objects.now }
+    requires relation { relation
+        < length (relations_of metamodel.now (object_at work.old.objects.now image).class) }
+    requires target { target < length work.old.objects.now }
+    ensures meets { let world = world_of B.meaning metamodel.now registry.now in
+        Meets result (now work.new)
+        (merges.copy_target world images.now image relation target (now work.old)) }
+    ensures ready { OnOk result (IsReady metamodel.now (now work.new)) }
+    ensures grown { OnOk result (HasGrown (now work.old) (now work.new)) }
+    ensures view { work.new.view ≡ work.old.view }
+    ensures since { since work.new ≡ since work.old }
+{
+    let object = replaced(alloc, metamodel, registry, work, images, target)?;
+    let held = Held::One(Link::Object(object));
+    set_held(metamodel, work, image, relation, held)
+}
+
+/// A collection of an image holds what stands for these members. Refused as `replaced` is, at the first that is refused.
+fn copy_members<B: Behaviour>(
+    alloc: Global,
+    metamodel: &Metamodel,
+    registry: &Registry<B>,
+    work: &mut UnitOfWork,
+    images: &Images,
+    image: usize,
+    relation: usize,
+    members: &[usize],
+) -> Result<(), Cause>
+    requires ready { IsReady metamodel.now (now work.old) }
+    requires imaged { AreImaged (now work.old) images.now }
+    requires image { image < length work.old.objects.now }
+    requires relation { relation
+        < length (relations_of metamodel.now (object_at work.old.objects.now image).class) }
+    requires within { All (λ k. k < length work.old.objects.now) members.now }
+    ensures meets { let world = world_of B.meaning metamodel.now registry.now in
+        Meets result (now work.new)
+        (merges.copy_members world images.now image relation members.now (now work.old)) }
+    ensures ready { OnOk result (IsReady metamodel.now (now work.new)) }
+    ensures grown { OnOk result (HasGrown (now work.old) (now work.new)) }
+    ensures view { work.new.view ≡ work.old.view }
+    ensures since { since work.new ≡ since work.old }
+{
+    let targets = replace_all(alloc, metamodel, registry, work, images, members)?;
+    settle_members(alloc, metamodel, work, image, relation, targets)
+}
+
+/// An image takes what is held in a relation, as far as it was read, with what stands for its targets. Refused as `replaced` is.
+fn copy_held<B: Behaviour>(
+    alloc: Global,
+    metamodel: &Metamodel,
+    registry: &Registry<B>,
+    work: &mut UnitOfWork,
+    images: &Images,
+    image: usize,
+    relation: usize,
+    held: &Held,
+) -> Result<(), Cause>
+    requires ready { IsReady metamodel.now (now work.old) }
+    requires imaged { AreImaged (now work.old) images.now }
+    requires image { image < length work.old.objects.now }
+    requires relation { relation
+        < length (relations_of metamodel.now (object_at work.old.objects.now image).class) }
+    requires within { All (λ k. k < length work.old.objects.now) (objects_held held.now) }
+    ensures meets { let world = world_of B.meaning metamodel.now registry.now in
+        Meets result (now work.new)
+        (merges.copy_held world images.now image relation held.now (now work.old)) }
+    ensures ready { OnOk result (IsReady metamodel.now (now work.new)) }
+    ensures grown { OnOk result (HasGrown (now work.old) (now work.new)) }
+    ensures view { work.new.view ≡ work.old.view }
+    ensures since { since work.new ≡ since work.old }
+{
+    match held {
+        Held::One(Link::None) => {
+            set_held(metamodel, work, image, relation, Held::One(Link::None))
+        }
+        Held::One(Link::Object(target)) => copy_target(
+            alloc, metamodel, registry, work, images, image, relation, *target,
+        ),
+        Held::One(Link::Key(_)) => Ok(()),
+        Held::Many(Collection::Fetched(members)) => {
+            let members = members.as_slice();
+            copy_members(
+                alloc, metamodel, registry, work, images, image, relation, members,
+            )
+        }
+        Held::Many(Collection::Unfetched) => Ok(()),
+    }
+}
+
+/// An image takes what its node holds in a relation, as `copy_held`.
+pub(crate) fn copy_relation<B: Behaviour>(
+    alloc: Global,
+    metamodel: &Metamodel,
+    registry: &Registry<B>,
+    work: &mut UnitOfWork,
+    images: &Images,
+    image: NodeImage,
+    relation: usize,
+) -> Result<(), Cause>
+    requires ready { IsReady metamodel.now (now work.old) }
+    requires imaged { AreImaged (now work.old) images.now }
+    requires image { IsImaged (now work.old) image }
+    requires relation { relation
+        < length (relations_of metamodel.now (object_at work.old.objects.now image.node).class) }
+    ensures meets { let world = world_of B.meaning metamodel.now registry.now in
+        Meets result (now work.new)
+        (merges.copy_at world images.now image relation (now work.old)) }
+    ensures ready { OnOk result (IsReady metamodel.now (now work.new)) }
+    ensures grown { OnOk result (HasGrown (now work.old) (now work.new)) }
+    ensures view { work.new.view ≡ work.old.view }
+    ensures since { since work.new ≡ since work.old }
+{
+    let held = held_at(metamodel, work, image.node, relation).try_copy()?;
+    copy_held(
+        alloc,
+        metamodel,
+        registry,
+        work,
+        images,
+        image.image,
+        relation,
+        &held,
+    )
+}
