@@ -1,0 +1,6 @@
+mod Bound
+mod Examples
+mod Read
+mod Rows
+mod Steps
+mod Viewed

@@ -1,0 +1,223 @@
+//! query and querySingle.
+ghost use Rattle.std.specs.Prelude.{◌≡◌, T, true, OnOk};
+ghost use Rattle.std.specs.FinMap.Entries.{is_sorted};
+ghost use Rattle.jpa_behaviour.specs.Registered.{world_of};
+ghost use Rattle.jpa_context.specs.Steps.{Meets};
+ghost use Rattle.jpa_context.specs.Undo.{now, since};
+ghost use Rattle.jpa_fetch.specs.Grown.{IsReady};
+ghost use Rattle.jpa_fetch.specs.Orderly.{IsOrderly};
+ghost use Rattle.jpa_ops.specs.Names.{has_distinct_entries};
+ghost use Rattle.jpa_queries.specs.Premises.{AreInHeap, StaysReady};
+ghost use Rattle.jpa_queries.specs.Queries as queries;
+ghost use Rattle.jpa_stored.specs.Sets.{IsSound};
+ghost use Rattle.jpa_value.specs.Value.{identity_cmp};
+
+use crate::asked::{Asked, Statement};
+use crate::cut::{cut, is_count};
+use crate::results::{row_of, rows_of};
+use crate::statement::{read_of, statement_of};
+use jpa_behaviour::{Behaviour, Registry};
+use jpa_context::UnitOfWork;
+use jpa_flush::flush;
+use jpa_model::Metamodel;
+use jpa_protocol::Item;
+use jpa_value::{Argument, Cause, Seq, State};
+use jpql_eval::{Datum, Failure};
+use jpql_select::select as run_select;
+use jpql_types::{Typed, TypedSelect};
+use std::alloc::Global;
+
+/// The SELECT that is asked, with what stands for its parameters.
+///
+/// `Limit` for a text over the limits; `IllegalArgument` with `Range` where a number of rows is negative, and as
+/// `statement_of` refuses; `IllegalState(statement)` for a statement that is no SELECT.
+fn judged(
+    alloc: Global,
+    metamodel: &Metamodel,
+    work: &UnitOfWork,
+    asked: &Asked,
+) -> Result<(TypedSelect, Seq<Datum>), Cause>
+    requires ready { IsReady metamodel.now (now work.now) }
+    requires bound { AreInHeap work.now.objects.now asked.now.bindings }
+    ensures meets { Meets result (now work.now)
+        (queries.judged metamodel.now asked.now (now work.now)) }
+{
+    let tree = read_of(alloc, asked.text.as_str())?;
+    if !is_count(asked.first) || !is_count(asked.max) {
+        return Err(Cause::IllegalArgument(Argument::Range));
+    }
+    let bindings = asked.bindings.as_slice();
+    let Statement { typed, arguments } = statement_of(alloc, metamodel, work, tree, bindings)?;
+    match typed {
+        Typed::Select(select) => Ok((select, arguments)),
+        Typed::Update { .. } | Typed::Delete { .. } => Err(Cause::IllegalState(State::Statement)),
+    }
+}
+
+/// The flush before a query, where there is one. Refused as `flush` is.
+fn flush_if<B: Behaviour>(
+    alloc: Global,
+    metamodel: &Metamodel,
+    registry: &Registry<B>,
+    work: &mut UnitOfWork,
+    flushes: bool,
+) -> Result<(), Cause>
+    requires orderly { IsOrderly metamodel.now }
+    requires ready { IsReady metamodel.now (now work.old) }
+    requires shown { flushes ≡ true → work.old.view.is_shown ≡ true }
+    requires sound { IsSound metamodel.now (now work.old).view }
+    requires rising { T (is_sorted identity_cmp (now work.old).view) }
+    requires distinct { has_distinct_entries metamodel.now (now work.old) ≡ true }
+    ensures meets { let world = world_of B.meaning metamodel.now registry.now in
+        Meets result (now work.new) (queries.flush_if flushes world (now work.old)) }
+    ensures since { since work.new ≡ since work.old }
+{
+    if flushes {
+        flush(alloc, metamodel, registry, work)
+    } else {
+        Ok(())
+    }
+}
+
+/// The rows of a SELECT over the set that a manager sees, without the first ones, and at most so many. `Overflow`
+/// where an integer is outside 64 bits; `OutOfMemory` where a growth was refused.
+fn rows_found(
+    alloc: Global,
+    metamodel: &Metamodel,
+    work: &UnitOfWork,
+    select: &TypedSelect,
+    arguments: &[Datum],
+    first: Option<i64>,
+    max: Option<i64>,
+) -> Result<Seq<Seq<Datum>>, Cause>
+    ensures meets { Meets result (now work.now) (queries.rows_found metamodel.now select.now
+        arguments.now first max (now work.now)) }
+{
+    match run_select(alloc, metamodel, &work.view, arguments, select) {
+        Ok(table) => cut(alloc, first, max, &table),
+        Err(Failure::Overflow) => Err(Cause::Overflow),
+        Err(Failure::Memory) => Err(Cause::OutOfMemory),
+    }
+}
+
+/// The rows that are asked, with identities for entities. Refused as `query` is, before anything is loaded.
+fn rows_asked<B: Behaviour>(
+    alloc: Global,
+    metamodel: &Metamodel,
+    registry: &Registry<B>,
+    work: &mut UnitOfWork,
+    flushes: bool,
+    asked: &Asked,
+) -> Result<Seq<Seq<Datum>>, Cause>
+    requires orderly { IsOrderly metamodel.now }
+    requires ready { IsReady metamodel.now (now work.old) }
+    requires shown { flushes ≡ true → work.old.view.is_shown ≡ true }
+    requires sound { IsSound metamodel.now (now work.old).view }
+    requires rising { T (is_sorted identity_cmp (now work.old).view) }
+    requires distinct { has_distinct_entries metamodel.now (now work.old) ≡ true }
+    requires then_ready { StaysReady flushes (world_of B.meaning metamodel.now registry.now)
+        (now work.old) }
+    requires bound { AreInHeap work.old.objects.now asked.now.bindings }
+    ensures meets { let world = world_of B.meaning metamodel.now registry.now in
+        Meets result (now work.new) (queries.rows_asked world flushes asked.now (now work.old)) }
+    ensures ready { OnOk result (IsReady metamodel.now (now work.new)) }
+    ensures since { since work.new ≡ since work.old }
+{
+    let (select, arguments) = judged(alloc, metamodel, work, asked)?;
+    flush_if(alloc, metamodel, registry, work, flushes)?;
+    rows_found(
+        alloc,
+        metamodel,
+        work,
+        &select,
+        arguments.as_slice(),
+        asked.first,
+        asked.max,
+    )
+}
+
+/// The one of these rows. `NoResult` where there is none, `NonUniqueResult` where there are several; else refused
+/// as `row_of` is.
+fn single_row<B: Behaviour>(
+    alloc: Global,
+    metamodel: &Metamodel,
+    registry: &Registry<B>,
+    work: &mut UnitOfWork,
+    rows: &[Seq<Datum>],
+) -> Result<Seq<Item>, Cause>
+    requires ready { IsReady metamodel.now (now work.old) }
+    ensures meets { let world = world_of B.meaning metamodel.now registry.now in
+        Meets result (now work.new) (queries.single_row world rows.now (now work.old)) }
+    ensures since { since work.new ≡ since work.old }
+{
+    match rows {
+        [] => Err(Cause::NoResult),
+        [row] => row_of(alloc, metamodel, registry, work, row.as_slice()),
+        [_, _, ..] => Err(Cause::NonUniqueResult),
+    }
+}
+
+/// The rows of a SELECT over the set that a manager sees (Jakarta Persistence 3.1, chapter 3.10.1), without
+/// the first ones, and at most so many as are asked. An entity in a row is the context's instance in whatever
+/// state, else it is loaded, in the order of the rows. Where `flushes`, as in a transaction under flush mode
+/// AUTO (chapter 3.10.8), the manager's objects are flushed before.
+///
+/// In this order: `Limit` for a text that is too long, nests too deep or declares too many variables;
+/// `IllegalArgument` with `Range` where a number of rows is negative, `Syntax` for a text outside the grammar,
+/// `Typing` for an ill-typed one, `Parameter` where a parameter isn't bound, one is bound that isn't in the
+/// text, or an object is bound whose key isn't whole; `IllegalState(statement)` for a statement that is no
+/// SELECT; what `flush` refuses; `Overflow` for an integer outside 64 bits; `EntityNotFound` for an entity that
+/// is neither in the context nor in the set, and what `load` refuses. `OutOfMemory` where a growth was refused.
+/// What a refused call changed is undone by `UnitOfWork::undo`.
+pub fn query<B: Behaviour>(
+    alloc: Global,
+    metamodel: &Metamodel,
+    registry: &Registry<B>,
+    work: &mut UnitOfWork,
+    flushes: bool,
+    asked: &Asked,
+) -> Result<Seq<Seq<Item>>, Cause>
+    requires orderly { IsOrderly metamodel.now }
+    requires ready { IsReady metamodel.now (now work.old) }
+    requires shown { flushes ≡ true → work.old.view.is_shown ≡ true }
+    requires sound { IsSound metamodel.now (now work.old).view }
+    requires rising { T (is_sorted identity_cmp (now work.old).view) }
+    requires distinct { has_distinct_entries metamodel.now (now work.old) ≡ true }
+    requires then_ready { StaysReady flushes (world_of B.meaning metamodel.now registry.now)
+        (now work.old) }
+    requires bound { AreInHeap work.old.objects.now asked.now.bindings }
+    ensures meets { let world = world_of B.meaning metamodel.now registry.now in
+        Meets result (now work.new) (queries.query world flushes asked.now (now work.old)) }
+    ensures since { since work.new ≡ since work.old }
+{
+    let rows = rows_asked(alloc, metamodel, registry, work, flushes, asked)?;
+    rows_of(alloc, metamodel, registry, work, rows.as_slice())
+}
+
+/// The one row of a SELECT, as `query` finds them and cuts them off. `NoResult` where there is none,
+/// `NonUniqueResult` where there are several (chapter 3.10.1), told before an entity is loaded; else refused
+/// as `query` is.
+pub fn query_single<B: Behaviour>(
+    alloc: Global,
+    metamodel: &Metamodel,
+    registry: &Registry<B>,
+    work: &mut UnitOfWork,
+    flushes: bool,
+    asked: &Asked,
+) -> Result<Seq<Item>, Cause>
+    requires orderly { IsOrderly metamodel.now }
+    requires ready { IsReady metamodel.now (now work.old) }
+    requires shown { flushes ≡ true → work.old.view.is_shown ≡ true }
+    requires sound { IsSound metamodel.now (now work.old).view }
+    requires rising { T (is_sorted identity_cmp (now work.old).view) }
+    requires distinct { has_distinct_entries metamodel.now (now work.old) ≡ true }
+    requires then_ready { StaysReady flushes (world_of B.meaning metamodel.now registry.now)
+        (now work.old) }
+    requires bound { AreInHeap work.old.objects.now asked.now.bindings }
+    ensures meets { let world = world_of B.meaning metamodel.now registry.now in
+        Meets result (now work.new) (queries.query_single world flushes asked.now (now work.old)) }
+    ensures since { since work.new ≡ since work.old }
+{
+    let rows = rows_asked(alloc, metamodel, registry, work, flushes, asked)?;
+    single_row(alloc, metamodel, registry, work, rows.as_slice())
+}
