@@ -1,5 +1,5 @@
 -- Worked examples: what lines mean, and how replies are written.
-use Rattle.std.proofs.Common.{◌≡◌, [], ◌∷◌, Ok, Err, codes, pos, negsuc, refl}
+use Rattle.std.proofs.Common.{◌≡◌, [], ◌∷◌, Some, None, Ok, Err, codes, pos, negsuc, refl}
 use Rattle.std.specs.Str.{is_utf8, chars}
 use Rattle.std.specs.Fmt.{digits}
 use Rattle.hex.specs.Hex.{decode_pairs, encode_with}
@@ -10,11 +10,14 @@ use Rattle.jpa_value.specs.declared.refusal.Refusal.{Refusal}
 use Rattle.jpa_value.specs.declared.value.Value.{Value}
 use Rattle.jpa_protocol.specs.declared.call.Call.{Call}
 use Rattle.jpa_protocol.specs.declared.call.Given.{Given}
+use Rattle.jpa_protocol.specs.declared.call.FlushMode.{FlushMode}
+use Rattle.jpa_protocol.specs.declared.call.LockMode.{LockMode}
+use Rattle.jpa_protocol.specs.declared.call.Parameter.{Parameter}
 use Rattle.jpa_value.specs.declared.event.LifecycleEvent.{LifecycleEvent}
 use Rattle.jpa_protocol.specs.declared.reply.Answer.{Answer}
 use Rattle.jpa_protocol.specs.declared.reply.Item.{Item}
 use Rattle.jpa_json.specs.JsonOf.{text_data}
-use Rattle.jpa_lines.specs.CallOf.{meaning, text_call, call_of, create_of, new_of, set_of, get_of, by_member_of, em_of, em_and_object_of, by_key_of, given_of, marked_of, hex_of}
+use Rattle.jpa_lines.specs.CallOf.{meaning, text_call, call_of, create_of, new_of, set_of, get_of, by_member_of, em_of, em_and_object_of, lock_of, set_flush_mode_of, by_key_of, query_members_of, given_of, marked_of, hex_of}
 use Rattle.jpa_lines.specs.ReplyText.{reply_text}
 use Rattle.jpa_lines.specs.Run.{lines_of}
 
@@ -87,6 +90,31 @@ detaches : meaning (codes "{\"call\":\"detach\",\"em\":2,\"object\":1}") ≡ Ok 
 unfolding is_utf8 chars meaning text_call text_data call_of em_and_object_of serde_json_on_literals
 detaches = refl
 
+merges : meaning (codes "{\"call\":\"merge\",\"em\":2,\"object\":1}") ≡ Ok (Call.Merge (pos 2) (pos 1))
+unfolding is_utf8 chars meaning text_call text_data call_of em_and_object_of serde_json_on_literals
+merges = refl
+
+locks : meaning (codes "{\"call\":\"lock\",\"em\":1,\"object\":2,\"mode\":\"READ\"}") ≡ Ok (Call.Lock (pos 1) (pos 2) LockMode.Read)
+unfolding is_utf8 chars meaning text_call text_data call_of lock_of serde_json_on_literals
+locks = refl
+
+locks_optimistically : meaning (codes "{\"call\":\"lock\",\"em\":1,\"object\":2,\"mode\":\"OPTIMISTIC\"}") ≡ Ok (Call.Lock (pos 1) (pos 2) LockMode.Read)
+unfolding is_utf8 chars meaning text_call text_data call_of lock_of serde_json_on_literals
+locks_optimistically = refl
+
+locks_to_write : meaning (codes "{\"mode\":\"WRITE\",\"call\":\"lock\",\"em\":1,\"object\":2}") ≡ Ok (Call.Lock (pos 1) (pos 2) LockMode.Write)
+unfolding is_utf8 chars meaning text_call text_data call_of lock_of serde_json_on_literals
+locks_to_write = refl
+
+locks_to_increment : meaning (codes "{\"call\":\"lock\",\"em\":1,\"object\":2,\"mode\":\"OPTIMISTIC_FORCE_INCREMENT\"}") ≡ Ok (Call.Lock (pos 1) (pos 2) LockMode.Write)
+unfolding is_utf8 chars meaning text_call text_data call_of lock_of serde_json_on_literals
+locks_to_increment = refl
+
+-- capitals matter
+locks_by_no_word : meaning (codes "{\"call\":\"lock\",\"em\":1,\"object\":2,\"mode\":\"read\"}") ≡ Err Cause.BadLine
+unfolding is_utf8 chars meaning text_call text_data call_of lock_of serde_json_on_literals
+locks_by_no_word = refl
+
 asks : meaning (codes "{\"call\":\"contains\",\"em\":1,\"object\":2}") ≡ Ok (Call.Contains (pos 1) (pos 2))
 unfolding is_utf8 chars meaning text_call text_data call_of em_and_object_of serde_json_on_literals
 asks = refl
@@ -127,6 +155,62 @@ only_rolls_back = refl
 finds : meaning (codes "{\"call\":\"find\",\"em\":1,\"entity\":\"Person\",\"key\":[1,null]}") ≡ Ok (Call.Find (pos 1) (codes "Person") (Given.Plain (Value.Int (pos 1)) ∷ Given.Plain Value.Null ∷ []))
 unfolding is_utf8 chars meaning text_call text_data call_of by_key_of given_of serde_json_on_literals
 finds = refl
+
+flushes_before_queries : meaning (codes "{\"call\":\"setFlushMode\",\"em\":1,\"mode\":\"AUTO\"}") ≡ Ok (Call.SetFlushMode (pos 1) FlushMode.Auto)
+unfolding is_utf8 chars meaning text_call text_data call_of set_flush_mode_of serde_json_on_literals
+flushes_before_queries = refl
+
+flushes_at_commit : meaning (codes "{\"mode\":\"COMMIT\",\"call\":\"setFlushMode\",\"em\":1}") ≡ Ok (Call.SetFlushMode (pos 1) FlushMode.Commit)
+unfolding is_utf8 chars meaning text_call text_data call_of set_flush_mode_of serde_json_on_literals
+flushes_at_commit = refl
+
+flushes_by_no_word : meaning (codes "{\"call\":\"setFlushMode\",\"em\":1,\"mode\":\"NEVER\"}") ≡ Err Cause.BadLine
+unfolding is_utf8 chars meaning text_call text_data call_of set_flush_mode_of serde_json_on_literals
+flushes_by_no_word = refl
+
+asks_for_rows : meaning (codes "{\"call\":\"query\",\"em\":1,\"text\":\"SELECT p FROM Person p\"}") ≡ Ok (Call.Query (pos 1) (codes "SELECT p FROM Person p") [] None None)
+unfolding is_utf8 chars meaning text_call text_data call_of query_members_of serde_json_on_literals
+asks_for_rows = refl
+
+asks_for_some_rows : meaning (codes "{\"call\":\"query\",\"em\":1,\"text\":\"SELECT p FROM Person p\",\"max\":2,\"first\":-1}") ≡ Ok (Call.Query (pos 1) (codes "SELECT p FROM Person p") [] (Some (negsuc 0)) (Some (pos 2)))
+unfolding is_utf8 chars meaning text_call text_data call_of query_members_of serde_json_on_literals
+asks_for_some_rows = refl
+
+-- in the order of the names
+asks_with_parameters : meaning (codes "{\"call\":\"query\",\"em\":1,\"text\":\"SELECT p FROM Person p\",\"params\":{\"x\":{\"object\":2},\"1\":null,\"y\":{\"hex\":\"0a\"}},\"max\":0}") ≡ Ok (Call.Query (pos 1) (codes "SELECT p FROM Person p") (record { name = codes "1"; value = Given.Plain Value.Null } ∷ record { name = codes "x"; value = Given.Object (pos 2) } ∷ record { name = codes "y"; value = Given.Plain (Value.Bytes (10 ∷ [])) } ∷ []) None (Some (pos 0)))
+unfolding is_utf8 chars meaning text_call text_data call_of query_members_of given_of marked_of hex_of decode_pairs serde_json_on_literals
+asks_with_parameters = refl
+
+-- the last value of a name that is repeated
+asks_with_the_last_value : meaning (codes "{\"call\":\"query\",\"em\":1,\"text\":\"SELECT p FROM Person p\",\"params\":{\"x\":1,\"x\":\"a\"}}") ≡ Ok (Call.Query (pos 1) (codes "SELECT p FROM Person p") (record { name = codes "x"; value = Given.Plain (Value.Text (codes "a")) } ∷ []) None None)
+unfolding is_utf8 chars meaning text_call text_data call_of query_members_of given_of serde_json_on_literals
+asks_with_the_last_value = refl
+
+asks_for_one_row : meaning (codes "{\"call\":\"querySingle\",\"em\":1,\"text\":\"SELECT p FROM Person p\",\"params\":{}}") ≡ Ok (Call.QuerySingle (pos 1) (codes "SELECT p FROM Person p") [] None None)
+unfolding is_utf8 chars meaning text_call text_data call_of query_members_of serde_json_on_literals
+asks_for_one_row = refl
+
+-- null is no integer
+null_max : meaning (codes "{\"call\":\"query\",\"em\":1,\"text\":\"SELECT p FROM Person p\",\"max\":null}") ≡ Err Cause.BadLine
+unfolding is_utf8 chars meaning text_call text_data call_of query_members_of serde_json_on_literals
+null_max = refl
+
+-- and no object
+null_params : meaning (codes "{\"call\":\"query\",\"em\":1,\"text\":\"SELECT p FROM Person p\",\"params\":null}") ≡ Err Cause.BadLine
+unfolding is_utf8 chars meaning text_call text_data call_of query_members_of serde_json_on_literals
+null_params = refl
+
+listed_params : meaning (codes "{\"call\":\"query\",\"em\":1,\"text\":\"SELECT p FROM Person p\",\"params\":[1]}") ≡ Err Cause.BadLine
+unfolding is_utf8 chars meaning text_call text_data call_of query_members_of serde_json_on_literals
+listed_params = refl
+
+truth_param : meaning (codes "{\"call\":\"query\",\"em\":1,\"text\":\"SELECT p FROM Person p\",\"params\":{\"x\":true}}") ≡ Err Cause.BadLine
+unfolding is_utf8 chars meaning text_call text_data call_of query_members_of given_of serde_json_on_literals
+truth_param = refl
+
+surplus_of_query : meaning (codes "{\"call\":\"query\",\"em\":1,\"text\":\"SELECT p FROM Person p\",\"first\":1,\"x\":1}") ≡ Err Cause.BadLine
+unfolding is_utf8 chars meaning text_call text_data call_of query_members_of serde_json_on_literals
+surplus_of_query = refl
 
 cut_short : meaning (codes "{\"call\":\"find\"") ≡ Err Cause.BadLine
 unfolding is_utf8 chars meaning text_call text_data call_of serde_json_on_literals
@@ -193,3 +277,16 @@ listed = refl
 rows : reply_text (record { events = []; answer = Ok (Answer.Rows ((Item.Value (Value.Int (negsuc 0)) ∷ []) ∷ (Item.Value (Value.Bytes (10 ∷ 255 ∷ [])) ∷ Item.Value Value.Null ∷ []) ∷ [])) }) ≡ codes "{\"events\":[],\"ok\":[-1,[{\"hex\":\"0aff\"},null]]}\n"
 unfolding digits encode_with serde_json_on_literals
 rows = refl
+
+-- the row of a query is the item where it has one, a null too
+found_null : reply_text (record { events = []; answer = Ok (Answer.Row (Item.Value Value.Null ∷ [])) }) ≡ codes "{\"events\":[],\"ok\":null}\n"
+unfolding digits serde_json_on_literals
+found_null = refl
+
+found_pair : reply_text (record { events = []; answer = Ok (Answer.Row (Item.Object 2 ∷ Item.Value (Value.Text (codes "a")) ∷ [])) }) ≡ codes "{\"events\":[],\"ok\":[{\"object\":2},\"a\"]}\n"
+unfolding digits serde_json_on_literals
+found_pair = refl
+
+found_none : reply_text (record { events = []; answer = Ok (Answer.Rows []) }) ≡ codes "{\"events\":[],\"ok\":[]}\n"
+unfolding digits serde_json_on_literals
+found_none = refl

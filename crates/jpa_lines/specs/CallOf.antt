@@ -1,6 +1,6 @@
 -- Which call a line means.
 use Rattle.jpa_value.specs.Limits.{most_line_bytes}
-use Rattle.std.specs.Prelude.{◌==◌, ℕ, ℤ, nat_lt, List, length, codes, if◌then◌else◌, Option, Some, None, Result, Ok, Err, bytes_eq}
+use Rattle.std.specs.Prelude.{◌==◌, ◌+◌, ℕ, ℤ, nat_lt, List, [], ◌∷◌, length, codes, if◌then◌else◌, Option, Some, None, is_some, Result, Ok, Err, bytes_eq}
 use Rattle.std.specs.Option.{ok_or}
 use Rattle.hex.specs.Hex.{decode_of}
 use Rattle.hex.specs.declared.error.FromHexError.{FromHexError}
@@ -8,14 +8,21 @@ use Rattle.jpa_value.specs.declared.refusal.Cause.{Cause}
 use Rattle.jpa_value.specs.declared.refusal.Cause.TheVariants.{BadLine, Limit}
 use Rattle.jpa_value.specs.declared.value.Value.TheVariants.{Null, Int, Text, Bytes}
 use Rattle.jpa_protocol.specs.declared.call.Call.{Call}
-use Rattle.jpa_protocol.specs.declared.call.Call.TheVariants.{CreateEntityManager, NewObject, SetValue, Get, Add, TakeOut, Begin, Persist, Remove, Refresh, Detach, Contains, Clear, Close, Flush, Commit, Rollback, SetRollbackOnly, Find, GetReference}
+use Rattle.jpa_protocol.specs.declared.call.Call.TheVariants.{CreateEntityManager, NewObject, SetValue, Get, Add, TakeOut, Begin, Persist, Remove, Refresh, Detach, Contains, Clear, Close, Flush, Commit, Rollback, SetRollbackOnly, Merge, Lock, SetFlushMode, Find, GetReference, Query, QuerySingle}
 use Rattle.jpa_protocol.specs.declared.call.Given.{Given}
 use Rattle.jpa_protocol.specs.declared.call.Given.TheVariants as given
-use Rattle.serde_json.specs.Data.{Data, null, boolean, number, string, array, object}
-use Rattle.serde_json.specs.Find.{get, as_str, as_i64}
+use Rattle.jpa_protocol.specs.declared.call.FlushMode.{FlushMode}
+use Rattle.jpa_protocol.specs.declared.call.FlushMode.TheVariants as flush
+use Rattle.jpa_protocol.specs.declared.call.LockMode.{LockMode}
+use Rattle.jpa_protocol.specs.declared.call.LockMode.TheVariants as mode
+use Rattle.jpa_protocol.specs.declared.call.Parameter.{Parameter}
+use Rattle.serde_json.specs.Data.{Data, null, boolean, number, string, array, object, Members}
+use Rattle.serde_json.specs.Data as json
+use Rattle.serde_json.specs.Find.{get, as_str, as_object, as_i64}
 use Rattle.jpa_json.specs.JsonOf.{text_data}
 use Rattle.jpa_json.specs.Members.{count_of, integer_of, list_of, text_at}
 use Rattle.jpa_json.specs.Outcome.{◌>>=◌, guard}
+use Rattle.jpa_lines.specs.declared.reading.QueryMembers.{QueryMembers}
 use Rattle.jpa_lines.specs.declared.reading.Word.{Word}
 use Rattle.jpa_lines.specs.declared.reading.Word.TheVariants as word
 
@@ -122,6 +129,24 @@ of_em_and_object call d = do
   named ← em_and_object_of d
   Some (call named.0 named.1)
 
+-- a lock by one of its two names
+abbrev pub lock_mode_of : List ℕ → Option LockMode
+lock_mode_of name =
+    if bytes_eq name (codes "READ") then Some mode.Read
+    else if bytes_eq name (codes "OPTIMISTIC") then Some mode.Read
+    else if bytes_eq name (codes "WRITE") then Some mode.Write
+    else if bytes_eq name (codes "OPTIMISTIC_FORCE_INCREMENT") then Some mode.Write
+    else None
+
+unfoldable pub lock_of : Data → Option Call
+lock_of d = do
+  all ← guard (count_of d == 4)
+  em ← integer_at (codes "em") d
+  on ← integer_at (codes "object") d
+  name ← text_at (codes "mode") d
+  how ← lock_mode_of name
+  Some (Lock em on how)
+
 -- a call that finds by a key
 unfoldable pub by_key_of : (ℤ → List ℕ → List Given → Call) → Data → Option Call
 by_key_of call d = do
@@ -131,6 +156,69 @@ by_key_of call d = do
   member ← get (codes "key") d
   key ← list_of given_of member
   Some (call em entity key)
+
+-- a flush mode by its name
+abbrev pub flush_mode_of : List ℕ → Option FlushMode
+flush_mode_of name =
+    if bytes_eq name (codes "AUTO") then Some flush.Auto
+    else if bytes_eq name (codes "COMMIT") then Some flush.Commit
+    else None
+
+unfoldable pub set_flush_mode_of : Data → Option Call
+set_flush_mode_of d = do
+  all ← guard (count_of d == 3)
+  em ← integer_at (codes "em") d
+  name ← text_at (codes "mode") d
+  how ← flush_mode_of name
+  Some (SetFlushMode em how)
+
+-- ---- statements, with members that may be absent
+
+-- one where the member is there
+abbrev pub count_at : List ℕ → Data → ℕ
+count_at name d = if is_some (get name d) then 1 else 0
+
+abbrev pub integer_if_there : Option Data → Option (Option ℤ)
+integer_if_there None = Some None
+integer_if_there (Some d) = do
+  z ← integer_of d
+  Some (Some z)
+
+abbrev pub optional_integer_at : List ℕ → Data → Option (Option ℤ)
+optional_integer_at name d = integer_if_there (get name d)
+
+-- a parameter for each member; an object has each name once, in the order of the names
+abbrev pub parameters : Members → Option (List Parameter)
+parameters json.no_members = Some []
+parameters (json.member name d ms) = do
+  value ← given_of d
+  others ← parameters ms
+  Some (record { name = name; value = value } ∷ others)
+
+abbrev pub parameters_if_there : Option Data → Option (List Parameter)
+parameters_if_there None = Some []
+parameters_if_there (Some d) = as_object d >>= parameters
+
+abbrev pub parameters_at : Data → Option (List Parameter)
+parameters_at d = parameters_if_there (get (codes "params") d)
+
+unfoldable pub query_members_of : Data → Option QueryMembers
+query_members_of d = do
+  all ← guard (count_of d == 3 + count_at (codes "params") d + (count_at (codes "first") d + count_at (codes "max") d))
+  em ← integer_at (codes "em") d
+  text ← text_at (codes "text") d
+  values ← parameters_at d
+  first ← optional_integer_at (codes "first") d
+  most ← optional_integer_at (codes "max") d
+  Some (record { em = em; text = text; parameters = values; first = first; max = most })
+
+-- a call that asks for rows
+abbrev pub of_query_members : (ℤ → List ℕ → List Parameter → Option ℤ → Option ℤ → Call) → Data → Option Call
+of_query_members call d = do
+  q ← query_members_of d
+  Some (call q.em q.text q.parameters q.first q.max)
+
+-- ---- the words
 
 abbrev pub word_of : List ℕ → Option Word
 word_of name =
@@ -145,15 +233,20 @@ word_of name =
     else if bytes_eq name (codes "remove") then Some word.Remove
     else if bytes_eq name (codes "refresh") then Some word.Refresh
     else if bytes_eq name (codes "detach") then Some word.Detach
+    else if bytes_eq name (codes "merge") then Some word.Merge
+    else if bytes_eq name (codes "lock") then Some word.Lock
     else if bytes_eq name (codes "contains") then Some word.Contains
     else if bytes_eq name (codes "clear") then Some word.Clear
     else if bytes_eq name (codes "close") then Some word.Close
     else if bytes_eq name (codes "flush") then Some word.Flush
+    else if bytes_eq name (codes "setFlushMode") then Some word.SetFlushMode
     else if bytes_eq name (codes "commit") then Some word.Commit
     else if bytes_eq name (codes "rollback") then Some word.Rollback
     else if bytes_eq name (codes "setRollbackOnly") then Some word.SetRollbackOnly
     else if bytes_eq name (codes "find") then Some word.Find
     else if bytes_eq name (codes "getReference") then Some word.GetReference
+    else if bytes_eq name (codes "query") then Some word.Query
+    else if bytes_eq name (codes "querySingle") then Some word.QuerySingle
     else None
 
 -- the call of this word with the members of d
@@ -169,15 +262,20 @@ worded_call word.Persist d = of_em_and_object Persist d
 worded_call word.Remove d = of_em_and_object Remove d
 worded_call word.Refresh d = of_em_and_object Refresh d
 worded_call word.Detach d = of_em_and_object Detach d
+worded_call word.Merge d = of_em_and_object Merge d
+worded_call word.Lock d = lock_of d
 worded_call word.Contains d = of_em_and_object Contains d
 worded_call word.Clear d = of_em Clear d
 worded_call word.Close d = of_em Close d
 worded_call word.Flush d = of_em Flush d
+worded_call word.SetFlushMode d = set_flush_mode_of d
 worded_call word.Commit d = of_em Commit d
 worded_call word.Rollback d = of_em Rollback d
 worded_call word.SetRollbackOnly d = of_em SetRollbackOnly d
 worded_call word.Find d = by_key_of Find d
 worded_call word.GetReference d = by_key_of GetReference d
+worded_call word.Query d = of_query_members Query d
+worded_call word.QuerySingle d = of_query_members QuerySingle d
 
 unfoldable pub call_of : Data → Option Call
 call_of d = do

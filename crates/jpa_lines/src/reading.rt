@@ -1,16 +1,16 @@
 //! The call that a line means.
-ghost use Rattle.std.specs.Prelude.{◌≡◌, ◌⊎◌, IfOk, IfErr, Ok, Err};
-ghost use Rattle.serde_json.specs.View.{view};
+ghost use Rattle.std.specs.Prelude.{◌≡◌, ◌≤◌, ◌⊎◌, IfOk, IfErr, Ok, Err};
+ghost use Rattle.serde_json.specs.View.{view, members_view};
 ghost use Rattle.jpa_protocol.specs.declared.call.Call.{Call};
 ghost use Rattle.jpa_value.specs.declared.refusal.Cause.TheVariants.{OutOfMemory};
 ghost use Rattle.jpa_json.specs.Members.{integer_of};
 ghost use Rattle.jpa_json.specs.Outcome.{Gives, same};
-ghost use Rattle.jpa_lines.specs.CallOf.{integer_at, hex_of, marked_of, given_of, em_of, create_of, new_of, set_of, get_of, by_member_of, em_and_object_of, of_em_and_object, by_key_of, word_of, worded_call, call_of, text_call, meaning};
+ghost use Rattle.jpa_lines.specs.CallOf.{integer_at, hex_of, marked_of, given_of, em_of, create_of, new_of, set_of, get_of, by_member_of, em_and_object_of, of_em_and_object, lock_mode_of, lock_of, flush_mode_of, set_flush_mode_of, by_key_of, parameters, parameters_at, optional_integer_at, count_at, query_members_of, of_query_members, word_of, worded_call, call_of, text_call, meaning};
 
 use jpa_json::{Described, Unread, json_of, member, only, or_refuse, str_at, text_at};
-use jpa_protocol::{Call, Given};
+use jpa_protocol::{Call, FlushMode, Given, LockMode, Parameter};
 use jpa_value::{Bytes, Cause, MOST_LINE_BYTES, Seq, Text, Value};
-use serde_json::Value as Json;
+use serde_json::{Map, Value as Json};
 use std::alloc::Global;
 
 /// The language of lines: what they are read as is `Described<Calls>`.
@@ -30,15 +30,20 @@ enum Word {
     Remove,
     Refresh,
     Detach,
+    Merge,
+    Lock,
     Contains,
     Clear,
     Close,
     Flush,
+    SetFlushMode,
     Commit,
     Rollback,
     SetRollbackOnly,
     Find,
     GetReference,
+    Query,
+    QuerySingle,
 }
 
 /// The call that a line means. A line that is longer than `MOST_LINE_BYTES` is refused as `Limit`, whatever it says, and
@@ -85,15 +90,20 @@ fn word_of(name: &str) -> Result<Word, Unread>
         "remove" => Ok(Word::Remove),
         "refresh" => Ok(Word::Refresh),
         "detach" => Ok(Word::Detach),
+        "merge" => Ok(Word::Merge),
+        "lock" => Ok(Word::Lock),
         "contains" => Ok(Word::Contains),
         "clear" => Ok(Word::Clear),
         "close" => Ok(Word::Close),
         "flush" => Ok(Word::Flush),
+        "setFlushMode" => Ok(Word::SetFlushMode),
         "commit" => Ok(Word::Commit),
         "rollback" => Ok(Word::Rollback),
         "setRollbackOnly" => Ok(Word::SetRollbackOnly),
         "find" => Ok(Word::Find),
         "getReference" => Ok(Word::GetReference),
+        "query" => Ok(Word::Query),
+        "querySingle" => Ok(Word::QuerySingle),
         _ => Err(Unread::Form),
     }
 }
@@ -113,15 +123,20 @@ fn worded_call(alloc: Global, word: Word, json: &Json) -> Result<Call, Unread>
         Word::Remove => remove_of(json),
         Word::Refresh => refresh_of(json),
         Word::Detach => detach_of(json),
+        Word::Merge => merge_of(json),
+        Word::Lock => lock_of(json),
         Word::Contains => contains_of(json),
         Word::Clear => Ok(Call::Clear { em: em_of(json)? }),
         Word::Close => Ok(Call::Close { em: em_of(json)? }),
         Word::Flush => Ok(Call::Flush { em: em_of(json)? }),
+        Word::SetFlushMode => set_flush_mode_of(json),
         Word::Commit => Ok(Call::Commit { em: em_of(json)? }),
         Word::Rollback => Ok(Call::Rollback { em: em_of(json)? }),
         Word::SetRollbackOnly => Ok(Call::SetRollbackOnly { em: em_of(json)? }),
         Word::Find => find_of(alloc, json),
         Word::GetReference => get_reference_of(alloc, json),
+        Word::Query => query_of(alloc, json),
+        Word::QuerySingle => query_single_of(alloc, json),
     }
 }
 
@@ -246,6 +261,36 @@ fn detach_of(json: &Json) -> Result<Call, Unread>
     Ok(Call::Detach { em, object })
 }
 
+fn merge_of(json: &Json) -> Result<Call, Unread>
+    ensures { Gives same result (of_em_and_object Call.Merge (view json.now)) }
+{
+    let (em, object) = em_and_object_of(json)?;
+    Ok(Call::Merge { em, object })
+}
+
+#[tactic(auto, unfolding(crate::specs::CallOf::lock_of))]
+fn lock_of(json: &Json) -> Result<Call, Unread>
+    ensures { Gives same result (lock_of (view json.now)) }
+{
+    only(json, 4)?;
+    let em = integer_at(json, "em")?;
+    let object = integer_at(json, "object")?;
+    let mode = lock_mode_of(str_at(json, "mode")?)?;
+    Ok(Call::Lock { em, object, mode })
+}
+
+/// The lock that a word names. `READ` and `WRITE` mean the same as the newer words (Jakarta Persistence 3.1,
+/// chapter 3.4.4.1).
+fn lock_mode_of(name: &str) -> Result<LockMode, Unread>
+    ensures { Gives same result (lock_mode_of name.now) }
+{
+    match name {
+        "READ" | "OPTIMISTIC" => Ok(LockMode::Read),
+        "WRITE" | "OPTIMISTIC_FORCE_INCREMENT" => Ok(LockMode::Write),
+        _ => Err(Unread::Form),
+    }
+}
+
 fn contains_of(json: &Json) -> Result<Call, Unread>
     ensures { Gives same result (of_em_and_object Call.Contains (view json.now)) }
 {
@@ -273,6 +318,137 @@ fn find_of(alloc: Global, json: &Json) -> Result<Call, Unread>
     let entity = text_at(alloc, json, "entity")?;
     let key = <Seq<Given> as Described<Calls>>::read(alloc, member(json, "key")?)?;
     Ok(Call::Find { em, entity, key })
+}
+
+#[tactic(auto, unfolding(crate::specs::CallOf::set_flush_mode_of))]
+fn set_flush_mode_of(json: &Json) -> Result<Call, Unread>
+    ensures { Gives same result (set_flush_mode_of (view json.now)) }
+{
+    only(json, 3)?;
+    let em = integer_at(json, "em")?;
+    let mode = flush_mode_of(str_at(json, "mode")?)?;
+    Ok(Call::SetFlushMode { em, mode })
+}
+
+fn flush_mode_of(name: &str) -> Result<FlushMode, Unread>
+    ensures { Gives same result (flush_mode_of name.now) }
+{
+    match name {
+        "AUTO" => Ok(FlushMode::Auto),
+        "COMMIT" => Ok(FlushMode::Commit),
+        _ => Err(Unread::Form),
+    }
+}
+
+/// The members of a query.
+#[derive(Drop)]
+struct QueryMembers {
+    em: i64,
+    text: Text,
+    parameters: Seq<Parameter>,
+    first: Option<i64>,
+    max: Option<i64>,
+}
+
+#[tactic(auto, unfolding(crate::specs::CallOf::query_members_of))]
+fn query_members_of(alloc: Global, json: &Json) -> Result<QueryMembers, Unread>
+    ensures { Gives same result (query_members_of (view json.now)) }
+{
+    let cut = count_at(json, "first") + count_at(json, "max");
+    only(json, 3 + count_at(json, "params") + cut)?;
+    let em = integer_at(json, "em")?;
+    let text = text_at(alloc, json, "text")?;
+    let parameters = parameters_at(alloc, json)?;
+    let first = optional_integer_at(json, "first")?;
+    let max = optional_integer_at(json, "max")?;
+    Ok(QueryMembers {
+        em,
+        text,
+        parameters,
+        first,
+        max,
+    })
+}
+
+fn query_of(alloc: Global, json: &Json) -> Result<Call, Unread>
+    ensures { Gives same result (of_query_members Call.Query (view json.now)) }
+{
+    let QueryMembers {
+        em,
+        text,
+        parameters,
+        first,
+        max,
+    } = query_members_of(alloc, json)?;
+    Ok(Call::Query {
+        em,
+        text,
+        parameters,
+        first,
+        max,
+    })
+}
+
+fn query_single_of(alloc: Global, json: &Json) -> Result<Call, Unread>
+    ensures { Gives same result (of_query_members Call.QuerySingle (view json.now)) }
+{
+    let QueryMembers {
+        em,
+        text,
+        parameters,
+        first,
+        max,
+    } = query_members_of(alloc, json)?;
+    Ok(Call::QuerySingle {
+        em,
+        text,
+        parameters,
+        first,
+        max,
+    })
+}
+
+/// How often the member stands there, which is once or not at all: for `only`, where a member may be absent.
+fn count_at(json: &Json, name: &str) -> usize
+    ensures count { result ≡ count_at name.now (view json.now) }
+    ensures small { result ≤ 1 }
+{
+    match json.get(name) {
+        Some(_) => 1,
+        None => 0,
+    }
+}
+
+/// An integer that may be absent; null is none.
+fn optional_integer_at(json: &Json, name: &str) -> Result<Option<i64>, Unread>
+    ensures { Gives same result (optional_integer_at name.now (view json.now)) }
+{
+    match json.get(name) {
+        Some(member) => Ok(Some(integer_of(member)?)),
+        None => Ok(None),
+    }
+}
+
+/// The parameters, of which there are none where the member is absent.
+fn parameters_at(alloc: Global, json: &Json) -> Result<Seq<Parameter>, Unread>
+    ensures { Gives same result (parameters_at (view json.now)) }
+{
+    match json.get("params") {
+        Some(member) => parameters_of(alloc, member.as_object().ok_or(Unread::Form)?),
+        None => Ok(Seq::new(alloc)),
+    }
+}
+
+fn parameters_of(alloc: Global, members: &Map<String, Json>) -> Result<Seq<Parameter>, Unread>
+    ensures { Gives same result (parameters (members_view members.now.entries)) }
+{
+    let mut list = Vec::new(alloc);
+    for (key, member) in members.iter() {
+        let name = Text::of(alloc, key.as_str())?;
+        let value = given_of(alloc, member)?;
+        list.push(Parameter { name, value })?;
+    }
+    Ok(Seq::of(list))
 }
 
 impl Described<Calls> for Given {

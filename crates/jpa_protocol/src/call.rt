@@ -11,6 +11,32 @@ pub enum Given {
     Object(i64),
 }
 
+/// How an object is locked (Jakarta Persistence 3.1, chapter 3.4.4).
+#[derive(Clone, Copy)]
+pub enum LockMode {
+    /// Its version is to be the stored one when the transaction commits.
+    Read,
+    /// Its version rises, once in the transaction.
+    Write,
+}
+
+/// When the objects of a manager are written (Jakarta Persistence 3.1, chapter 3.10.8).
+#[derive(Clone, Copy)]
+pub enum FlushMode {
+    /// Before each query in its transaction too, so that the query finds what the objects hold.
+    Auto,
+    /// When flush is called or the transaction commits, and not before a query.
+    Commit,
+}
+
+/// A parameter of a statement, named as its text does: `x` for `:x`, and `1` for `?1` (Jakarta Persistence 3.1,
+/// chapter 4.6.4).
+#[derive(Drop)]
+pub struct Parameter {
+    pub name: Text,
+    pub value: Given,
+}
+
 /// A call. Managers and objects go by their numbers, from 1; a number that names none is refused when the call is
 /// served (Jakarta Persistence 3.1, chapter 3).
 #[derive(Drop)]
@@ -68,6 +94,17 @@ pub enum Call {
         em: i64,
         object: i64,
     },
+    /// Makes what an object and those that it leads to hold the state of managed objects (chapter 3.2.7.1).
+    Merge {
+        em: i64,
+        object: i64,
+    },
+    /// Locks an object in the manager's transaction (chapter 3.4.4).
+    Lock {
+        em: i64,
+        object: i64,
+        mode: LockMode,
+    },
     /// Asks whether an object is managed (chapter 3.2.8).
     Contains {
         em: i64,
@@ -84,6 +121,11 @@ pub enum Call {
     /// Writes what a manager's objects differ in from the set that its transaction sees (chapter 3.2.4).
     Flush {
         em: i64,
+    },
+    /// Says when a manager's objects are written (chapter 3.10.8).
+    SetFlushMode {
+        em: i64,
+        mode: FlushMode,
     },
     /// Commits the transaction of a manager.
     Commit {
@@ -108,5 +150,22 @@ pub enum Call {
         em: i64,
         entity: Text,
         key: Seq<Given>,
+    },
+    /// Asks for the rows of a query: the first rows, `first` of them, are left out, and then at most `max` are answered
+    /// (chapter 3.10.1).
+    Query {
+        em: i64,
+        text: Text,
+        parameters: Seq<Parameter>,
+        first: Option<i64>,
+        max: Option<i64>,
+    },
+    /// Asks for the row of a query of which there must be one, among those that `Query` answers (chapter 3.10.1).
+    QuerySingle {
+        em: i64,
+        text: Text,
+        parameters: Seq<Parameter>,
+        first: Option<i64>,
+        max: Option<i64>,
     },
 }

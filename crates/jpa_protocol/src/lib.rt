@@ -11,7 +11,7 @@ mod event;
 mod provider;
 mod reply;
 
-pub use call::{Call, Given};
+pub use call::{Call, FlushMode, Given, LockMode, Parameter};
 pub use event::Told;
 pub use provider::PersistenceProvider;
 pub use reply::{Answer, Item, Reply};
