@@ -4,7 +4,8 @@ import json, os, random, re, sqlite3
 
 from hostile_model import Machine
 from hostile_plots import Plots
-from hostile_reading import DEPTH, GREATEST, LEAST, LINE, Number, lines_of
+from hostile_query_plots import QueryCalls
+from hostile_reading import DEPTH, GREATEST, LEAST, LINE, UNSERVED, Number, lines_of
 from hostile_unit import LENGTH, Unit
 from hostile_units import random_mapping
 
@@ -24,10 +25,12 @@ LONG_TEXTS = ["a" * LENGTH, "a" * (LENGTH + 1), "é" * (LENGTH // 2), "é" * (LE
 LONG_BYTES = [b"\0" * LENGTH, b"\xff" * (LENGTH + 1), b"\xab" * (LENGTH // 2), b"\xab" * (LENGTH // 2 + 1)]
 NUMBERS_TEXTS = ["-0", "1.0", "1e0", "0.5", "1e400", "-1e400", "1e308", "01", "+1", "-", "0x1", "9223372036854775808", "-9223372036854775809",
                  "18446744073709551615", "18446744073709551616", "9" * 400, "1e", ".1", "1.", "NaN", "Infinity", "true", "[]", "{}", "null"]
-OTHERS = ["merge", "lock", "add", "takeOut", "query", "executeUpdate", "setFlushMode", "x", "", "Begin", "begin ", "call", "flush", "close"]
+MODES = ["READ", "OPTIMISTIC", "WRITE", "OPTIMISTIC_FORCE_INCREMENT"]
+OTHERS = ["merge", "lock", "NONE", "PESSIMISTIC_READ", "WRITE", "add", "takeOut", "query", "executeUpdate", "setFlushMode", "x", "", "Begin",
+          "begin ", "call", "flush", "close"]
 
 
-class Calls(Plots):
+class Calls(Plots, QueryCalls):
     """Makes calls over a machine, mostly such as it accepts."""
 
     def __init__(self, random, machine):
@@ -44,7 +47,7 @@ class Calls(Plots):
 
     def call(self):
         """The next call of the plot, or any other one."""
-        if self.plot is None and self.random.random() < (0.3 if self.has_relations else 0.08):
+        if self.plot is None and self.random.random() < (0.35 if self.has_relations else 0.16):
             self.plot = self.some_plot()
         if self.plot is not None and self.random.random() < (0.93 if self.has_relations else 0.85):
             call = next(self.plot, None)
@@ -61,7 +64,10 @@ class Calls(Plots):
         weights = {"createEntityManager": 0.6 if len(managers) > 2 else 9, "new": 9, "set": 26, "get": 8, "begin": 1 if begun else 14, "persist": 14,
                    "find": 14, "commit": 6 if begun else 0.7, "rollback": 1 if begun else 0.4, "setRollbackOnly": 0.3 if begun else 0.2,
                    "getReference": 4, "contains": 5, "clear": 0.7, "flush": 10 if begun else 0.7, "remove": 7, "refresh": 4, "detach": 2,
-                   "close": 0.4 if len(managers) < 4 else 0.8, "add": 9 if self.has_relations else 0.3, "takeOut": 5 if self.has_relations else 0.2}
+                   "merge": 5 if managers else 1, "lock": 3 if begun else 0.4, "close": 0.4 if len(managers) < 4 else 0.8,
+                   "add": 9 if self.has_relations else 0.3, "takeOut": 5 if self.has_relations else 0.2}
+        weights |= {"query": 16 if managers else 1, "querySingle": 4, "executeUpdate": 6 if begun else 0.5, "setFlushMode": 1}
+        weights = {word: weight for word, weight in weights.items() if word not in UNSERVED}
         return self.random.choices(list(weights), weights.values())[0]
 
     def written(self, members):
@@ -191,6 +197,20 @@ class Calls(Plots):
         return {"em": em, "object": self.object(lambda live: live in held and not live.is_removed)}
 
     refresh = detach = remove
+
+    def merge(self):
+        """Mostly of what the manager does not hold, and often of what it has an instance or a row of."""
+        em = self.em(0.6)
+        held = self.held_by(em)
+        known = {live.identity() for live in held} | set(self.machine.committed.objects)
+        roll = self.random.random()
+        return {"em": em, "object": self.object(lambda live: live not in held and (roll < 0.5 or live.identity() in known))}
+
+    def lock(self):
+        em = self.em(0.9)
+        held = self.held_by(em)
+        mode = self.random.choice(MODES) if self.random.random() < 0.97 else self.random.choice(["NONE", "read", "", "PESSIMISTIC_WRITE", None, 1])
+        return {"em": em, "object": self.object(lambda live: live in held and (live.entity.version or self.random.random() < 0.1)), "mode": mode}
 
     def begin(self):
         return {"em": self.em()}

@@ -11,7 +11,7 @@ class LinkPlots:
 
     def link_plots(self):
         return [self.family, self.family, self.orphaned, self.orphaned, self.refused_link, self.removed_family, self.read_apart, self.read_again, self.handed_over,
-                self.once_more]
+                self.once_more, self.merged_family, self.merged_family, self.merged_family, self.new_family, self.new_family]
 
     # -- what a plot looks at
 
@@ -368,3 +368,93 @@ class LinkPlots:
         yield self.random.choice(["flush", "commit"]), {"em": em}
         yield from self.reading(live)
         yield self.random.choice(["commit", "commit", "rollback"]), {"em": em}
+
+    def merged_family(self):
+        """What was stored and let go, with relations that were read or not, is changed and merged onto what the manager has, reads or removed."""
+        em = yield from self.at_work()
+        wanted = self.random.choice([cascading("MERGE"), cascading("MERGE"), lambda each: each.removes_orphans, lambda each: each.owns])
+        made = em and (yield from self.stored(em, wanted))
+        if not made:
+            return
+        lives, relation = made
+        apart = lives[0]
+        if self.random.random() < 0.6:
+            apart = yield from self.found(em, self.random.choice(lives))
+            if apart is None:
+                return
+            if self.random.random() < 0.7:
+                yield from self.reading(apart)
+        if self.random.random() < 0.85:
+            yield "clear", {"em": em}
+        for _ in range(self.random.randint(0, 3)):
+            yield from self.changing_apart(em, apart, lives)
+        if self.random.random() < 0.25:
+            yield from self.stale_for(em, apart)
+            yield from self.beginning(em)
+        if self.random.random() < 0.35:
+            other = yield from self.found(em, self.random.choice([apart, *lives]))
+            if other:
+                yield from self.reading(other)
+                if self.random.random() < 0.4:
+                    yield self.random.choice(["remove", "remove", "detach"]), {"em": em, "object": other.number}
+        yield from self.merging(em, apart)
+
+    def changing_apart(self, em, live, lives):
+        """Calls that change an object which no manager holds: its values, and what it leads to."""
+        relations = list(live.entity.relations.values())
+        word = self.random.choice(["set", "link", "unlink", "unlink", "empty", "new", "copy"])
+        if word == "set" or not relations:
+            yield self.change(live)
+            return
+        relation = self.random.choice(relations)
+        if word == "unlink":
+            yield self.unlinked(live, relation)
+        elif word == "empty":
+            for other in list(live.read_of(relation)):
+                yield self.unlinked(live, relation, other)
+        elif word == "link":
+            other = self.random.choice(lives)
+            if other.entity.is_a(relation.target):
+                yield self.linked(live, relation, other)
+        else:
+            near = [each for each in lives if each.entity.is_a(relation.target) and None not in each.key()]
+            copied = word == "copy" and near
+            other = (yield from self.copying(self.random.choice(near))) if copied else (yield from self.shaping(em, self.some_class(relation.target)))
+            if other:
+                yield from self.linking(live, relation, other, self.random.random() < 0.5)
+
+    def merging(self, em, live):
+        """Calls that merge an object and look at its image, then flush and end the transaction."""
+        yield "merge", {"em": em, "object": live.number}
+        newest = self.machine.objects[-1] if self.machine.objects else None
+        image = next((each for each in self.held_by(em) if each.identity() == live.identity()), newest)
+        if image and self.random.random() < 0.7:
+            yield from self.reading(image)
+        if self.random.random() < 0.2:
+            yield "merge", {"em": em, "object": live.number}
+        yield self.random.choice(["flush", "commit"]), {"em": em}
+        if image:
+            yield from self.reading(image)
+        yield self.random.choice(["commit", "commit", "rollback", "flush"]), {"em": em}
+
+    def new_family(self):
+        """New objects that lead to one another and to managed ones are merged, from a new one or from a managed one."""
+        em = yield from self.at_work()
+        if em is None:
+            return
+        entity, relation = self.some_relation(cascading("MERGE"))
+        live = yield from self.another(em, entity, 0.4)
+        if live is None or not live.entity.has(relation):
+            return
+        if live.held == "new" and self.random.random() < 0.4:
+            yield "persist", {"em": em, "object": live.number}
+        for _ in range(self.random.choice([1, 2, 3]) if relation.is_many else 1):
+            other = yield from self.another(em, relation.target, 0.25)
+            if other is None:
+                return
+            yield from self.linking(live, relation, other, self.random.random() < 0.6)
+            if other.held == "new" and None not in other.key() and self.random.random() < 0.2:
+                copy = yield from self.copying(other)
+                if copy and copy.entity.is_a(relation.target):
+                    yield self.linked(live, relation, copy)
+        yield from self.merging(em, live)

@@ -7,15 +7,19 @@ Values are None, int, str (a text), bytes and Number (the number of an object); 
 import json
 
 from hostile_cells import State, Stored, members, unsound
+from hostile_merge import Merging
+from hostile_queries import Queries
 from hostile_reading import GREATEST, Number, Refused, call_of
 from hostile_unit import KINDS, LENGTH, assigned, size
 
 MANAGERS, MADE = 16, 1000000
 NUMBERS = {"BadLine": 3, "NoSuchManager": 4, "NoSuchObject": 5, "IllegalArgument": 6, "IllegalState": 7, "TransactionRequired": 8,
-           "EntityExists": 9, "EntityNotFound": 10, "OptimisticLock": 11, "Persistence": 12, "Listener": 13, "Rollback": 14, "Busy": 18, "Limit": 19}
+           "EntityExists": 9, "EntityNotFound": 10, "OptimisticLock": 11, "Persistence": 12, "Listener": 13, "Rollback": 14, "NoResult": 15,
+           "NonUniqueResult": 16, "Overflow": 17, "Busy": 18, "Limit": 19}
 # The calls, and the numbers of the refusals, that mark the manager's transaction; and the calls of which a callback's refusal marks that of
 # the manager which holds the object.
-MARKED_BY = {"find", "getReference", "persist", "remove", "refresh", "detach", "contains", "clear", "flush"}
+MARKED_BY = {"find", "getReference", "persist", "merge", "remove", "refresh", "detach", "contains", "clear", "flush", "lock",
+             "query", "querySingle", "executeUpdate"}
 MARKING = {6, 7, 8, 9, 10, 11, 12, 13, 17, 19}
 MARKED_BY_CALLBACK = {"get", "add", "takeOut"}
 
@@ -24,8 +28,8 @@ MARKED_BY_CALLBACK = {"get", "add", "takeOut"}
 
 class Live:
     """A live object: its values, and what it holds in its relations, by their names; held is new, detached, or the manager that manages it
-    or has it removed. The base is what was loaded or written last, if anything; known are the identities that each relation had when
-    it was read or written last, None of a collection that wasn't.
+    or has it removed, then with a lock or without. The base is what was loaded or written last, if anything; known are the identities
+    that each relation had when it was read or written last, None of a collection that wasn't.
 
     A relation to one holds None, an object, or the identity of one that was not read yet; a collection a list of objects, which is never
     changed but replaced, or UNREAD."""
@@ -36,7 +40,7 @@ class Live:
         self.entity, self.number = entity, number
         self.values = dict.fromkeys([*entity.key, *([entity.version["name"]] if entity.version else []), *entity.attributes])
         self.links = {name: [] if relation.is_many else None for name, relation in entity.relations.items()}
-        self.held, self.is_removed, self.base, self.known = "new", False, None, {}
+        self.held, self.is_removed, self.lock, self.base, self.known = "new", False, None, None, {}
 
     def key(self):
         return tuple(self.values[name] for name in self.entity.key)
@@ -85,7 +89,7 @@ class Live:
         self.known = {relation.name: self.identities_of(relation) for relation in self.entity.relations.values()}
 
     def differs(self):
-        return self.base is not None and (self.attributes() != self.base.values or any(map(self.differs_along, self.entity.owned())))
+        return self.attributes() != self.base.values or any(map(self.differs_along, self.entity.owned()))
 
     def differs_along(self, relation):
         before, now = self.known[relation.name], self.identities_of(relation)
@@ -97,16 +101,20 @@ class Live:
             if self.base and relation.removes_orphans:
                 yield from sorted((self.known[relation.name] or frozenset()) - (self.identities_of(relation) or frozenset()))
 
+    def is_due(self):
+        """Whether a flush replaces it: it has a base and differs from that, or its version is to rise."""
+        return self.base is not None and (self.lock == "WRITE" or self.differs())
+
     def detach(self):
-        self.held, self.is_removed = "detached", False
+        self.held, self.is_removed, self.lock = "detached", False, None
 
 
 class Manager:
-    """A manager: what it manages or has removed, in order of entry, whether its transaction is open and can only roll back, and the
-    objects that this one sees."""
+    """A manager: what it manages or has removed, in order of entry, whether its transaction is open and can only roll back, the
+    objects that this one sees, and when a query flushes."""
 
     def __init__(self):
-        self.context, self.is_open, self.is_begun, self.is_marked, self.seen = [], True, False, False, None
+        self.context, self.is_open, self.is_begun, self.is_marked, self.seen, self.flush_mode = [], True, False, False, None, "AUTO"
 
 
 class Before:
@@ -114,18 +122,18 @@ class Before:
 
     def __init__(self, machine):
         self.machine, self.numbers, self.objects = machine, dict(machine.numbers), list(machine.objects)
-        self.lives = [(dict(live.values), dict(live.links), live.held, live.is_removed, live.base, live.known) for live in machine.objects]
+        self.lives = [(dict(live.values), dict(live.links), live.held, live.is_removed, live.lock, live.base, live.known) for live in machine.objects]
         self.managers = [(list(manager.context), manager.seen) for manager in machine.managers]
 
     def restore(self):
         self.machine.numbers, self.machine.objects = self.numbers, self.objects
-        for live, (live.values, live.links, live.held, live.is_removed, live.base, live.known) in zip(self.objects, self.lives):
+        for live, (live.values, live.links, live.held, live.is_removed, live.lock, live.base, live.known) in zip(self.objects, self.lives):
             pass
         for manager, (manager.context, manager.seen) in zip(self.machine.managers, self.managers):
             pass
 
 
-class Machine:
+class Machine(Merging, Queries):
     """The machine over a unit, from what was committed before."""
 
     def __init__(self, unit, state):
@@ -173,6 +181,8 @@ class Machine:
         return Number(self.made(self.entity(name)).number)
 
     def made(self, entity):
+        if len(self.objects) == MADE:
+            raise Refused("Limit")
         self.objects.append(Live(entity, len(self.objects) + 1))
         return self.objects[-1]
 
@@ -271,8 +281,6 @@ class Machine:
         return self.loaded(events, manager, identity)
 
     def loaded(self, events, manager, identity):
-        if len(self.objects) == MADE:
-            raise Refused("Limit")
         row = self.view(manager)[identity]
         live = self.made(row.entity)
         live.load(identity[1], row, self.view(manager))
@@ -325,7 +333,8 @@ class Machine:
     def targets(self, operation, manager, node):
         """Where the operation goes from a node."""
         is_live = isinstance(node, Live)
-        if is_live and not (node.held is manager and not (node.is_removed and operation == "REMOVE") or node.held == "new" and operation != "DETACH"):
+        goes_on = is_live and (node.held is manager and not (node.is_removed and operation == "REMOVE") or node.held == "new" and operation != "DETACH")
+        if is_live and not goes_on and operation != "MERGE":
             return
         entity = node.entity if is_live else self.view(manager)[node].entity
         for relation in entity.relations.values():
@@ -367,11 +376,14 @@ class Machine:
         number = self.number_for(live)
         if number is None and self.instance(manager, live.identity()):
             raise Refused("EntityExists")
+        self.give_number(live, number)
+        self.enter(manager, live)
+        self.fire(events, "PrePersist", live)
+
+    def give_number(self, live, number):
         if number is not None:
             live.values[next(iter(live.entity.key))] = number
             self.numbers[live.entity.root.name] = number + 1
-        self.enter(manager, live)
-        self.fire(events, "PrePersist", live)
 
     def number_for(self, live):
         """The number that the generator gives, or None where the key is whole without."""
@@ -459,6 +471,7 @@ class Machine:
         before = Before(self)
         try:
             self.write(events, manager)
+            self.see_read_locks(manager)
         except Refused as refused:
             before.restore()
             self.roll_back(manager)
@@ -467,7 +480,27 @@ class Machine:
         for live in [live for live in manager.context if live.is_removed]:
             manager.context.remove(live)
             live.detach()
+        for live in manager.context:
+            live.lock = None
         manager.is_begun, manager.seen = False, None
+
+    # -- locks
+
+    def lock(self, events, em, number, lock):
+        manager, live = self.manager(em), self.object(number)
+        if not manager.is_begun:
+            raise Refused("TransactionRequired")
+        if not live.is_managed(manager):
+            raise Refused("IllegalArgument", "state")
+        if not live.entity.version:
+            raise Refused("Persistence", "version")
+        live.lock = live.lock if live.lock == "WRITE" else lock
+
+    def see_read_locks(self, manager):
+        """What is locked READ stands with the version that it was read or written with."""
+        for live in manager.context:
+            if live.lock == "READ" and not live.is_removed:
+                self.see_current(manager, live)
 
     # -- flushes
 
@@ -483,7 +516,7 @@ class Machine:
         self.remove_orphans(events, manager)
         self.see_references(manager)
         for live in manager.context:
-            if not live.is_removed and live.differs():
+            if not live.is_removed and live.is_due():
                 self.fire(events, "PreUpdate", live)
         done = []
         for live in manager.context:
@@ -492,7 +525,7 @@ class Machine:
                 done.append(("PostRemove", live, None))
             elif not live.is_removed and live.base is None:
                 done.append(("PostPersist", live, self.inserted(manager, live)))
-            elif not live.is_removed and live.differs():
+            elif not live.is_removed and live.is_due():
                 done.append(("PostUpdate", live, self.replaced(manager, live)))
         seen = dict(manager.seen)
         for _, live, stored in done:
@@ -506,6 +539,7 @@ class Machine:
         for _, live, stored in done:
             if stored:
                 live.written(stored)
+                live.lock = live.lock and "READ"
             live.base = stored
         for live in manager.context:
             if not live.is_removed:

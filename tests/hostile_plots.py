@@ -2,16 +2,20 @@
 next call once the last one was answered; other calls may come between.
 """
 from hostile_links import LinkPlots
+from hostile_reading import UNSERVED
 
 
 class Plots(LinkPlots):
     """The plots over a machine. Each is a generator of calls, as their words and members."""
 
     def some_plot(self):
-        if self.has_relations and self.random.random() < 0.65:
+        if "query" not in UNSERVED and self.random.random() < 0.4:
+            return self.queried()
+        if self.has_relations and self.random.random() < 0.6:
             return self.random.choice(self.link_plots())()
-        plots = [self.one_object, self.another_writes, self.flushes, self.same_key_again, self.refused_flush, self.many_managers]
-        return self.random.choices(plots, [4, 4, 3, 3, 4, 0.4])[0]()
+        plots = [self.one_object, self.another_writes, self.flushes, self.same_key_again, self.refused_flush, self.locked, self.copied,
+                 self.many_managers]
+        return self.random.choices(plots, [4, 4, 3, 3, 4, 9, 7, 0.4])[0]()
 
     # -- what a plot looks at
 
@@ -217,6 +221,125 @@ class Plots(LinkPlots):
             yield self.random.choice([("remove", on_live), self.change(live), self.change(live), ("flush", {"em": em}), ("refresh", on_live),
                                       ("persist", on_live)])
         yield self.random.choice(["flush", "commit"]), {"em": em}
+        yield self.random.choice(["commit", "commit", "rollback"]), {"em": em}
+
+    def locking(self, em, live):
+        mode = self.random.choice(["READ", "OPTIMISTIC", "WRITE", "WRITE", "OPTIMISTIC_FORCE_INCREMENT"])
+        return "lock", {"em": em, "object": live.number, "mode": mode}
+
+    def stale_for(self, em, live, words=("set", "set", "remove")):
+        """Calls by which another manager changes or removes what the object is of, and commits it; its instance, or None."""
+        managers = [each for each in self.open_ones() if each != em]
+        if not managers or None in live.key():
+            return None
+        other = self.random.choice(managers[:4])
+        yield from self.beginning(other)
+        yield self.finding(other, live)
+        same = next((each for each in self.held_by(other) if each.identity() == live.identity()), None)
+        if same:
+            yield self.change(same) if self.random.choice(words) == "set" else ("remove", {"em": other, "object": same.number})
+        yield "commit", {"em": other}
+        return same
+
+    def locked(self):
+        """An object is locked, once or more, and flushed, changed, removed, read again or let go; another manager may have changed it."""
+        em = yield from self.at_work()
+        if em is None:
+            return
+        live = self.some_held(em)
+        if live is None or not live.entity.version or self.random.random() < 0.3:
+            versioned = [entity for entity in self.machine.unit.entities.values() if entity.version]
+            live = versioned and (yield from self.shaping(em, self.random.choice(versioned)))
+            if not live:
+                return
+            yield "persist", {"em": em, "object": live.number}
+        if self.random.random() < 0.5:
+            yield "commit", {"em": em}
+            if self.random.random() < 0.6:
+                yield from self.stale_for(em, live)
+            yield from self.beginning(em)
+        for _ in range(self.random.randint(2, 7)):
+            on_live = {"em": em, "object": live.number}
+            word = self.random.choices(["lock", "flush", "set", "remove", "persist", "refresh", "detach", "again", "other"],
+                                       [9, 6, 3, 1.5, 2, 1, 0.4, 0.6, 1])[0]
+            if word == "lock":
+                yield self.locking(em, live)
+            elif word == "set":
+                yield self.change(live)
+            elif word == "again":
+                yield self.finding(em, live)
+            elif word == "other":
+                other = self.some_held(em)
+                yield self.change(other) if other else ("flush", {"em": em})
+            else:
+                yield word, {"em": em} if word == "flush" else on_live
+        yield self.random.choice(["flush", "commit"]), {"em": em}
+        yield "get", {"object": live.number, "name": live.entity.version["name"] if live.entity.version else "version"}
+        yield self.random.choice(["commit", "commit", "rollback"]), {"em": em}
+        yield "contains", {"em": em, "object": live.number}
+
+    def copying(self, live):
+        """Calls that make a new object with the key of one, and perhaps a version and values; or one of another class."""
+        classes = [entity for entity in self.machine.unit.entities.values() if entity.root is live.entity.root]
+        entity = live.entity if self.random.random() < 0.7 else self.random.choice(classes)
+        yield "new", {"entity": entity.name}
+        copy = self.machine.objects[-1] if self.machine.objects else None
+        if copy is None or copy.entity is not entity:
+            return None
+        if not entity.generated or self.random.random() < 0.85:
+            for name, part in zip(entity.key, live.key()):
+                yield "set", {"object": copy.number, "name": name, "value": self.given(part)}
+        if entity.version and self.random.random() < 0.4:
+            version = live.values[entity.version["name"]] if self.random.random() < 0.7 else self.random.randint(-1, 3)
+            yield "set", {"object": copy.number, "name": entity.version["name"], "value": version}
+        for name in entity.attributes:
+            if self.random.random() < 0.7:
+                yield "set", {"object": copy.number, "name": name, "value": self.a_value(copy, name)}
+        return copy
+
+    def copied(self):
+        """An object that is held, let go, stale, removed or of another manager, or a new one with its key, is merged."""
+        em = yield from self.at_work()
+        if em is None:
+            return
+        live = self.some_held(em)
+        if live is None or self.random.random() < 0.3:
+            yield from self.making(em)
+            live = self.some_held(em)
+        if live is None:
+            return
+        merged, way = live, self.random.choice(["copy", "copy", "detach", "stale", "theirs", "remove", "clear", "drop"])
+        if way in ("stale", "theirs"):
+            yield "commit", {"em": em}
+            theirs = yield from self.stale_for(em, live, ("set",) if way == "theirs" else ("set", "remove"))
+            merged = theirs if theirs and way == "theirs" else live
+            if self.random.random() < 0.7:
+                yield self.random.choice(["clear", "detach"]), {"em": em, "object": live.number}
+        elif way in ("detach", "clear", "drop") and self.random.random() < 0.7:
+            yield self.random.choice(["commit", "flush"]), {"em": em}
+        if way == "copy":
+            merged = yield from self.copying(live)
+        elif way == "drop":
+            yield "remove", {"em": em, "object": live.number}
+            yield "flush", {"em": em}
+            merged = (yield from self.copying(live)) or live
+        elif way in ("detach", "clear", "remove"):
+            yield way, {"em": em} if way == "clear" else {"em": em, "object": live.number}
+        if merged is None:
+            return
+        if self.random.random() < 0.8:
+            yield from self.beginning(em)
+        if merged.held != "new" and self.random.random() < 0.5:
+            yield self.change(merged)
+        yield "merge", {"em": em, "object": merged.number}
+        if self.random.random() < 0.3:
+            yield "merge", {"em": em, "object": merged.number}
+        image = next((each for each in self.held_by(em) if each.identity() == merged.identity()), None)
+        if image:
+            yield from self.looking([image])
+            if self.random.random() < 0.3:
+                yield self.locking(em, image) if image.entity.version else self.change(image)
+        yield self.random.choice(["flush", "commit", "commit"]), {"em": em}
         yield self.random.choice(["commit", "commit", "rollback"]), {"em": em}
 
     def same_key_again(self):

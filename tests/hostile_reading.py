@@ -8,7 +8,16 @@ MEMBERS = {"createEntityManager": [], "close": ["em"], "new": ["entity"], "set":
            "add": ["object", "name", "member"], "takeOut": ["object", "name", "member"],
            "begin": ["em"], "flush": ["em"], "commit": ["em"], "rollback": ["em"], "setRollbackOnly": ["em"], "find": ["em", "entity", "key"],
            "getReference": ["em", "entity", "key"], "persist": ["em", "object"], "remove": ["em", "object"], "refresh": ["em", "object"],
-           "detach": ["em", "object"], "contains": ["em", "object"], "clear": ["em"]}
+           "detach": ["em", "object"], "contains": ["em", "object"], "clear": ["em"], "merge": ["em", "object"], "lock": ["em", "object", "mode"],
+           "setFlushMode": ["em", "mode"], "query": ["em", "text", "params", "first", "max"],
+           "querySingle": ["em", "text", "params", "first", "max"], "executeUpdate": ["em", "text", "params"]}
+# The members that may be left out, with what stands for them.
+OPTIONAL = {"params": {}, "first": None, "max": None}
+# The calls that the program does not serve, of which there are none: it would answer BadLine to them.
+UNSERVED = {"executeUpdate"}
+# What the modes of a call ask for.
+MODES = {"lock": {"READ": "READ", "OPTIMISTIC": "READ", "WRITE": "WRITE", "OPTIMISTIC_FORCE_INCREMENT": "WRITE"},
+         "setFlushMode": {"AUTO": "AUTO", "COMMIT": "COMMIT"}}
 
 
 class Refused(Exception):
@@ -135,8 +144,8 @@ def given(data):
     raise ValueError("value")
 
 
-def member_of(name, data):
-    if name in ("em", "object", "member"):
+def member_of(word, name, data):
+    if name in ("em", "object", "member", "first", "max"):
         if not is_integer(data):
             raise ValueError(name)
         return data
@@ -146,9 +155,13 @@ def member_of(name, data):
         if not isinstance(data, list):
             raise ValueError(name)
         return [given(part) for part in data]
+    if name == "params":
+        if not isinstance(data, dict):
+            raise ValueError(name)
+        return {parameter: given(value) for parameter, value in data.items()}
     if not isinstance(data, str):
         raise ValueError(name)
-    return data
+    return MODES[word][data] if name == "mode" else data
 
 
 def call_of(line):
@@ -158,10 +171,11 @@ def call_of(line):
     try:
         data = Json(line.decode()).whole()
         word = data["call"] if isinstance(data, dict) else None
-        members = MEMBERS[word] if isinstance(word, str) else None
-        if members is None or set(data) != {"call", *members}:
+        members = MEMBERS[word] if isinstance(word, str) and word not in UNSERVED else None
+        lacking = {"call", *members} - set(data) if members is not None else {"call"}
+        if lacking - set(OPTIONAL) or set(data) - {"call", *members}:
             raise ValueError("members")
-        return word, [member_of(name, data[name]) for name in members]
+        return word, [OPTIONAL[name] if name in lacking else member_of(word, name, data[name]) for name in members]
     except (ValueError, KeyError):
         raise Refused("BadLine") from None
 

@@ -11,10 +11,8 @@ sys.dont_write_bytecode = True
 from hostile_cells import Damaged, state_of
 from hostile_model import Machine
 from hostile_unit import Unit
-from hostile_reading import lines_of
+from hostile_reading import UNSERVED, lines_of
 from runs import HERE, STAGES, other_replies, read
-
-LACKING = {"setFlushMode", "merge", "lock", "query", "querySingle", "executeUpdate"}
 
 
 def skipped(folder, mapping):
@@ -29,7 +27,7 @@ def skipped(folder, mapping):
             word = json.loads(line)["call"]
         except (ValueError, TypeError, KeyError):
             continue
-        if word in LACKING:
+        if isinstance(word, str) and word in UNSERVED:
             return f"call {word}"
     return None
 

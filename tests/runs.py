@@ -14,8 +14,9 @@ Exit status 0 where all that ran agree.
 """
 import json, os, sqlite3, subprocess, sys, tempfile
 
-SERVED = {"createEntityManager", "new", "set", "get", "add", "takeOut", "begin", "persist", "commit", "rollback", "setRollbackOnly", "find",
-          "getReference", "contains", "clear", "remove", "refresh", "detach", "close", "flush"}
+sys.dont_write_bytecode = True
+from hostile_reading import UNSERVED
+
 STAGES = {b"a transaction per manager", b"mapping revision 2"}
 HERE = os.path.dirname(os.path.abspath(__file__))
 FLAT = os.path.join(HERE, "flat.json")
@@ -43,7 +44,7 @@ def unserved(folder):
         except ValueError:
             continue
         word = call.get("call") if isinstance(call, dict) else None
-        if isinstance(word, str) and word not in SERVED and word != "x":
+        if isinstance(word, str) and word in UNSERVED:
             return "call " + word
     return None
 

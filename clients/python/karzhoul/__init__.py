@@ -13,7 +13,7 @@
 from . import refusals
 from .entities import Collection, EmbeddedId, Entity, Event
 from .factory import EntityManagerFactory, open
-from .lines import FlushMode, LifecycleEvent, LockMode
+from .lines import FlushModeType, LifecycleEvent, LockModeType
 from .manager import EntityManager, EntityTransaction
 from .refusals import *
 
@@ -27,9 +27,9 @@ __all__ = [
     "EntityManagerFactory",
     "EntityTransaction",
     "Event",
-    "FlushMode",
+    "FlushModeType",
     "LifecycleEvent",
-    "LockMode",
+    "LockModeType",
     "open",
     "refusals",
 ]

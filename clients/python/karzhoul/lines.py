@@ -10,15 +10,15 @@ from typing import Any, Callable, Mapping, NamedTuple, Optional, Tuple
 from .strict_json import GREATEST_INTEGER, LEAST_INTEGER, NoJson, read, text_of
 
 
-class FlushMode(str, enum.Enum):
+class FlushModeType(str, enum.Enum):
     """When a query in a transaction flushes first."""
 
     AUTO = "AUTO"
     COMMIT = "COMMIT"
 
 
-class LockMode(str, enum.Enum):
-    """How a managed object is locked (chapter 3.4)."""
+class LockModeType(str, enum.Enum):
+    """How a managed object is locked (chapter 3.4.4): READ is OPTIMISTIC, and WRITE is OPTIMISTIC_FORCE_INCREMENT."""
 
     READ = "READ"
     OPTIMISTIC = "OPTIMISTIC"
@@ -115,8 +115,8 @@ _TAKEN: Mapping[Takes, Callable[[Any], bool]] = {
     Takes.VALUE: _is_value,
     Takes.KEY: lambda given: isinstance(given, list) and all(map(_is_value, given)),
     Takes.PARAMS: lambda given: isinstance(given, dict) and all(map(_is_value, given.values())),
-    Takes.FLUSH_MODE: lambda given: given in [mode.value for mode in FlushMode],
-    Takes.LOCK_MODE: lambda given: given in [mode.value for mode in LockMode],
+    Takes.FLUSH_MODE: lambda given: given in [mode.value for mode in FlushModeType],
+    Takes.LOCK_MODE: lambda given: given in [mode.value for mode in LockModeType],
 }
 
 

@@ -5,7 +5,7 @@ from __future__ import annotations
 from typing import TYPE_CHECKING, Any, Dict, Iterable, List, Mapping, Optional, Tuple, Type, TypeVar, Union
 
 from .entities import EmbeddedId, Entity
-from .lines import FlushMode, LockMode, spelled, text_spelled
+from .lines import FlushModeType, LockModeType, spelled, text_spelled
 from .refusals import KarzhoulError, NotServed, ProgramEnded, Rollback
 
 if TYPE_CHECKING:
@@ -98,16 +98,19 @@ class EntityManager:
         self._tell("detach", object=self._factory.number(entity))
 
     def merge(self, entity: E) -> E:
-        """Copies an object's state onto the managed one of its identity, which is the answer."""
+        """Copies an object's state onto the managed one of its identity, which is loaded or made where there is none, and is the answer; the
+        object itself stays as it is. What the object leads to goes along where MERGE cascades. `OptimisticLock` where its version isn't the
+        one that stands."""
         return self._ask("merge", type(entity), object=self._factory.number(entity))  # type: ignore[no-any-return]
 
     def contains(self, entity: Entity) -> bool:
         """Whether an object is managed here."""
         return self._ask("contains", object=self._factory.number(entity))  # type: ignore[no-any-return]
 
-    def lock(self, entity: Entity, mode: LockMode) -> None:
-        """Locks a managed object."""
-        self._tell("lock", object=self._factory.number(entity), mode=text_spelled(LockMode(mode).value))
+    def lock(self, entity: Entity, mode: LockModeType) -> None:
+        """Locks a managed object, which has a version, until the open transaction ends: READ asks at the commit that it still stands as it
+        was read, WRITE raises its version at the next flush."""
+        self._tell("lock", object=self._factory.number(entity), mode=text_spelled(LockModeType(mode).value))
 
     def clear(self) -> None:
         """Takes all objects out of the context."""
@@ -117,9 +120,9 @@ class EntityManager:
         """Writes what has changed into the transaction."""
         self._ask("flush")
 
-    def set_flush_mode(self, mode: FlushMode) -> None:
+    def set_flush_mode(self, mode: FlushModeType) -> None:
         """Says when a query in a transaction flushes first."""
-        self._tell("setFlushMode", mode=text_spelled(FlushMode(mode).value))
+        self._tell("setFlushMode", mode=text_spelled(FlushModeType(mode).value))
 
     def close(self) -> None:
         """Ends the manager, which owns no open transaction."""

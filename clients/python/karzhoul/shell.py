@@ -10,7 +10,7 @@ from typing import Any, Callable, Dict, Iterable, List, Optional, Sequence, Tupl
 
 from .entities import Entity, Event, handle_of
 from .factory import EntityManagerFactory
-from .lines import CALLS, FlushMode, LockMode, Takes, spelled, text_spelled
+from .lines import CALLS, FlushModeType, LockModeType, Takes, spelled, text_spelled
 from .refusals import KarzhoulError, ProgramEnded, Refused
 from .show import value_text
 from .unit import MemberKind
@@ -155,7 +155,7 @@ class Shell:
             return [f"#{handle_of(held).number}" for held in dict.fromkeys(self._held)]
         if asked == "name":
             return self._members(words[0])
-        modes = LockMode if call == "lock" else FlushMode
+        modes = LockModeType if call == "lock" else FlushModeType
         return [mode.value for mode in modes] if asked == "mode" else ()
 
     def _members(self, word: str) -> Iterable[str]:

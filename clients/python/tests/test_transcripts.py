@@ -11,7 +11,7 @@ import unittest
 from typing import Any, Callable, Dict, Type
 
 import karzhoul
-from karzhoul import FlushMode, LockMode
+from karzhoul import FlushModeType, LockModeType
 from karzhoul.lines import CALLS, is_call
 
 from .support import HERE, RUNS, examples, played
@@ -74,8 +74,8 @@ class Transcripts(unittest.TestCase):
             with em.transaction():
                 em.persist(person)
             with em.transaction():
-                em.lock(person, LockMode.READ)
-                em.lock(person, LockMode.WRITE)
+                em.lock(person, LockModeType.READ)
+                em.lock(person, LockModeType.WRITE)
             self.assertEqual(person.version, 1)
             person.name = "X"
             em.refresh(person)
@@ -95,10 +95,10 @@ class Transcripts(unittest.TestCase):
             Person = app.entity("Person")
             first = Person()
             transaction = em.transaction().begin()
-            em.set_flush_mode(FlushMode.COMMIT)
+            em.set_flush_mode(FlushModeType.COMMIT)
             em.persist(first)
             self.assertEqual(em.query("SELECT COUNT(p) FROM Person p"), [0])
-            em.set_flush_mode(FlushMode.AUTO)
+            em.set_flush_mode(FlushModeType.AUTO)
             self.assertEqual(em.query("SELECT COUNT(p) FROM Person p"), [1])
             second = Person()
             em.persist(second)

@@ -45,11 +45,11 @@ IsAt m class r relation = slice_get (relations_of m class) r ≡ Some relation
 abbrev pub MayStand : PersistenceUnit → ℕ → ℕ → List ℕ → Work → Type 0
 MayStand m n r ks v = (relation : Relation) → IsAt m (object v n).class r relation → list_all (leads_to m v.objects relation.target) ks ≡ true
 
-leads_later : (m : PersistenceUnit) (target : ℕ) (ks : List ℕ) (w v : Work) → More w v → list_all (leads_to m w.objects target) ks ≡ true → list_all (leads_to m v.objects target) ks ≡ true
+pub leads_later : (m : PersistenceUnit) (target : ℕ) (ks : List ℕ) (w v : Work) → More w v → list_all (leads_to m w.objects target) ks ≡ true → list_all (leads_to m v.objects target) ks ≡ true
 leads_later m target ks w v more h = list_all_weaker (leads_to m w.objects target) (leads_to m v.objects target) (leads_kept m w.objects v.objects more target) ks h
 
 -- the relation that stands there later stood there before
-at_before : (m : PersistenceUnit) (n r : ℕ) (relation : Relation) (w v : Work) → More w v → n < length w.objects → IsAt m (object v n).class r relation → IsAt m (object w n).class r relation
+pub at_before : (m : PersistenceUnit) (n r : ℕ) (relation : Relation) (w v : Work) → More w v → n < length w.objects → IsAt m (object v n).class r relation → IsAt m (object w n).class r relation
 at_before m n r relation w v more l at = subst (λ c. IsAt m c r relation) (more.class n l) at
 
 pub stand_later : (m : PersistenceUnit) (n r : ℕ) (ks : List ℕ) (w v : Work) → More w v → n < length w.objects → MayStand m n r ks w → MayStand m n r ks v
@@ -90,14 +90,14 @@ many_in m class (Some (Member.Relation j)) r e = by_test (is_to_one (relation_at
 
 module _ {world : World} {P : Work → Type 0} (orderly : IsOrderly world.model) (steps : Steps world P) where
   -- a relation of an object holds something that fits it
-  hold_goes : (n r : ℕ) (h : Held) (w : Work) → P w → n < length w.objects → held_representable h ≡ true →
+  pub hold_goes : (n r : ℕ) (h : Held) (w : Work) → P w → n < length w.objects → held_representable h ≡ true →
       ((relation : Relation) → IsAt world.model (object w n).class r relation → held_fits world.model w.objects relation h ≡ true) → P (with_relation n r h w) × More w (with_relation n r h w)
   hold_goes n r h w p l rep fits =
       let y = with_held (object w n) r h in
       (steps.sets n y w p l (held_set (object w n) r h rep (λ alive. fits)), set_more n y w (with_relation n r h w) l refl refl)
 
   -- what an object holds fits its relation
-  held_now_fits : (n r : ℕ) (h : Held) (w : Work) → P w → n < length w.objects → held_at (object w n) r ≡ h → (relation : Relation) → IsAt world.model (object w n).class r relation →
+  pub held_now_fits : (n r : ℕ) (h : Held) (w : Work) → P w → n < length w.objects → held_at (object w n) r ≡ h → (relation : Relation) → IsAt world.model (object w n).class r relation →
       held_fits world.model w.objects relation h ≡ true
   held_now_fits n r h w p l e relation at =
       subst (λ y. held_fits world.model w.objects relation y ≡ true) e
@@ -206,7 +206,7 @@ module _ {world : World} {P : Work → Type 0} (orderly : IsOrderly world.model)
       let member = member_of m class name in
       read_for_goes n k (collection_in m class member) w p l j (many_in m class member)
 
-  held_again : (n r : ℕ) (ks : List ℕ) (v : Work) → P v → n < length v.objects → ((relation : Relation) → IsAt world.model (object v n).class r relation → not (is_to_one relation.side) ≡ true) →
+  pub held_again : (n r : ℕ) (ks : List ℕ) (v : Work) → P v → n < length v.objects → ((relation : Relation) → IsAt world.model (object v n).class r relation → not (is_to_one relation.side) ≡ true) →
       MayStand world.model n r ks v → P (with_relation n r (Held.Many (Collection.Fetched ks)) v) × More v (with_relation n r (Held.Many (Collection.Fetched ks)) v)
   held_again n r ks v q l side stand =
       hold_goes n r (Held.Many (Collection.Fetched ks)) v q l refl (λ relation at. and_from (not (is_to_one relation.side)) (list_all (leads_to world.model v.objects relation.target) ks) (side relation at) (stand relation at))

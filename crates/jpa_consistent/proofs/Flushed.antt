@@ -288,7 +288,7 @@ viewed_at_work s v h =
 
 -- ---- what is planned is written
 
-pub written_at_work : {world : World} {M : Others} {m : ℕ} → IsOrderly world.model → IsRegular world → (w : Work) → IsConsistent world M m w → AreChecked world w →
+written_at_work : {world : World} {M : Others} {m : ℕ} → IsOrderly world.model → IsRegular world → (w : Work) → IsConsistent world M m w → AreChecked world w →
     fault_of world.model (flushed world.model w (actions world.model w)) ≡ None → IsConsistent world M m (written_in world w) × More w (written_in world w)
 written_at_work {world} {M} {m} orderly regular w h checked sound =
     let plan = actions world.model w in

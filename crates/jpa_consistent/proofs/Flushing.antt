@@ -68,7 +68,7 @@ module _ (m : PersistenceUnit) (w : Work) (n : ℕ) (holds : (r : ℕ) → Holds
       by_test true = along_within (enumerate_from 0 (relations_of m (object w n).class))
       by_test false = tt
 
-live_within : (w : Work) (xs : List Node) → AllByRecursion (λ x. IsWithin x w) xs → AllByRecursion (λ k. k < length w.objects) (live_nodes xs)
+pub live_within : (w : Work) (xs : List Node) → AllByRecursion (λ x. IsWithin x w) xs → AllByRecursion (λ k. k < length w.objects) (live_nodes xs)
 live_within w [] h = tt
 live_within w (Node.Live n ∷ xs) h = (h.0, live_within w xs h.1)
 live_within w (Node.Bare id ∷ xs) h = live_within w xs h.1

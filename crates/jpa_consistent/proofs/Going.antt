@@ -45,6 +45,17 @@ more_on u v w a b =
 pub within_more : (w v : Work) (n : ℕ) → More w v → n < length w.objects → n < length v.objects
 within_more w v n m l = let k = m.more in omega (arith, k, l)
 
+-- what holds after what goes on
+pub more_before : {B : Type 0} (P : Work → Type 0) (R : B → Work → Type 0) (w v : Work) → More w v → (o : Outcome B) → HoldsAfter (λ b u. P u × More v u × R b u) o → HoldsAfter (λ b u. P u × More w u × R b u) o
+more_before P R w v more (Done b u) t = (t.0, more_on w v u more t.1, t.2)
+more_before P R w v more (Refused r events) t = tt
+
+-- what follows from what is known of the answer
+pub known_from : {A : Type 0} (P : Work → Type 0) (Q R : A → Work → Type 0) (w : Work) (o : Outcome A) → HoldsAfter (λ a v. P v × More w v × Q a v) o →
+    ((a : A) (v : Work) → More w v → Q a v → R a v) → HoldsAfter (λ a v. P v × More w v × R a v) o
+known_from P Q R w (Done a v) h k = (h.0, h.1, k a v h.1 h.2)
+known_from P Q R w (Refused r events) h k = tt
+
 module _ {P : Work → Type 0} where
   pub then_goes : {A B : Type 0} (w : Work) (o : Outcome A) (f : A → Op B) → HoldsAfter (λ a v. P v × More w v) o → ((a : A) (v : Work) → P v → More w v → HoldsAfter (λ b u. P u × More v u) (f a v)) →
       HoldsAfter (λ b u. P u × More w u) (after o f)
@@ -59,11 +70,13 @@ module _ {P : Work → Type 0} where
   pub then_known : {A B : Type 0} (Q : A → Work → Type 0) (R : B → Work → Type 0) (w : Work) (o : Outcome A) (f : A → Op B) → HoldsAfter (λ a v. P v × More w v × Q a v) o →
       ((a : A) (v : Work) → P v → More w v → Q a v → HoldsAfter (λ b u. P u × More v u × R b u) (f a v)) → HoldsAfter (λ b u. P u × More w u × R b u) (after o f)
   then_known Q R w (Refused r events) f h k = tt
-  then_known {B = B} Q R w (Done a v) f h k = joined (f a v) (k a v h.0 h.1 h.2)
-    where
-      joined : (o : Outcome B) → HoldsAfter (λ b u. P u × More v u × R b u) o → HoldsAfter (λ b u. P u × More w u × R b u) o
-      joined (Done b u) t = (t.0, more_on w v u h.1 t.1, t.2)
-      joined (Refused r events) t = tt
+  then_known Q R w (Done a v) f h k = more_before P R w v h.1 (f a v) (k a v h.0 h.1 h.2)
+
+  -- and where nothing is said of the first answer
+  pub then_to : {A B : Type 0} (R : B → Work → Type 0) (w : Work) (o : Outcome A) (f : A → Op B) → HoldsAfter (λ a v. P v × More w v) o →
+      ((a : A) (v : Work) → P v → More w v → HoldsAfter (λ b u. P u × More v u × R b u) (f a v)) → HoldsAfter (λ b u. P u × More w u × R b u) (after o f)
+  then_to R w (Refused r events) f h k = tt
+  then_to R w (Done a v) f h k = more_before P R w v h.1 (f a v) (k a v h.0 h.1)
 
   -- and where nothing is said of the last answer
   pub then_from : {A B : Type 0} (Q : A → Work → Type 0) (w : Work) (o : Outcome A) (f : A → Op B) → HoldsAfter (λ a v. P v × More w v × Q a v) o →
@@ -84,7 +97,7 @@ pub unknown : {A : Type 0} (P : Work → Type 0) (Q : A → Work → Type 0) (w 
 unknown P Q w (Done a v) h = (h.0, h.1)
 unknown P Q w (Refused r events) h = tt
 
-all_still : {A : Type 0} (There : A → Work → Type 0) (w v : Work) → ((x : A) → There x w → There x v) → (xs : List A) → AllByRecursion (λ x. There x w) xs → AllByRecursion (λ x. There x v) xs
+pub all_still : {A : Type 0} (There : A → Work → Type 0) (w v : Work) → ((x : A) → There x w → There x v) → (xs : List A) → AllByRecursion (λ x. There x w) xs → AllByRecursion (λ x. There x v) xs
 all_still There w v k [] h = tt
 all_still There w v k (x ∷ xs) h = (k x h.0, all_still There w v k xs h.1)
 
@@ -103,12 +116,25 @@ EachHas Q [] (y ∷ ys) w = ⊥
 EachHas Q (x ∷ xs) [] w = ⊥
 EachHas Q (x ∷ xs) (y ∷ ys) w = Q x y w × EachHas Q xs ys w
 
+-- in order, for what is there at the start and so later
+pub collect_there : {A B : Type 0} (P : Work → Type 0) (There : A → Work → Type 0) (Q : A → B → Work → Type 0) → ((x : A) (w v : Work) → More w v → There x w → There x v) →
+    ((x : A) (y : B) (w v : Work) → More w v → Q x y w → Q x y v) → (f : A → Op B) → ((x : A) (w : Work) → P w → There x w → HoldsAfter (λ y v. P v × More w v × Q x y v) (f x w)) →
+    (xs : List A) (w : Work) → P w → AllByRecursion (λ x. There x w) xs → HoldsAfter (λ ys v. P v × More w v × EachHas Q xs ys v) (collect f xs w)
+collect_there P There Q there still f k [] w p h = (p, no_more w, tt)
+collect_there P There Q there still f k (x ∷ xs) w p h =
+    then_known (Q x) (EachHas Q (x ∷ xs)) w (f x w) _ (k x w p h.0) (λ y v q more t.
+    then_known (EachHas Q xs) (EachHas Q (x ∷ xs)) v (collect f xs v) _
+    (collect_there P There Q there still f k xs v q (all_still There w v (λ z. there z w v more) xs h.1))
+    (λ ys u r more' ts. (r, no_more u, (still x y v u more' t, ts))))
+
+-- what holds anyway holds of each
+pub all_there : {A : Type 0} (P : Type 0) → P → (xs : List A) → AllByRecursion (λ x. P) xs
+all_there P p [] = tt
+all_there P p (x ∷ xs) = (p, all_there P p xs)
+
 pub collect_goes : {A B : Type 0} (P : Work → Type 0) (Q : A → B → Work → Type 0) → ((x : A) (y : B) (w v : Work) → More w v → Q x y w → Q x y v) → (f : A → Op B) →
     ((x : A) (w : Work) → P w → HoldsAfter (λ y v. P v × More w v × Q x y v) (f x w)) → (xs : List A) (w : Work) → P w → HoldsAfter (λ ys v. P v × More w v × EachHas Q xs ys v) (collect f xs w)
-collect_goes P Q still f k [] w p = (p, no_more w, tt)
-collect_goes P Q still f k (x ∷ xs) w p =
-    then_known (Q x) (EachHas Q (x ∷ xs)) w (f x w) _ (k x w p) (λ y v q more h.
-    then_known (EachHas Q xs) (EachHas Q (x ∷ xs)) v (collect f xs v) _ (collect_goes P Q still f k xs v q) (λ ys u r more' t. (r, no_more u, (still x y v u more' h, t))))
+collect_goes P Q still f k xs w p = collect_there P (λ x v. Unit {0}) Q (λ x u v more h. tt) still f (λ x v q h. k x v q) xs w p (all_there (Unit {0}) tt xs)
 
 pub only : {A : Type 0} (P : Work → Type 0) (w : Work) (o : Outcome A) → HoldsAfter (λ a v. P v × More w v) o → HoldsAfter (λ a v. P v) o
 only P w (Done a v) h = h.0

@@ -12,6 +12,8 @@ use Rattle.jpa_consistent.proofs.Entered.{become_holds, removed, revived}
 use Rattle.jpa_consistent.proofs.Heard.{heard_at_work}
 use Rattle.jpa_consistent.proofs.Loaded.{load_at_work}
 use Rattle.jpa_consistent.proofs.LetGo.{let_go_at_work}
+use Rattle.jpa_consistent.proofs.Locked.{locked_at_work}
+use Rattle.jpa_consistent.proofs.Made.{made_at_work}
 use Rattle.jpa_consistent.proofs.Members.{IsStanding}
 use Rattle.jpa_consistent.proofs.Read.{read_at_work}
 use Rattle.jpa_consistent.proofs.Refreshed.{reloaded_at_work}
@@ -41,4 +43,6 @@ at_work {world} M m orderly hears =
           subst (λ j. IsConsistent world M m (with_life_of n (Life.Removed j) w)) (sym h.manager) (removed n h l (managed ∙ ap Life.Managed h.manager));
       reloads = λ n id x w h l managed named stored class. reloaded_at_work orderly n id x h l managed named stored class;
       lets_go = λ n w h l held. let_go_at_work n h l (subst (λ j. is_held_by j (object w n).life ≡ true) h.manager held);
+      makes = λ x w h live new few. made_at_work x h live new few;
+      locks = λ n l w h. locked_at_work n l h;
     }

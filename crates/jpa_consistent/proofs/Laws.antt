@@ -1,5 +1,6 @@
 -- The laws of operations: each once, for whatever the steps keep of which they are made, in every unit.
-use Rattle.std.proofs.Common.{◌≡◌, ◌<◌, ℕ, Bool, true, false, List, [], ◌∷◌, length, refl, ap, sym, subst, ◌∙◌, arith}
+use Rattle.std.proofs.Common.{◌≡◌, ◌<◌, ℕ, Bool, true, false, List, [], ◌∷◌, ◌++◌, length, refl, ap, sym, subst, ◌∙◌, arith}
+use Rattle.std.specs.List.{AllByRecursion}
 use Rattle.std.specs.Prelude.{nat_lt, Option, Some, None, is_some, ◌==◌, slice_set}
 use Rattle.std.proofs.lemmas.Bool.{eq-eqb, eqb-true, ltb-true}
 use Rattle.std.proofs.lemmas.List.{length-append, get_or_push}
@@ -7,9 +8,11 @@ use Rattle.std.proofs.lemmas.List.Elements.{All-weaker, recursion_from_All}
 use Rattle.jpa_value.specs.Limits.{most_objects}
 use Rattle.jpa_value.specs.declared.value.Value.{Value}
 use Rattle.jpa_value.specs.declared.value.Identity.{Identity}
+use Rattle.jpa_value.specs.declared.refusal.Argument.{Argument}
 use Rattle.jpa_value.specs.declared.refusal.Cause.{Cause}
+use Rattle.jpa_value.specs.declared.refusal.Persist.{Persist}
 use Rattle.jpa_value.specs.declared.event.LifecycleEvent.{LifecycleEvent}
-use Rattle.jpa_model.specs.Chains.{root_of, is_kind_of}
+use Rattle.jpa_model.specs.Chains.{root_of, is_kind_of, is_versioned}
 use Rattle.jpa_behaviour.specs.Behaviour.{World}
 use Rattle.jpa_stored.specs.declared.stored.Stored.{Stored}
 use Rattle.jpa_stored.specs.Sets.{is_rising}
@@ -17,8 +20,9 @@ use Rattle.jpa_heap.specs.declared.Life.{Life}
 use Rattle.jpa_heap.specs.declared.LiveObject.{LiveObject}
 use Rattle.jpa_context.specs.declared.Base.{Base}
 use Rattle.jpa_context.specs.declared.EntityState.{EntityState}
+use Rattle.jpa_context.specs.declared.Lock.{Lock}
 use Rattle.jpa_heap.specs.Objects.{no_object, with_life}
-use Rattle.jpa_context.specs.Work.{Work, object, state_of, identity_at, instance, row, row_at, base_of, with_object, with_life_of, entered, with_base}
+use Rattle.jpa_context.specs.Work.{Work, object, state_of, is_managed, identity_at, instance, row, row_at, entry_of, base_of, with_object, with_life_of, entered, with_base, with_lock}
 use Rattle.jpa_context.specs.Steps.{Op, Outcome, Done, Refused, after, give}
 use Rattle.jpa_cascade.specs.declared.Node.{Node}
 use Rattle.jpa_cascade.specs.declared.Operation.{Operation}
@@ -28,8 +32,8 @@ use Rattle.jpa_cascade.proofs.There.{waves_are_there}
 use Rattle.jpa_lifecycle.specs.Callbacks.{callback}
 use Rattle.jpa_fetch.specs.Load.{object_loaded, base_loaded, made, load, reach, reached, found, found_row, find}
 use Rattle.jpa_fetch.specs.Members.{with_read}
-use Rattle.jpa_ops.specs.States.{cascaded, persist, persist_one, persist_node, become_managed, pre_persist_if, remove, remove_one, remove_live, remove_under, remove_node, refresh, refresh_row, refresh_one, refresh_node, reloaded, detach, detach_one, detach_node, let_go}
-use Rattle.jpa_consistent.specs.Consistent.{is_held_by}
+use Rattle.jpa_ops.specs.States.{cascaded, persist, persist_one, persist_node, become_managed, pre_persist_if, remove, remove_one, remove_live, remove_under, remove_node, refresh, refresh_row, refresh_one, refresh_node, reloaded, detach, detach_one, detach_node, let_go, lock, lock_in, locked}
+use Rattle.jpa_consistent.specs.Consistent.{IsLive, is_held_by}
 use Rattle.jpa_consistent.specs.Going.{HoldsAfter}
 use Rattle.jpa_consistent.proofs.Kept.{KeepsClasses, keeps_more}
 use Rattle.jpa_consistent.proofs.Going.{require_holds, after_holds, More, each_goes, more_on, no_more, then_from, then_goes, within_more}
@@ -57,6 +61,8 @@ pub record Steps (world : World) (P : Work → Type 0) : Type 0 where
   pub reloads : (n : ℕ) (id : Identity) (x : Stored) (w : Work) → P w → n < length w.objects → (object w n).life ≡ Life.Managed w.manager → identity_at world.model w n ≡ Some id → row w id ≡ Some x →
       (object w n).class ≡ x.class → P (reloaded world n id x w)
   pub lets_go : (n : ℕ) (w : Work) → P w → n < length w.objects → is_held_by w.manager (object w n).life ≡ true → P (let_go n w)
+  pub makes : (x : LiveObject) (w : Work) → P w → IsLive world.model (w.objects ++ x ∷ []) x → x.life ≡ Life.New → length w.objects < most_objects → P (made x w)
+  pub locks : (n : ℕ) (l : Lock) (w : Work) → P w → P (with_lock n l w)
 
 -- an object of the same class in the place of one
 pub set_more : (n : ℕ) (y : LiveObject) (w v : Work) → n < length w.objects → y.class ≡ (object w n).class → v.objects ≡ slice_set w.objects n y → More w v
@@ -78,14 +84,17 @@ there_within w (Node.Bare id) h = tt
 module _ {world : World} {P : Work → Type 0} (steps : Steps world P) where
   -- ---- along a cascade
 
-  cascade_goes : (op : Operation) (visit : Node → Op (Unit {0})) → ((x : Node) (w : Work) → P w → IsWithin x w → HoldsAfter (λ u v. P v × More w v) (visit x w)) →
-      (n : ℕ) (w : Work) → P w → n < length w.objects → HoldsAfter (λ u v. P v × More w v) (cascaded world op visit n w)
-  cascade_goes op visit goes n w p l =
+  -- its objects are in the heap
+  pub waves_within : (op : Operation) (n : ℕ) (w : Work) → P w → n < length w.objects → AllByRecursion (λ x. IsWithin x w) (waves world.model op w n)
+  waves_within op n w p l =
       let stands = steps.stands w p in
       let nodes = waves world.model op w n in
-      each_goes P IsWithin visit within_still goes nodes w p
-      (recursion_from_All (λ x. IsWithin x w) nodes
-      (All-weaker (IsThere w) (λ x. IsWithin x w) (there_within w) nodes (waves_are_there world.model op w n (linked w.objects stands.objects) stands.entries l)))
+      recursion_from_All (λ x. IsWithin x w) nodes
+      (All-weaker (IsThere w) (λ x. IsWithin x w) (there_within w) nodes (waves_are_there world.model op w n (linked w.objects stands.objects) stands.entries l))
+
+  cascade_goes : (op : Operation) (visit : Node → Op (Unit {0})) → ((x : Node) (w : Work) → P w → IsWithin x w → HoldsAfter (λ u v. P v × More w v) (visit x w)) →
+      (n : ℕ) (w : Work) → P w → n < length w.objects → HoldsAfter (λ u v. P v × More w v) (cascaded world op visit n w)
+  cascade_goes op visit goes n w p l = each_goes P IsWithin visit within_still goes (waves world.model op w n) w p (waves_within op n w p l)
 
   -- ---- load, find and reach
 
@@ -232,3 +241,11 @@ module _ {world : World} {P : Work → Type 0} (steps : Steps world P) where
 
   pub detach_goes : (n : ℕ) (w : Work) → P w → n < length w.objects → HoldsAfter (λ u v. P v × More w v) (detach world n w)
   detach_goes = cascade_goes Operation.Detach detach_node detach_node_goes
+
+  -- ---- lock
+
+  pub lock_goes : (n : ℕ) (mode : Lock) (w : Work) → P w → HoldsAfter (λ u v. P v × More w v) (lock world n mode w)
+  lock_goes n mode w p =
+      require_holds (λ u v. P v × More w v) (is_managed (state_of w n)) (Cause.IllegalArgument Argument.State) w _ (λ managed.
+      require_holds (λ u v. P v × More w v) (is_versioned world.model (object w n).class) (Cause.Persistence Persist.Version) w _ (λ versioned.
+      (steps.locks n (locked (lock_in (entry_of w n)) mode) w p, no_more w)))

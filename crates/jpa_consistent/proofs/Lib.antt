@@ -11,8 +11,11 @@ pub mod Loaded
 pub mod Members
 pub mod Refreshed
 pub mod LetGo
+pub mod Locked
+pub mod Made
 pub mod Laws
 pub mod Fetching
+pub mod Merging
 pub mod Written
 pub mod Owned
 pub mod Planned
@@ -26,4 +29,3 @@ pub mod Ready
 pub mod Unheld
 pub mod Above
 pub mod Units
-pub mod Unlocked

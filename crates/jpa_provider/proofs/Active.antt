@@ -1,5 +1,5 @@
 -- What a flush of the manager at work stands on, and what it leaves.
-use Rattle.std.proofs.Common.{◌≡◌, ◌<◌, ℕ, true, List, length, ap, sym, subst, ◌∙◌}
+use Rattle.std.proofs.Common.{◌≡◌, ◌<◌, ℕ, Bool, true, false, List, length, ap, sym, subst, ◌∙◌}
 use Rattle.std.specs.Prelude.{All, T, nat_le}
 use Rattle.std.specs.FinMap.Entries.{is_sorted}
 use Rattle.jpa_value.specs.Value.{identity_cmp}
@@ -9,20 +9,21 @@ use Rattle.jpa_stored.specs.Sets.{IsSound, each_fits}
 use Rattle.jpa_rows.specs.Cells.{CanBeHeld}
 use Rattle.jpa_context.specs.declared.Entry.{Entry}
 use Rattle.jpa_context.specs.Work.{Work}
-use Rattle.jpa_context.specs.Steps.{Done}
+use Rattle.jpa_context.specs.Steps.{Outcome, Done, Refused}
+use Rattle.jpa_queries.specs.Premises.{StaysReady}
 use Rattle.jpa_context.specs.Undo.{Since}
+use Rattle.jpa_fetch.specs.Grown.{IsReady}
 use Rattle.jpa_flush.specs.Flush.{flush}
+use Rattle.jpa_provider.specs.Transactions.{commit_work}
 use Rattle.jpa_ops.specs.Names.{has_distinct_entries}
 use Rattle.jpa_provider.specs.declared.session.Session.{Session}
 use Rattle.jpa_provider.specs.Machine.{Machine, manager_at, is_begun, work_of}
 use Rattle.jpa_provider.specs.Invariant.{IsMachine, HasOneTransaction, context_of}
 use Rattle.jpa_provider.specs.Serving.{machine_of, manager_in, is_begun_status, EndsAlone, IsCommitting, IsServing, IsSettled, IsWorking}
-use Rattle.jpa_provider.proofs.AtWork.{IsAtWork, each_manager, others_of, taken}
-use Rattle.jpa_provider.proofs.AfterFlush.{still_at_work, numbers_rise}
+use Rattle.jpa_provider.proofs.AtWork.{IsAtWork, each_manager, taken, work_ready}
+use Rattle.jpa_provider.proofs.AfterFlush.{flushed_at_work, still_at_work, numbers_rise}
 use Rattle.jpa_consistent.specs.Consistent.{IsEntry}
-use Rattle.jpa_consistent.specs.Going.{HoldsAfter}
-use Rattle.jpa_consistent.proofs.Going.{More}
-use Rattle.jpa_consistent.proofs.Unlocked.{AreUnlocked, flush_unlocked}
+use Rattle.jpa_consistent.proofs.Ready.{ready_at_work}
 use Rattle.jpa_provider.proofs.Serving.{entries_in}
 use Rattle.jpa_provider.proofs.Sessions.{manager_there, begun_there}
 
@@ -55,18 +56,32 @@ ends_alone t m settled same one begun =
       begun = sym (begun_there t m) ∙ ap (λ (N : Machine). is_begun (manager_at N m).transaction) same ∙ begun;
     }
 
-module _ (world : World) (s : Session) (m : ℕ) (h : IsServing world s) (w : Work) (e : flush world (work_of (machine_of s) m) ≡ Done tt w) where
+abbrev finished : Work → Outcome (Unit {0})
+finished w = Done tt w
+
+-- the work of an outcome that is done
+abbrev work_in : Work → Outcome (Unit {0}) → Work
+work_in w (Done u v) = v
+work_in w (Refused r events) = w
+
+-- what was flushed is ready for what comes next
+pub flushed_ready : (world : World) (s : Session) (m : ℕ) → IsServing world s → (w : Work) → flush world (work_of (machine_of s) m) ≡ Done tt w → IsReady world.model w
+flushed_ready world s m h w e = ready_at_work (flushed_at_work (machine_of s) w h.orderly h.regular (taken m h.machine) e)
+
+-- whether a query flushes first or not
+pub query_ready : (world : World) (s : Session) (m : ℕ) → IsServing world s → (flushes : Bool) → StaysReady flushes world (work_of (machine_of s) m)
+query_ready world s m h true = flushed_ready world s m h
+query_ready world s m h false = λ v e. subst (IsReady world.model) (done_same e) (work_ready m h.machine)
+  where
+    done_same : {v w : Work} → finished w ≡ finished v → w ≡ v
+    done_same {v} {w} e = ap (work_in w) e
+
+module _ (world : World) (s : Session) (m : ℕ) (h : IsServing world s) (w : Work) (e : commit_work world (work_of (machine_of s) m) ≡ Done tt w) where
   pub after_it : IsAtWork world (machine_of s) m w
   after_it = still_at_work (machine_of s) w h.orderly h.regular (taken m h.machine) e
 
   pub flushed_held : CanBeHeld world w.view w.numbers
   flushed_held = after_it.view
-
-  pub flushed_unlocked : AreUnlocked w
-  flushed_unlocked =
-      let M = machine_of s in
-      ((subst (HoldsAfter (λ u v. (IsAtWork world M m v × AreUnlocked v) × More (work_of M m) v)) e
-      (flush_unlocked (others_of M) m h.orderly h.regular (work_of M m) (taken m h.machine, h.unlocked m))).0).1
 
   pub flushed_rising : each_fits nat_le (machine_of s).stored_numbers w.numbers ≡ true
   flushed_rising = numbers_rise h.machine after_it

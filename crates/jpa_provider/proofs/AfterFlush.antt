@@ -12,12 +12,20 @@ use Rattle.jpa_consistent.proofs.Facts.{numbers_trans}
 use Rattle.jpa_consistent.specs.Going.{HoldsAfter}
 use Rattle.jpa_provider.proofs.AtWork.{IsAtWork}
 use Rattle.jpa_consistent.proofs.Flushed.{flush_goes}
-use Rattle.jpa_consistent.proofs.Going.{More}
+use Rattle.jpa_consistent.proofs.Going.{More, only}
+use Rattle.jpa_provider.specs.Transactions.{commit_work}
+use Rattle.jpa_provider.proofs.Handed.{commit_work_goes}
 use Rattle.jpa_fetch.specs.Orderly.{IsOrderly}
 
-pub still_at_work : {world : World} (M : Machine) {m : ℕ} {w : Work} (w' : Work) → IsOrderly world.model → IsRegular world → IsAtWork world M m w → flush world w ≡ Done tt w' →
+pub flushed_at_work : {world : World} (M : Machine) {m : ℕ} {w : Work} (w' : Work) → IsOrderly world.model → IsRegular world → IsAtWork world M m w → flush world w ≡ Done tt w' →
     IsAtWork world M m w'
-still_at_work {world} M {m} {w} w' orderly regular h e = (subst (HoldsAfter (λ u v. IsAtWork world M m v × More w v)) e (flush_goes orderly regular h)).0
+flushed_at_work {world} M {m} {w} w' orderly regular h e = (subst (HoldsAfter (λ u v. IsAtWork world M m v × More w v)) e (flush_goes orderly regular h)).0
+
+-- and of a commit: it looks at the locks, and changes nothing then
+pub still_at_work : {world : World} (M : Machine) {m : ℕ} {w : Work} (w' : Work) → IsOrderly world.model → IsRegular world → IsAtWork world M m w → commit_work world w ≡ Done tt w' →
+    IsAtWork world M m w'
+still_at_work {world} M {m} {w} w' orderly regular h e =
+    subst (HoldsAfter (λ u v. IsAtWork world M m v)) e (commit_work_goes world (IsAtWork world M m) w (only (IsAtWork world M m) w (flush world w) (flush_goes orderly regular h)))
 
 -- no next number falls below the stored one
 pub numbers_rise : {world : World} {M : Machine} {m : ℕ} {w : Work} → IsMachine world M → IsAtWork world M m w → each_fits nat_le M.stored_numbers w.numbers ≡ true

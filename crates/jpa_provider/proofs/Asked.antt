@@ -1,4 +1,4 @@
--- How contains and clear step.
+-- How contains, clear and setFlushMode step.
 use Rattle.std.proofs.Common.{◌≡◌, inl, ℕ, ℤ, Bool, [], length, ap, sym, ◌∙◌}
 use Rattle.std.specs.Prelude.{slice_set, Some, None}
 use Rattle.jpa_value.specs.declared.refusal.Cause.{Cause}
@@ -9,10 +9,11 @@ use Rattle.jpa_context.specs.declared.Entry.{Entry}
 use Rattle.jpa_context.specs.Work.{is_managed, state_from}
 use Rattle.jpa_ops.specs.States.{detach_each}
 use Rattle.jpa_protocol.specs.declared.call.Call.{Call}
+use Rattle.jpa_protocol.specs.declared.call.FlushMode.{FlushMode}
 use Rattle.jpa_protocol.specs.declared.reply.Answer.{Answer}
 use Rattle.jpa_protocol.specs.declared.reply.Reply.{Reply}
 use Rattle.jpa_provider.specs.declared.session.Session.{Session}
-use Rattle.jpa_provider.specs.Machine.{Machine, Manager, with_manager, cleared}
+use Rattle.jpa_provider.specs.Machine.{Machine, Manager, with_manager, with_mode, cleared}
 use Rattle.jpa_provider.specs.Calls.{accepted}
 use Rattle.jpa_provider.specs.Routes.{answered, contains, contains_in}
 use Rattle.jpa_open.specs.Opened.{Opened}
@@ -59,3 +60,13 @@ cleared_there s t m c f e o v n k =
       objects = (o ∙ ap (λ (x : Manager). detach_each x.context s.work.objects.now) (sym there)) i;
       managers = with_manager (machine_of s) m (record (sym there i) { context = e i });
     })
+
+-- ---- the flush mode
+
+pub mode_alone : (world : World) (s : Session) (em : ℤ) (mode : FlushMode) → named s em ≡ None → Serves world s (Call.SetFlushMode em mode) (refusal Cause.NoSuchManager) s
+mode_alone world s em mode e = inl (of_nobody s (λ m. accepted [] Answer.Null (with_mode (machine_of s) m mode)) em e)
+
+pub mode_set : (world : World) (s t : Session) (em : ℤ) (mode : FlushMode) (m : ℕ) → named s em ≡ Some m → machine_of t ≡ with_mode (machine_of s) m mode →
+    Serves world s (Call.SetFlushMode em mode) (told Answer.Null) t
+mode_set world s t em mode m e f =
+    inl (of_manager s (λ k. accepted [] Answer.Null (with_mode (machine_of s) k mode)) em m e ∙ (λ i. (told Answer.Null, sym f i)))

@@ -10,12 +10,12 @@ use Rattle.jpa_protocol.specs.declared.reply.Answer.{Answer}
 use Rattle.jpa_provider.specs.declared.session.Session.{Session}
 use Rattle.jpa_provider.specs.declared.session.Status.{Status}
 use Rattle.jpa_provider.specs.declared.session.EntityManager.{EntityManager}
-use Rattle.jpa_provider.specs.Machine.{Machine, closed, cleared, with_manager}
+use Rattle.jpa_provider.specs.Machine.{Machine, Manager, manager_at, closed, cleared, with_manager}
 use Rattle.jpa_provider.specs.Calls.{because, accepted}
 use Rattle.jpa_provider.specs.Routes.{close}
 use Rattle.jpa_provider.specs.Serving.{manager_in, managers_of, machine_of, is_begun_status, named, Serves}
 use Rattle.jpa_provider.proofs.Opened.{told, refusal, none_there}
-use Rattle.jpa_provider.proofs.Sessions.{managers_changed, begun_there}
+use Rattle.jpa_provider.proofs.Sessions.{managers_changed, manager_there, begun_there}
 use Rattle.jpa_provider.proofs.Worked.{of_manager, of_nobody}
 
 pub close_alone : (world : World) (s : Session) (em : ℤ) → named s em ≡ None → Serves world s (Call.Close em) (refusal Cause.NoSuchManager) s
@@ -36,12 +36,13 @@ close_closes world s t em m e h f =
 
 -- of a session whose manager was cleared
 pub shut_there : (s u t : Session) (m : ℕ) → is_begun_status (manager_in s.managers.items m).status ≡ false → machine_of u ≡ cleared (machine_of s) m → u.work.view ≡ s.work.view →
-    t.managers.items ≡ slice_set s.managers.items m (record { status = Status.Closed; context = record { now = []; since = [] } }) → t.work ≡ u.work → t.stored ≡ u.stored → machine_of t ≡ closed (machine_of s) m
+    t.managers.items ≡ slice_set s.managers.items m (record (manager_in s.managers.items m) { status = Status.Closed; context = record { now = []; since = [] } }) → t.work ≡ u.work → t.stored ≡ u.stored → machine_of t ≡ closed (machine_of s) m
 shut_there s u t m h clear v f w k =
     let M = machine_of s in
     let C = (s.work.view).committed in
     let K = (s.work.view).kept in
-    let x : EntityManager = record { status = Status.Closed; context = record { now = []; since = [] } } in
+    let x : EntityManager = record (manager_in s.managers.items m) { status = Status.Closed; context = record { now = []; since = [] } } in
+    let mode : x.mode ≡ (manager_at M m).mode = sym (ap (λ (y : Manager). y.mode) (manager_there s m)) in
     let view : t.work.view ≡ s.work.view = ap (λ (y : UnitOfWork). y.view) w ∙ v in
     (λ i. record {
       objects = (ap (λ (y : UnitOfWork). y.objects.now) w ∙ ap (λ (N : Machine). N.objects) clear) i;
@@ -50,4 +51,4 @@ shut_there s u t m h clear v f w k =
       stored_numbers = (k ∙ ap (λ (N : Machine). N.stored_numbers) clear) i;
       committed = (view i).committed;
     })
-    ∙ (λ i. record (closed M m) { managers = with_manager M m (record { is_open = false; context = []; transaction = sym (none_there s m h) i }) })
+    ∙ (λ i. record (closed M m) { managers = with_manager M m (record { is_open = false; mode = mode i; context = []; transaction = sym (none_there s m h) i }) })

@@ -16,23 +16,20 @@ use Rattle.jpa_protocol.specs.declared.reply.Reply.{Reply}
 use Rattle.jpa_heap.specs.declared.LiveObject.{LiveObject}
 use Rattle.jpa_open.specs.Opened.{Opened, with_kept, with_seen, after_keeping}
 use Rattle.jpa_context.specs.declared.Entry.{Entry}
-use Rattle.jpa_context.specs.declared.Lock.{Lock}
-use Rattle.jpa_context.specs.Work.{Work}
+use Rattle.jpa_context.specs.Work.{Work, unlocked}
 use Rattle.jpa_context.specs.Steps.{Outcome, Done, Refused, IsRefusedAs}
 use Rattle.jpa_context.specs.Undo.{now}
 use Rattle.jpa_ops.specs.States.{detach_each}
-use Rattle.jpa_flush.specs.Flush.{flush}
 use Rattle.jpa_provider.specs.declared.session.Status.{Status}
 use Rattle.jpa_provider.specs.declared.session.EntityManager.{EntityManager}
 use Rattle.jpa_provider.specs.declared.session.Session.{Session}
-use Rattle.jpa_provider.specs.Machine.{Machine, manager_at, is_begun, with_manager, work_of, is_gone, unlocked, committed_after, rolled_back, IsStoredAs}
+use Rattle.jpa_provider.specs.Machine.{Machine, manager_at, is_begun, with_manager, work_of, is_gone, committed_after, rolled_back, IsStoredAs}
 use Rattle.jpa_provider.specs.Calls.{accepted}
-use Rattle.jpa_provider.specs.Transactions.{commit, commit_in, commit_of}
+use Rattle.jpa_provider.specs.Transactions.{commit, commit_in, commit_of, commit_work}
 use Rattle.jpa_provider.specs.Step.{outcome, gives_up}
 use Rattle.jpa_provider.specs.Serving.{transaction_in, is_begun_status, managers_of, manager_in, machine_of, named, detached_at, detached_all, gone_objects, gave_up, Refuses, Stores, IsCommitting, Serves}
 use Rattle.jpa_provider.proofs.Counted.{begun_is_open}
 use Rattle.jpa_provider.proofs.Opened.{refusal, transaction_there, none_there}
-use Rattle.jpa_provider.proofs.Plain.{commit_done, commit_refused, part_free}
 use Rattle.jpa_provider.proofs.Sessions.{begun_same, others_shut}
 use Rattle.jpa_provider.proofs.Worked.{of_manager, of_nobody}
 
@@ -111,28 +108,23 @@ gives r reply h e = either (gave_cases r h)
     either (inl x) = inl (e ∙ ap gives_up x)
     either (inr x) = inr (e ∙ ap gives_up x)
 
-abbrev IsFree : Entry → Type 0
-IsFree e = e.lock ≡ Lock.Unlocked
-
--- what a commit makes whose flush was done
-pub stored_outcome : (world : World) (s : Session) (em : ℤ) (m : ℕ) → named s em ≡ Some m → (manager_in s.managers.items m).status ≡ Status.Active → (w : Work) → flush world (work_of (machine_of s) m) ≡ Done tt w →
-    All IsFree w.context → outcome world (machine_of s) (Call.Commit em) ≡ accepted w.events Answer.Null (committed_after (machine_of s) m w)
-stored_outcome world s em m e active w o free =
-    let M = machine_of s in
-    commit_in_state world s em m Status.Active e active ∙ ap (commit_of M m) (commit_done world (work_of M m) w o free)
+-- what a commit makes whose work was done
+pub stored_outcome : (world : World) (s : Session) (em : ℤ) (m : ℕ) → named s em ≡ Some m → (manager_in s.managers.items m).status ≡ Status.Active → (w : Work) → commit_work world (work_of (machine_of s) m) ≡ Done tt w →
+    outcome world (machine_of s) (Call.Commit em) ≡ accepted w.events Answer.Null (committed_after (machine_of s) m w)
+stored_outcome world s em m e active w o = commit_in_state world s em m Status.Active e active ∙ ap (commit_of (machine_of s) m) o
 
 module _ (world : World) (s t : Session) (em : ℤ) (m : ℕ) (e : named s em ≡ Some m) (active : (manager_in s.managers.items m).status ≡ Status.Active) where
-  -- the flush was refused
-  pub refused_step : (r : Cause) (events : List Told) (reply : Reply) → IsRefusedAs r events (flush world (work_of (machine_of s) m)) → Refuses (machine_of s) m events r reply (machine_of t) → Serves world s (Call.Commit em) reply t
+  -- the flush was refused, or what is locked to be read was written by another
+  pub refused_step : (r : Cause) (events : List Told) (reply : Reply) → IsRefusedAs r events (commit_work world (work_of (machine_of s) m)) → Refuses (machine_of s) m events r reply (machine_of t) → Serves world s (Call.Commit em) reply t
   refused_step r events reply o (inl g) = inr (refl, gives r reply g.0 g.1, g.2)
   refused_step r events reply o (inr g) =
       let M = machine_of s in
-      inl (commit_in_state world s em m Status.Active e active ∙ ap (commit_of M m) (commit_refused world (work_of M m) r events (refused_by r events _ g.0 o)) ∙ (λ i. (sym g.1 i, sym g.2 i)))
+      inl (commit_in_state world s em m Status.Active e active ∙ ap (commit_of M m) (refused_by r events _ g.0 o) ∙ (λ i. (sym g.1 i, sym g.2 i)))
 
-  -- the flush was done
-  pub stored_step : (w : Work) (reply : Reply) → flush world (work_of (machine_of s) m) ≡ Done tt w → All IsFree w.context → Stores (machine_of s) m w reply (machine_of t) → Serves world s (Call.Commit em) reply t
-  stored_step w reply o free (inl g) = inl (stored_outcome world s em m e active w o free ∙ (λ i. (sym g.0 i, sym g.1 i)))
-  stored_step w reply o free (inr g) = inr (refl, g.0, g.1)
+  -- all was done
+  pub stored_step : (w : Work) (reply : Reply) → commit_work world (work_of (machine_of s) m) ≡ Done tt w → Stores (machine_of s) m w reply (machine_of t) → Serves world s (Call.Commit em) reply t
+  stored_step w reply o (inl g) = inl (stored_outcome world s em m e active w o ∙ (λ i. (sym g.0 i, sym g.1 i)))
+  stored_step w reply o (inr g) = inr (refl, g.0, g.1)
 
 -- ---- the end of a commit
 
@@ -141,11 +133,11 @@ pub detached_entries : (es : List Entry) (os : List LiveObject) → detached_all
 detached_entries [] os = refl
 detached_entries (e ∷ es) os = detached_entries es (detached_at e.object os)
 
-pub committed_there : (M : Machine) (s t : Session) (m : ℕ) (c : Changes Entry) → IsCommitting M m s → All IsFree s.work.context.now →
-    t.managers.items ≡ slice_set s.managers.items m (record { status = Status.Inactive; context = c }) → c.now ≡ filter (λ e. not (is_gone (now s.work) e)) s.work.context.now →
+pub committed_there : (M : Machine) (s t : Session) (m : ℕ) (c : Changes Entry) → IsCommitting M m s →
+    t.managers.items ≡ slice_set s.managers.items m (record (manager_in s.managers.items m) { status = Status.Inactive; context = c }) → c.now ≡ map unlocked (filter (λ e. not (is_gone (now s.work) e)) s.work.context.now) →
     t.work.objects.now ≡ detach_each (filter (is_gone (now s.work)) s.work.context.now) s.work.objects.now → t.work.numbers.now ≡ s.work.numbers.now → (t.work.view).committed ≡ (now s.work).view →
     t.stored ≡ s.work.numbers.now → machine_of t ≡ committed_after M m (now s.work)
-committed_there M s t m c h free f e o n v k =
+committed_there M s t m c h f e o n v k =
     let w = now s.work in
     let away = (h.working).away in
     let xs = s.managers.items in
@@ -153,10 +145,7 @@ committed_there M s t m c h free f e o n v k =
     let K = (s.work.view).kept in
     let V = w.view in
     let W = (t.work.view).kept in
-    let x : EntityManager = record { status = Status.Inactive; context = c } in
-    let stay = filter (λ (y : Entry). not (is_gone w y)) s.work.context.now in
-    let context : c.now ≡ map unlocked stay =
-    e ∙ sym (part_free (λ (y : Entry). not (is_gone w y)) s.work.context.now free) in
+    let x : EntityManager = record (manager_in xs m) { status = Status.Inactive; context = c } in
     let begun : is_begun_status (manager_in xs m).status ≡ true =
     sym (begun_same (manager_in xs m).status C K) ∙ ap is_begun away.status ∙ h.begun in
     let is_open : true ≡ (manager_at M m).is_open = sym (begun_is_open (manager_in xs m) begun) ∙ away.is_open in
@@ -169,7 +158,7 @@ committed_there M s t m c h free f e o n v k =
     })
     ∙ (λ i. record M {
       objects = detach_each (filter (is_gone w) s.work.context.now) s.work.objects.now;
-      managers = with_manager M m (record { is_open = is_open i; context = context i; transaction = None });
+      managers = with_manager M m (record { is_open = is_open i; mode = away.mode i; context = e i; transaction = None });
       numbers = s.work.numbers.now;
       stored_numbers = s.work.numbers.now;
       committed = V;

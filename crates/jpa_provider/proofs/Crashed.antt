@@ -7,11 +7,9 @@ use Rattle.jpa_object_rows.specs.Sets.{rows_of}
 use Rattle.jpa_protocol.specs.declared.call.Call.{Call}
 use Rattle.jpa_protocol.specs.declared.event.Told.{Told}
 use Rattle.jpa_protocol.specs.declared.reply.Reply.{Reply}
-use Rattle.jpa_context.specs.declared.Entry.{Entry}
-use Rattle.jpa_context.specs.declared.Lock.{Lock}
 use Rattle.jpa_context.specs.Work.{Work}
 use Rattle.jpa_context.specs.Steps.{Done}
-use Rattle.jpa_flush.specs.Flush.{flush}
+use Rattle.jpa_provider.specs.Transactions.{commit_work}
 use Rattle.jpa_provider.specs.declared.session.Status.{Status}
 use Rattle.jpa_provider.specs.declared.session.Session.{Session}
 use Rattle.jpa_provider.specs.Machine.{Machine, work_of}
@@ -19,11 +17,11 @@ use Rattle.jpa_provider.specs.Provided.{rows_made}
 use Rattle.jpa_provider.specs.Serving.{machine_of, manager_in, named, Refuses}
 use Rattle.jpa_provider.proofs.Commits.{stored_outcome}
 
--- the rows of what the flush made of the manager's work
-pub made_by : (world : World) (s : Session) (em : ℤ) (m : ℕ) → named s em ≡ Some m → (manager_in s.managers.items m).status ≡ Status.Active → (w : Work) → flush world (work_of (machine_of s) m) ≡ Done tt w →
-    All (λ (e : Entry). e.lock ≡ Lock.Unlocked) w.context → rows_of world w.view w.numbers ≡ rows_made world (machine_of s) (Call.Commit em)
-made_by world s em m e active w o free =
-    sym (ap (λ (made : Reply × Machine). rows_of world (made.1).committed (made.1).stored_numbers) (stored_outcome world s em m e active w o free))
+-- the rows of what the commit made of the manager's work
+pub made_by : (world : World) (s : Session) (em : ℤ) (m : ℕ) → named s em ≡ Some m → (manager_in s.managers.items m).status ≡ Status.Active → (w : Work) → commit_work world (work_of (machine_of s) m) ≡ Done tt w →
+    rows_of world w.view w.numbers ≡ rows_made world (machine_of s) (Call.Commit em)
+made_by world s em m e active w o =
+    sym (ap (λ (made : Reply × Machine). rows_of world (made.1).committed (made.1).stored_numbers) (stored_outcome world s em m e active w o))
 
 -- a commit whose flush was refused is not accepted
 pub not_accepted : (P : Type 0) (M N : Machine) (m : ℕ) (events : List Told) (r : Cause) (reply : Reply) → Refuses M m events r reply N → OnOk reply.answer P

@@ -9,6 +9,7 @@ use Rattle.jpa_value.specs.declared.refusal.Cause.{Cause}
 use Rattle.jpa_model.specs.Chains.{root_of, class_of}
 use Rattle.jpa_behaviour.specs.Behaviour.{World, is_short}
 use Rattle.jpa_protocol.specs.declared.call.Given.{Given}
+use Rattle.jpa_protocol.specs.declared.call.LockMode.{LockMode}
 use Rattle.jpa_protocol.specs.declared.reply.Answer.{Answer}
 use Rattle.jpa_heap.specs.Objects.{place_of}
 use Rattle.jpa_heap.specs.Shape.{IsInHeap}
@@ -16,11 +17,12 @@ use Rattle.jpa_context.specs.Work.{Work, state_of}
 use Rattle.jpa_context.specs.Steps.{Outcome, Done, Refused, Op, after, give}
 use Rattle.jpa_fetch.specs.Load.{find}
 use Rattle.jpa_fetch.specs.Members.{get, set, add, take_out, is_held}
-use Rattle.jpa_ops.specs.States.{persist, remove, refresh, detach}
-use Rattle.jpa_flush.specs.Flush.{flush}
-use Rattle.jpa_provider.specs.Calls.{object_numbered, handed, got, nothing, truth, object_or_null, told_as, give_or, class_named, key_given, is_short_given, whole_key}
-use Rattle.jpa_provider.specs.Transactions.{commit_work, reads_hold}
-use Rattle.jpa_provider.specs.Routes.{get_call, set_call, add_call, take_out_call, persist_call, remove_call, refresh_call, detach_call, flush_call, find_call, get_reference_call, there_must_be}
+use Rattle.jpa_ops.specs.States.{persist, remove, refresh, detach, lock}
+use Rattle.jpa_merge.specs.Merge.{merge}
+use Rattle.jpa_flush.specs.Flush.{flush, reads_hold}
+use Rattle.jpa_provider.specs.Calls.{object_numbered, handed, got, nothing, truth, object_told, object_or_null, told_as, give_or, class_named, key_given, is_short_given, whole_key}
+use Rattle.jpa_provider.specs.Transactions.{commit_work}
+use Rattle.jpa_provider.specs.Routes.{get_call, set_call, add_call, take_out_call, persist_call, remove_call, refresh_call, detach_call, merge_call, lock_call, lock_of, flush_call, find_call, get_reference_call, there_must_be}
 use Rattle.jpa_provider.specs.Invariant.{given_representable}
 use Rattle.jpa_consistent.specs.Going.{HoldsAfter}
 use Rattle.jpa_fetch.specs.Orderly.{IsOrderly}
@@ -29,7 +31,8 @@ use Rattle.jpa_consistent.proofs.Setting.{handed_representable}
 use Rattle.jpa_consistent.proofs.Changed.{HasSet, set_holds}
 use Rattle.jpa_consistent.proofs.Fetching.{get_goes, add_goes, take_out_goes}
 use Rattle.jpa_consistent.proofs.Unheld.{get_unheld, add_unheld, take_out_unheld}
-use Rattle.jpa_consistent.proofs.Laws.{Steps, persist_goes, remove_goes, refresh_goes, detach_goes, find_goes}
+use Rattle.jpa_consistent.proofs.Laws.{Steps, persist_goes, remove_goes, refresh_goes, detach_goes, lock_goes, find_goes}
+use Rattle.jpa_consistent.proofs.Merging.{merge_goes}
 
 -- ---- what is handed in
 
@@ -144,6 +147,16 @@ module _ {world : World} {P : Work → Type 0} (steps : Steps world P) where
 
   pub refresh_call_goes : (number : ℤ) (w : Work) → P w → HoldsAfter (λ a v. P v) (refresh_call world number w)
   refresh_call_goes = numbered_goes (refresh world) (refresh_goes steps)
+
+  pub merge_call_goes : IsOrderly world.model → (number : ℤ) (w : Work) → P w → HoldsAfter (λ a v. P v) (merge_call world number w)
+  merge_call_goes orderly number w p = with_member (λ u v. P v) object_told (merge world) number w (λ n l. merged_only w (merge world n w) (merge_goes orderly steps n w p l))
+    where
+      merged_only : (w : Work) (o : Outcome ℕ) → HoldsAfter (λ k v. P v × More w v × (k < length v.objects)) o → HoldsAfter (λ k v. P v) o
+      merged_only w (Done k v) h = h.0
+      merged_only w (Refused r events) h = tt
+
+  pub lock_call_goes : (number : ℤ) (mode : LockMode) (w : Work) → P w → HoldsAfter (λ a v. P v) (lock_call world number mode w)
+  lock_call_goes number mode = numbered_goes (λ n. lock world n (lock_of mode)) (λ n w p l. lock_goes steps n (lock_of mode) w p) number
 
   pub detach_call_goes : (number : ℤ) (w : Work) → P w → HoldsAfter (λ a v. P v) (detach_call world number w)
   detach_call_goes = numbered_goes (detach world) (detach_goes steps)

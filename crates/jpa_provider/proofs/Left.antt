@@ -63,6 +63,7 @@ module _ (M : Machine) where
         marking = λ other m apart h. absurd (false≢true h);
         tells = λ other answer apart h. absurd (false≢true h);
         clears = λ other m o apart h. absurd (false≢true h);
+        sets_mode = λ other m o mode apart h. absurd (false≢true h);
         closes = λ other m o none apart h. absurd (false≢true h);
         rolls = λ none m o apart h. absurd (false≢true h);
         stores = λ writes none m w o k apart h. absurd (false≢true h);
@@ -101,6 +102,7 @@ module _ (M : Machine) where
         marking = λ other m. neither other;
         tells = λ other answer. neither other;
         clears = λ other m o. neither other;
+        sets_mode = λ other m o mode. neither other;
         closes = λ other m o none. neither other;
         rolls = λ apart m o h. rolled m;
         stores = λ writes apart m w o k. not_refused r writes apart;
@@ -131,6 +133,7 @@ module _ (M : Machine) where
         marking = λ other m. stay;
         tells = λ other answer. stay;
         clears = λ other m o. stay;
+        sets_mode = λ other m o mode. stay;
         closes = λ other m o none. stay;
         rolls = λ apart m o. stay;
         stores = λ writes apart m w o k. (k.at).raised;

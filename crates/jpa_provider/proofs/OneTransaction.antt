@@ -7,7 +7,7 @@ use Rattle.jpa_behaviour.specs.Behaviour.{World}
 use Rattle.jpa_stored.specs.Sets.{StoredSet}
 use Rattle.jpa_protocol.specs.declared.call.Call.{Call}
 use Rattle.jpa_protocol.specs.declared.reply.Reply.{Reply}
-use Rattle.jpa_provider.specs.Machine.{Machine, Manager, Transaction, manager_at, no_manager, new_manager, is_begun, has_transaction, is_busy, seen_in, marked_in, kept, rolled_back, cleared, closed, committed_after}
+use Rattle.jpa_provider.specs.Machine.{Machine, Manager, Transaction, manager_at, no_manager, new_manager, is_begun, has_transaction, is_busy, seen_in, marked_in, kept, rolled_back, with_mode, cleared, closed, committed_after}
 use Rattle.jpa_provider.specs.Calls.{marked_if}
 use Rattle.jpa_provider.specs.Transactions.{begun}
 use Rattle.jpa_provider.specs.Routes.{Route, route}
@@ -85,6 +85,7 @@ module _ (M : Machine) (h : HasOneTransaction M) where
         marking = λ other m. marked_one true m;
         tells = λ other a. h;
         clears = λ other m o. one_kept M (cleared M m) (λ j. flag_set M.managers m j _ (λ b. b)) h;
+        sets_mode = λ other m o mode. one_kept M (with_mode M m mode) (λ j. flag_set M.managers m j _ (λ b. b)) h;
         closes = λ other m o none. ended_one m (record (manager_at M m) { is_open = false; context = [] }) (closed M m) none refl;
         rolls = λ apart m o. ended_one m _ (rolled_back M m) refl refl;
         stores = λ writes apart m w o k. ended_one m _ (committed_after M m w) refl refl;

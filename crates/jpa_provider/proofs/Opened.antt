@@ -12,6 +12,7 @@ use Rattle.jpa_value.specs.declared.refusal.Argument.{Argument}
 use Rattle.jpa_model.specs.Chains.{class_of}
 use Rattle.jpa_behaviour.specs.Behaviour.{World}
 use Rattle.jpa_protocol.specs.declared.call.Call.{Call}
+use Rattle.jpa_protocol.specs.declared.call.FlushMode.{FlushMode}
 use Rattle.jpa_protocol.specs.declared.reply.Answer.{Answer}
 use Rattle.jpa_protocol.specs.declared.reply.Reply.{Reply}
 use Rattle.jpa_heap.specs.declared.LiveObject.{LiveObject}
@@ -71,15 +72,15 @@ pub create_gives_up : (world : World) (s t : Session) → machine_of t ≡ machi
 create_gives_up world s t e = inr (refl, inl refl, e)
 
 pub created : (world : World) (s t : Session) (x : EntityManager) → IsCounted s → s.open_managers < most_open_managers → length s.managers.items < most_managers → t.managers.items ≡ s.managers.items ++ x ∷ [] →
-    x.status ≡ Status.Inactive → x.context.now ≡ [] → t.work ≡ s.work → t.stored ≡ s.stored → Serves world s Call.CreateEntityManager (told (Answer.Number (suc (length s.managers.items)))) t
-created world s t x h l k e st c w d =
+    x.status ≡ Status.Inactive → x.mode ≡ FlushMode.Auto → x.context.now ≡ [] → t.work ≡ s.work → t.stored ≡ s.stored → Serves world s Call.CreateEntityManager (told (Answer.Number (suc (length s.managers.items)))) t
+created world s t x h l k e st o c w d =
     let M = machine_of s in
     inl (ap (λ b. if b then (told (Answer.Number (suc (length M.managers))), record M { managers = M.managers ++ new_manager ∷ [] }) else because M Cause.Limit)
     (may_create s h ∙ few s.open_managers (length s.managers.items) l k)
     ∙ (λ i. (told (Answer.Number (suc (managers_count s i))), sym same i)))
   where
     fresh : manager_of (s.work.view).committed (s.work.view).kept x ≡ new_manager
-    fresh = λ i. record { is_open = is_open_status (st i); context = c i; transaction = transaction_in (st i) (s.work.view).committed (s.work.view).kept }
+    fresh = λ i. record { is_open = is_open_status (st i); mode = o i; context = c i; transaction = transaction_in (st i) (s.work.view).committed (s.work.view).kept }
 
     same : machine_of t ≡ record (machine_of s) { managers = (machine_of s).managers ++ new_manager ∷ [] }
     same =
@@ -158,6 +159,7 @@ begin_begins world s t em m e h counted free f w k =
           objects = (w i).objects.now;
           managers = with_manager (machine_of s) m (record {
             is_open = is_open i;
+            mode = (sym at i).mode;
             context = (sym at i).context;
             transaction = Some (record { begun = C; view = counted.calm free i; is_marked = false });
           });
@@ -204,13 +206,14 @@ twice xs m x st l = ap (λ (y : EntityManager). slice_set (slice_set xs m x) m (
 
 -- of a session whose manager was cleared: what the transaction wrote is undone with it
 pub rolled_there : (s u t : Session) (m : ℕ) → EndsAlone m s → machine_of u ≡ cleared (machine_of s) m →
-    t.managers.items ≡ slice_set s.managers.items m (record { status = Status.Inactive; context = record { now = []; since = [] } }) → t.work.objects.now ≡ u.work.objects.now →
+    t.managers.items ≡ slice_set s.managers.items m (record (manager_in s.managers.items m) { status = Status.Inactive; context = record { now = []; since = [] } }) → t.work.objects.now ≡ u.work.objects.now →
     (t.work.view).committed ≡ (s.work.view).committed → t.work.numbers.now ≡ u.work.numbers.now → t.stored ≡ u.stored → machine_of t ≡ rolled_back (machine_of s) m
 rolled_there s u t m h clear f o v n k =
     let M = machine_of s in
     let C = (s.work.view).committed in
     let W = (t.work.view).kept in
-    let x : EntityManager = record { status = Status.Inactive; context = record { now = []; since = [] } } in
+    let x : EntityManager = record (manager_in s.managers.items m) { status = Status.Inactive; context = record { now = []; since = [] } } in
+    let mode : x.mode ≡ (manager_at M m).mode = sym (ap (λ (y : Manager). y.mode) (manager_there s m)) in
     let begun : is_begun (manager_at M m).transaction ≡ true = begun_there s m ∙ h.begun in
     let is_open : true ≡ (manager_at M m).is_open = sym (ap (λ (y : Manager). y.is_open) (manager_there s m) ∙ begun_is_open (manager_in s.managers.items m) h.begun) in
     (λ i. record {
@@ -220,7 +223,7 @@ rolled_there s u t m h clear f o v n k =
       stored_numbers = (k ∙ ap (λ (N : Machine). N.stored_numbers) clear) i;
       committed = v i;
     })
-    ∙ (λ i. record (rolled_back M m) { managers = with_manager M m (record { is_open = is_open i; context = []; transaction = None }) })
+    ∙ (λ i. record (rolled_back M m) { managers = with_manager M m (record { is_open = is_open i; mode = mode i; context = []; transaction = None }) })
 
 -- ---- new
 

@@ -12,15 +12,16 @@ use Rattle.jpa_consistent.proofs.Going.{only}
 use Rattle.jpa_consistent.proofs.Instances.{at_work}
 use Rattle.jpa_consistent.proofs.Unheld.{empty_unheld}
 use Rattle.jpa_consistent.proofs.Flushed.{flush_goes}
-use Rattle.jpa_consistent.proofs.Unlocked.{AreUnlocked, unlocked_at_work, flush_unlocked}
-use Rattle.jpa_provider.specs.Machine.{Machine, work_of}
+use Rattle.jpa_provider.specs.Machine.{Machine, flushes_first, work_of}
+use Rattle.jpa_provider.specs.declared.querying.Wanted.{Wanted}
+use Rattle.jpa_provider.specs.Querying.{query_call, query_single_call}
+use Rattle.jpa_provider.proofs.Queried.{query_call_goes, query_single_call_goes}
 use Rattle.jpa_provider.specs.Transactions.{commit_work}
 use Rattle.jpa_flush.specs.Flush.{flush}
-use Rattle.jpa_provider.specs.Routes.{route, holder_in, get_call, set_call, add_call, take_out_call, persist_call, remove_call, refresh_call, detach_call, flush_call, find_call, get_reference_call}
+use Rattle.jpa_provider.specs.Routes.{route, holder_in, get_call, set_call, add_call, take_out_call, persist_call, remove_call, refresh_call, detach_call, merge_call, lock_call, flush_call, find_call, get_reference_call}
 use Rattle.jpa_provider.specs.Invariant.{IsMachine, hands_representable}
-use Rattle.jpa_provider.specs.Serving.{IsUnlocked}
 use Rattle.jpa_provider.proofs.AtWork.{others_of, IsAtWork, IsOpen, MayReturn, taken, holder_may, may_still}
-use Rattle.jpa_provider.proofs.Handed.{get_call_goes, get_call_unheld, add_call_goes, add_call_unheld, take_out_call_goes, take_out_call_unheld, set_call_holds, persist_call_goes, remove_call_goes, refresh_call_goes, detach_call_goes, flush_call_goes, find_call_goes, get_reference_call_goes, commit_work_goes}
+use Rattle.jpa_provider.proofs.Handed.{get_call_goes, get_call_unheld, add_call_goes, add_call_unheld, take_out_call_goes, take_out_call_unheld, set_call_holds, persist_call_goes, remove_call_goes, refresh_call_goes, detach_call_goes, merge_call_goes, lock_call_goes, flush_call_goes, find_call_goes, get_reference_call_goes, commit_work_goes}
 use Rattle.jpa_provider.proofs.Ways.{Does}
 use Rattle.jpa_fetch.specs.Orderly.{IsOrderly}
 
@@ -67,6 +68,8 @@ module _ (world : World) (M : Machine) (P K : ℕ → Work → Type 0) (steps : 
   does_by orderly h start flushes (Call.Remove em object) rep = λ m o. of_open m o (remove_call world object (work_of M m)) (remove_call_goes (steps m) object (work_of M m) (start m))
   does_by orderly h start flushes (Call.Refresh em object) rep = λ m o. of_open m o (refresh_call world object (work_of M m)) (refresh_call_goes (steps m) object (work_of M m) (start m))
   does_by orderly h start flushes (Call.Detach em object) rep = λ m o. of_open m o (detach_call world object (work_of M m)) (detach_call_goes (steps m) object (work_of M m) (start m))
+  does_by orderly h start flushes (Call.Merge em object) rep = λ m o. of_open m o (merge_call world object (work_of M m)) (merge_call_goes (steps m) orderly object (work_of M m) (start m))
+  does_by orderly h start flushes (Call.Lock em object mode) rep = λ m o. of_open m o (lock_call world object mode (work_of M m)) (lock_call_goes (steps m) object mode (work_of M m) (start m))
   does_by orderly h start flushes (Call.Flush em) rep = λ m o. of_open m o (flush_call world (work_of M m)) (flush_call_goes world (P m) (work_of M m) (flushes m (work_of M m) (start m)))
   does_by orderly h start flushes (Call.Commit em) rep = λ m o. of_open m o (commit_work world (work_of M m)) (commit_work_goes world (P m) (work_of M m) (flushes m (work_of M m) (start m)))
   does_by orderly h start flushes (Call.Rollback em) rep = tt
@@ -75,6 +78,13 @@ module _ (world : World) (M : Machine) (P K : ℕ → Work → Type 0) (steps : 
   does_by orderly h start flushes (Call.Contains em object) rep = tt
   does_by orderly h start flushes (Call.Clear em) rep = tt
   does_by orderly h start flushes (Call.Close em) rep = tt
+  does_by orderly h start flushes (Call.SetFlushMode em mode) rep = tt
+  does_by orderly h start flushes (Call.Query em text parameters first max) rep = λ m o.
+      let q : Wanted = record { text = text; parameters = parameters; first = first; max = max } in
+      of_open m o (query_call q (flushes_first M m) world (work_of M m)) (query_call_goes (steps m) (flushes m) q (flushes_first M m) (work_of M m) (start m))
+  does_by orderly h start flushes (Call.QuerySingle em text parameters first max) rep = λ m o.
+      let q : Wanted = record { text = text; parameters = parameters; first = first; max = max } in
+      of_open m o (query_single_call q (flushes_first M m) world (work_of M m)) (query_single_call_goes (steps m) (flushes m) q (flushes_first M m) (work_of M m) (start m))
   does_by orderly h start flushes (Call.Find em name key) rep = λ m o. of_open m o (find_call world name key (work_of M m)) (find_call_goes (steps m) name key (work_of M m) (start m))
 
 -- ---- what holds of the machine
@@ -88,10 +98,3 @@ pub does : (world : World) (M : Machine) → IsOrderly world.model → IsRegular
 does world M orderly regular call rep h =
     does_by world M (IsAtWork world M) (IsDone world M) (λ m. at_work (others_of M) m orderly regular.heard) (λ m w p b. record { at = p; back = b }) orderly h (λ m. taken m h)
     (λ m w p. only (IsAtWork world M m) w (flush world w) (flush_goes orderly regular p)) call rep
-
--- ---- no entry has a lock
-
-pub does_unlocked : (world : World) (M : Machine) → IsOrderly world.model → IsRegular world → (call : Call) → hands_representable call ≡ true → IsMachine world M → IsUnlocked M → Does world M (λ m w. AreUnlocked w) (route call)
-does_unlocked world M orderly regular call rep h free =
-    does_by world M (λ m w. IsAtWork world M m w × AreUnlocked w) (λ m w. AreUnlocked w) (λ m. unlocked_at_work (others_of M) m orderly regular.heard) (λ m w p b. p.1) orderly h (λ m. (taken m h, free m))
-    (λ m w p. only (λ v. IsAtWork world M m v × AreUnlocked v) w (flush world w) (flush_unlocked (others_of M) m orderly regular w p)) call rep

@@ -11,7 +11,7 @@ use Rattle.jpa_provider.specs.Routes.{Route, route}
 use Rattle.jpa_provider.specs.Step.{outcome, machine_after, Step, Runs}
 use Rattle.jpa_provider.specs.Invariant.{IsMachine, hands_representable}
 use Rattle.jpa_provider.proofs.AtWork.{returned}
-use Rattle.jpa_provider.proofs.Settled.{created_holds, begun_holds, marked_holds}
+use Rattle.jpa_provider.proofs.Settled.{created_holds, begun_holds, marked_holds, mode_holds}
 use Rattle.jpa_provider.proofs.Created.{object_made}
 use Rattle.jpa_provider.proofs.Ended.{cleared_holds, closed_holds, committed_holds, rolled_back_holds}
 use Rattle.jpa_provider.proofs.Ways.{Ways, on_route, on_step}
@@ -30,6 +30,7 @@ ways {world} {M} r h =
       marking = λ other m. marked_holds m h;
       tells = λ other a. h;
       clears = λ other m o. cleared_holds m o.within o.is_open h;
+      sets_mode = λ other m o mode. mode_holds m mode o.within h;
       closes = λ other m o none. closed_holds m o.within o.is_open none h;
       rolls = λ apart m o. rolled_back_holds m o.within o.is_open h;
       stores = λ writes apart m w o k. committed_holds o.within o.is_open h k.at;

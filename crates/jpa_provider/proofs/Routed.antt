@@ -1,21 +1,23 @@
 -- How calls step whose route is an operation: of a manager that is named, or of whoever holds an object.
-use Rattle.std.proofs.Common.{◌≡◌, ◌<◌, inl, ℕ, ℤ, true, false, length, refl, ap, sym, subst, ◌∙◌}
+use Rattle.std.proofs.Common.{◌≡◌, ◌<◌, inl, ℕ, ℤ, Bool, true, false, length, refl, ap, sym, subst, ◌∙◌}
 use Rattle.std.specs.Prelude.{Option, Some, None, is_some, if◌then◌else◌}
 use Rattle.std.proofs.lemmas.Bool.{false≢true, true≢false}
 use Rattle.jpa_value.specs.declared.refusal.Cause.{Cause}
 use Rattle.jpa_behaviour.specs.Behaviour.{World}
 use Rattle.jpa_heap.specs.declared.Life.{Life}
 use Rattle.jpa_heap.specs.Objects.{place_of, object_at}
-use Rattle.jpa_context.specs.Steps.{Op, after}
+use Rattle.jpa_context.specs.Work.{Work}
+use Rattle.jpa_context.specs.Steps.{Done, Op, after, done}
 use Rattle.jpa_protocol.specs.declared.call.Call.{Call}
+use Rattle.jpa_protocol.specs.declared.call.LockMode.{LockMode}
 use Rattle.jpa_protocol.specs.declared.reply.Answer.{Answer}
 use Rattle.jpa_protocol.specs.declared.reply.Reply.{Reply}
 use Rattle.jpa_provider.specs.declared.operating.Operation.{Operation}
 use Rattle.jpa_provider.specs.declared.replies.Rule.{Rule}
 use Rattle.jpa_provider.specs.declared.session.Session.{Session}
-use Rattle.jpa_provider.specs.Machine.{Machine, work_of}
+use Rattle.jpa_provider.specs.Machine.{Machine, flushes_first, work_of}
 use Rattle.jpa_provider.specs.Calls.{because, ended, marks, marks_if_callback, give_or}
-use Rattle.jpa_provider.specs.Routes.{OfManager, OfObject, by_route, holder, holder_in, if_begun, flush_call, is_free, route}
+use Rattle.jpa_provider.specs.Routes.{OfManager, ToQuery, InTransaction, OfObject, by_route, holder, holder_in, if_begun, transaction_required, required_of, stands_numbered, flush_call, lock_call, is_free, route}
 use Rattle.jpa_provider.specs.Operations.{on_numbered, operation_of, manager_holding, EndsSo}
 use Rattle.jpa_consistent.specs.Consistent.{stands_in}
 use Rattle.jpa_provider.specs.Invariant.{IsMachine, context_of}
@@ -41,25 +43,76 @@ module _ (world : World) (s : Session) (em : ℤ) (op : World → Op Answer) (ca
 
 -- ---- of a manager's open transaction
 
-module _ (world : World) (s : Session) (em : ℤ) where
-  abbrev flushing : ℕ → Reply × Machine
-  flushing m = if_begun (machine_of s) m (ended marks (machine_of s) m (flush_call world (work_of (machine_of s) m)))
+-- what is refused of an object by its number where no transaction is open
+without_transaction : (M : Machine) (w : Work) (o : Option ℕ) → transaction_required M (after (give_or Cause.NoSuchObject o w) (λ n. done)) ≡ because M (required_of o)
+without_transaction M w None = refl
+without_transaction M w (Some n) = refl
 
+module _ (world : World) (s : Session) (em : ℤ) (given : Op (Unit {0})) (op : World → Op Answer) (call : Call) (e : route call ≡ InTransaction em given op) where
+  abbrev beginning : ℕ → Reply × Machine
+  beginning m = let M = machine_of s in if_begun M m (given (work_of M m)) (ended marks M m (op world (work_of M m)))
+
+  pub begun_alone : named s em ≡ None → Serves world s call (refusal Cause.NoSuchManager) s
+  begun_alone place = inl (ap (by_route world (machine_of s)) e ∙ of_nobody s beginning em place)
+
+  pub begun_idle : (m : ℕ) (r : Cause) → named s em ≡ Some m → is_begun_status (manager_in s.managers.items m).status ≡ false →
+      transaction_required (machine_of s) (given (work_of (machine_of s) m)) ≡ because (machine_of s) r → Serves world s call (refusal r) s
+  begun_idle m r place h why =
+      let M = machine_of s in
+      inl (ap (by_route world M) e ∙ of_manager s beginning em m place
+      ∙ ap (λ b. if b then ended marks M m (op world (work_of M m)) else transaction_required M (given (work_of M m))) (begun_there s m ∙ h) ∙ why)
+
+  pub begun_so : (t : Session) (m : ℕ) (reply : Reply) → named s em ≡ Some m → is_begun_status (manager_in s.managers.items m).status ≡ true →
+      EndsSo Rule.OfManager (machine_of s) m (op world (work_of (machine_of s) m)) reply (machine_of t) → Serves world s call reply t
+  begun_so t m reply place begun h =
+      let M = machine_of s in
+      ended_step world call Rule.OfManager m (op world (work_of M m)) (ap is_free e)
+      (ap (by_route world M) e ∙ of_manager s beginning em m place
+      ∙ ap (λ b. if b then ended marks M m (op world (work_of M m)) else transaction_required M (given (work_of M m))) (begun_there s m ∙ begun)) h
+
+module _ (world : World) (s : Session) (em : ℤ) where
   pub flush_alone : named s em ≡ None → Serves world s (Call.Flush em) (refusal Cause.NoSuchManager) s
-  flush_alone place = inl (of_nobody s flushing em place)
+  flush_alone = begun_alone world s em done flush_call (Call.Flush em) refl
 
   pub flush_idle : (m : ℕ) → named s em ≡ Some m → is_begun_status (manager_in s.managers.items m).status ≡ false → Serves world s (Call.Flush em) (refusal Cause.TransactionRequired) s
-  flush_idle m place h =
-      let M = machine_of s in
-      inl (of_manager s flushing em m place
-      ∙ ap (λ b. if b then ended marks M m (flush_call world (work_of M m)) else because M Cause.TransactionRequired) (begun_there s m ∙ h))
+  flush_idle m place h = begun_idle world s em done flush_call (Call.Flush em) refl m Cause.TransactionRequired place h refl
 
   pub flush_so : (t : Session) (m : ℕ) (reply : Reply) → named s em ≡ Some m → is_begun_status (manager_in s.managers.items m).status ≡ true →
       EndsSo Rule.OfManager (machine_of s) m (flush_call world (work_of (machine_of s) m)) reply (machine_of t) → Serves world s (Call.Flush em) reply t
-  flush_so t m reply place begun h =
+  flush_so = begun_so world s em done flush_call (Call.Flush em) refl
+
+module _ (world : World) (s : Session) (em object : ℤ) (mode : LockMode) where
+  abbrev locking : World → Op Answer
+  locking world = lock_call world object mode
+
+  pub lock_alone : named s em ≡ None → Serves world s (Call.Lock em object mode) (refusal Cause.NoSuchManager) s
+  lock_alone = begun_alone world s em (stands_numbered object) locking (Call.Lock em object mode) refl
+
+  pub lock_idle : (m : ℕ) → named s em ≡ Some m → is_begun_status (manager_in s.managers.items m).status ≡ false →
+      Serves world s (Call.Lock em object mode) (refusal (required_of (place_of (length s.work.objects.now) object))) s
+  lock_idle m place h =
+      let o = place_of (length s.work.objects.now) object in
+      begun_idle world s em (stands_numbered object) locking (Call.Lock em object mode) refl m (required_of o) place h
+      (without_transaction (machine_of s) (work_of (machine_of s) m) o)
+
+  pub lock_so : (t : Session) (m : ℕ) (reply : Reply) → named s em ≡ Some m → is_begun_status (manager_in s.managers.items m).status ≡ true →
+      EndsSo Rule.OfManager (machine_of s) m (operation_of (Operation.Lock object mode) world (work_of (machine_of s) m)) reply (machine_of t) → Serves world s (Call.Lock em object mode) reply t
+  lock_so = begun_so world s em (stands_numbered object) locking (Call.Lock em object mode) refl
+
+-- ---- of a manager whose objects may be flushed first
+
+module _ (world : World) (s : Session) (em : ℤ) (op : Bool → World → Op Answer) (call : Call) (e : route call ≡ ToQuery em op) where
+  abbrev asking : ℕ → Reply × Machine
+  asking m = let M = machine_of s in ended marks M m (op (flushes_first M m) world (work_of M m))
+
+  pub asked_alone : named s em ≡ None → Serves world s call (refusal Cause.NoSuchManager) s
+  asked_alone place = inl (ap (by_route world (machine_of s)) e ∙ of_nobody s asking em place)
+
+  pub asked_so : (t : Session) (m : ℕ) (reply : Reply) → named s em ≡ Some m →
+      EndsSo Rule.OfManager (machine_of s) m (op (flushes_first (machine_of s) m) world (work_of (machine_of s) m)) reply (machine_of t) → Serves world s call reply t
+  asked_so t m reply place h =
       let M = machine_of s in
-      ended_step world (Call.Flush em) Rule.OfManager m (flush_call world (work_of M m)) refl
-      (of_manager s flushing em m place ∙ ap (λ b. if b then ended marks M m (flush_call world (work_of M m)) else because M Cause.TransactionRequired) (begun_there s m ∙ begun)) h
+      ended_step world call Rule.OfManager m (op (flushes_first M m) world (work_of M m)) (ap is_free e) (ap (by_route world M) e ∙ of_manager s asking em m place) h
 
 -- ---- of whoever holds an object
 

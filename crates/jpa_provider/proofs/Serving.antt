@@ -2,7 +2,7 @@
 use Rattle.std.proofs.Common.{◌≡◌, ◌<◌, inl, ℕ, Bool, true, false, List, length, refl, sym, subst}
 use Rattle.std.specs.Prelude.{All}
 use Rattle.std.proofs.lemmas.Bool.{false≢true}
-use Rattle.std.proofs.lemmas.List.Elements.{All-nil, All-weaker}
+use Rattle.std.proofs.lemmas.List.Elements.{All-weaker}
 use Rattle.jpa_behaviour.specs.Behaviour.{World, IsRegular}
 use Rattle.jpa_stored.specs.Sets.{StoredSet}
 use Rattle.jpa_rows.specs.Cells.{CanBeHeld}
@@ -14,13 +14,12 @@ use Rattle.jpa_provider.specs.Machine.{Manager, manager_at, opened, IsStoredAs}
 use Rattle.jpa_consistent.specs.Consistent.{IsEntry}
 use Rattle.jpa_provider.specs.Invariant.{HasOneTransaction, IsMachine, hands_representable}
 use Rattle.jpa_provider.specs.Routes.{is_commit}
-use Rattle.jpa_provider.specs.Serving.{machine_of, manager_in, IsUnlocked, IsServing, IsSettled, Serves}
+use Rattle.jpa_provider.specs.Serving.{machine_of, manager_in, IsServing, IsSettled, Serves}
 use Rattle.jpa_provider.proofs.OneTransaction.{step_one}
 use Rattle.jpa_provider.proofs.AtWork.{each_manager}
 use Rattle.jpa_provider.proofs.Sessions.{manager_there}
 use Rattle.jpa_provider.proofs.Settled.{opened_holds}
 use Rattle.jpa_provider.proofs.Outcome.{step_keeps}
-use Rattle.jpa_provider.proofs.Unlocked.{step_unlocked}
 use Rattle.jpa_provider.proofs.Still.{step_still}
 use Rattle.jpa_fetch.specs.Orderly.{IsOrderly}
 
@@ -32,7 +31,6 @@ serves_on world s t call reply h rep step settled =
       regular = h.regular;
       machine = step_keeps h.orderly h.regular call rep h.machine step;
       one = step_one world call h.one step;
-      unlocked = step_unlocked world h.orderly h.regular call rep h.machine h.unlocked step;
       settled = settled;
     }
 
@@ -69,6 +67,5 @@ opened_serving world s set numbers orderly regular held e settled =
       regular = regular;
       machine = subst (IsMachine world) (sym e) (opened_holds held);
       one = subst HasOneTransaction (sym e) (λ m k a b. absurd (false≢true a));
-      unlocked = subst IsUnlocked (sym e) (λ k. All-nil _);
       settled = settled;
     }

@@ -12,7 +12,8 @@ use Rattle.jpa_context.specs.Undo.{now, since}
 use Rattle.jpa_provider.specs.declared.session.Status.{Status}
 use Rattle.jpa_provider.specs.declared.session.EntityManager.{EntityManager}
 use Rattle.jpa_provider.specs.declared.session.Session.{Session}
-use Rattle.jpa_provider.specs.Machine.{Machine, Manager, Transaction, manager_at, with_manager, no_manager, is_begun, has_transaction, work_of, view_in, seen_in, kept, marked, marked_in}
+use Rattle.jpa_provider.specs.Machine.{Machine, Manager, Transaction, manager_at, with_manager, no_manager, is_begun, has_transaction, work_of, view_in, seen_in, kept, marked, marked_in, with_mode}
+use Rattle.jpa_protocol.specs.declared.call.FlushMode.{FlushMode}
 use Rattle.jpa_provider.specs.Invariant.{HasOneTransaction}
 use Rattle.jpa_provider.specs.Serving.{transaction_in, is_open_status, is_begun_status, manager_of, managers_of, manager_in, nobody, machine_of, marked_status, IsCounted, IsSettled, IsAway, IsWorking}
 use Rattle.jpa_provider.proofs.AtWork.{manager_set}
@@ -117,6 +118,7 @@ taken_works s t m c l h counted e f v o k n =
             (λ i. managers_of C (kept' i) (slice_set (e i) m x)) ∙ ap (managers_of C K) (set-set xs m (record (manager_in xs m) { context = c }) x) ∙ managers_changed C K xs m x
             ∙ (λ i. slice_set (managers_of C K xs) m (manager_of C (sym kept' i) x));
         is_open = ap (λ ys. is_open_status (manager_in ys m).status) e ∙ ap (λ (x : EntityManager). is_open_status x.status) (same_place xs m c l) ∙ sym (ap (λ (x : Manager). x.is_open) at);
+        mode = ap (λ ys. (manager_in ys m).mode) e ∙ ap (λ (x : EntityManager). x.mode) (same_place xs m c l) ∙ sym (ap (λ (x : Manager). x.mode) at);
         counted = counted;
       };
       objects = o ∙ (h.kept).objects;
@@ -157,7 +159,7 @@ shut_alike Status.RollbackOnly C K V W h = absurd (true≢false h)
 
 alike : (C K V W : StoredSet) (xs : List EntityManager) → ((k : ℕ) → has_transaction (slice_index_or (managers_of C K xs) k no_manager) ≡ false) → managers_of V W xs ≡ managers_of C K xs
 alike C K V W [] h = refl
-alike C K V W (x ∷ xs) h = λ i. record { is_open = is_open_status x.status; context = x.context.now; transaction = shut_alike x.status C K V W (h zero) i } ∷ (alike C K V W xs (λ k. h (suc k)) i)
+alike C K V W (x ∷ xs) h = λ i. record { is_open = is_open_status x.status; mode = x.mode; context = x.context.now; transaction = shut_alike x.status C K V W (h zero) i } ∷ (alike C K V W xs (λ k. h (suc k)) i)
 
 -- the manager whose transaction was the only one
 pub none_left : (M : Machine) (m : ℕ) (y : Manager) → m < length M.managers → HasOneTransaction M → has_transaction (manager_at M m) ≡ true → has_transaction y ≡ false →
@@ -226,7 +228,7 @@ module _ (M : Machine) (s t : Session) (m : ℕ) (c : Changes Entry) (one : HasO
   as_kept K same o n e sees =
       same ∙ (λ i. record M {
         objects = o i;
-        managers = with_manager M m (record { is_open = h.is_open i; context = e i; transaction = sees i });
+        managers = with_manager M m (record { is_open = h.is_open i; mode = h.mode i; context = e i; transaction = sees i });
         numbers = n i;
       })
 
@@ -256,7 +258,7 @@ restored_back M s t m c h f g v o n e =
     let x : EntityManager = record (manager_in s.managers.items m) { context = c } in
     let away = h.away in
     let K = (s.work.view).kept in
-    let same : manager_of M.committed K x ≡ manager_at M m = λ i. record { is_open = away.is_open i; context = (e ∙ h.context) i; transaction = away.status i } in
+    let same : manager_of M.committed K x ≡ manager_at M m = λ i. record { is_open = away.is_open i; mode = away.mode i; context = (e ∙ h.context) i; transaction = away.status i } in
     λ i. record {
       objects = (o ∙ h.objects) i;
       managers = ((λ j. managers_of ((ap (λ (w : Opened). w.committed) v ∙ away.committed) j) ((ap (λ (w : Opened). w.kept) v) j) (f j)) ∙ away.managers x ∙ ap (with_manager M m) same ∙ set-get_or M.managers m no_manager) i;
@@ -276,7 +278,7 @@ marked_there s t m w k e =
     let K = (s.work.view).kept in
     let y : EntityManager = record x { status = marked_status x.status } in
     let same : manager_of C K y ≡ record (manager_at (machine_of s) m) { transaction = marked_in (manager_at (machine_of s) m).transaction } =
-    (λ i. record { is_open = marked_open x.status i; context = x.context.now; transaction = marked_transaction x.status C K i }) ∙ ap (λ (z : Manager). record z { transaction = marked_in z.transaction }) (sym (manager_there s m)) in
+    (λ i. record { is_open = marked_open x.status i; mode = x.mode; context = x.context.now; transaction = marked_transaction x.status C K i }) ∙ ap (λ (z : Manager). record z { transaction = marked_in z.transaction }) (sym (manager_there s m)) in
     (λ i. record {
       objects = (w i).objects.now;
       managers = managers_of ((w i).view).committed ((w i).view).kept (e i);
@@ -285,3 +287,22 @@ marked_there s t m w k e =
       committed = ((w i).view).committed;
     })
     ∙ (λ i. record (machine_of s) { managers = (managers_changed C K s.managers.items m y ∙ ap (slice_set (managers_of C K s.managers.items) m) same) i })
+
+-- ---- its flush mode is another
+
+pub mode_there : (s t : Session) (m : ℕ) (mode : FlushMode) → t.work ≡ s.work → t.stored ≡ s.stored → t.managers.items ≡ slice_set s.managers.items m (record (manager_in s.managers.items m) { mode = mode }) →
+    machine_of t ≡ with_mode (machine_of s) m mode
+mode_there s t m mode w k e =
+    let C = (s.work.view).committed in
+    let K = (s.work.view).kept in
+    let y : EntityManager = record (manager_in s.managers.items m) { mode = mode } in
+    (λ i. record {
+      objects = (w i).objects.now;
+      managers = managers_of ((w i).view).committed ((w i).view).kept (e i);
+      numbers = (w i).numbers.now;
+      stored_numbers = k i;
+      committed = ((w i).view).committed;
+    })
+    ∙ (λ i. record (machine_of s) {
+      managers = (managers_changed C K s.managers.items m y ∙ ap (λ (z : Manager). slice_set (managers_of C K s.managers.items) m (record z { mode = mode })) (sym (manager_there s m))) i;
+    })

@@ -8,10 +8,11 @@ use Rattle.std.proofs.lemmas.List.Elements.{All-nil}
 use Rattle.jpa_behaviour.specs.Behaviour.{World}
 use Rattle.jpa_stored.specs.Sets.{StoredSet, all_distinct}
 use Rattle.jpa_rows.specs.Cells.{CanBeHeld}
+use Rattle.jpa_protocol.specs.declared.call.FlushMode.{FlushMode}
 use Rattle.jpa_heap.specs.declared.LiveObject.{LiveObject}
 use Rattle.jpa_heap.specs.Objects.{object_at}
 use Rattle.jpa_context.specs.declared.Entry.{Entry}
-use Rattle.jpa_provider.specs.Machine.{Machine, Manager, Transaction, opened, manager_at, no_manager, new_manager, marked, marked_in}
+use Rattle.jpa_provider.specs.Machine.{Machine, Manager, Transaction, opened, manager_at, no_manager, new_manager, marked, marked_in, with_mode}
 use Rattle.jpa_provider.specs.Transactions.{begun}
 use Rattle.jpa_consistent.specs.Consistent.{IsLive, IsEntry, are_one}
 use Rattle.jpa_provider.specs.Invariant.{IsMachine, IsManager, IsTransaction, is_idle, context_of}
@@ -109,6 +110,12 @@ marked_holds {world} {M} m h = by_cases (cases_lt m (length M.managers))
         with_transaction m (marked_in (manager_at M m).transaction) l h (marked_held world M.numbers (manager_at M m).transaction (h.managers m l).transaction)
         (marked_idle (manager_at M m).is_open (context_of M m) (manager_at M m).transaction (h.managers m l).idle)
     by_cases (inr l) = nothing_marked m l h
+
+-- ---- the flush mode
+
+pub mode_holds : {world : World} {M : Machine} (m : ℕ) (mode : FlushMode) → m < length M.managers → IsMachine world M → IsMachine world (with_mode M m mode)
+mode_holds {world} {M} m mode l h =
+    same_context m (record (manager_at M m) { mode = mode }) l h refl (h.managers m l).transaction (h.managers m l).idle
 
 -- ---- a new manager
 

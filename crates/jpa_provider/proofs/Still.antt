@@ -36,6 +36,7 @@ ways world M r =
       begins = λ other m o free h. record { committed = refl; numbers = refl };
       tells = λ other a h. still M;
       clears = λ other m o h. record { committed = refl; numbers = refl };
+      sets_mode = λ other m o mode h. record { committed = refl; numbers = refl };
       closes = λ other m o none h. record { committed = refl; numbers = refl };
       marking = λ other m h. record { committed = refl; numbers = refl };
       rolls = λ apart m o h. record { committed = refl; numbers = refl };

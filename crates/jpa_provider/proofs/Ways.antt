@@ -13,13 +13,14 @@ use Rattle.jpa_heap.specs.Objects.{place_of, object_at, new_object}
 use Rattle.jpa_context.specs.Work.{Work}
 use Rattle.jpa_context.specs.Steps.{Outcome, Done, Refused, after}
 use Rattle.jpa_protocol.specs.declared.call.Call.{Call}
+use Rattle.jpa_protocol.specs.declared.call.FlushMode.{FlushMode}
 use Rattle.jpa_protocol.specs.declared.event.Told.{Told}
 use Rattle.jpa_protocol.specs.declared.reply.Answer.{Answer}
 use Rattle.jpa_protocol.specs.declared.reply.Reply.{Reply}
-use Rattle.jpa_provider.specs.Machine.{Machine, Manager, Transaction, manager_at, new_manager, has_transaction, is_busy, work_of, kept, marked, rolled_back, cleared, closed, committed_after}
+use Rattle.jpa_provider.specs.Machine.{Machine, Manager, Transaction, manager_at, new_manager, has_transaction, is_busy, work_of, kept, marked, flushes_first, rolled_back, with_mode, cleared, closed, committed_after}
 use Rattle.jpa_provider.specs.Calls.{accepted, refused, because, ended, marks, marks_if_callback, marked_if, give_or}
 use Rattle.jpa_provider.specs.Transactions.{begin, begin_in, begun, commit, commit_in, commit_if, commit_of, commit_work, rollback, rollback_in, set_rollback_only, only_rollback_in}
-use Rattle.jpa_provider.specs.Routes.{Route, OfManager, InTransaction, OfObject, ToCreate, ToMake, ToBegin, ToCommit, ToRollBack, ToMark, ToAsk, ToClear, ToClose, answered, by_route, if_open, if_begun, by_manager, close, made_new, holder, holder_in, commits, rolls_back}
+use Rattle.jpa_provider.specs.Routes.{Route, OfManager, ToQuery, InTransaction, OfObject, ToCreate, ToMake, ToBegin, ToCommit, ToRollBack, ToMark, ToAsk, ToClear, ToSetMode, ToClose, answered, by_route, if_open, if_begun, transaction_required, by_manager, close, made_new, holder, holder_in, commits, rolls_back}
 use Rattle.jpa_provider.specs.Step.{Step, outcome}
 use Rattle.jpa_consistent.specs.Going.{HoldsAfter}
 use Rattle.jpa_provider.proofs.AtWork.{IsOpen}
@@ -43,6 +44,7 @@ pub record Ways (world : World) (M : Machine) (r : Route) (P : Reply × Machine 
   pub marking : IsOther r → (m : ℕ) → P (accepted [] Answer.Null (marked M m))
   pub tells : IsOther r → (a : Answer) → P (accepted [] a M)
   pub clears : IsOther r → (m : ℕ) → IsOpen M m → P (accepted [] Answer.Null (cleared M m))
+  pub sets_mode : IsOther r → (m : ℕ) → IsOpen M m → (mode : FlushMode) → P (accepted [] Answer.Null (with_mode M m mode))
   pub closes : IsOther r → (m : ℕ) → IsOpen M m → has_transaction (manager_at M m) ≡ false → P (accepted [] Answer.Null (closed M m))
   pub rolls : commits r ≡ false → (m : ℕ) → IsOpen M m → P (accepted [] Answer.Null (rolled_back M m))
   pub stores : commits r ≡ true → rolls_back r ≡ false → (m : ℕ) (w : Work) → IsOpen M m → K m w → P (accepted w.events Answer.Null (committed_after M m w))
@@ -51,7 +53,8 @@ pub record Ways (world : World) (M : Machine) (r : Route) (P : Reply × Machine 
 -- what the operation of a route leaves where it is done
 abbrev pub Does : World → Machine → (ℕ → Work → Type 0) → Route → Type 0
 Does world M K (OfManager em op) = (m : ℕ) → IsOpen M m → HoldsAfter (λ a w. K m w) (op world (work_of M m))
-Does world M K (InTransaction em op) = (m : ℕ) → IsOpen M m → HoldsAfter (λ a w. K m w) (op world (work_of M m))
+Does world M K (ToQuery em op) = (m : ℕ) → IsOpen M m → HoldsAfter (λ a w. K m w) (op (flushes_first M m) world (work_of M m))
+Does world M K (InTransaction em given op) = (m : ℕ) → IsOpen M m → HoldsAfter (λ a w. K m w) (op world (work_of M m))
 Does world M K (OfObject number op) = (n : ℕ) → n < length M.objects → let m = holder_in M (object_at M.objects n).life in HoldsAfter (λ a w. K m w) (op world n (work_of M m))
 Does world M K (ToCommit em) = (m : ℕ) → IsOpen M m → HoldsAfter (λ u w. K m w) (commit_work world (work_of M m))
 Does world M K ToCreate = Unit {0}
@@ -61,6 +64,7 @@ Does world M K (ToRollBack em) = Unit {0}
 Does world M K (ToMark em) = Unit {0}
 Does world M K (ToAsk em question) = Unit {0}
 Does world M K (ToClear em) = Unit {0}
+Does world M K (ToSetMode em mode) = Unit {0}
 Does world M K (ToClose em) = Unit {0}
 
 -- nothing need be known
@@ -70,7 +74,8 @@ holds_anyway (Refused r events) = tt
 
 pub does_something : (world : World) (M : Machine) (r : Route) → Does world M (λ m w. Unit {0}) r
 does_something world M (OfManager em op) = λ m o. holds_anyway (op world (work_of M m))
-does_something world M (InTransaction em op) = λ m o. holds_anyway (op world (work_of M m))
+does_something world M (ToQuery em op) = λ m o. holds_anyway (op (flushes_first M m) world (work_of M m))
+does_something world M (InTransaction em given op) = λ m o. holds_anyway (op world (work_of M m))
 does_something world M (OfObject number op) = λ n l. holds_anyway (op world n (work_of M (holder_in M (object_at M.objects n).life)))
 does_something world M (ToCommit em) = λ m o. holds_anyway (commit_work world (work_of M m))
 does_something world M ToCreate = tt
@@ -80,6 +85,7 @@ does_something world M (ToRollBack em) = tt
 does_something world M (ToMark em) = tt
 does_something world M (ToAsk em question) = tt
 does_something world M (ToClear em) = tt
+does_something world M (ToSetMode em mode) = tt
 does_something world M (ToClose em) = tt
 
 module _ {world : World} {M : Machine} {r : Route} {P : Reply × Machine → Type 0} {K : ℕ → Work → Type 0} (h : Ways world M r P K) where
@@ -87,9 +93,13 @@ module _ {world : World} {M : Machine} {r : Route} {P : Reply × Machine → Typ
   ends other rule m (Done a w) k = h.keeps other m w a k
   ends other rule m (Refused cause events) k = h.refuses other m events cause (rule cause)
 
-  by_begun : IsOther r → (m : ℕ) (o : Outcome Answer) → HoldsAfter (λ a w. K m w) o → P (if_begun M m (ended marks M m o))
-  by_begun other m o k =
-      cond_both (has_transaction (manager_at M m)) (ended marks M m o) (because M Cause.TransactionRequired) P (λ begun. ends other marks m o k) (λ none. h.same Cause.TransactionRequired)
+  by_required : (given : Outcome (Unit {0})) → P (transaction_required M given)
+  by_required (Done u w) = h.same Cause.TransactionRequired
+  by_required (Refused cause events) = h.same cause
+
+  by_begun : IsOther r → (m : ℕ) (given : Outcome (Unit {0})) (o : Outcome Answer) → HoldsAfter (λ a w. K m w) o → P (if_begun M m given (ended marks M m o))
+  by_begun other m given o k =
+      cond_both (has_transaction (manager_at M m)) (ended marks M m o) (transaction_required M given) P (λ begun. ends other marks m o k) (λ none. by_required given)
 
   by_close : IsOther r → (m : ℕ) → IsOpen M m → P (close M m)
   by_close other m o =
@@ -146,8 +156,11 @@ module _ {world : World} {M : Machine} {r : Route} {P : Reply × Machine → Typ
 pub on_route : {world : World} {M : Machine} {P : Reply × Machine → Type 0} {K : ℕ → Work → Type 0} (r : Route) → Ways world M r P K → Does world M K r → P (by_route world M r)
 on_route {world} {M} (OfManager em op) h k =
     by_name h (λ m. ended marks M m (op world (work_of M m))) (λ m o. ends h (record { no_commit = refl; no_rollback = refl }) marks m (op world (work_of M m)) (k m o)) em
-on_route {world} {M} (InTransaction em op) h k =
-    by_name h (λ m. if_begun M m (ended marks M m (op world (work_of M m)))) (λ m o. by_begun h (record { no_commit = refl; no_rollback = refl }) m (op world (work_of M m)) (k m o)) em
+on_route {world} {M} (ToQuery em op) h k =
+    let o : ℕ → Outcome Answer = λ m. op (flushes_first M m) world (work_of M m) in
+    by_name h (λ m. ended marks M m (o m)) (λ m is_open. ends h (record { no_commit = refl; no_rollback = refl }) marks m (o m) (k m is_open)) em
+on_route {world} {M} (InTransaction em given op) h k =
+    by_name h (λ m. if_begun M m (given (work_of M m)) (ended marks M m (op world (work_of M m)))) (λ m o. by_begun h (record { no_commit = refl; no_rollback = refl }) m (given (work_of M m)) (op world (work_of M m)) (k m o)) em
 on_route {world} {M} (OfObject number op) h k =
     by_object h (record { no_commit = refl; no_rollback = refl }) op k (place_of (length M.objects) number) (place_within (length M.objects) number)
 on_route {world} {M} {P} ToCreate h k =
@@ -164,6 +177,7 @@ on_route {world} {M} (ToCommit em) h k = by_name h (commit world M) (λ m o. by_
 on_route {world} {M} (ToRollBack em) h k = by_name h (rollback M) (λ m o. by_rollback h refl m o (manager_at M m).transaction) em
 on_route {world} {M} (ToAsk em question) h k = by_name h (λ m. answered M (question M m)) (λ m o. by_answer h (record { no_commit = refl; no_rollback = refl }) (question M m)) em
 on_route {world} {M} (ToClear em) h k = by_name h (λ m. accepted [] Answer.Null (cleared M m)) (λ m o. h.clears (record { no_commit = refl; no_rollback = refl }) m o) em
+on_route {world} {M} (ToSetMode em mode) h k = by_name h (λ m. accepted [] Answer.Null (with_mode M m mode)) (λ m o. h.sets_mode (record { no_commit = refl; no_rollback = refl }) m o mode) em
 on_route {world} {M} (ToClose em) h k = by_name h (close M) (λ m o. by_close h (record { no_commit = refl; no_rollback = refl }) m o) em
 on_route {world} {M} (ToMark em) h k = by_name h (set_rollback_only M) (λ m o. by_mark h (record { no_commit = refl; no_rollback = refl }) m (manager_at M m).transaction) em
 

@@ -121,6 +121,7 @@ still_away {M} {m} s u h k c b =
       status = (λ i. transaction_in (manager_in s.managers.items m).status M.committed (k i)) ∙ h.status;
       managers = λ x. (λ i. managers_of M.committed (k i) (slice_set s.managers.items m x)) ∙ h.managers x ∙ (λ i. with_manager M m (manager_of M.committed (sym k i) x));
       is_open = h.is_open;
+      mode = h.mode;
       counted = record { opened = (h.counted).opened; busy = (h.counted).busy; calm = λ q. k ∙ (h.counted).calm q ∙ sym c };
     }
 

@@ -112,6 +112,9 @@ nothing u = Answer.Null
 abbrev pub truth : Bool → Answer
 truth b = Answer.Truth b
 
+abbrev pub object_told : ℕ → Answer
+object_told n = Answer.Object (suc n)
+
 abbrev pub object_or_null : Option ℕ → Answer
 object_or_null None = Answer.Null
 object_or_null (Some n) = Answer.Object (suc n)

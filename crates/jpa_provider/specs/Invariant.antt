@@ -13,6 +13,7 @@ use Rattle.jpa_context.specs.declared.Entry.{Entry}
 use Rattle.jpa_consistent.specs.Consistent.{IsLive, IsEntry, are_one, stands_in}
 use Rattle.jpa_protocol.specs.declared.call.Call.{Call}
 use Rattle.jpa_protocol.specs.declared.call.Given.{Given}
+use Rattle.jpa_protocol.specs.declared.call.Parameter.{Parameter}
 use Rattle.jpa_provider.specs.Machine.{Machine, Manager, Transaction, manager_at, has_transaction}
 
 -- ---- managers
@@ -80,5 +81,10 @@ hands_representable (Call.SetRollbackOnly em) = true
 hands_representable (Call.Find em name key) = list_all given_representable key
 hands_representable (Call.GetReference em name key) = list_all given_representable key
 hands_representable (Call.Contains em object) = true
+hands_representable (Call.Merge em object) = true
+hands_representable (Call.Lock em object mode) = true
 hands_representable (Call.Clear em) = true
 hands_representable (Call.Close em) = true
+hands_representable (Call.SetFlushMode em mode) = true
+hands_representable (Call.Query em text parameters first max) = list_all (λ (p : Parameter). given_representable p.value) parameters
+hands_representable (Call.QuerySingle em text parameters first max) = list_all (λ (p : Parameter). given_representable p.value) parameters

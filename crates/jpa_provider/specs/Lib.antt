@@ -1,6 +1,7 @@
 pub mod Machine
 pub mod Calls
 pub mod Transactions
+pub mod Querying
 pub mod Routes
 pub mod Step
 pub mod Invariant

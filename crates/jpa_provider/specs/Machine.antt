@@ -3,10 +3,10 @@
 use Rattle.std.specs.Prelude.{◌≡◌, ℕ, Bool, true, false, not, List, [], map, slice_index_or, slice_set, Option, Some, None}
 use Rattle.std.specs.List.{filter, list_any}
 use Rattle.jpa_stored.specs.Sets.{StoredSet}
+use Rattle.jpa_protocol.specs.declared.call.FlushMode.{FlushMode}
 use Rattle.jpa_heap.specs.declared.LiveObject.{LiveObject}
 use Rattle.jpa_context.specs.declared.Entry.{Entry}
-use Rattle.jpa_context.specs.declared.Lock.{Lock}
-use Rattle.jpa_context.specs.Work.{Work, state_of, is_removed}
+use Rattle.jpa_context.specs.Work.{Work, state_of, is_removed, unlocked}
 use Rattle.jpa_ops.specs.States.{detach_each}
 
 -- a manager's open transaction: the committed set at its begin, the set that it sees, and whether it can only roll back
@@ -15,9 +15,10 @@ pub record Transaction : Type 0 where
   pub view : StoredSet
   pub is_marked : Bool
 
--- an entity manager: its context in order of entry, and its open transaction
+-- an entity manager: its flush mode, its context in order of entry, and its open transaction
 pub record Manager : Type 0 where
   pub is_open : Bool
+  pub mode : FlushMode
   pub context : List Entry
   pub transaction : Option Transaction
 
@@ -38,11 +39,11 @@ opened set numbers = record { objects = []; managers = []; numbers = numbers; st
 
 -- as one is created
 abbrev pub new_manager : Manager
-new_manager = record { is_open = true; context = []; transaction = None }
+new_manager = record { is_open = true; mode = FlushMode.Auto; context = []; transaction = None }
 
 -- what stands where a number names no manager
 abbrev pub no_manager : Manager
-no_manager = record { is_open = false; context = []; transaction = None }
+no_manager = record { is_open = false; mode = FlushMode.Auto; context = []; transaction = None }
 
 abbrev pub manager_at : Machine → ℕ → Manager
 manager_at M m = slice_index_or M.managers m no_manager
@@ -100,6 +101,22 @@ marked M m =
     let x = manager_at M m in
     record M { managers = with_manager M m (record x { transaction = marked_in x.transaction }) }
 
+-- ---- the flush mode
+
+-- from now on the manager has this one
+abbrev pub with_mode : Machine → ℕ → FlushMode → Machine
+with_mode M m mode =
+    let x = manager_at M m in
+    record M { managers = with_manager M m (record x { mode = mode }) }
+
+-- whether what the manager's objects differ in is written before a query: in an open transaction under the mode AUTO
+abbrev pub flushes_in : Bool → FlushMode → Bool
+flushes_in begun FlushMode.Auto = begun
+flushes_in begun FlushMode.Commit = false
+
+abbrev pub flushes_first : Machine → ℕ → Bool
+flushes_first M m = flushes_in (has_transaction (manager_at M m)) (manager_at M m).mode
+
 -- ---- the end of a transaction
 
 -- rolled back: the manager's objects are detached as they are
@@ -131,9 +148,6 @@ closed M m =
 
 abbrev pub is_gone : Work → Entry → Bool
 is_gone w e = is_removed (state_of w e.object)
-
-abbrev pub unlocked : Entry → Entry
-unlocked e = record e { lock = Lock.Unlocked }
 
 -- committed: the set and the numbers are stored, removed objects are detached, and locks end
 abbrev pub committed_after : Machine → ℕ → Work → Machine

@@ -13,7 +13,7 @@ use Rattle.jpa_provider.specs.declared.operating.Operation.{Operation}
 use Rattle.jpa_provider.specs.declared.replies.Rule.{Rule}
 use Rattle.jpa_provider.specs.Machine.{Machine, kept}
 use Rattle.jpa_provider.specs.Calls.{ended, marks, marks_if_callback, marked_if, object_numbered}
-use Rattle.jpa_provider.specs.Routes.{get_call, set_call, add_call, take_out_call, persist_call, remove_call, refresh_call, detach_call, find_call, get_reference_call}
+use Rattle.jpa_provider.specs.Routes.{get_call, set_call, add_call, take_out_call, persist_call, remove_call, refresh_call, detach_call, merge_call, lock_call, find_call, get_reference_call}
 use Rattle.jpa_provider.specs.Step.{IsGivenUp}
 
 -- an operation on an object by its number
@@ -32,6 +32,8 @@ operation_of (Operation.Persist object) = λ world. persist_call world object
 operation_of (Operation.Remove object) = λ world. remove_call world object
 operation_of (Operation.Refresh object) = λ world. refresh_call world object
 operation_of (Operation.Detach object) = λ world. detach_call world object
+operation_of (Operation.Merge object) = λ world. merge_call world object
+operation_of (Operation.Lock object mode) = λ world. lock_call world object mode
 operation_of (Operation.Find entity key) = λ world. find_call world entity key
 operation_of (Operation.GetReference entity key) = λ world. get_reference_call world entity key
 

@@ -11,17 +11,22 @@ use Rattle.jpa_behaviour.specs.Behaviour.{World}
 use Rattle.jpa_heap.specs.declared.Life.{Life}
 use Rattle.jpa_heap.specs.Objects.{place_of, object_at, new_object}
 use Rattle.jpa_context.specs.Work.{is_managed, state_of}
-use Rattle.jpa_context.specs.Steps.{◌>>=◌, ◌>>◌, Op, give, refuse, require}
+use Rattle.jpa_context.specs.Steps.{◌>>=◌, ◌>>◌, Outcome, Done, Refused, Op, done, give, refuse, require}
 use Rattle.jpa_fetch.specs.Load.{find}
 use Rattle.jpa_fetch.specs.Members.{get, set, add, take_out}
-use Rattle.jpa_ops.specs.States.{persist, remove, refresh, detach}
+use Rattle.jpa_context.specs.declared.Lock.{Lock}
+use Rattle.jpa_ops.specs.States.{persist, remove, refresh, detach, lock}
+use Rattle.jpa_merge.specs.Merge.{merge}
 use Rattle.jpa_flush.specs.Flush.{flush}
 use Rattle.jpa_protocol.specs.declared.call.Call.{Call}
 use Rattle.jpa_protocol.specs.declared.call.Given.{Given}
+use Rattle.jpa_protocol.specs.declared.call.LockMode.{LockMode}
+use Rattle.jpa_protocol.specs.declared.call.FlushMode.{FlushMode}
 use Rattle.jpa_protocol.specs.declared.reply.Answer.{Answer}
 use Rattle.jpa_protocol.specs.declared.reply.Reply.{Reply}
-use Rattle.jpa_provider.specs.Machine.{Machine, new_manager, manager_at, has_transaction, work_of, cleared, closed}
-use Rattle.jpa_provider.specs.Calls.{accepted, because, marks, marks_if_callback, ended, told_as, nothing, truth, object_or_null, got, object_numbered, handed, is_short_given, class_named, key_given}
+use Rattle.jpa_provider.specs.Machine.{Machine, new_manager, manager_at, has_transaction, work_of, with_mode, flushes_first, cleared, closed}
+use Rattle.jpa_provider.specs.Calls.{accepted, because, marks, marks_if_callback, ended, told_as, nothing, truth, object_told, object_or_null, got, object_numbered, handed, is_short_given, class_named, key_given}
+use Rattle.jpa_provider.specs.Querying.{query_call, query_single_call}
 use Rattle.jpa_provider.specs.Transactions.{begin, commit, rollback, set_rollback_only}
 
 -- ---- managers
@@ -100,6 +105,24 @@ detach_call world number = do
   n ← object_numbered number
   told_as nothing (detach world n)
 
+abbrev pub merge_call : World → ℤ → Op Answer
+merge_call world number = do
+  n ← object_numbered number
+  told_as object_told (merge world n)
+
+-- whether the number names an object
+abbrev pub stands_numbered : ℤ → Op (Unit {0})
+stands_numbered number = object_numbered number >>= (λ n. done)
+
+abbrev pub lock_of : LockMode → Lock
+lock_of LockMode.Read = Lock.Read
+lock_of LockMode.Write = Lock.Write
+
+abbrev pub lock_call : World → ℤ → LockMode → Op Answer
+lock_call world number mode = do
+  n ← object_numbered number
+  told_as nothing (lock world n (lock_of mode))
+
 abbrev pub flush_call : World → Op Answer
 flush_call world = told_as nothing (flush world)
 
@@ -136,19 +159,31 @@ answered M (Err r) = because M r
 
 -- ---- of an open transaction, and of none
 
-abbrev pub if_begun : Machine → ℕ → Reply × Machine → Reply × Machine
-if_begun M m next = if has_transaction (manager_at M m) then next else because M Cause.TransactionRequired
+-- what is refused of an object by its number where there is none
+abbrev pub required_of : Option ℕ → Cause
+required_of None = Cause.NoSuchObject
+required_of (Some n) = Cause.TransactionRequired
+
+-- without one, what is refused of what the call hands in comes first
+abbrev pub transaction_required : Machine → Outcome (Unit {0}) → Reply × Machine
+transaction_required M (Done u w) = because M Cause.TransactionRequired
+transaction_required M (Refused r events) = because M r
+
+abbrev pub if_begun : Machine → ℕ → Outcome (Unit {0}) → Reply × Machine → Reply × Machine
+if_begun M m given next = if has_transaction (manager_at M m) then next else transaction_required M given
 
 abbrev pub close : Machine → ℕ → Reply × Machine
 close M m = if has_transaction (manager_at M m) then because M (Cause.IllegalState State.Active) else accepted [] Answer.Null (closed M m)
 
 -- ---- routes
 
--- how a call is served: an operation of a manager, one that asks for its open transaction, an operation on an object of
+-- how a call is served: an operation of a manager, one before which its objects may be flushed, one that asks for its open transaction and before that of what it is
+-- handed, an operation on an object of
 -- whoever holds it, or one of those that are none
 pub data Route : Type 0 where
   OfManager : ℤ → (World → Op Answer) → Route
-  InTransaction : ℤ → (World → Op Answer) → Route
+  ToQuery : ℤ → (Bool → World → Op Answer) → Route
+  InTransaction : ℤ → Op (Unit {0}) → (World → Op Answer) → Route
   OfObject : ℤ → (World → ℕ → Op Answer) → Route
   ToCreate : Route
   ToMake : List ℕ → Route
@@ -158,11 +193,13 @@ pub data Route : Type 0 where
   ToMark : ℤ → Route
   ToAsk : ℤ → (Machine → ℕ → Result Answer Cause) → Route
   ToClear : ℤ → Route
+  ToSetMode : ℤ → FlushMode → Route
   ToClose : ℤ → Route
 
 abbrev pub by_route : World → Machine → Route → Reply × Machine
 by_route world M (OfManager em op) = by_manager M em (λ m. ended marks M m (op world (work_of M m)))
-by_route world M (InTransaction em op) = by_manager M em (λ m. if_begun M m (ended marks M m (op world (work_of M m))))
+by_route world M (ToQuery em op) = by_manager M em (λ m. ended marks M m (op (flushes_first M m) world (work_of M m)))
+by_route world M (InTransaction em given op) = by_manager M em (λ m. if_begun M m (given (work_of M m)) (ended marks M m (op world (work_of M m))))
 by_route world M (OfObject number op) =
     let m = holder M (place_of (length M.objects) number) in
     ended marks_if_callback M m ((object_numbered number >>= op world) (work_of M m))
@@ -174,6 +211,7 @@ by_route world M (ToRollBack em) = by_manager M em (rollback M)
 by_route world M (ToMark em) = by_manager M em (set_rollback_only M)
 by_route world M (ToAsk em question) = by_manager M em (λ m. answered M (question M m))
 by_route world M (ToClear em) = by_manager M em (λ m. accepted [] Answer.Null (cleared M m))
+by_route world M (ToSetMode em mode) = by_manager M em (λ m. accepted [] Answer.Null (with_mode M m mode))
 by_route world M (ToClose em) = by_manager M em (close M)
 
 -- the route of a call
@@ -189,7 +227,9 @@ route (Call.Persist em object) = OfManager em (λ world. persist_call world obje
 route (Call.Remove em object) = OfManager em (λ world. remove_call world object)
 route (Call.Refresh em object) = OfManager em (λ world. refresh_call world object)
 route (Call.Detach em object) = OfManager em (λ world. detach_call world object)
-route (Call.Flush em) = InTransaction em flush_call
+route (Call.Merge em object) = OfManager em (λ world. merge_call world object)
+route (Call.Lock em object mode) = InTransaction em (stands_numbered object) (λ world. lock_call world object mode)
+route (Call.Flush em) = InTransaction em done flush_call
 route (Call.Commit em) = ToCommit em
 route (Call.Rollback em) = ToRollBack em
 route (Call.SetRollbackOnly em) = ToMark em
@@ -197,6 +237,9 @@ route (Call.Find em name key) = OfManager em (λ world. find_call world name key
 route (Call.GetReference em name key) = OfManager em (λ world. get_reference_call world name key)
 route (Call.Contains em object) = ToAsk em (contains object)
 route (Call.Clear em) = ToClear em
+route (Call.SetFlushMode em mode) = ToSetMode em mode
+route (Call.Query em text parameters first max) = ToQuery em (query_call (record { text = text; parameters = parameters; first = first; max = max }))
+route (Call.QuerySingle em text parameters first max) = ToQuery em (query_single_call (record { text = text; parameters = parameters; first = first; max = max }))
 route (Call.Close em) = ToClose em
 
 -- ---- what is told of a call by its route
@@ -205,7 +248,8 @@ route (Call.Close em) = ToClose em
 abbrev pub commits : Route → Bool
 commits (ToCommit em) = true
 commits (OfManager em op) = false
-commits (InTransaction em op) = false
+commits (ToQuery em op) = false
+commits (InTransaction em given op) = false
 commits (OfObject number op) = false
 commits ToCreate = false
 commits (ToMake name) = false
@@ -214,12 +258,14 @@ commits (ToRollBack em) = false
 commits (ToMark em) = false
 commits (ToAsk em question) = false
 commits (ToClear em) = false
+commits (ToSetMode em mode) = false
 commits (ToClose em) = false
 
 abbrev pub rolls_back : Route → Bool
 rolls_back (ToRollBack em) = true
 rolls_back (OfManager em op) = false
-rolls_back (InTransaction em op) = false
+rolls_back (ToQuery em op) = false
+rolls_back (InTransaction em given op) = false
 rolls_back (OfObject number op) = false
 rolls_back ToCreate = false
 rolls_back (ToMake name) = false
@@ -228,6 +274,7 @@ rolls_back (ToCommit em) = false
 rolls_back (ToMark em) = false
 rolls_back (ToAsk em question) = false
 rolls_back (ToClear em) = false
+rolls_back (ToSetMode em mode) = false
 rolls_back (ToClose em) = false
 
 -- those that take no memory and read no store
@@ -237,9 +284,11 @@ is_free (ToRollBack em) = true
 is_free (ToMark em) = true
 is_free (ToAsk em question) = true
 is_free (ToClear em) = true
+is_free (ToSetMode em mode) = true
 is_free (ToClose em) = true
 is_free (OfManager em op) = false
-is_free (InTransaction em op) = false
+is_free (ToQuery em op) = false
+is_free (InTransaction em given op) = false
 is_free (OfObject number op) = false
 is_free ToCreate = false
 is_free (ToMake name) = false

@@ -9,11 +9,11 @@ use Rattle.jpa_stored.specs.Sets.{StoredSet}
 use Rattle.jpa_rows.specs.Rows.{Rows}
 use Rattle.jpa_object_rows.specs.Sets.{rows_of}
 use Rattle.jpa_protocol.specs.declared.call.Call.{Call}
+use Rattle.jpa_protocol.specs.declared.call.FlushMode.{FlushMode}
 use Rattle.jpa_protocol.specs.declared.event.Told.{Told}
 use Rattle.jpa_protocol.specs.declared.reply.Answer.{Answer}
 use Rattle.jpa_protocol.specs.declared.reply.Reply.{Reply}
 use Rattle.jpa_context.specs.declared.Entry.{Entry}
-use Rattle.jpa_context.specs.declared.Lock.{Lock}
 use Rattle.jpa_context.specs.Work.{Work}
 use Rattle.jpa_context.specs.Undo.{since, IsKept}
 use Rattle.jpa_heap.specs.declared.Life.{Life}
@@ -50,11 +50,11 @@ is_begun_status Status.Active = true
 is_begun_status Status.RollbackOnly = true
 
 abbrev pub manager_of : StoredSet → StoredSet → EntityManager → Manager
-manager_of set written x = record { is_open = is_open_status x.status; context = x.context.now; transaction = transaction_in x.status set written }
+manager_of set written x = record { is_open = is_open_status x.status; mode = x.mode; context = x.context.now; transaction = transaction_in x.status set written }
 
 -- what stands where a number names no manager
 abbrev pub nobody : EntityManager
-nobody = record { status = Status.Closed; context = record { now = []; since = [] } }
+nobody = record { status = Status.Closed; mode = FlushMode.Auto; context = record { now = []; since = [] } }
 
 abbrev pub manager_in : List EntityManager → ℕ → EntityManager
 manager_in managers m = slice_index_or managers m nobody
@@ -82,10 +82,6 @@ machine_of s =
       committed = (s.work.view).committed;
     }
 
--- no entry has a lock
-abbrev pub IsUnlocked : Machine → Type 0
-IsUnlocked M = (k : ℕ) → All (λ (e : Entry). e.lock ≡ Lock.Unlocked) (context_of M k)
-
 -- the counts are those of the managers, and where no transaction is open nothing is written over what is committed
 pub record IsCounted (s : Session) : Type 0 where
   pub opened : s.open_managers ≡ count_by (λ (x : EntityManager). is_open_status x.status) s.managers.items
@@ -104,7 +100,6 @@ pub record IsServing (world : World) (s : Session) : Type 0 where
   pub regular : IsRegular world
   pub machine : IsMachine world (machine_of s)
   pub one : HasOneTransaction (machine_of s)
-  pub unlocked : IsUnlocked (machine_of s)
   pub settled : IsSettled s
 
 -- the reply to a call, and what stands afterwards, are those of a step of the machine
@@ -128,6 +123,7 @@ pub record IsAway (M : Machine) (m : ℕ) (s : Session) : Type 0 where
   pub status : transaction_in (manager_in s.managers.items m).status M.committed (s.work.view).kept ≡ (manager_at M m).transaction
   pub managers : (x : EntityManager) → managers_of M.committed (s.work.view).kept (slice_set s.managers.items m x) ≡ with_manager M m (manager_of M.committed (s.work.view).kept x)
   pub is_open : is_open_status (manager_in s.managers.items m).status ≡ (manager_at M m).is_open
+  pub mode : (manager_in s.managers.items m).mode ≡ (manager_at M m).mode
   pub counted : IsCounted s
 
 -- and what undoing gives is the machine's

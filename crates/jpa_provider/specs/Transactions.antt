@@ -11,7 +11,7 @@ use Rattle.jpa_context.specs.declared.Entry.{Entry}
 use Rattle.jpa_context.specs.declared.Lock.{Lock}
 use Rattle.jpa_context.specs.Work.{Work, state_of, is_managed, row_at, identity_at}
 use Rattle.jpa_context.specs.Steps.{◌>>=◌, ◌>>◌, Outcome, Done, Refused, Op, require, read}
-use Rattle.jpa_flush.specs.Flush.{flush, row_is_base}
+use Rattle.jpa_flush.specs.Flush.{flush, reads_hold}
 use Rattle.jpa_protocol.specs.declared.reply.Answer.{Answer}
 use Rattle.jpa_protocol.specs.declared.reply.Reply.{Reply}
 use Rattle.jpa_provider.specs.Machine.{Machine, Transaction, manager_at, with_manager, is_busy, work_of, marked, rolled_back, committed_after}
@@ -32,19 +32,6 @@ abbrev pub begin : Machine → ℕ → Reply × Machine
 begin M m = begin_in M m (manager_at M m).transaction
 
 -- ---- commit
-
-abbrev pub is_read_lock : Lock → Bool
-is_read_lock Lock.Read = true
-is_read_lock Lock.Write = false
-is_read_lock Lock.Unlocked = false
-
-abbrev pub base_is_row : PersistenceUnit → Work → Entry → Option Base → Bool
-base_is_row m w e None = true
-base_is_row m w e (Some b) = row_is_base (row_at w (identity_at m w e.object)) b
-
--- each managed object that is locked READ has the version that its row has
-abbrev pub reads_hold : PersistenceUnit → Work → Bool
-reads_hold m w = list_all (λ e. not (is_read_lock e.lock && is_managed (state_of w e.object)) || base_is_row m w e e.base) w.context
 
 abbrev pub commit_work : World → Op (Unit {0})
 commit_work world = do

@@ -1,9 +1,14 @@
 //! The call commit (Jakarta Persistence 3.1, chapters 7.5 and 3.4).
-ghost use Rattle.std.specs.Prelude.{◌≡◌, ◌<◌, ◌⊎◌, [], All, ℤ, false, true, length, nat_le, IfOk, OnOk, IsErr, Some};
+ghost use Rattle.std.specs.Prelude.{◌≡◌, ◌<◌, ◌⊎◌, [], All, T, ℤ, false, true, length, nat_le, IfOk, OnOk, IsErr, Some};
+ghost use Rattle.std.specs.FinMap.Entries.{is_sorted};
 ghost use Rattle.jpa_behaviour.specs.Registered.{world_of};
-ghost use Rattle.jpa_context.specs.declared.Lock.{Lock};
+ghost use Rattle.jpa_context.specs.Steps.{Done, Meets};
 ghost use Rattle.jpa_context.specs.Undo.{now, since};
-ghost use Rattle.jpa_context.specs.Work.{is_removed, state_from};
+ghost use Rattle.jpa_context.specs.Work.{Work, is_removed, state_from};
+ghost use Rattle.jpa_fetch.specs.Grown.{IsReady};
+ghost use Rattle.jpa_fetch.specs.Orderly.{IsOrderly};
+ghost use Rattle.jpa_flush.specs.Flush.{flush};
+ghost use Rattle.jpa_ops.specs.Names.{has_distinct_entries};
 ghost use Rattle.jpa_protocol.specs.declared.call.Call.{Call};
 ghost use Rattle.jpa_provider.specs.Faults.{is_store_fault, tells_fault, faults_after_reply};
 ghost use Rattle.jpa_provider.specs.Machine.{Machine, committed_after};
@@ -15,7 +20,9 @@ ghost use Rattle.jpa_provider.specs.Serving as serving;
 ghost use Rattle.jpa_provider.specs.Serving.{machine_of, manager_in, named, rows_before, rows_seen, IsCommitting, IsServing, IsSettled, Serves};
 ghost use Rattle.jpa_rows.specs.Cells.{CanBeHeld};
 ghost use Rattle.jpa_rows.specs.Tables.{schema_of};
-ghost use Rattle.jpa_stored.specs.Sets.{each_fits};
+ghost use Rattle.jpa_stored.specs.Sets.{each_fits, IsSound};
+ghost use Rattle.jpa_value.specs.Value.{identity_cmp};
+ghost use Rattle.jpa_provider.specs.Transactions as transactions;
 
 use crate::at_work::{manager_named, restore, take_work};
 use crate::ending::{detach_objects, release};
@@ -23,7 +30,7 @@ use crate::replies::because;
 use crate::session::{Session, Status, exchange, set_status, status_of};
 use jpa_behaviour::{Behaviour, Registry};
 use jpa_context::UnitOfWork;
-use jpa_flush::flush;
+use jpa_flush::{flush, reads_hold};
 use jpa_heap::Life;
 use jpa_model::Metamodel;
 use jpa_object_store::write;
@@ -40,7 +47,7 @@ fn gave_up(cause: &Cause) -> bool
     matches!(cause, Cause::OutOfMemory | Cause::StoreFault)
 }
 
-/// Ends a commit whose flush was refused: what it changed is undone, and the transaction rolls back, unless code gave up.
+/// Ends a commit that was refused before it stored: what it changed is undone, and the transaction rolls back, unless code gave up.
 fn refuse_commit(alloc: Global, session: &mut Session, manager: usize, cause: Cause) -> Reply
     requires within { manager < length session.old.managers.items }
     requires entries { All (λ e. e.object < length (since session.old.work).objects)
@@ -97,13 +104,12 @@ fn copied(alloc: Global, numbers: &[u64]) -> Result<Seq<u64>, AllocError>
     Ok(copy)
 }
 
-/// Ends a commit that was stored: what the manager's work changed is kept, the removed objects are detached, and its
-/// transaction is over. Takes no memory.
+/// Ends a commit that was stored: what the manager's work changed is kept, the removed objects are detached, its locks end,
+/// and its transaction is over. Takes no memory.
 fn end_commit(alloc: Global, session: &mut Session, manager: usize, next: Seq<u64>, gone: &[usize])
     requires within { manager < length session.old.managers.items }
     requires next { next ≡ session.old.work.numbers.now }
     requires gone { gone.now ≡ serving.gone_objects (now session.old.work) }
-    requires unlocked { All (λ e. e.lock ≡ Lock.Unlocked) session.old.work.context.now }
     requires entries { All (λ e. e.object < length session.old.work.objects.now)
         session.old.work.context.now }
     requires shown { (session.old.work.view).is_shown ≡ true }
@@ -117,6 +123,7 @@ fn end_commit(alloc: Global, session: &mut Session, manager: usize, next: Seq<u6
         .work
         .context
         .leave_removed(session.work.objects.as_slice(), holder);
+    session.work.context.unlock(alloc);
     detach_objects(alloc, &mut session.work.objects, gone);
     session.work.view.commit();
     session.work.keep();
@@ -145,7 +152,6 @@ fn store_commit<R: RowSource, B: Behaviour>(
         (session.old.work.view).seen session.old.work.numbers.now }
     requires shown { (session.old.work.view).is_shown ≡ true }
     requires rising { each_fits nat_le session.old.stored session.old.work.numbers.now ≡ true }
-    requires unlocked { All (λ e. e.lock ≡ Lock.Unlocked) session.old.work.context.now }
     requires entries { All (λ e. e.object < length session.old.work.objects.now)
         session.old.work.context.now }
     ensures stores { (M : Machine) → IsCommitting M manager session.old
@@ -209,6 +215,33 @@ fn at_hand(alloc: Global, work: &UnitOfWork) -> Result<(Seq<u64>, Seq<usize>), A
     Ok((next, gone))
 }
 
+/// What a commit does before it stores: the flush; then what is locked to be read is to stand as it was read, else
+/// `OptimisticLock` (chapter 3.4.4.1). Refused as the flush is.
+fn commit_work<B: Behaviour>(
+    alloc: Global,
+    metamodel: &Metamodel,
+    registry: &Registry<B>,
+    work: &mut UnitOfWork,
+) -> Result<(), Cause>
+    requires orderly { IsOrderly metamodel.now }
+    requires ready { IsReady metamodel.now (now work.old) }
+    requires shown { work.old.view.is_shown ≡ true }
+    requires sound { IsSound metamodel.now (now work.old).view }
+    requires rising { T (is_sorted identity_cmp (now work.old).view) }
+    requires distinct { has_distinct_entries metamodel.now (now work.old) ≡ true }
+    requires goes { let world = world_of B.meaning metamodel.now registry.now in
+        (w : Work) → flush world (now work.old) ≡ Done tt w → IsReady metamodel.now w }
+    ensures meets { Meets result (now work.new)
+        (transactions.commit_work (world_of B.meaning metamodel.now registry.now) (now work.old)) }
+    ensures since { since work.new ≡ since work.old }
+{
+    flush(alloc, metamodel, registry, work)?;
+    if !reads_hold(metamodel, work)? {
+        return Err(Cause::OptimisticLock);
+    }
+    Ok(())
+}
+
 /// Commits the open transaction of the manager.
 #[tactic(auto, using(crate::proofs::Told::none_more, crate::proofs::Told::of_operation))]
 fn commit_active<R: RowSource, B: Behaviour>(
@@ -252,7 +285,7 @@ fn commit_active<R: RowSource, B: Behaviour>(
     ensures refused { IsErr result.answer → IsGivenUp result ⊎ (rows.new ≡ rows.old) }
 {
     take_work(session, manager);
-    match flush(alloc, metamodel, registry, &mut session.work) {
+    match commit_work(alloc, metamodel, registry, &mut session.work) {
         Err(cause) => refuse_commit(alloc, session, manager, cause),
         Ok(()) => store_commit(alloc, metamodel, registry, session, rows, manager),
     }

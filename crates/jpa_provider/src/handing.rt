@@ -11,7 +11,7 @@ ghost use Rattle.jpa_provider.specs.Invariant as invariant;
 
 use jpa_heap::Handed;
 use jpa_model::Part;
-use jpa_protocol::{Call, Given};
+use jpa_protocol::{Call, Given, Parameter};
 use jpa_rows::{is_short, value_is_representable};
 use jpa_value::{Cause, Key, Seq, TryCopy, Value, fits};
 use std::alloc::Global;
@@ -29,7 +29,7 @@ pub(crate) fn place_of(count: usize, number: i64) -> Option<usize>
 }
 
 /// Whether a value that is handed in is short enough.
-fn is_short_given(given: &Given) -> bool
+pub(crate) fn is_short_given(given: &Given) -> bool
     ensures { result ≡ calls.is_short_given given.now }
 {
     match given {
@@ -132,6 +132,15 @@ fn key_representable(given: &[Given])
     }
 }
 
+/// What is bound to parameters are values of the program.
+fn parameters_representable(parameters: &[Parameter])
+    ensures { list_all (λ p. invariant.given_representable p.value) parameters.now ≡ true }
+{
+    for parameter in parameters {
+        given_representable(&parameter.value);
+    }
+}
+
 /// What a call hands in are values of the program: integers of 64 bits, texts in UTF-8 and bytes.
 pub(crate) fn hands_representable(call: &Call)
     ensures { invariant.hands_representable call.now ≡ true }
@@ -140,6 +149,8 @@ pub(crate) fn hands_representable(call: &Call)
         Call::SetValue { value, .. } => given_representable(value),
         Call::Find { key, .. } => key_representable(key.as_slice()),
         Call::GetReference { key, .. } => key_representable(key.as_slice()),
+        Call::Query { parameters, .. } => parameters_representable(parameters.as_slice()),
+        Call::QuerySingle { parameters, .. } => parameters_representable(parameters.as_slice()),
         _ => {}
     }
 }

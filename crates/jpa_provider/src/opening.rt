@@ -12,7 +12,7 @@ use jpa_behaviour::{Behaviour, Registry};
 use jpa_context::PersistenceContext;
 use jpa_heap::new_object;
 use jpa_model::Metamodel;
-use jpa_protocol::{Answer, Reply};
+use jpa_protocol::{Answer, FlushMode, Reply};
 use jpa_value::{Argument, Cause, MOST_OBJECTS, MOST_OPEN_MANAGERS, State};
 use std::alloc::Global;
 
@@ -39,6 +39,7 @@ pub(crate) fn create_call<B: Behaviour>(
     }
     let manager = EntityManager {
         status: Status::Inactive,
+        mode: FlushMode::Auto,
         context: PersistenceContext::new(alloc),
     };
     if let Err(_) = session.managers.push(manager) {

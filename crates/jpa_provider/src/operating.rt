@@ -18,12 +18,13 @@ ghost use Rattle.jpa_provider.specs.declared.operating.Operation.{Operation};
 
 use crate::handing::{are_short, handed, place_of, whole_key};
 use jpa_behaviour::{Behaviour, Registry};
-use jpa_context::UnitOfWork;
+use jpa_context::{Lock, UnitOfWork};
 use jpa_fetch::{Got, add, find, get, take_out};
 use jpa_heap::assign;
+use jpa_merge::merge;
 use jpa_model::Metamodel;
-use jpa_ops::{detach, persist, refresh, remove};
-use jpa_protocol::{Answer, Given};
+use jpa_ops::{detach, lock, persist, refresh, remove};
+use jpa_protocol::{Answer, Given, LockMode};
 use jpa_value::{Argument, Cause, Seq, Text, Value};
 use std::alloc::Global;
 
@@ -68,6 +69,15 @@ pub enum Operation {
     /// Detaches an object (chapter 3.2.7).
     Detach {
         object: i64,
+    },
+    /// Makes what an object holds the state of a managed one (chapter 3.2.7.1).
+    Merge {
+        object: i64,
+    },
+    /// Locks an object (chapter 3.4.4).
+    Lock {
+        object: i64,
+        mode: LockMode,
     },
     /// Finds an object by its entity and the parts of its key (chapter 3.1.1).
     Find {
@@ -312,6 +322,63 @@ fn detach_numbered<B: Behaviour>(
     Ok(Answer::Null)
 }
 
+/// Merges an object, by its number; answers its image.
+fn merge_numbered<B: Behaviour>(
+    alloc: Global,
+    metamodel: &Metamodel,
+    registry: &Registry<B>,
+    work: &mut UnitOfWork,
+    object: i64,
+) -> Result<Answer, Cause>
+    requires orderly { IsOrderly metamodel.now }
+    requires ready { IsReady metamodel.now (now work.old) }
+    ensures meets { let world = world_of B.meaning metamodel.now registry.now in
+        Meets result (now work.new) (operations.operation_of (Operation.Merge object) world
+        (now work.old)) }
+    ensures view { work.new.view ≡ work.old.view }
+    ensures since { since work.new ≡ since work.old }
+{
+    let Some(place) = place_of(work.objects.len(), object) else {
+        return Err(Cause::NoSuchObject);
+    };
+    let image = merge(alloc, metamodel, registry, work, place)?;
+    // An object's number, one more than its place, is at most the count.
+    let _count = work.objects.len();
+    Ok(Answer::Object(image as u64 + 1))
+}
+
+/// The lock that a mode asks for.
+fn lock_of(mode: LockMode) -> Lock
+    ensures { result ≡ routes.lock_of mode }
+{
+    match mode {
+        LockMode::Read => Lock::Read,
+        LockMode::Write => Lock::Write,
+    }
+}
+
+/// Locks an object, by its number.
+fn lock_numbered<B: Behaviour>(
+    metamodel: &Metamodel,
+    _registry: &Registry<B>,
+    work: &mut UnitOfWork,
+    object: i64,
+    mode: LockMode,
+) -> Result<Answer, Cause>
+    requires ready { IsReady metamodel.now (now work.old) }
+    ensures meets { let world = world_of B.meaning metamodel.now _registry.now in
+        Meets result (now work.new) (operations.operation_of (Operation.Lock object mode) world
+        (now work.old)) }
+    ensures view { work.new.view ≡ work.old.view }
+    ensures since { since work.new ≡ since work.old }
+{
+    let Some(place) = place_of(work.objects.len(), object) else {
+        return Err(Cause::NoSuchObject);
+    };
+    lock(metamodel, work, place, lock_of(mode))?;
+    Ok(Answer::Null)
+}
+
 /// An answer of find, where it found an object; else `EntityNotFound`.
 fn there_must_be(found: Answer) -> Result<Answer, Cause>
     ensures { (w : Work) → Meets result w (routes.there_must_be found w) }
@@ -465,6 +532,8 @@ pub(crate) fn operate<B: Behaviour>(
         Operation::Detach { object } => {
             detach_numbered(alloc, metamodel, registry, work, object)
         }
+        Operation::Merge { object } => { merge_numbered(alloc, metamodel, registry, work, object) }
+        Operation::Lock { object, mode } => lock_numbered(metamodel, registry, work, object, mode),
         Operation::Find { entity, key } => {
             find_by_key(alloc, metamodel, registry, work, &entity, &key)
         }

@@ -27,10 +27,12 @@ use crate::committing::commit_call;
 use crate::ending::{clear_call, close_call, rollback_call, set_rollback_only_call};
 use crate::flushing::flush_call;
 use crate::handing::hands_representable;
+use crate::moding::set_flush_mode_call;
 use crate::opening::{begin_call, create_call, new_call};
 use crate::operating::Operation;
+use crate::querying::{Told, Wanted, query_call};
 use crate::session::Session;
-use crate::working::{held, worked};
+use crate::working::{held, lock_call, worked};
 use jpa_behaviour::{Behaviour, Registry};
 use jpa_context::{PersistenceContext, UnitOfWork};
 use jpa_mapper::discriminator_law;
@@ -291,6 +293,13 @@ fn served<R: RowSource, B: Behaviour>(
             let operation = Operation::Detach { object };
             worked(alloc, metamodel, registry, session, em, operation)
         }
+        Call::Merge { em, object } => {
+            let operation = Operation::Merge { object };
+            worked(alloc, metamodel, registry, session, em, operation)
+        }
+        Call::Lock { em, object, mode } => {
+            lock_call(alloc, metamodel, registry, session, em, object, mode)
+        }
         Call::Flush { em } => flush_call(alloc, metamodel, registry, session, em),
         Call::Commit { em } => commit_call(alloc, metamodel, registry, session, rows, em),
         Call::Rollback { em } => rollback_call(alloc, metamodel, registry, session, em),
@@ -309,6 +318,47 @@ fn served<R: RowSource, B: Behaviour>(
             contains_call(alloc, metamodel, registry, session, em, object)
         }
         Call::Clear { em } => clear_call(alloc, metamodel, registry, session, em),
+        Call::SetFlushMode { em, mode } => {
+            set_flush_mode_call(alloc, metamodel, registry, session, em, mode)
+        }
+        Call::Query {
+            em,
+            text,
+            parameters,
+            first,
+            max,
+        } => {
+            let wanted = Wanted {
+                text,
+                parameters,
+                first,
+                max,
+            };
+            query_call(alloc, metamodel, registry, session, em, wanted, Told::All)
+        }
+        Call::QuerySingle {
+            em,
+            text,
+            parameters,
+            first,
+            max,
+        } => {
+            let wanted = Wanted {
+                text,
+                parameters,
+                first,
+                max,
+            };
+            query_call(
+                alloc,
+                metamodel,
+                registry,
+                session,
+                em,
+                wanted,
+                Told::Single,
+            )
+        }
         Call::Close { em } => close_call(alloc, metamodel, registry, session, em),
     }
 }

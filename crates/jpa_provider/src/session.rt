@@ -3,6 +3,7 @@ ghost use Rattle.std.specs.Prelude.{◌≡◌, ◌<◌, length, slice_set};
 ghost use Rattle.jpa_provider.specs.Serving.{manager_in};
 
 use jpa_context::{Entry, PersistenceContext, UnitOfWork};
+use jpa_protocol::FlushMode;
 use jpa_value::Seq;
 use std::mem;
 
@@ -37,11 +38,12 @@ impl Status {
     }
 }
 
-/// An entity manager: its transaction, and its persistence context (chapter 7.2). While it is at work its context stands in
+/// An entity manager: its transaction, its flush mode, and its persistence context (chapters 7.2 and 3.10.8). While it is at work its context stands in
 /// the session's unit of work.
 #[derive(Drop)]
 pub struct EntityManager {
     pub status: Status,
+    pub mode: FlushMode,
     pub context: PersistenceContext,
 }
 
@@ -95,4 +97,21 @@ pub(crate) fn set_status(managers: &mut Vec<EntityManager>, manager: usize, stat
         (record (manager_in managers.old.items manager) { status = status }) }
 {
     managers[manager].status = status;
+}
+
+/// The manager's flush mode.
+pub(crate) fn mode_of(managers: &Vec<EntityManager>, manager: usize) -> FlushMode
+    requires { manager < length managers.now.items }
+    ensures { result ≡ (manager_in managers.now.items manager).mode }
+{
+    managers[manager].mode
+}
+
+/// The manager has another flush mode. Takes no memory.
+pub(crate) fn set_mode(managers: &mut Vec<EntityManager>, manager: usize, mode: FlushMode)
+    requires { manager < length managers.old.items }
+    ensures { managers.new.items ≡ slice_set managers.old.items manager
+        (record (manager_in managers.old.items manager) { mode = mode }) }
+{
+    managers[manager].mode = mode;
 }

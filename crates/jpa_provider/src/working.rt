@@ -7,11 +7,13 @@ ghost use Rattle.jpa_behaviour.specs.Registered.{world_of};
 ghost use Rattle.jpa_context.specs.Steps.{Op};
 ghost use Rattle.jpa_protocol.specs.declared.call.Call.{Call};
 ghost use Rattle.jpa_protocol.specs.declared.reply.Answer.{Answer};
-ghost use Rattle.jpa_provider.specs.Faults.{tells_fault};
+ghost use Rattle.jpa_provider.specs.Faults.{is_store_fault, tells_fault};
 ghost use Rattle.jpa_provider.specs.Machine.{work_of};
 ghost use Rattle.jpa_provider.specs.Operations.{on_numbered, operation_of, EndsSo};
 ghost use Rattle.jpa_provider.specs.Operations as operations;
 ghost use Rattle.jpa_provider.specs.Routes.{route, OfManager, OfObject};
+ghost use Rattle.jpa_provider.specs.Routes as routes;
+ghost use Rattle.jpa_heap.specs.Objects as objects;
 ghost use Rattle.jpa_provider.specs.Serving.{machine_of, IsServing, IsSettled, Serves};
 ghost use Rattle.jpa_provider.specs.declared.replies.Rule.{Rule};
 
@@ -19,12 +21,12 @@ use crate::at_work::{conclude, manager_named, take_work};
 use crate::handing::place_of;
 use crate::operating::{Operation, operate};
 use crate::replies::{Rule, because, told_of};
-use crate::session::Session;
+use crate::session::{Session, status_of};
 use jpa_behaviour::{Behaviour, Registry};
 use jpa_context::PersistenceContext;
 use jpa_heap::Life;
 use jpa_model::Metamodel;
-use jpa_protocol::Reply;
+use jpa_protocol::{LockMode, Reply};
 use jpa_value::{Cause, Refusal, Seq};
 use std::alloc::Global;
 use std::mem;
@@ -93,6 +95,52 @@ fn unheld<B: Behaviour>(
             }
         }
     }
+}
+
+/// What is refused of an object by its number, among so many, where no transaction is open.
+fn required_of(count: usize, object: i64) -> Cause
+    ensures required { result ≡ routes.required_of (objects.place_of count object) }
+    ensures untold { is_store_fault result ≡ false }
+{
+    match place_of(count, object) {
+        None => Cause::NoSuchObject,
+        Some(_) => Cause::TransactionRequired,
+    }
+}
+
+/// The call lock: an object, by its number, is locked in the manager's open transaction (chapter 3.4.4). `NoSuchObject` where
+/// the number names none, then `TransactionRequired` where none is open.
+#[tactic(auto, using(crate::proofs::Routed::lock_alone))]
+pub(crate) fn lock_call<B: Behaviour>(
+    alloc: Global,
+    metamodel: &Metamodel,
+    registry: &Registry<B>,
+    session: &mut Session,
+    em: i64,
+    object: i64,
+    mode: LockMode,
+) -> Reply
+    requires serving { IsServing (world_of B.meaning metamodel.now registry.now) session.old }
+    ensures step { Serves (world_of B.meaning metamodel.now registry.now) session.old
+        (Call.Lock em object mode) result session.new }
+    ensures untold { tells_fault result ≡ false }
+    ensures settled { IsSettled session.new }
+{
+    let Some(manager) = manager_named(session, em) else {
+        return because(alloc, Cause::NoSuchManager);
+    };
+    if !status_of(&session.managers, manager).is_begun() {
+        return because(alloc, required_of(session.work.objects.len(), object));
+    }
+    at_work(
+        alloc,
+        metamodel,
+        registry,
+        session,
+        manager,
+        Operation::Lock { object, mode },
+        Rule::OfManager,
+    )
 }
 
 /// The manager that holds an object in this state.

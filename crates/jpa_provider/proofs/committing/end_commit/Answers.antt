@@ -1,5 +1,5 @@
 use Rattle.std.proofs.Common.{◌≡◌, ◌<◌, false, List, length, refl, ap, sym, subst, ◌∙◌}
-use Rattle.std.specs.Prelude.{slice_set, All, if◌then◌else◌}
+use Rattle.std.specs.Prelude.{map, slice_set, All, if◌then◌else◌}
 use Rattle.std.specs.List.{filter}
 use Rattle.jpa_undo.specs.Undo.{Changes}
 use Rattle.jpa_open.specs.Opened.{Opened}
@@ -7,7 +7,7 @@ use Rattle.jpa_heap.specs.declared.LiveObject.{LiveObject}
 use Rattle.jpa_context.specs.declared.Entry.{Entry}
 use Rattle.jpa_context.specs.Places.{without_removed}
 use Rattle.jpa_context.specs.Undo.{now}
-use Rattle.jpa_context.specs.Work.{Work}
+use Rattle.jpa_context.specs.Work.{Work, unlocked}
 use Rattle.jpa_provider.specs.declared.session.EntityManager.{EntityManager}
 use Rattle.jpa_provider.specs.declared.session.Session.{Session}
 use Rattle.jpa_provider.specs.declared.session.Status.{Status}
@@ -29,11 +29,11 @@ returns-clause-ended c = λ M h.
     let t : Session = record s { managers = c.set_status.new.managers; is_busy = false; work = record c.keep.new.self { context = c.keep-2.new.self }; stored = c.args.next } in
     let status : List EntityManager → List EntityManager = λ ys. slice_set ys m (record (manager_in ys m) { status = Status.Inactive }) in
     let same = c.keep.ensures.now in
-    let stay = ap (λ (w : Work). w.context) same ∙ c.leave_removed.ensures.now ∙ ap (λ (os : List LiveObject). without_removed os u.manager u.context.now) c.as_slice.ensures in
+    let stay = ap (λ (w : Work). w.context) same ∙ c.unlock.ensures.now ∙ ap (map unlocked) (c.leave_removed.ensures.now ∙ ap (λ (os : List LiveObject). without_removed os u.manager u.context.now) c.as_slice.ensures) in
     let gone = ap (λ (w : Work). w.objects) same ∙ c.detach_objects.ensures.now ∙ ap (λ ns. detached_all ns u.objects.now) c.requires.gone ∙ detached_entries (filter (is_gone (now u)) u.context.now) u.objects.now in
     let view = ap (λ (v : Opened). v.committed) c.keep.ensures.view ∙ committed_then c.commit.new.self ∙ ap (λ (v : Opened). v.committed) c.commit.ensures
     ∙ ap (λ b. if b then (u.view).seen else (u.view).committed) (sym c.requires.shown) in
-    committed_there M s t m context h c.requires.unlocked (c.set_status.ensures ∙ ap status c.exchange.ensures.managers ∙ twice xs m x Status.Inactive c.requires.within) stay gone
+    committed_there M s t m context h (c.set_status.ensures ∙ ap status c.exchange.ensures.managers ∙ twice xs m x Status.Inactive c.requires.within) stay gone
     (ap (λ (w : Work). w.numbers) same) view c.requires.next
 
 pub detach_objects-requires : goal.detach_objects-requires

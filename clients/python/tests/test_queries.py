@@ -1,0 +1,92 @@
+"""Queries over the program: tests/persons.json has persons and their orders."""
+
+from __future__ import annotations
+
+import unittest
+from typing import Any, Callable, List, Type
+
+import karzhoul
+from karzhoul import FlushModeType, LifecycleEvent
+
+from .support import PROGRAM, TOP, needs_program
+
+
+@needs_program
+class Queries(unittest.TestCase):
+    """A test over a program of its own, with its store in memory: Ada has the orders 10 and 11, and nobody has the order 12."""
+
+    def setUp(self) -> None:
+        self.app = karzhoul.open(TOP / "tests" / "persons.json", program=PROGRAM)
+        self.addCleanup(self.app.close)
+        self.em = self.app.create_entity_manager()
+        self.Person, self.Order = map(self.app.entity, ("Person", "Order"))
+        self.person = self.Person(name="Ada")
+        self.orders = [self.Order(number=number, amount=amount) for number, amount in ((10, 5), (11, 7), (12, None))]
+        self.orders[0].person = self.orders[1].person = self.person
+        with self.em.transaction():
+            for entity in (self.person, *self.orders):
+                self.em.persist(entity)
+
+    def refuses(self, kind: Type[karzhoul.Refused], detail: object, call: Callable[..., Any], *given: Any, **named: Any) -> None:
+        with self.assertRaises(kind) as raised:
+            call(*given, **named)
+        self.assertEqual(raised.exception.detail, detail)
+
+    def test_rows(self) -> None:
+        self.assertEqual(self.em.query("SELECT o.number, o.person.name FROM Order o"), [[10, "Ada"], [11, "Ada"]])
+        self.assertEqual(self.em.query("SELECT o.number FROM Order o ORDER BY o.amount DESC"), [11, 10, 12])
+        self.assertEqual(self.em.query("SELECT o.number FROM Order o", first=1, max=1), [11])
+        self.assertEqual(self.em.query("SELECT COUNT(o), SUM(o.amount) FROM Order o"), [[3, 12]])
+
+    def test_objects(self) -> None:
+        found = self.em.query("SELECT o, o.person FROM Order o")
+        self.assertEqual(found, [[self.orders[0], self.person], [self.orders[1], self.person], [self.orders[2], None]])
+        self.assertIs(found[0][0], self.orders[0])
+        loaded: List[Any] = []
+        self.app.listen(lambda event: loaded.append(event.object), LifecycleEvent.POST_LOAD)
+        other = self.app.create_entity_manager()
+        theirs = other.query("SELECT o FROM Order o WHERE o.person = :p", self.Order, params={"p": self.person})
+        self.assertEqual(loaded, theirs)
+        self.assertEqual([(type(order), order.number) for order in theirs], [(self.Order, 10), (self.Order, 11)])
+
+    def test_parameters(self) -> None:
+        text = "SELECT o.number FROM Order o WHERE o.amount = :a OR o.number = ?1"
+        self.assertEqual(self.em.query(text, params={"a": 5, "1": 12}), [10, 12])
+        self.assertEqual(self.em.query(text, params={"a": None, "1": 11}), [11])
+        self.refuses(karzhoul.IllegalArgument, "parameter", self.em.query, text, params={"a": 5})
+        self.refuses(karzhoul.IllegalArgument, "typing", self.em.query, text, params={"a": "5", "1": 12})
+        self.refuses(karzhoul.IllegalArgument, "parameter", self.em.query, "SELECT o FROM Order o WHERE o = :o", params={"o": self.Order()})
+
+    def test_a_single_row(self) -> None:
+        self.assertEqual(self.em.query_single("SELECT o.number FROM Order o WHERE o.amount = 7"), 11)
+        self.assertEqual(self.em.query_single("SELECT o.number, o.amount FROM Order o", first=2), [12, None])
+        self.refuses(karzhoul.NoResult, None, self.em.query_single, "SELECT o FROM Order o WHERE o.number = 9")
+        self.refuses(karzhoul.NonUniqueResult, None, self.em.query_single, "SELECT o FROM Order o")
+
+    def test_flush_modes(self) -> None:
+        count = "SELECT COUNT(p) FROM Person p"
+        with self.em.transaction():
+            self.em.set_flush_mode(FlushModeType.COMMIT)
+            self.em.persist(self.Person())
+            self.assertEqual(self.em.query(count), [1])
+            self.em.set_flush_mode(FlushModeType.AUTO)
+            self.assertEqual(self.em.query(count), [2])
+
+    def test_updates_are_not_served(self) -> None:
+        with self.assertRaises(karzhoul.NotServed):
+            self.em.execute_update("DELETE FROM Order o WHERE o.number > 10")
+
+    def test_what_is_refused(self) -> None:
+        refused = {"SELECT o FROM": "syntax", "SELECT o.x FROM Order o": "typing", "SELECT o FROM Order o WHERE o = :o": "parameter"}
+        for text, detail in refused.items():
+            self.refuses(karzhoul.IllegalArgument, detail, self.em.query, text)
+        self.refuses(karzhoul.IllegalArgument, "range", self.em.query, "SELECT o FROM Order o", first=-1)
+        self.refuses(karzhoul.IllegalState, "statement", self.em.query, "DELETE FROM Order o")
+        self.refuses(karzhoul.Limit, None, self.em.query, "(" * 33)
+        transaction = self.em.transaction().begin()
+        self.refuses(karzhoul.Overflow, None, self.em.query, "SELECT o.number + :m FROM Order o", params={"m": 2**63 - 1})
+        self.refuses(karzhoul.Rollback, "marked", transaction.commit)
+
+
+if __name__ == "__main__":
+    unittest.main()

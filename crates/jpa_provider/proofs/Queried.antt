@@ -1,0 +1,157 @@
+-- What queries keep: they read, flush where the mode says so, and load what their rows tell.
+use Rattle.std.proofs.Common.{◌≡◌, ℕ, ℤ, Bool, true, false, List, [], ◌∷◌, refl, ap, sym, subst}
+use Rattle.std.specs.Prelude.{Option, Some, None, Result, Ok, Err, length, ◌&&◌}
+use Rattle.jpa_value.specs.declared.refusal.Argument.{Argument}
+use Rattle.jpa_value.specs.declared.refusal.Cause.{Cause}
+use Rattle.jpa_value.specs.declared.refusal.State.{State}
+use Rattle.jpa_model.specs.declared.unit.PersistenceUnit.{PersistenceUnit}
+use Rattle.jpa_behaviour.specs.Behaviour.{World}
+use Rattle.jpa_protocol.specs.declared.call.Parameter.{Parameter}
+use Rattle.jpa_protocol.specs.declared.reply.Answer.{Answer}
+use Rattle.jpa_protocol.specs.declared.reply.Item.{Item}
+use Rattle.jpa_context.specs.Work.{Work}
+use Rattle.jpa_context.specs.Steps.{Op, Outcome, Done, Refused, after}
+use Rattle.jpa_fetch.specs.Load.{reach}
+use Rattle.jpa_fetch.specs.Members.{collect}
+use Rattle.jpa_flush.specs.Flush.{flush}
+use Rattle.jpql_tree.specs.declared.Query.{Query}
+use Rattle.jpql_tree.specs.Grammar.{Text}
+use Rattle.jpql_types.specs.Statements.{checked}
+use Rattle.jpql_types.specs.declared.typed.TypedSelect.{TypedSelect}
+use Rattle.jpql_eval.specs.declared.datum.Datum.{Datum}
+use Rattle.jpql_eval.specs.Answers as answers
+use Rattle.jpql_plan.specs.Selection.{selected}
+use Rattle.jpa_queries.specs.declared.asked.Asked.{Asked}
+use Rattle.jpa_queries.specs.declared.asked.Binding.{Binding}
+use Rattle.jpa_queries.specs.Asking.{give_or, given, read_of, statement_of, sorts_of, arguments_of, select_in}
+use Rattle.jpa_queries.specs.Reading.{query_of, is_within, declares_few}
+use Rattle.jpa_queries.specs.Queries.{answer, flush_if, judged, table_of, rows_found, rows_asked, item_of, row_of, query, the_one, query_single, is_count}
+use Rattle.jpa_provider.specs.Calls as calls
+use Rattle.jpa_provider.specs.declared.querying.Wanted.{Wanted}
+use Rattle.jpa_provider.specs.Querying.{are_short, asked_of, bindings_in, bound, query_call, query_single_call}
+use Rattle.jpa_consistent.specs.Going.{HoldsAfter}
+use Rattle.jpa_consistent.proofs.Going.{More, after_holds, require_holds}
+use Rattle.jpa_consistent.proofs.Members.{Leads}
+use Rattle.jpa_consistent.proofs.Laws.{Steps, reach_goes}
+use Rattle.jpa_provider.proofs.Handed.{told_holds}
+
+-- ---- what only reads
+
+abbrev IsRead : {A : Type 0} → Op A → Type 0
+IsRead op = (w : Work) → HoldsAfter (λ a v. v ≡ w) (op w)
+
+then_read : {A B : Type 0} (K : B → Work → Type 0) (op : Op A) (f : A → Op B) (w : Work) → IsRead op → ((a : A) → HoldsAfter K (f a w)) → HoldsAfter K (after (op w) f)
+then_read K op f w h next = after_holds K (λ a v. v ≡ w) (op w) f (h w) (λ a v e. subst (λ v'. HoldsAfter K (f a v')) (sym e) (next a))
+
+given_or_reads : {A : Type 0} (r : Cause) (o : Option A) → IsRead (give_or r o)
+given_or_reads r None w = tt
+given_or_reads r (Some a) w = refl
+
+given_reads : {A : Type 0} (o : Result A Cause) → IsRead (given o)
+given_reads (Ok a) w = refl
+given_reads (Err r) w = tt
+
+read_of_reads : (text : Text) → IsRead (read_of text)
+read_of_reads text w =
+    let K : Option Query → Work → Type 0 = λ a v. v ≡ w in
+    require_holds K (is_within text) Cause.Limit w _ (λ within. require_holds K (declares_few (query_of text)) Cause.Limit w _ (λ few. refl))
+
+statement_of_reads : (m : PersistenceUnit) (tree : Option Query) (bindings : List Binding) → IsRead (statement_of m tree bindings)
+statement_of_reads m tree bindings w =
+    then_read _ (give_or (Cause.IllegalArgument Argument.Syntax) tree) _ w (given_or_reads (Cause.IllegalArgument Argument.Syntax) tree) (λ q.
+    let o = checked m q (sorts_of m bindings w) in
+    then_read _ (given o) _ w (given_reads o) (λ typed.
+    let found = arguments_of m bindings w in
+    then_read _ (give_or (Cause.IllegalArgument Argument.Parameter) found) _ w (given_or_reads (Cause.IllegalArgument Argument.Parameter) found) (λ arguments. refl)))
+
+judged_reads : (m : PersistenceUnit) (call : Asked) → IsRead (judged m call)
+judged_reads m call w =
+    let K : TypedSelect × List Datum → Work → Type 0 = λ q v. v ≡ w in
+    then_read K (read_of call.text) _ w (read_of_reads call.text) (λ tree.
+    require_holds K (is_count call.first && is_count call.max) (Cause.IllegalArgument Argument.Range) w _ (λ counts.
+    then_read K (statement_of m tree call.bindings) _ w (statement_of_reads m tree call.bindings) (λ statement.
+    then_read K (give_or (Cause.IllegalState State.Statement) (select_in statement.typed)) _ w (given_or_reads (Cause.IllegalState State.Statement) (select_in statement.typed)) (λ select. refl))))
+
+answer_reads : {A : Type 0} (a : answers.Answer A) → IsRead (answer a)
+answer_reads (answers.gives x) w = refl
+answer_reads answers.overflows w = tt
+
+rows_found_reads : (m : PersistenceUnit) (select : TypedSelect) (arguments : List Datum) (first max : Option ℤ) → IsRead (rows_found m select arguments first max)
+rows_found_reads m select arguments first max w = then_read _ (table_of m select arguments) _ w (λ v. answer_reads (selected m v.view arguments select) v) (λ rows. refl)
+
+the_one_reads : (rows : List (List Datum)) → IsRead (the_one rows)
+the_one_reads [] w = tt
+the_one_reads (row ∷ []) w = refl
+the_one_reads (row ∷ other ∷ rows) w = tt
+
+-- ---- what is bound to parameters
+
+bindings_read : (r : Cause) (o : Option (List Binding)) → IsRead (calls.give_or r o)
+bindings_read r None w = tt
+bindings_read r (Some bs) w = refl
+
+bound_reads : (ps : List Parameter) → IsRead (bound ps)
+bound_reads ps w =
+    let K : List Binding → Work → Type 0 = λ a v. v ≡ w in
+    let found = bindings_in (length w.objects) ps in
+    then_read K (calls.give_or Cause.NoSuchObject found) _ w (bindings_read Cause.NoSuchObject found) (λ bs. require_holds K (are_short ps) Cause.Limit w _ (λ short. refl))
+
+pub asked_of_reads : (q : Wanted) → IsRead (asked_of q)
+asked_of_reads q w = then_read (λ a v. v ≡ w) (bound q.parameters) _ w (bound_reads q.parameters) (λ bs. refl)
+
+-- ---- with what the steps and a flush keep
+
+module _ {world : World} {P : Work → Type 0} (steps : Steps world P) (flushed : (w : Work) → P w → HoldsAfter (λ u v. P v) (flush world w)) where
+  flush_if_goes : (b : Bool) (w : Work) → P w → HoldsAfter (λ u v. P v) (flush_if b world w)
+  flush_if_goes true w p = flushed w p
+  flush_if_goes false w p = p
+
+  collect_goes : {A B : Type 0} (f : A → Op B) → ((x : A) (w : Work) → P w → HoldsAfter (λ y v. P v) (f x w)) → (xs : List A) (w : Work) → P w → HoldsAfter (λ ys v. P v) (collect f xs w)
+  collect_goes f h [] w p = p
+  collect_goes f h (x ∷ xs) w p =
+      after_holds (λ a v. P v) (λ a v. P v) (f x w) _ (h x w p) (λ y v q.
+      after_holds (λ a u. P u) (λ a u. P u) (collect f xs v) _ (collect_goes f h xs v q) (λ ys u s. s))
+
+  item_goes : (d : Datum) (w : Work) → P w → HoldsAfter (λ i v. P v) (item_of world d w)
+  item_goes (Datum.Plain x) w p = p
+  item_goes (Datum.Entity id) w p =
+      after_holds (λ (i : Item) v. P v) (λ (n : ℕ) v. P v) (reach world Cause.EntityNotFound id w) _ (reached_holds (reach world Cause.EntityNotFound id w) (reach_goes steps Cause.EntityNotFound id w p)) (λ n v q. q)
+    where
+      reached_holds : (o : Outcome ℕ) → HoldsAfter (λ n v. P v × More w v × Leads world.model id n v) o → HoldsAfter (λ n v. P v) o
+      reached_holds (Done n v) h = h.0
+      reached_holds (Refused r events) h = tt
+
+  row_goes : (row : List Datum) (w : Work) → P w → HoldsAfter (λ i v. P v) (row_of world row w)
+  row_goes = collect_goes (item_of world) item_goes
+
+  rows_asked_goes : (flushes : Bool) (call : Asked) (w : Work) → P w → HoldsAfter (λ rows v. P v) (rows_asked world flushes call w)
+  rows_asked_goes flushes call w p =
+      let K : List (List Datum) → Work → Type 0 = λ rows v. P v in
+      let m = world.model in
+      then_read K (judged m call) _ w (judged_reads m call) (λ q.
+      after_holds K (λ u v. P v) (flush_if flushes world w) _ (flush_if_goes flushes w p) (λ u v r.
+      weaker_read (rows_found m q.0 q.1 call.first call.max v) v r (rows_found_reads m q.0 q.1 call.first call.max v)))
+    where
+      weaker_read : (o : Outcome (List (List Datum))) (v : Work) → P v → HoldsAfter (λ rows u. u ≡ v) o → HoldsAfter (λ rows u. P u) o
+      weaker_read (Done rows u) v r e = subst P (sym e) r
+      weaker_read (Refused cause events) v r e = tt
+
+  query_goes : (flushes : Bool) (call : Asked) (w : Work) → P w → HoldsAfter (λ rows v. P v) (query world flushes call w)
+  query_goes flushes call w p =
+      after_holds (λ rows v. P v) (λ rows v. P v) (rows_asked world flushes call w) _ (rows_asked_goes flushes call w p) (λ rows v q. collect_goes (row_of world) row_goes rows v q)
+
+  query_single_goes : (flushes : Bool) (call : Asked) (w : Work) → P w → HoldsAfter (λ row v. P v) (query_single world flushes call w)
+  query_single_goes flushes call w p =
+      let K : List Item → Work → Type 0 = λ row v. P v in
+      after_holds K (λ rows v. P v) (rows_asked world flushes call w) _ (rows_asked_goes flushes call w p) (λ rows v q.
+      then_read K (the_one rows) _ v (the_one_reads rows) (λ row. row_goes row v q))
+
+  -- ---- with what the calls hand in
+
+  pub query_call_goes : (q : Wanted) (flushes : Bool) (w : Work) → P w → HoldsAfter (λ a v. P v) (query_call q flushes world w)
+  query_call_goes q flushes w p =
+      then_read (λ a v. P v) (asked_of q) _ w (asked_of_reads q) (λ call. told_holds P Answer.Rows (query world flushes call w) (query_goes flushes call w p))
+
+  pub query_single_call_goes : (q : Wanted) (flushes : Bool) (w : Work) → P w → HoldsAfter (λ a v. P v) (query_single_call q flushes world w)
+  query_single_call_goes q flushes w p =
+      then_read (λ a v. P v) (asked_of q) _ w (asked_of_reads q) (λ call. told_holds P Answer.Row (query_single world flushes call w) (query_single_goes flushes call w p))

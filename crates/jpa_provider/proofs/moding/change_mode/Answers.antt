@@ -1,0 +1,24 @@
+use Rattle.std.proofs.Common.{List, refl}
+use Rattle.jpa_provider.specs.declared.session.EntityManager.{EntityManager}
+use Rattle.jpa_provider.specs.declared.session.Session.{Session}
+use Rattle.jpa_provider.specs.Serving.{manager_in}
+use Rattle.jpa_provider.proofs.Counted.{counted_same}
+use Rattle.jpa_provider.proofs.Sessions.{mode_there}
+use Rattle.jpa_provider.proofs.moding.change_mode.Goals as goal
+
+pub returns-clause-mode : goal.returns-clause-mode
+returns-clause-mode c =
+    let s = c.args.session.now in
+    let t : Session = record s { managers = c.set_mode.new.managers } in
+    mode_there s t c.args.manager c.args.mode refl refl c.set_mode.ensures
+
+pub returns-clause-settled : goal.returns-clause-settled
+returns-clause-settled c = λ settled.
+    let s = c.args.session.now in
+    let t : Session = record s { managers = c.set_mode.new.managers } in
+    let x : EntityManager = manager_in s.managers.items c.args.manager in
+    record {
+      kept = settled.kept;
+      quiet = settled.quiet;
+      counted = counted_same s t c.args.manager (record x { mode = c.args.mode }) c.requires.within settled.counted c.set_mode.ensures refl refl refl refl (settled.counted).calm;
+    }

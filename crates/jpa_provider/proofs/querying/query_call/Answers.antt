@@ -1,0 +1,94 @@
+use Rattle.std.proofs.Common.{◌≡◌, ℕ, Bool, false, true, refl, ap, sym, subst, ◌∙◌}
+use Rattle.std.specs.Prelude.{T, Some}
+use Rattle.std.specs.FinMap.Entries.{is_sorted}
+use Rattle.std.proofs.Math.Facts.{to_z-of_z}
+use Rattle.std.proofs.lemmas.Bool.{false≢true}
+use Rattle.jpa_value.specs.Value.{identity_cmp}
+use Rattle.jpa_behaviour.specs.Registered.{world_of}
+use Rattle.jpa_stored.specs.Sets.{IsSound}
+use Rattle.jpa_context.specs.Work.{Work}
+use Rattle.jpa_context.specs.Steps.{Meets}
+use Rattle.jpa_context.specs.Undo.{now}
+use Rattle.jpa_fetch.specs.Grown.{IsReady}
+use Rattle.jpa_ops.specs.Names.{has_distinct_entries}
+use Rattle.jpa_protocol.specs.declared.call.FlushMode.{FlushMode}
+use Rattle.jpa_queries.specs.Premises.{StaysReady}
+use Rattle.jpa_provider.specs.declared.replies.Rule.{Rule}
+use Rattle.jpa_provider.specs.Machine.{flushes_in, flushes_first, work_of}
+use Rattle.jpa_provider.specs.Querying.{query_told}
+use Rattle.jpa_provider.specs.Serving.{machine_of, manager_in, is_begun_status, named, Serves}
+use Rattle.jpa_provider.proofs.Active.{entries_apart, view_sound, view_rises, query_ready}
+use Rattle.jpa_provider.proofs.AtWork.{work_ready}
+use Rattle.jpa_provider.proofs.Routed.{asked_alone, asked_so}
+use Rattle.jpa_provider.proofs.Sessions.{begun_there, manager_there}
+use Rattle.jpa_provider.proofs.Told.{no_fault}
+use Rattle.jpa_provider.proofs.Worked.{still_working, if_refused, ends_so}
+use Rattle.jpa_provider.proofs.querying.query_call.Goals as goal
+
+-- where the objects are flushed a transaction is open
+begun_then : (begun : Bool) (mode : FlushMode) → flushes_in begun mode ≡ true → begun ≡ true
+begun_then begun FlushMode.Auto h = h
+begun_then begun FlushMode.Commit h = absurd (false≢true h)
+
+pub query_work-answered-requires-clause-ready : goal.query_work-answered-requires-clause-ready
+query_work-answered-requires-clause-ready g c = subst (IsReady c.args.metamodel.now) (sym c.take_work.ensures.work) (work_ready c.in-Some.manager (c.requires.serving).machine)
+
+pub query_work-answered-requires-clause-shown : goal.query_work-answered-requires-clause-shown
+query_work-answered-requires-clause-shown g c = λ flushes.
+    let s = c.args.session.now in
+    let m = c.in-Some.manager in
+    let st = c.status_of.result in
+    let begun = begun_then (is_begun_status st) c.mode_of.result (sym c.flushes_first-flushes.ensures ∙ flushes) in
+    ((c.take_work.ensures.working).away).shown ∙ begun_there s m ∙ ap is_begun_status (sym c.status_of.ensures) ∙ begun
+
+pub query_work-answered-requires-clause-sound : goal.query_work-answered-requires-clause-sound
+query_work-answered-requires-clause-sound g c =
+    let world = world_of g.B.Behaviour.meaning c.args.metamodel.now c.args.registry.now in
+    subst (λ (v : Work). IsSound c.args.metamodel.now v.view) (sym c.take_work.ensures.work) (view_sound world c.args.session.now c.in-Some.manager c.requires.serving)
+
+pub query_work-answered-requires-clause-rising : goal.query_work-answered-requires-clause-rising
+query_work-answered-requires-clause-rising g c =
+    let world = world_of g.B.Behaviour.meaning c.args.metamodel.now c.args.registry.now in
+    subst (λ (v : Work). T (is_sorted identity_cmp v.view)) (sym c.take_work.ensures.work) (view_rises world c.args.session.now c.in-Some.manager c.requires.serving)
+
+pub query_work-answered-requires-clause-distinct : goal.query_work-answered-requires-clause-distinct
+query_work-answered-requires-clause-distinct g c =
+    let world = world_of g.B.Behaviour.meaning c.args.metamodel.now c.args.registry.now in
+    subst (λ (v : Work). has_distinct_entries c.args.metamodel.now v ≡ true) (sym c.take_work.ensures.work) (entries_apart world c.args.session.now c.in-Some.manager c.requires.serving)
+
+pub query_work-answered-requires-clause-then_ready : goal.query_work-answered-requires-clause-then_ready
+query_work-answered-requires-clause-then_ready g c =
+    let world = world_of g.B.Behaviour.meaning c.args.metamodel.now c.args.registry.now in
+    subst (StaysReady c.flushes_first-flushes.result world) (sym c.take_work.ensures.work) (query_ready world c.args.session.now c.in-Some.manager c.requires.serving c.flushes_first-flushes.result)
+
+pub returns-clause-step : goal.returns-clause-step
+returns-clause-step g c = λ call e.
+    let s = c.args.session.now in
+    let M = machine_of s in
+    let m = c.in-Some.manager in
+    let world = world_of g.B.Behaviour.meaning c.args.metamodel.now c.args.registry.now in
+    let done = c.query_work-answered in
+    let op = query_told c.args.told c.args.wanted in
+    let is : named s c.args.em ≡ Some m = ap (named s) (sym (to_z-of_z c.ranges.em)) ∙ sym c.in-Some.ensures.named in
+    let at = manager_there s m in
+    let flushes : c.flushes_first-flushes.result ≡ flushes_first M m =
+    c.flushes_first-flushes.ensures ∙ (λ i. flushes_in (is_begun_status (c.status_of.ensures i)) (c.mode_of.ensures i))
+    ∙ (λ i. flushes_in (sym (begun_there s m) i) (sym at i).mode) in
+    let working = still_working c.take_work.new.session done.new.work c.take_work.ensures.working done.ensures.since in
+    let met = subst (λ b. Meets done.result (now done.new.work) (op b world (work_of M m))) flushes
+    (subst (λ (w : Work). Meets done.result (now done.new.work) (op c.flushes_first-flushes.result world w)) c.take_work.ensures.work done.ensures.meets) in
+    asked_so world s c.args.em op call e c.conclude.new.session m c.conclude.result is
+    (ends_so Rule.OfManager M (machine_of c.conclude.new.session) m (op (flushes_first M m) world (work_of M m)) done.result (now done.new.work) c.conclude.result met
+    (c.conclude.ensures.concludes M (c.requires.serving).one working.away (if_refused done.result working)))
+
+pub returns-clause-settled : goal.returns-clause-settled
+returns-clause-settled g c =
+    let done = c.query_work-answered in
+    let working = still_working c.take_work.new.session done.new.work c.take_work.ensures.working done.ensures.since in
+    c.conclude.ensures.settled (machine_of c.args.session.now) working.away
+
+pub returns-clause-untold : goal.returns-clause-untold
+returns-clause-untold g c =
+    let world = world_of g.B.Behaviour.meaning c.args.metamodel.now c.args.registry.now in
+    let done = c.query_work-answered in
+    c.conclude.ensures.untold (no_fault done.result (now done.new.work) (query_told c.args.told c.args.wanted c.flushes_first-flushes.result world (now c.take_work.new.session.work)) done.ensures.meets)

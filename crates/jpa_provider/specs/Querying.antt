@@ -1,0 +1,74 @@
+-- query and querySingle with what their calls hand in (Jakarta Persistence 3.1, chapters 3.10.1, 3.10.12 parameters).
+use Rattle.std.specs.Prelude.{ℕ, Bool, List, [], ◌∷◌, length, Option, Some, None}
+use Rattle.std.specs.List.{list_all}
+use Rattle.jpa_value.specs.declared.refusal.Cause.{Cause}
+use Rattle.jpa_behaviour.specs.Behaviour.{World}
+use Rattle.jpa_heap.specs.declared.Handed.{Handed}
+use Rattle.jpa_heap.specs.Objects.{place_of}
+use Rattle.jpa_context.specs.Steps.{◌>>=◌, ◌>>◌, Op, give, read, require}
+use Rattle.jpa_protocol.specs.declared.call.Given.{Given}
+use Rattle.jpa_protocol.specs.declared.call.Parameter.{Parameter}
+use Rattle.jpa_protocol.specs.declared.reply.Answer.{Answer}
+use Rattle.jpa_queries.specs.declared.asked.Asked.{Asked}
+use Rattle.jpa_queries.specs.declared.asked.Binding.{Binding}
+use Rattle.jpa_queries.specs.Queries.{query, query_single}
+use Rattle.jpa_provider.specs.declared.querying.Told.{Told}
+use Rattle.jpa_provider.specs.declared.querying.Wanted.{Wanted}
+use Rattle.jpa_provider.specs.Calls.{give_or, is_short_given, told_as}
+
+-- ---- parameters
+
+-- what is handed in for a parameter, among so many objects
+abbrev pub object_handed : Option ℕ → Option Handed
+object_handed None = None
+object_handed (Some k) = Some (Handed.Object k)
+
+abbrev pub handed_in : ℕ → Given → Option Handed
+handed_in count (Given.Plain v) = Some (Handed.Plain v)
+handed_in count (Given.Object n) = object_handed (place_of count n)
+
+abbrev pub before : List ℕ → Option Handed → Option (List Binding) → Option (List Binding)
+before name None bs = None
+before name (Some h) None = None
+before name (Some h) (Some bs) = Some (record { name = name; value = h } ∷ bs)
+
+-- what is bound to parameters; none where a number names no object
+abbrev pub bindings_in : ℕ → List Parameter → Option (List Binding)
+bindings_in count [] = Some []
+bindings_in count (p ∷ ps) = before p.name (handed_in count p.value) (bindings_in count ps)
+
+abbrev pub are_short : List Parameter → Bool
+are_short ps = list_all (λ (p : Parameter). is_short_given p.value) ps
+
+-- each object is there, then each value is short enough
+abbrev pub bound : List Parameter → Op (List Binding)
+bound parameters = do
+  found ← read (λ w. bindings_in (length w.objects) parameters)
+  bindings ← give_or Cause.NoSuchObject found
+  require (are_short parameters) Cause.Limit
+  give bindings
+
+-- ---- calls
+
+abbrev pub asked_with : Wanted → List Binding → Asked
+asked_with q bindings = record { text = q.text; bindings = bindings; first = q.first; max = q.max }
+
+abbrev pub asked_of : Wanted → Op Asked
+asked_of q = do
+  bindings ← bound q.parameters
+  give (asked_with q bindings)
+
+abbrev pub query_call : Wanted → Bool → World → Op Answer
+query_call q flushes world = do
+  call ← asked_of q
+  told_as Answer.Rows (query world flushes call)
+
+abbrev pub query_single_call : Wanted → Bool → World → Op Answer
+query_single_call q flushes world = do
+  call ← asked_of q
+  told_as Answer.Row (query_single world flushes call)
+
+-- all rows, or the one row
+abbrev pub query_told : Told → Wanted → Bool → World → Op Answer
+query_told Told.All = query_call
+query_told Told.Single = query_single_call

@@ -1,0 +1,198 @@
+//! The calls query and querySingle (Jakarta Persistence 3.1, chapter 3.10).
+ghost use Rattle.std.specs.Prelude.{◌≡◌, T, false, length, true, IfErr, IfOk, IfSome};
+ghost use Rattle.std.specs.FinMap.Entries.{is_sorted};
+ghost use Rattle.jpa_behaviour.specs.Registered.{world_of};
+ghost use Rattle.jpa_context.specs.Steps.{Meets};
+ghost use Rattle.jpa_context.specs.Undo.{now, since};
+ghost use Rattle.jpa_fetch.specs.Grown.{IsReady};
+ghost use Rattle.jpa_fetch.specs.Orderly.{IsOrderly};
+ghost use Rattle.jpa_heap.specs.Shape.{IsInHeap};
+ghost use Rattle.jpa_ops.specs.Names.{has_distinct_entries};
+ghost use Rattle.jpa_protocol.specs.declared.call.Call.{Call};
+ghost use Rattle.jpa_provider.specs.Faults.{tells_fault};
+ghost use Rattle.jpa_provider.specs.Machine as machine;
+ghost use Rattle.jpa_provider.specs.Querying as querying;
+ghost use Rattle.jpa_provider.specs.Routes.{route, ToQuery};
+ghost use Rattle.jpa_provider.specs.Serving.{IsServing, IsSettled, Serves, is_begun_status};
+ghost use Rattle.jpa_queries.specs.Premises.{AreInHeap, StaysReady};
+ghost use Rattle.jpa_stored.specs.Sets.{IsSound};
+ghost use Rattle.jpa_value.specs.Value.{identity_cmp};
+ghost use Rattle.jpa_value.specs.declared.refusal.Cause.{Cause};
+
+use crate::at_work::{conclude, manager_named, take_work};
+use crate::handing::{is_short_given, place_of};
+use crate::replies::{Rule, because};
+use crate::session::{Session, Status, mode_of, status_of};
+use jpa_behaviour::{Behaviour, Registry};
+use jpa_context::UnitOfWork;
+use jpa_heap::Handed;
+use jpa_model::Metamodel;
+use jpa_protocol::{Answer, FlushMode, Given, Parameter, Reply};
+use jpa_queries::{Asked, Binding, query, query_single};
+use jpa_value::{Cause, Seq, Text, TryCopy};
+use std::alloc::Global;
+
+/// What a call asks: a statement's text, what is bound to its parameters, how many rows are skipped, and how many are kept
+/// at most.
+#[derive(Drop)]
+pub struct Wanted {
+    pub text: Text,
+    pub parameters: Seq<Parameter>,
+    pub first: Option<i64>,
+    pub max: Option<i64>,
+}
+
+/// Which rows are told: all of query, or the one of querySingle.
+#[derive(Clone, Copy)]
+pub enum Told {
+    All,
+    Single,
+}
+
+/// What is handed in for a parameter; none where a number names no object.
+fn handed_in(work: &UnitOfWork, given: &Given) -> Result<Option<Handed>, Cause>
+    ensures ok { IfOk result
+        (λ handed. handed ≡ querying.handed_in (length work.now.objects.now) given.now) }
+    ensures within { IfOk result (λ handed. IfSome handed (IsInHeap work.now.objects.now)) }
+    ensures err { IfErr result (λ cause. cause ≡ Cause.OutOfMemory) }
+{
+    match given {
+        Given::Plain(value) => Ok(Some(Handed::Plain(value.try_copy()?))),
+        Given::Object(number) => match place_of(work.objects.len(), *number) {
+            Some(place) => Ok(Some(Handed::Object(place))),
+            None => Ok(None),
+        },
+    }
+}
+
+/// What is bound to parameters; none where a number names no object.
+fn bindings_in(
+    alloc: Global,
+    work: &UnitOfWork,
+    parameters: &[Parameter],
+) -> Result<Option<Seq<Binding>>, Cause>
+    ensures ok { IfOk result (λ bindings. bindings
+        ≡ querying.bindings_in (length work.now.objects.now) parameters.now) }
+    ensures within { IfOk result
+        (λ bindings. IfSome bindings (AreInHeap work.now.objects.now)) }
+    ensures err { IfErr result (λ cause. cause ≡ Cause.OutOfMemory) }
+{
+    let mut bindings = Seq::new(alloc);
+    for parameter in parameters {
+        match handed_in(work, &parameter.value)? {
+            Some(value) => bindings.push(Binding {
+                name: parameter.name.try_copy()?,
+                value,
+            })?,
+            None => return Ok(None),
+        }
+    }
+    Ok(Some(bindings))
+}
+
+/// Whether all values that are bound are short enough.
+fn are_short(parameters: &[Parameter]) -> bool
+    ensures { result ≡ querying.are_short parameters.now }
+{
+    for parameter in parameters {
+        if !is_short_given(&parameter.value) {
+            return false;
+        }
+    }
+    true
+}
+
+/// What a call asks, with what is bound to its parameters: `NoSuchObject` where a number names no object, then `Limit` where a
+/// value is too long; `OutOfMemory`.
+fn asked_of(alloc: Global, work: &UnitOfWork, wanted: Wanted) -> Result<Asked, Cause>
+    ensures meets { Meets result (now work.now) (querying.asked_of wanted (now work.now)) }
+    ensures bound { IfOk result (λ asked. AreInHeap work.now.objects.now asked.bindings) }
+{
+    let Some(bindings) = bindings_in(alloc, work, wanted.parameters.as_slice())? else {
+        return Err(Cause::NoSuchObject);
+    };
+    if !are_short(wanted.parameters.as_slice()) {
+        return Err(Cause::Limit);
+    }
+    Ok(Asked {
+        text: wanted.text,
+        bindings,
+        first: wanted.first,
+        max: wanted.max,
+    })
+}
+
+/// A query of a manager at work, and its answer. Refused as `query` and `query_single` are.
+fn query_work<B: Behaviour>(
+    alloc: Global,
+    metamodel: &Metamodel,
+    registry: &Registry<B>,
+    work: &mut UnitOfWork,
+    flushes: bool,
+    wanted: Wanted,
+    told: Told,
+) -> Result<Answer, Cause>
+    requires orderly { IsOrderly metamodel.now }
+    requires ready { IsReady metamodel.now (now work.old) }
+    requires shown { flushes ≡ true → work.old.view.is_shown ≡ true }
+    requires sound { IsSound metamodel.now (now work.old).view }
+    requires rising { T (is_sorted identity_cmp (now work.old).view) }
+    requires distinct { has_distinct_entries metamodel.now (now work.old) ≡ true }
+    requires then_ready { StaysReady flushes (world_of B.meaning metamodel.now registry.now)
+        (now work.old) }
+    ensures meets { let world = world_of B.meaning metamodel.now registry.now in
+        Meets result (now work.new) (querying.query_told told wanted flushes world (now work.old)) }
+    ensures since { since work.new ≡ since work.old }
+{
+    let asked = asked_of(alloc, work, wanted)?;
+    match told {
+        Told::All => {
+            let rows = query(alloc, metamodel, registry, work, flushes, &asked)?;
+            Ok(Answer::Rows(rows))
+        }
+        Told::Single => {
+            let row = query_single(alloc, metamodel, registry, work, flushes, &asked)?;
+            Ok(Answer::Row(row))
+        }
+    }
+}
+
+/// Whether the manager's objects are flushed before a query: in an open transaction under the mode AUTO (chapter 3.10.8).
+fn flushes_first(status: Status, mode: FlushMode) -> bool
+    ensures { result ≡ machine.flushes_in (is_begun_status status) mode }
+{
+    match mode {
+        FlushMode::Auto => status.is_begun(),
+        FlushMode::Commit => false,
+    }
+}
+
+/// A call whose route is a query of a manager.
+pub(crate) fn query_call<B: Behaviour>(
+    alloc: Global,
+    metamodel: &Metamodel,
+    registry: &Registry<B>,
+    session: &mut Session,
+    em: i64,
+    wanted: Wanted,
+    told: Told,
+) -> Reply
+    requires serving { IsServing (world_of B.meaning metamodel.now registry.now) session.old }
+    ensures step { let world = world_of B.meaning metamodel.now registry.now in
+        (call : Call) → route call ≡ ToQuery em (querying.query_told told wanted)
+        → Serves world session.old call result session.new }
+    ensures untold { tells_fault result ≡ false }
+    ensures settled { IsSettled session.new }
+{
+    let Some(manager) = manager_named(session, em) else {
+        return because(alloc, Cause::NoSuchManager);
+    };
+    let flushes = flushes_first(
+        status_of(&session.managers, manager),
+        mode_of(&session.managers, manager),
+    );
+    take_work(session, manager);
+    let work = &mut session.work;
+    let answered = query_work(alloc, metamodel, registry, work, flushes, wanted, told);
+    conclude(alloc, session, manager, answered, Rule::OfManager)
+}
