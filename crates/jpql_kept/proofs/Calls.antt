@@ -1,0 +1,210 @@
+-- What functions give is of the sort that typing says.
+use Rattle.std.proofs.Common.{◌≡◌, refl, sym, subst, ℤ, pos, Bool, true, false, List, [], ◌∷◌, length}
+use Rattle.std.specs.Prelude.{nat_abs, nat_eq, int_rem, neg_ℤ, if◌then◌else◌, Option, Some, None}
+use Rattle.std.specs.List.{list_all}
+use Rattle.std.proofs.lemmas.Bool.{and_parts}
+use Rattle.jpa_value.specs.declared.value.Value.{Value}
+use Rattle.jpa_value.specs.Value.{is_i64}
+use Rattle.jpa_row_laws.proofs.Facts.{some_none, value_in}
+use Rattle.jpa_stored.specs.Sets.{each_fits}
+use Rattle.jpql_tree.specs.declared.Function.{Function}
+use Rattle.jpql_tree.specs.declared.Arithmetic.{Arithmetic}
+use Rattle.jpql_tree.specs.declared.Sign.{Sign}
+use Rattle.jpql_tree.specs.declared.Comparison.{Comparison}
+use Rattle.jpql_tree.specs.Values.{takes}
+use Rattle.jpql_types.specs.declared.sort.Sort.{Sort}
+use Rattle.jpql_types.specs.Scope.{when}
+use Rattle.jpql_types.specs.Sorts as sorts
+use Rattle.jpql_eval.specs.declared.datum.Datum.{Datum}
+use Rattle.jpql_eval.specs.Answers.{Answer, gives, overflows, ◌>>=◌}
+use Rattle.jpql_eval.specs.Data.{null, is_nothing, compared}
+use Rattle.jpql_eval.specs.Truths.{is_yes}
+use Rattle.jpql_eval.specs.Numbers.{number, integer, arithmetic, signed, absolute, modulo, calculate}
+use Rattle.jpql_eval.specs.Calls as calls
+use Rattle.jpql_kept.specs.Fits.{is_of_sort}
+use Rattle.jpql_kept.proofs.Sorts.{null_of, basic_each}
+
+-- a datum that is given is of the sort
+abbrev pub gives_of : Sort → Answer Datum → Bool
+gives_of s (gives d) = is_of_sort s d
+gives_of s overflows = true
+
+pub given_of : (s : Sort) (a : Answer Datum) (d : Datum) → gives_of s a ≡ true → a ≡ gives d → is_of_sort s d ≡ true
+given_of s (gives x) d h e = let same : x ≡ d = cc in subst (λ y. is_of_sort s y ≡ true) same h
+given_of s overflows d h e = absurd cc
+
+pub given_in : (x d : Datum) → gives x ≡ gives d → x ≡ d
+given_in x d e = cc
+
+-- what is computed of whatever was given is of the sort
+abbrev pub then_computed : {A : Type 0} → Answer A → (A → Answer Datum) → Answer Datum
+then_computed a go = a >>= go
+
+pub then_of : {A : Type 0} (s : Sort) (a : Answer A) (go : A → Answer Datum) → ((x : A) → gives_of s (go x) ≡ true) → gives_of s (then_computed a go) ≡ true
+then_of s (gives x) go h = h x
+then_of s overflows go h = refl
+
+pub then_given : {A : Type 0} (s : Sort) (a : Answer A) (go : A → Answer Datum) → ((x : A) → a ≡ gives x → gives_of s (go x) ≡ true) → gives_of s (then_computed a go) ≡ true
+then_given s (gives x) go h = h x refl
+then_given s overflows go h = refl
+
+-- ---- integers
+
+integer_if : (n : ℤ) (b : Bool) → gives_of sorts.integer (if b then gives (number n) else overflows) ≡ true
+integer_if n true = refl
+integer_if n false = refl
+
+integer_of : (n : ℤ) → gives_of sorts.integer (integer n) ≡ true
+integer_of n = integer_if n (is_i64 n)
+
+pub signed_of : (sign : Sign) (d : Datum) → gives_of sorts.integer (signed sign d) ≡ true
+signed_of Sign.Plus (Datum.Plain (Value.Int n)) = integer_of n
+signed_of Sign.Minus (Datum.Plain (Value.Int n)) = integer_of (neg_ℤ n)
+signed_of Sign.Plus (Datum.Plain Value.Null) = refl
+signed_of Sign.Plus (Datum.Plain (Value.Text t)) = refl
+signed_of Sign.Plus (Datum.Plain (Value.Bytes t)) = refl
+signed_of Sign.Plus (Datum.Entity id) = refl
+signed_of Sign.Minus (Datum.Plain Value.Null) = refl
+signed_of Sign.Minus (Datum.Plain (Value.Text t)) = refl
+signed_of Sign.Minus (Datum.Plain (Value.Bytes t)) = refl
+signed_of Sign.Minus (Datum.Entity id) = refl
+
+pub arithmetic_of : (op : Arithmetic) (a b : Datum) → gives_of sorts.integer (arithmetic op a b) ≡ true
+arithmetic_of op (Datum.Plain (Value.Int a)) (Datum.Plain (Value.Int b)) = integer_of (calculate op a b)
+arithmetic_of op (Datum.Plain (Value.Int a)) (Datum.Plain Value.Null) = refl
+arithmetic_of op (Datum.Plain (Value.Int a)) (Datum.Plain (Value.Text t)) = refl
+arithmetic_of op (Datum.Plain (Value.Int a)) (Datum.Plain (Value.Bytes t)) = refl
+arithmetic_of op (Datum.Plain (Value.Int a)) (Datum.Entity id) = refl
+arithmetic_of op (Datum.Plain Value.Null) b = refl
+arithmetic_of op (Datum.Plain (Value.Text t)) b = refl
+arithmetic_of op (Datum.Plain (Value.Bytes t)) b = refl
+arithmetic_of op (Datum.Entity id) b = refl
+
+absolute_of : (d : Datum) → gives_of sorts.integer (absolute d) ≡ true
+absolute_of (Datum.Plain (Value.Int n)) = integer_of (pos (nat_abs n))
+absolute_of (Datum.Plain Value.Null) = refl
+absolute_of (Datum.Plain (Value.Text t)) = refl
+absolute_of (Datum.Plain (Value.Bytes t)) = refl
+absolute_of (Datum.Entity id) = refl
+
+rest_of : (n : ℤ) (b : Bool) → gives_of sorts.integer (if b then gives null else integer n) ≡ true
+rest_of n true = refl
+rest_of n false = integer_of n
+
+modulo_of : (a b : Datum) → gives_of sorts.integer (modulo a b) ≡ true
+modulo_of (Datum.Plain (Value.Int a)) (Datum.Plain (Value.Int b)) = rest_of (int_rem a b) (nat_eq (nat_abs b) 0)
+modulo_of (Datum.Plain (Value.Int a)) (Datum.Plain Value.Null) = refl
+modulo_of (Datum.Plain (Value.Int a)) (Datum.Plain (Value.Text t)) = refl
+modulo_of (Datum.Plain (Value.Int a)) (Datum.Plain (Value.Bytes t)) = refl
+modulo_of (Datum.Plain (Value.Int a)) (Datum.Entity id) = refl
+modulo_of (Datum.Plain Value.Null) b = refl
+modulo_of (Datum.Plain (Value.Text t)) b = refl
+modulo_of (Datum.Plain (Value.Bytes t)) b = refl
+modulo_of (Datum.Entity id) b = refl
+
+-- ---- of operands where they are of the kind
+
+one_of : {A : Type 0} (s : Sort) (make : A → Datum) (o : Option A) → ((x : A) → is_of_sort s (make x) ≡ true) → is_of_sort s (calls.of_one make o) ≡ true
+one_of s make None h = null_of s
+one_of s make (Some x) h = h x
+
+length_of : (a : Datum) → is_of_sort sorts.integer (calls.length_of a) ≡ true
+length_of a = one_of sorts.integer _ (calls.text_in a) (λ t. refl)
+
+substring_of : (a from : Datum) → is_of_sort sorts.text (calls.substring_of a from) ≡ true
+substring_of a from = one_of sorts.text _ (calls.text_in a) (λ t. one_of sorts.text _ (calls.integer_in from) (λ f. refl))
+
+substring_upto : (a from n : Datum) → is_of_sort sorts.text (calls.substring_upto a from n) ≡ true
+substring_upto a from n = one_of sorts.text _ (calls.text_in a) (λ t. one_of sorts.text _ (calls.integer_in from) (λ f. one_of sorts.text _ (calls.integer_in n) (λ k. refl)))
+
+locate_from : (x a from : Datum) → is_of_sort sorts.integer (calls.locate_from x a from) ≡ true
+locate_from x a from = one_of sorts.integer _ (calls.text_in x) (λ s. one_of sorts.integer _ (calls.text_in a) (λ t. one_of sorts.integer _ (calls.integer_in from) (λ f. refl)))
+
+-- ---- of values of one sort
+
+coalesce_of : (s : Sort) (ds : List Datum) → list_all (is_of_sort s) ds ≡ true → is_of_sort s (calls.coalesce ds) ≡ true
+coalesce_of s [] h = null_of s
+coalesce_of s (d ∷ ds) h =
+    let a = and_parts (is_of_sort s d) (list_all (is_of_sort s) ds) h in
+    by_test (is_nothing d) a.0 (coalesce_of s ds a.1)
+  where
+    by_test : (b : Bool) → is_of_sort s d ≡ true → is_of_sort s (calls.coalesce ds) ≡ true → is_of_sort s (if b then calls.coalesce ds else d) ≡ true
+    by_test true own later = later
+    by_test false own later = own
+
+null_if_of : (s : Sort) (a b : Datum) → is_of_sort s a ≡ true → is_of_sort s (calls.null_if a b) ≡ true
+null_if_of s a b h = by_test (is_yes (compared Comparison.Equal a b))
+  where
+    by_test : (t : Bool) → is_of_sort s (if t then null else a) ≡ true
+    by_test true = null_of s
+    by_test false = h
+
+nulls_of : (s : Sort) (ds : List Datum) → list_all (is_of_sort s) ds ≡ true → gives_of s (calls.applied Function.NullIf ds) ≡ true
+nulls_of s [] h = null_of s
+nulls_of s (a ∷ []) h = null_of s
+nulls_of s (a ∷ b ∷ []) h = null_if_of s a b (and_parts (is_of_sort s a) _ h).0
+nulls_of s (a ∷ b ∷ c ∷ []) h = null_of s
+nulls_of s (a ∷ b ∷ c ∷ d ∷ ds) h = null_of s
+
+-- ---- all functions
+
+lengths_of : (ds : List Datum) → gives_of sorts.integer (calls.applied Function.Length ds) ≡ true
+lengths_of [] = refl
+lengths_of (a ∷ []) = length_of a
+lengths_of (a ∷ b ∷ []) = refl
+lengths_of (a ∷ b ∷ c ∷ []) = refl
+lengths_of (a ∷ b ∷ c ∷ d ∷ ds) = refl
+
+substrings_of : (ds : List Datum) → gives_of sorts.text (calls.applied Function.Substring ds) ≡ true
+substrings_of [] = refl
+substrings_of (a ∷ []) = refl
+substrings_of (a ∷ b ∷ []) = substring_of a b
+substrings_of (a ∷ b ∷ c ∷ []) = substring_upto a b c
+substrings_of (a ∷ b ∷ c ∷ d ∷ ds) = refl
+
+locates_of : (ds : List Datum) → gives_of sorts.integer (calls.applied Function.Locate ds) ≡ true
+locates_of [] = refl
+locates_of (a ∷ []) = refl
+locates_of (a ∷ b ∷ []) = locate_from a b (number (pos 1))
+locates_of (a ∷ b ∷ c ∷ []) = locate_from a b c
+locates_of (a ∷ b ∷ c ∷ d ∷ ds) = refl
+
+absolutes_of : (ds : List Datum) → gives_of sorts.integer (calls.applied Function.Abs ds) ≡ true
+absolutes_of [] = refl
+absolutes_of (a ∷ []) = absolute_of a
+absolutes_of (a ∷ b ∷ []) = refl
+absolutes_of (a ∷ b ∷ c ∷ []) = refl
+absolutes_of (a ∷ b ∷ c ∷ d ∷ ds) = refl
+
+modulos_of : (ds : List Datum) → gives_of sorts.integer (calls.applied Function.Mod ds) ≡ true
+modulos_of [] = refl
+modulos_of (a ∷ []) = refl
+modulos_of (a ∷ b ∷ []) = modulo_of a b
+modulos_of (a ∷ b ∷ c ∷ []) = refl
+modulos_of (a ∷ b ∷ c ∷ d ∷ ds) = refl
+
+when_is : (b : Bool) (s r : Sort) → when b s ≡ Some r → s ≡ r
+when_is true s r e = value_in s r e
+when_is false s r e = absurd (some_none r (sym e))
+
+-- what is of the sort of a function is of the sort that typing says
+whenever : (b : Bool) (s r : Sort) (a : Answer Datum) → when b s ≡ Some r → gives_of s a ≡ true → gives_of r a ≡ true
+whenever b s r a e h = subst (λ t. gives_of t a ≡ true) (when_is b s r e) h
+
+given_by : (f : Function) (ss : List Sort) (ds : List Datum) (r : Sort) → sorts.given_sort f ss ≡ Some r → each_fits is_of_sort ss ds ≡ true → gives_of r (calls.applied f ds) ≡ true
+given_by Function.Length ss ds r e h = whenever _ sorts.integer r (calls.applied Function.Length ds) e (lengths_of ds)
+given_by Function.Concat ss ds r e h = whenever _ sorts.text r (calls.applied Function.Concat ds) e (one_of sorts.text calls.text (calls.joined_texts ds) (λ t. refl))
+given_by Function.Substring ss ds r e h = whenever _ sorts.text r (calls.applied Function.Substring ds) e (substrings_of ds)
+given_by Function.Locate ss ds r e h = whenever _ sorts.integer r (calls.applied Function.Locate ds) e (locates_of ds)
+given_by Function.Abs ss ds r e h = whenever _ sorts.integer r (calls.applied Function.Abs ds) e (absolutes_of ds)
+given_by Function.Mod ss ds r e h = whenever _ sorts.integer r (calls.applied Function.Mod ds) e (modulos_of ds)
+given_by Function.Coalesce ss ds r e h = coalesce_of r ds (basic_each r ss ds e h)
+given_by Function.NullIf ss ds r e h = nulls_of r ds (basic_each r ss ds e h)
+
+-- where a function takes so many
+pub call_of : (f : Function) (ss : List Sort) (ds : List Datum) (r : Sort) → sorts.call_sort f ss ≡ Some r → each_fits is_of_sort ss ds ≡ true → gives_of r (calls.applied f ds) ≡ true
+call_of f ss ds r e h = by_test (takes f (length ss)) e
+  where
+    by_test : (b : Bool) → (if b then sorts.given_sort f ss else None) ≡ Some r → gives_of r (calls.applied f ds) ≡ true
+    by_test true g = given_by f ss ds r g h
+    by_test false g = absurd (some_none r (sym g))

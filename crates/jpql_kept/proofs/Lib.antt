@@ -1,0 +1,11 @@
+pub mod Items
+pub mod Sorts
+pub mod Calls
+pub mod Standing
+pub mod Given
+pub mod Values
+pub mod Settings
+pub mod Assigned
+pub mod Puts
+pub mod Kept
+pub mod Inherited
