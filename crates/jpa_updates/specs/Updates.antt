@@ -1,0 +1,74 @@
+-- executeUpdate of a manager (Jakarta Persistence 3.1, chapters 3.10.1 and 4.10 bulk UPDATE and DELETE).
+use Rattle.std.specs.Prelude.{◌≡◌, ℕ, Bool, true, false, T, List, Result, Ok, Err}
+use Rattle.std.specs.FinMap.Entries.{is_sorted}
+use Rattle.jpa_value.specs.declared.refusal.Cause.{Cause}
+use Rattle.jpa_value.specs.declared.refusal.State.{State}
+use Rattle.jpa_value.specs.Value.{identity_cmp}
+use Rattle.jpa_model.specs.declared.unit.PersistenceUnit.{PersistenceUnit}
+use Rattle.jpa_behaviour.specs.Behaviour.{World}
+use Rattle.jpa_stored.specs.Sets.{StoredSet, fault_of, IsSound}
+use Rattle.jpa_context.specs.Work.{Work}
+use Rattle.jpa_context.specs.Steps.{◌>>=◌, ◌>>◌, Op, Done, give, require, read, change}
+use Rattle.jpa_flush.specs.Flush.{sound_or}
+use Rattle.jpql_tree.specs.Grammar.{Text}
+use Rattle.jpql_types.specs.declared.typed.Typed.{Typed}
+use Rattle.jpql_eval.specs.declared.datum.Datum.{Datum}
+use Rattle.jpql_plan.specs.Bulk.{Changed, updated, deleted}
+use Rattle.jpql_kept.specs.Fits.{throws_in}
+use Rattle.jpa_queries.specs.declared.asked.Binding.{Binding}
+use Rattle.jpa_queries.specs.declared.asked.Statement.{Statement}
+use Rattle.jpa_queries.specs.Asking.{given, read_of, statement_of}
+use Rattle.jpa_queries.specs.Queries.{flush_if}
+
+-- ---- what is asked
+
+abbrev pub is_bulk : Typed → Bool
+is_bulk (Typed.Select q) = false
+is_bulk (Typed.Update class assignments filter) = true
+is_bulk (Typed.Delete class is_named filter) = true
+
+-- a statement that changes objects, in a transaction, with what stands for its parameters
+abbrev pub judged_bulk : PersistenceUnit → Bool → Text → List Binding → Op Statement
+judged_bulk m is_active text bindings = do
+  tree ← read_of text
+  require is_active Cause.TransactionRequired
+  statement ← statement_of m tree bindings
+  require (is_bulk statement.typed) (Cause.IllegalState State.Statement)
+  give statement
+
+-- ---- what it does
+
+-- what a statement makes of the set that a manager sees, and how many objects it concerned; a SELECT makes nothing
+abbrev pub changed_by : World → Typed → List Datum → StoredSet → Result Changed Cause
+changed_by world (Typed.Select q) arguments s = Err (Cause.IllegalState State.Statement)
+changed_by world (Typed.Update class assignments filter) arguments s = updated world.model s arguments (throws_in world) class assignments filter
+changed_by world (Typed.Delete class is_named filter) arguments s = deleted world.model s arguments class is_named filter
+
+abbrev pub with_view : StoredSet → Work → Work
+with_view s w = record w { view = s }
+
+-- the new set is seen where it is sound; the number of objects is the answer
+abbrev pub settle : PersistenceUnit → Changed → Op ℕ
+settle m c = do
+  sound_or (fault_of m c.0)
+  change (with_view c.0)
+  give c.1
+
+abbrev pub settled : PersistenceUnit → Result Changed Cause → Op ℕ
+settled m r = given r >>= settle m
+
+abbrev pub run_bulk : World → Statement → Op ℕ
+run_bulk world q = read (λ w. changed_by world q.typed q.arguments w.view) >>= settled world.model
+
+-- in a transaction, under flush mode AUTO after a flush
+abbrev pub execute_update : World → Bool → Bool → Text → List Binding → Op ℕ
+execute_update world is_active flushes text bindings = do
+  statement ← judged_bulk world.model is_active text bindings
+  flush_if flushes world
+  run_bulk world statement
+
+-- ---- what code stands on
+
+-- the set that is seen after the flush, if there is one, is sound and in order
+abbrev pub StaysSound : Bool → World → Work → Type 0
+StaysSound flushes world w = (v : Work) → flush_if flushes world w ≡ Done tt v → IsSound world.model v.view × T (is_sorted identity_cmp v.view)

@@ -1,0 +1,246 @@
+//! executeUpdate.
+ghost use Rattle.std.specs.Prelude.{◌≡◌, T, true, OnOk};
+ghost use Rattle.std.specs.FinMap.Entries.{is_sorted};
+ghost use Rattle.jpa_behaviour.specs.Registered.{world_of};
+ghost use Rattle.jpa_context.specs.Steps.{Meets, Done};
+ghost use Rattle.jpa_context.specs.Undo.{now, since};
+ghost use Rattle.jpa_context.specs.Work.{Work};
+ghost use Rattle.jpa_fetch.specs.Grown.{IsReady};
+ghost use Rattle.jpa_fetch.specs.Orderly.{IsOrderly};
+ghost use Rattle.jpa_ops.specs.Names.{has_distinct_entries};
+ghost use Rattle.jpa_queries.specs.Premises.{AreInHeap};
+ghost use Rattle.jpa_queries.specs.Queries as queries;
+ghost use Rattle.jpa_updates.specs.Updates as updates;
+ghost use Rattle.jpa_rows.specs.Cells.{all_representable};
+ghost use Rattle.jpa_stored.specs.Sets.{IsSound};
+ghost use Rattle.jpa_value.specs.Value.{identity_cmp};
+ghost use Rattle.jpql_types.specs.declared.typed.Typed.{Typed};
+
+use crate::finding::{made_by_update, taken_by_delete};
+use crate::settling::{put_sound, take_sound};
+use jpa_behaviour::{Behaviour, Registry};
+use jpa_context::UnitOfWork;
+use jpa_flush::flush;
+use jpa_model::Metamodel;
+use jpa_queries::{Binding, Statement, read_of, statement_of};
+use jpa_value::{Boxed, Cause, State};
+use jpql_eval::Datum;
+use jpql_types::{Typed, TypedAssignment, TypedCondition};
+use std::alloc::Global;
+
+/// Whether a statement changes objects.
+fn is_bulk(typed: &Typed) -> bool
+    ensures { result ≡ updates.is_bulk typed.now }
+{
+    match typed {
+        Typed::Select(_) => false,
+        Typed::Update { .. } | Typed::Delete { .. } => true,
+    }
+}
+
+/// The UPDATE or DELETE that is asked, with what stands for its parameters.
+///
+/// `Limit` for a text over the limits; `TransactionRequired` without a transaction; as `statement_of` refuses;
+/// `IllegalState(statement)` for a SELECT.
+fn judged(
+    alloc: Global,
+    metamodel: &Metamodel,
+    work: &UnitOfWork,
+    is_active: bool,
+    text: &str,
+    bindings: &[Binding],
+) -> Result<Statement, Cause>
+    requires ready { IsReady metamodel.now (now work.now) }
+    requires bound { AreInHeap work.now.objects.now bindings.now }
+    ensures meets { Meets result (now work.now)
+        (updates.judged_bulk metamodel.now is_active text.now bindings.now (now work.now)) }
+{
+    let tree = read_of(alloc, text)?;
+    if !is_active {
+        return Err(Cause::TransactionRequired);
+    }
+    let statement = statement_of(alloc, metamodel, work, tree, bindings)?;
+    if !is_bulk(&statement.typed) {
+        return Err(Cause::IllegalState(State::Statement));
+    }
+    Ok(statement)
+}
+
+/// The flush before a statement, where there is one. Refused as `flush` is.
+fn flush_if<B: Behaviour>(
+    alloc: Global,
+    metamodel: &Metamodel,
+    registry: &Registry<B>,
+    work: &mut UnitOfWork,
+    flushes: bool,
+) -> Result<(), Cause>
+    requires orderly { IsOrderly metamodel.now }
+    requires ready { IsReady metamodel.now (now work.old) }
+    requires shown { flushes ≡ true → work.old.view.is_shown ≡ true }
+    requires sound { IsSound metamodel.now (now work.old).view }
+    requires rising { T (is_sorted identity_cmp (now work.old).view) }
+    requires distinct { has_distinct_entries metamodel.now (now work.old) ≡ true }
+    ensures meets { let world = world_of B.meaning metamodel.now registry.now in
+        Meets result (now work.new) (queries.flush_if flushes world (now work.old)) }
+    ensures since { since work.new ≡ since work.old }
+{
+    if flushes {
+        flush(alloc, metamodel, registry, work)
+    } else {
+        Ok(())
+    }
+}
+
+/// An UPDATE of a class over the set that a manager sees; how many objects it concerned.
+fn update<B: Behaviour>(
+    alloc: Global,
+    metamodel: &Metamodel,
+    registry: &Registry<B>,
+    work: &mut UnitOfWork,
+    arguments: &[Datum],
+    class: usize,
+    assignments: &[TypedAssignment],
+    filter: &Option<Boxed<TypedCondition>>,
+) -> Result<usize, Cause>
+    requires shown { work.old.view.is_shown ≡ true }
+    requires sound { IsSound metamodel.now (now work.old).view }
+    requires rising { T (is_sorted identity_cmp (now work.old).view) }
+    ensures meets { let world = world_of B.meaning metamodel.now registry.now in
+        Meets result (now work.new) (updates.settled metamodel.now (updates.changed_by world
+        (Typed.Update class assignments.now filter.now) arguments.now (now work.old).view)
+        (now work.old)) }
+    ensures representable { OnOk result (all_representable (now work.old).view ≡ true
+        → all_representable (now work.new).view ≡ true) }
+    ensures since { since work.new ≡ since work.old }
+{
+    let objects = made_by_update(
+        alloc,
+        metamodel,
+        registry,
+        &work.view,
+        arguments,
+        class,
+        assignments,
+        filter,
+    )?;
+    put_sound(alloc, metamodel, work, &objects)
+}
+
+/// A DELETE of a class over the set that a manager sees; how many objects it concerned.
+fn delete<B: Behaviour>(
+    alloc: Global,
+    metamodel: &Metamodel,
+    registry: &Registry<B>,
+    work: &mut UnitOfWork,
+    arguments: &[Datum],
+    class: usize,
+    is_named: bool,
+    filter: &Option<Boxed<TypedCondition>>,
+) -> Result<usize, Cause>
+    requires shown { work.old.view.is_shown ≡ true }
+    requires sound { IsSound metamodel.now (now work.old).view }
+    requires rising { T (is_sorted identity_cmp (now work.old).view) }
+    ensures meets { let world = world_of B.meaning metamodel.now registry.now in
+        Meets result (now work.new) (updates.settled metamodel.now (updates.changed_by world
+        (Typed.Delete class is_named filter.now) arguments.now (now work.old).view)
+        (now work.old)) }
+    ensures representable { OnOk result (all_representable (now work.old).view ≡ true
+        → all_representable (now work.new).view ≡ true) }
+    ensures since { since work.new ≡ since work.old }
+{
+    let ids = taken_by_delete(
+        alloc, metamodel, &work.view, arguments, class, is_named, filter,
+    )?;
+    take_sound(alloc, metamodel, work, ids.as_slice())
+}
+
+/// A statement over the set that a manager sees; how many objects it concerned.
+fn run<B: Behaviour>(
+    alloc: Global,
+    metamodel: &Metamodel,
+    registry: &Registry<B>,
+    work: &mut UnitOfWork,
+    statement: &Statement,
+) -> Result<usize, Cause>
+    requires shown { work.old.view.is_shown ≡ true }
+    requires sound { IsSound metamodel.now (now work.old).view }
+    requires rising { T (is_sorted identity_cmp (now work.old).view) }
+    ensures meets { let world = world_of B.meaning metamodel.now registry.now in
+        Meets result (now work.new) (updates.run_bulk world statement.now (now work.old)) }
+    ensures representable { OnOk result (all_representable (now work.old).view ≡ true
+        → all_representable (now work.new).view ≡ true) }
+    ensures since { since work.new ≡ since work.old }
+{
+    let arguments = statement.arguments.as_slice();
+    match &statement.typed {
+        Typed::Select(_) => Err(Cause::IllegalState(State::Statement)),
+        Typed::Update {
+            class,
+            assignments,
+            filter,
+        } => update(
+            alloc,
+            metamodel,
+            registry,
+            work,
+            arguments,
+            *class,
+            assignments.as_slice(),
+            filter,
+        ),
+        Typed::Delete {
+            class,
+            is_named,
+            filter,
+        } => delete(
+            alloc, metamodel, registry, work, arguments, *class, *is_named, filter,
+        ),
+    }
+}
+
+/// An UPDATE or DELETE over the set that a manager sees (Jakarta Persistence 3.1, chapters 3.10.1 and 4.10),
+/// without cascades, callbacks or checks of versions; the context stays as it is. It answers how many objects the
+/// statement concerned. Where `flushes`, as in a transaction under flush mode AUTO (chapter 3.10.8), the manager's
+/// objects are flushed before.
+///
+/// In this order: `Limit` for a text that is too long, nests too deep or declares too many variables;
+/// `TransactionRequired` where no transaction `is_active`; `IllegalArgument` with `Syntax` for a text outside the
+/// grammar, `Typing` for an ill-typed one, `Parameter` where a parameter isn't bound, one is bound that isn't in the
+/// text, or an object is bound whose key isn't whole; `IllegalState(statement)` for a SELECT; what `flush` refuses;
+/// `Overflow` for an integer outside 64 bits; of an UPDATE, by object and assignment, `Limit` for a value that is
+/// too long, `Persistence(converter)` where a converter throws, `Persistence(null)` where a version is set to null;
+/// `Persistence` with `Null`, `Reference` or `Unique` where the new set would not be sound. `OutOfMemory` where a
+/// growth was refused. What a refused call changed is undone by `UnitOfWork::undo`.
+pub fn execute_update<B: Behaviour>(
+    alloc: Global,
+    metamodel: &Metamodel,
+    registry: &Registry<B>,
+    work: &mut UnitOfWork,
+    is_active: bool,
+    flushes: bool,
+    text: &str,
+    bindings: &[Binding],
+) -> Result<usize, Cause>
+    requires orderly { IsOrderly metamodel.now }
+    requires ready { IsReady metamodel.now (now work.old) }
+    requires shown { is_active ≡ true → work.old.view.is_shown ≡ true }
+    requires flushing { flushes ≡ true → is_active ≡ true }
+    requires sound { IsSound metamodel.now (now work.old).view }
+    requires rising { T (is_sorted identity_cmp (now work.old).view) }
+    requires distinct { has_distinct_entries metamodel.now (now work.old) ≡ true }
+    requires then_sound { updates.StaysSound flushes
+        (world_of B.meaning metamodel.now registry.now) (now work.old) }
+    requires bound { AreInHeap work.old.objects.now bindings.now }
+    ensures meets { let world = world_of B.meaning metamodel.now registry.now in
+        Meets result (now work.new)
+        (updates.execute_update world is_active flushes text.now bindings.now (now work.old)) }
+    ensures representable { OnOk result ((v : Work)
+        → queries.flush_if flushes (world_of B.meaning metamodel.now registry.now) (now work.old)
+        ≡ Done tt v → all_representable v.view ≡ true
+        → all_representable (now work.new).view ≡ true) }
+    ensures since { since work.new ≡ since work.old }
+{
+    let statement = judged(alloc, metamodel, work, is_active, text, bindings)?;
+    flush_if(alloc, metamodel, registry, work, flushes)?;
+    run(alloc, metamodel, registry, work, &statement)
+}
