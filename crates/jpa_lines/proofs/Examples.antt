@@ -17,7 +17,7 @@ use Rattle.jpa_value.specs.declared.event.LifecycleEvent.{LifecycleEvent}
 use Rattle.jpa_protocol.specs.declared.reply.Answer.{Answer}
 use Rattle.jpa_protocol.specs.declared.reply.Item.{Item}
 use Rattle.jpa_json.specs.JsonOf.{text_data}
-use Rattle.jpa_lines.specs.CallOf.{meaning, text_call, call_of, create_of, new_of, set_of, get_of, by_member_of, em_of, em_and_object_of, lock_of, set_flush_mode_of, by_key_of, query_members_of, given_of, marked_of, hex_of}
+use Rattle.jpa_lines.specs.CallOf.{meaning, text_call, call_of, create_of, new_of, set_of, get_of, by_member_of, em_of, em_and_object_of, lock_of, set_flush_mode_of, by_key_of, query_members_of, execute_update_of, given_of, marked_of, hex_of}
 use Rattle.jpa_lines.specs.ReplyText.{reply_text}
 use Rattle.jpa_lines.specs.Run.{lines_of}
 
@@ -190,6 +190,15 @@ asks_for_one_row : meaning (codes "{\"call\":\"querySingle\",\"em\":1,\"text\":\
 unfolding is_utf8 chars meaning text_call text_data call_of query_members_of serde_json_on_literals
 asks_for_one_row = refl
 
+executes : meaning (codes "{\"call\":\"executeUpdate\",\"em\":1,\"text\":\"DELETE FROM Person p WHERE p.id = :id\",\"params\":{\"id\":3}}") ≡ Ok (Call.ExecuteUpdate (pos 1) (codes "DELETE FROM Person p WHERE p.id = :id") (record { name = codes "id"; value = Given.Plain (Value.Int (pos 3)) } ∷ []))
+unfolding is_utf8 chars meaning text_call text_data call_of execute_update_of given_of serde_json_on_literals
+executes = refl
+
+-- a bulk statement has no cut
+executes_uncut : meaning (codes "{\"call\":\"executeUpdate\",\"em\":1,\"text\":\"DELETE FROM Person\",\"max\":3}") ≡ Err Cause.BadLine
+unfolding is_utf8 chars meaning text_call text_data call_of execute_update_of serde_json_on_literals
+executes_uncut = refl
+
 -- null is no integer
 null_max : meaning (codes "{\"call\":\"query\",\"em\":1,\"text\":\"SELECT p FROM Person p\",\"max\":null}") ≡ Err Cause.BadLine
 unfolding is_utf8 chars meaning text_call text_data call_of query_members_of serde_json_on_literals
@@ -200,12 +209,12 @@ null_params : meaning (codes "{\"call\":\"query\",\"em\":1,\"text\":\"SELECT p F
 unfolding is_utf8 chars meaning text_call text_data call_of query_members_of serde_json_on_literals
 null_params = refl
 
-listed_params : meaning (codes "{\"call\":\"query\",\"em\":1,\"text\":\"SELECT p FROM Person p\",\"params\":[1]}") ≡ Err Cause.BadLine
-unfolding is_utf8 chars meaning text_call text_data call_of query_members_of serde_json_on_literals
+listed_params : meaning (codes "{\"call\":\"executeUpdate\",\"em\":1,\"text\":\"DELETE FROM Person\",\"params\":[1]}") ≡ Err Cause.BadLine
+unfolding is_utf8 chars meaning text_call text_data call_of execute_update_of serde_json_on_literals
 listed_params = refl
 
-truth_param : meaning (codes "{\"call\":\"query\",\"em\":1,\"text\":\"SELECT p FROM Person p\",\"params\":{\"x\":true}}") ≡ Err Cause.BadLine
-unfolding is_utf8 chars meaning text_call text_data call_of query_members_of given_of serde_json_on_literals
+truth_param : meaning (codes "{\"call\":\"executeUpdate\",\"em\":1,\"text\":\"DELETE FROM Person\",\"params\":{\"x\":true}}") ≡ Err Cause.BadLine
+unfolding is_utf8 chars meaning text_call text_data call_of execute_update_of given_of serde_json_on_literals
 truth_param = refl
 
 surplus_of_query : meaning (codes "{\"call\":\"query\",\"em\":1,\"text\":\"SELECT p FROM Person p\",\"first\":1,\"x\":1}") ≡ Err Cause.BadLine

@@ -8,7 +8,7 @@ use Rattle.jpa_value.specs.declared.refusal.Cause.{Cause}
 use Rattle.jpa_value.specs.declared.refusal.Cause.TheVariants.{BadLine, Limit}
 use Rattle.jpa_value.specs.declared.value.Value.TheVariants.{Null, Int, Text, Bytes}
 use Rattle.jpa_protocol.specs.declared.call.Call.{Call}
-use Rattle.jpa_protocol.specs.declared.call.Call.TheVariants.{CreateEntityManager, NewObject, SetValue, Get, Add, TakeOut, Begin, Persist, Remove, Refresh, Detach, Contains, Clear, Close, Flush, Commit, Rollback, SetRollbackOnly, Merge, Lock, SetFlushMode, Find, GetReference, Query, QuerySingle}
+use Rattle.jpa_protocol.specs.declared.call.Call.TheVariants.{CreateEntityManager, NewObject, SetValue, Get, Add, TakeOut, Begin, Persist, Remove, Refresh, Detach, Contains, Clear, Close, Flush, Commit, Rollback, SetRollbackOnly, Merge, Lock, SetFlushMode, Find, GetReference, Query, QuerySingle, ExecuteUpdate}
 use Rattle.jpa_protocol.specs.declared.call.Given.{Given}
 use Rattle.jpa_protocol.specs.declared.call.Given.TheVariants as given
 use Rattle.jpa_protocol.specs.declared.call.FlushMode.{FlushMode}
@@ -218,6 +218,14 @@ of_query_members call d = do
   q ← query_members_of d
   Some (call q.em q.text q.parameters q.first q.max)
 
+unfoldable pub execute_update_of : Data → Option Call
+execute_update_of d = do
+  all ← guard (count_of d == 3 + count_at (codes "params") d)
+  em ← integer_at (codes "em") d
+  text ← text_at (codes "text") d
+  values ← parameters_at d
+  Some (ExecuteUpdate em text values)
+
 -- ---- the words
 
 abbrev pub word_of : List ℕ → Option Word
@@ -247,6 +255,7 @@ word_of name =
     else if bytes_eq name (codes "getReference") then Some word.GetReference
     else if bytes_eq name (codes "query") then Some word.Query
     else if bytes_eq name (codes "querySingle") then Some word.QuerySingle
+    else if bytes_eq name (codes "executeUpdate") then Some word.ExecuteUpdate
     else None
 
 -- the call of this word with the members of d
@@ -276,6 +285,7 @@ worded_call word.Find d = by_key_of Find d
 worded_call word.GetReference d = by_key_of GetReference d
 worded_call word.Query d = of_query_members Query d
 worded_call word.QuerySingle d = of_query_members QuerySingle d
+worded_call word.ExecuteUpdate d = execute_update_of d
 
 unfoldable pub call_of : Data → Option Call
 call_of d = do

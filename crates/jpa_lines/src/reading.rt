@@ -5,7 +5,7 @@ ghost use Rattle.jpa_protocol.specs.declared.call.Call.{Call};
 ghost use Rattle.jpa_value.specs.declared.refusal.Cause.TheVariants.{OutOfMemory};
 ghost use Rattle.jpa_json.specs.Members.{integer_of};
 ghost use Rattle.jpa_json.specs.Outcome.{Gives, same};
-ghost use Rattle.jpa_lines.specs.CallOf.{integer_at, hex_of, marked_of, given_of, em_of, create_of, new_of, set_of, get_of, by_member_of, em_and_object_of, of_em_and_object, lock_mode_of, lock_of, flush_mode_of, set_flush_mode_of, by_key_of, parameters, parameters_at, optional_integer_at, count_at, query_members_of, of_query_members, word_of, worded_call, call_of, text_call, meaning};
+ghost use Rattle.jpa_lines.specs.CallOf.{integer_at, hex_of, marked_of, given_of, em_of, create_of, new_of, set_of, get_of, by_member_of, em_and_object_of, of_em_and_object, lock_mode_of, lock_of, flush_mode_of, set_flush_mode_of, by_key_of, parameters, parameters_at, optional_integer_at, count_at, query_members_of, of_query_members, execute_update_of, word_of, worded_call, call_of, text_call, meaning};
 
 use jpa_json::{Described, Unread, json_of, member, only, or_refuse, str_at, text_at};
 use jpa_protocol::{Call, FlushMode, Given, LockMode, Parameter};
@@ -44,6 +44,7 @@ enum Word {
     GetReference,
     Query,
     QuerySingle,
+    ExecuteUpdate,
 }
 
 /// The call that a line means. A line that is longer than `MOST_LINE_BYTES` is refused as `Limit`, whatever it says, and
@@ -104,6 +105,7 @@ fn word_of(name: &str) -> Result<Word, Unread>
         "getReference" => Ok(Word::GetReference),
         "query" => Ok(Word::Query),
         "querySingle" => Ok(Word::QuerySingle),
+        "executeUpdate" => Ok(Word::ExecuteUpdate),
         _ => Err(Unread::Form),
     }
 }
@@ -137,6 +139,7 @@ fn worded_call(alloc: Global, word: Word, json: &Json) -> Result<Call, Unread>
         Word::GetReference => get_reference_of(alloc, json),
         Word::Query => query_of(alloc, json),
         Word::QuerySingle => query_single_of(alloc, json),
+        Word::ExecuteUpdate => execute_update_of(alloc, json),
     }
 }
 
@@ -405,6 +408,21 @@ fn query_single_of(alloc: Global, json: &Json) -> Result<Call, Unread>
         parameters,
         first,
         max,
+    })
+}
+
+#[tactic(auto, unfolding(crate::specs::CallOf::execute_update_of))]
+fn execute_update_of(alloc: Global, json: &Json) -> Result<Call, Unread>
+    ensures { Gives same result (execute_update_of (view json.now)) }
+{
+    only(json, 3 + count_at(json, "params"))?;
+    let em = integer_at(json, "em")?;
+    let text = text_at(alloc, json, "text")?;
+    let parameters = parameters_at(alloc, json)?;
+    Ok(Call::ExecuteUpdate {
+        em,
+        text,
+        parameters,
     })
 }
 

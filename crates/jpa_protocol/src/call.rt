@@ -168,4 +168,10 @@ pub enum Call {
         first: Option<i64>,
         max: Option<i64>,
     },
+    /// Executes an UPDATE or a DELETE in the manager's transaction (chapter 4.10).
+    ExecuteUpdate {
+        em: i64,
+        text: Text,
+        parameters: Seq<Parameter>,
+    },
 }
