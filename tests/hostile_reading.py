@@ -14,7 +14,7 @@ MEMBERS = {"createEntityManager": [], "close": ["em"], "new": ["entity"], "set":
 # The members that may be left out, with what stands for them.
 OPTIONAL = {"params": {}, "first": None, "max": None}
 # The calls that the program does not serve, of which there are none: it would answer BadLine to them.
-UNSERVED = {"executeUpdate"}
+UNSERVED = set()
 # What the modes of a call ask for.
 MODES = {"lock": {"READ": "READ", "OPTIMISTIC": "READ", "WRITE": "WRITE", "OPTIMISTIC_FORCE_INCREMENT": "WRITE"},
          "setFlushMode": {"AUTO": "AUTO", "COMMIT": "COMMIT"}}

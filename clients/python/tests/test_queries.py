@@ -72,9 +72,16 @@ class Queries(unittest.TestCase):
             self.em.set_flush_mode(FlushModeType.AUTO)
             self.assertEqual(self.em.query(count), [2])
 
-    def test_updates_are_not_served(self) -> None:
-        with self.assertRaises(karzhoul.NotServed):
-            self.em.execute_update("DELETE FROM Order o WHERE o.number > 10")
+    def test_updates_and_deletes(self) -> None:
+        raised = "UPDATE Order o SET o.amount = o.amount + :more, o.person = NULL WHERE o.amount IS NOT NULL"
+        self.refuses(karzhoul.TransactionRequired, None, self.em.execute_update, raised, params={"more": 1})
+        with self.em.transaction():
+            self.assertEqual(self.em.execute_update(raised, params={"more": 1}), 2)
+            self.assertEqual(self.orders[0].amount, 5)
+            self.em.refresh(self.orders[0])
+            self.assertEqual((self.orders[0].amount, self.orders[0].person), (6, None))
+            self.assertEqual(self.em.execute_update("DELETE FROM Order o WHERE o.number > 10"), 2)
+        self.assertEqual(self.em.query("SELECT o.number FROM Order o"), [10])
 
     def test_what_is_refused(self) -> None:
         refused = {"SELECT o FROM": "syntax", "SELECT o.x FROM Order o": "typing", "SELECT o FROM Order o WHERE o = :o": "parameter"}

@@ -271,7 +271,7 @@ flushed_held {world} w plan h v sound =
     }
 
 -- another view that can be held
-viewed_at_work : {world : World} {M : Others} {m : ℕ} {w : Work} (s : StoredSet) → CanBeHeld world s w.numbers → IsConsistent world M m w → IsConsistent world M m (record w { view = s })
+pub viewed_at_work : {world : World} {M : Others} {m : ℕ} {w : Work} (s : StoredSet) → CanBeHeld world s w.numbers → IsConsistent world M m w → IsConsistent world M m (record w { view = s })
 viewed_at_work s v h =
     record {
       manager = h.manager;

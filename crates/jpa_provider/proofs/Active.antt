@@ -6,11 +6,13 @@ use Rattle.jpa_value.specs.Value.{identity_cmp}
 use Rattle.std.proofs.lemmas.List.Elements.{All-weaker}
 use Rattle.jpa_behaviour.specs.Behaviour.{World}
 use Rattle.jpa_stored.specs.Sets.{IsSound, each_fits}
-use Rattle.jpa_rows.specs.Cells.{CanBeHeld}
+use Rattle.jpa_rows.specs.Cells.{CanBeHeld, all_representable}
 use Rattle.jpa_context.specs.declared.Entry.{Entry}
 use Rattle.jpa_context.specs.Work.{Work}
 use Rattle.jpa_context.specs.Steps.{Outcome, Done, Refused}
 use Rattle.jpa_queries.specs.Premises.{StaysReady}
+use Rattle.jpa_queries.specs.Queries.{flush_if}
+use Rattle.jpa_updates.specs.Updates.{StaysSound}
 use Rattle.jpa_context.specs.Undo.{Since}
 use Rattle.jpa_fetch.specs.Grown.{IsReady}
 use Rattle.jpa_flush.specs.Flush.{flush}
@@ -75,6 +77,17 @@ query_ready world s m h false = λ v e. subst (IsReady world.model) (done_same e
   where
     done_same : {v w : Work} → finished w ≡ finished v → w ≡ v
     done_same {v} {w} e = ap (work_in w) e
+
+-- what is seen after a flush, if there is one
+flush_if_held : (world : World) (s : Session) (m : ℕ) → IsServing world s → (flushes : Bool) (v : Work) → flush_if flushes world (work_of (machine_of s) m) ≡ Done tt v → CanBeHeld world v.view v.numbers
+flush_if_held world s m h true v e = (flushed_at_work (machine_of s) v h.orderly h.regular (taken m h.machine) e).view
+flush_if_held world s m h false v e = subst (λ (u : Work). CanBeHeld world u.view u.numbers) (ap (work_in v) e) (taken m h.machine).view
+
+pub update_sound : (world : World) (s : Session) (m : ℕ) → IsServing world s → (flushes : Bool) → StaysSound flushes world (work_of (machine_of s) m)
+update_sound world s m h flushes v e = let held = flush_if_held world s m h flushes v e in (held.sound, held.rising)
+
+pub update_representable : (world : World) (s : Session) (m : ℕ) → IsServing world s → (flushes : Bool) (v : Work) → flush_if flushes world (work_of (machine_of s) m) ≡ Done tt v → all_representable v.view ≡ true
+update_representable world s m h flushes v e = (flush_if_held world s m h flushes v e).representable
 
 module _ (world : World) (s : Session) (m : ℕ) (h : IsServing world s) (w : Work) (e : commit_work world (work_of (machine_of s) m) ≡ Done tt w) where
   pub after_it : IsAtWork world (machine_of s) m w

@@ -1,6 +1,10 @@
 -- What a refused call leaves, what a rollback keeps, and that no next number falls.
-use Rattle.std.proofs.Common.{◌≡◌, ◌⊎◌, inl, inr, ℕ, Bool, true, false, List, [], ◌∷◌, map, refl, ap, sym, ◌∙◌}
-use Rattle.std.specs.Prelude.{Option, Some, None, IsErr, nat_le, slice_set}
+use Rattle.std.proofs.Common.{◌≡◌, ◌⊎◌, inl, inr, ℕ, Bool, true, false, List, [], ◌∷◌, map, refl, ap, sym, subst, ◌∙◌}
+use Rattle.std.specs.Prelude.{Option, Some, None, IsErr, OnOk, Result, Ok, Err, nat_le, slice_set}
+use Rattle.jpa_value.specs.declared.refusal.Refusal.{Refusal}
+use Rattle.jpa_protocol.specs.declared.reply.Answer.{Answer}
+use Rattle.jpql_kept.specs.Fits.{AreInherited}
+use Rattle.jpa_provider.specs.Updating.{MakesRepresentable}
 use Rattle.std.proofs.lemmas.Bool.{false≢true, true≢false}
 use Rattle.std.proofs.Math.Seq.{map-set_same}
 use Rattle.jpa_behaviour.specs.Behaviour.{World, IsRegular}
@@ -140,6 +144,26 @@ module _ (M : Machine) where
         undoes = λ writes apart m events why o. stay;
       }
 
+  -- a refused call gives none
+  refused_rising : (world : World) (r : Route) → Ways world M r (λ o. IsErr (o.0).answer → Rises o) (λ m w. Unit {0})
+  refused_rising world r =
+      record {
+        same = λ cause e. stay;
+        creates = λ other few e. stay;
+        makes = λ other class within few e. stay;
+        keeps = λ other m w a k e. absurd (false≢true e);
+        refuses = λ other m events cause b e. marked_stay b m;
+        begins = λ other m o free e. stay;
+        marking = λ other m e. stay;
+        tells = λ other answer e. stay;
+        clears = λ other m o e. stay;
+        sets_mode = λ other m o mode e. stay;
+        closes = λ other m o none e. stay;
+        rolls = λ apart m o e. stay;
+        stores = λ writes apart m w o k e. absurd (false≢true e);
+        undoes = λ writes apart m events why o e. stay;
+      }
+
 -- ---- of a step
 
 pub step_left : (M : Machine) (world : World) (call : Call) (reply : Reply) (N : Machine) → Step world M call reply N → is_commit call ≡ false → IsErr reply.answer → LivesAsBefore M N
@@ -152,7 +176,11 @@ step_undone M world call reply N step =
     let r = route call in
     on_step world call (IsUndone M r) (on_route r (undone_ways M world r) (does_something world M r)) (λ h. unchanged M) step
 
-pub step_rises : (M : Machine) {world : World} (call : Call) (reply : Reply) (N : Machine) → IsOrderly world.model → IsRegular world → hands_representable call ≡ true → IsMachine world M → Step world M call reply N →
-    each_fits nat_le M.numbers N.numbers ≡ true
-step_rises M {world} call reply N orderly regular rep h step =
-    on_step world call (Rises M) (on_route (route call) (rising_ways M world (route call)) (does world M orderly regular call rep h)) (stay M) step
+pub step_rises : (M : Machine) {world : World} (call : Call) (reply : Reply) (N : Machine) → IsOrderly world.model → IsRegular world → AreInherited world.model → hands_representable call ≡ true →
+    OnOk reply.answer (MakesRepresentable world M call) → IsMachine world M → Step world M call reply N → each_fits nat_le M.numbers N.numbers ≡ true
+step_rises M {world} call reply N orderly regular inherited rep made h step = by_answer reply.answer refl made
+  where
+    by_answer : (a : Result Answer Refusal) → reply.answer ≡ a → OnOk a (MakesRepresentable world M call) → each_fits nat_le M.numbers N.numbers ≡ true
+    by_answer (Ok a) e made = on_step world call (Rises M) (on_route (route call) (rising_ways M world (route call)) (does world M orderly regular inherited call rep made h)) (stay M) step
+    by_answer (Err r) e made =
+        on_step world call (λ o. IsErr (o.0).answer → Rises M o) (on_route (route call) (refused_rising M world (route call)) (does_something world M (route call))) (λ refused. stay M) step (subst IsErr (sym e) refl)

@@ -15,6 +15,7 @@ pub mod Worked
 pub mod Called
 pub mod Unheld
 pub mod Queried
+pub mod Updated
 pub mod Routed
 pub mod Opened
 pub mod Closing

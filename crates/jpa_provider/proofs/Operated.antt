@@ -1,6 +1,10 @@
 -- What the operation of each call leaves: one line for each call.
 use Rattle.std.proofs.Common.{◌≡◌, inl, inr, ℕ, true, [], ap, sym, subst}
-use Rattle.jpa_behaviour.specs.Behaviour.{World, IsRegular}
+use Rattle.jpa_behaviour.specs.Behaviour.{World, AnswersConvertible, IsRegular}
+use Rattle.jpa_stored.specs.Sets.{StoredSet}
+use Rattle.jpa_rows.specs.Cells.{CanBeHeld}
+use Rattle.jpql_kept.specs.Fits.{AreInherited}
+use Rattle.jpa_updates.specs.Updates.{with_view}
 use Rattle.jpa_heap.specs.Objects.{object_at}
 use Rattle.jpa_context.specs.Work.{Work}
 use Rattle.jpa_context.specs.Steps.{Outcome, Done, Refused}
@@ -11,8 +15,10 @@ use Rattle.jpa_consistent.proofs.Laws.{Steps}
 use Rattle.jpa_consistent.proofs.Going.{only}
 use Rattle.jpa_consistent.proofs.Instances.{at_work}
 use Rattle.jpa_consistent.proofs.Unheld.{empty_unheld}
-use Rattle.jpa_consistent.proofs.Flushed.{flush_goes}
-use Rattle.jpa_provider.specs.Machine.{Machine, flushes_first, work_of}
+use Rattle.jpa_consistent.proofs.Flushed.{flush_goes, viewed_at_work}
+use Rattle.jpa_provider.specs.Machine.{Machine, manager_at, has_transaction, flushes_first, work_of}
+use Rattle.jpa_provider.specs.Updating.{MakesRepresentable, update_outcome}
+use Rattle.jpa_provider.proofs.Updated.{update_call_goes}
 use Rattle.jpa_provider.specs.declared.querying.Wanted.{Wanted}
 use Rattle.jpa_provider.specs.Querying.{query_call, query_single_call}
 use Rattle.jpa_provider.proofs.Queried.{query_call_goes, query_single_call_goes}
@@ -27,7 +33,8 @@ use Rattle.jpa_fetch.specs.Orderly.{IsOrderly}
 
 -- ---- of a manager that is open, and of whoever holds an object
 
-module _ (world : World) (M : Machine) (P K : ℕ → Work → Type 0) (steps : (m : ℕ) → Steps world (P m)) (give : (m : ℕ) (w : Work) → P m w → MayReturn M m w → K m w) where
+module _ (world : World) (M : Machine) (P K : ℕ → Work → Type 0) (steps : (m : ℕ) → Steps world (P m)) (give : (m : ℕ) (w : Work) → P m w → MayReturn M m w → K m w)
+    (viewed : (m : ℕ) (w : Work) (s : StoredSet) → P m w → CanBeHeld world s w.numbers → P m (with_view s w)) (convertible : AnswersConvertible world) (inherited : AreInherited world.model) where
   of_open : {A : Type 0} (m : ℕ) → IsOpen M m → (o : Outcome A) → HoldsAfter (λ a w. P m w) o → HoldsAfter (λ a w. K m w) o
   of_open m is_open (Done a w) p = give m w p (inl is_open)
   of_open m is_open (Refused r events) p = tt
@@ -45,47 +52,50 @@ module _ (world : World) (M : Machine) (P K : ℕ → Work → Type 0) (steps : 
   -- ---- each call
 
   does_by : IsOrderly world.model → IsMachine world M → ((m : ℕ) → P m (work_of M m)) → ((m : ℕ) (w : Work) → P m w → HoldsAfter (λ u v. P m v) (flush world w)) →
-      (call : Call) → hands_representable call ≡ true → Does world M K (route call)
-  does_by orderly h start flushes Call.CreateEntityManager rep = tt
-  does_by orderly h start flushes (Call.NewObject name) rep = tt
-  does_by orderly h start flushes (Call.SetValue object name value) rep = λ n l.
+      (call : Call) → hands_representable call ≡ true → MakesRepresentable world M call → Does world M K (route call)
+  does_by orderly h start flushes Call.CreateEntityManager rep made = tt
+  does_by orderly h start flushes (Call.NewObject name) rep made = tt
+  does_by orderly h start flushes (Call.SetValue object name value) rep made = λ n l.
       let m = holder_in M (object_at M.objects n).life in
       of_set m (work_of M m) (start m) (holder_may n l h) (set_call world name value n (work_of M m)) (set_call_holds world orderly (work_of M m) n name value l rep)
-  does_by orderly h start flushes (Call.Get object name) rep = λ n l.
+  does_by orderly h start flushes (Call.Get object name) rep made = λ n l.
       let m = holder_in M (object_at M.objects n).life in
       let w = work_of M m in
       of_object m w (holder_may n l h) (get_call world name n w) (get_call_goes (steps m) orderly name n w (start m) l) (λ empty. get_call_unheld world name n w (empty_unheld (taken m h) empty n l))
-  does_by orderly h start flushes (Call.Add object name member) rep = λ n l.
+  does_by orderly h start flushes (Call.Add object name member) rep made = λ n l.
       let m = holder_in M (object_at M.objects n).life in
       let w = work_of M m in
       of_object m w (holder_may n l h) (add_call world name member n w) (add_call_goes (steps m) orderly name member n w (start m) l) (λ empty. add_call_unheld (steps m) orderly name member n w (start m) l (empty_unheld (taken m h) empty n l))
-  does_by orderly h start flushes (Call.TakeOut object name member) rep = λ n l.
+  does_by orderly h start flushes (Call.TakeOut object name member) rep made = λ n l.
       let m = holder_in M (object_at M.objects n).life in
       let w = work_of M m in
       of_object m w (holder_may n l h) (take_out_call world name member n w) (take_out_call_goes (steps m) orderly name member n w (start m) l) (λ empty. take_out_call_unheld (steps m) orderly name member n w (start m) l (empty_unheld (taken m h) empty n l))
-  does_by orderly h start flushes (Call.Begin em) rep = tt
-  does_by orderly h start flushes (Call.Persist em object) rep = λ m o. of_open m o (persist_call world object (work_of M m)) (persist_call_goes (steps m) object (work_of M m) (start m))
-  does_by orderly h start flushes (Call.Remove em object) rep = λ m o. of_open m o (remove_call world object (work_of M m)) (remove_call_goes (steps m) object (work_of M m) (start m))
-  does_by orderly h start flushes (Call.Refresh em object) rep = λ m o. of_open m o (refresh_call world object (work_of M m)) (refresh_call_goes (steps m) object (work_of M m) (start m))
-  does_by orderly h start flushes (Call.Detach em object) rep = λ m o. of_open m o (detach_call world object (work_of M m)) (detach_call_goes (steps m) object (work_of M m) (start m))
-  does_by orderly h start flushes (Call.Merge em object) rep = λ m o. of_open m o (merge_call world object (work_of M m)) (merge_call_goes (steps m) orderly object (work_of M m) (start m))
-  does_by orderly h start flushes (Call.Lock em object mode) rep = λ m o. of_open m o (lock_call world object mode (work_of M m)) (lock_call_goes (steps m) object mode (work_of M m) (start m))
-  does_by orderly h start flushes (Call.Flush em) rep = λ m o. of_open m o (flush_call world (work_of M m)) (flush_call_goes world (P m) (work_of M m) (flushes m (work_of M m) (start m)))
-  does_by orderly h start flushes (Call.Commit em) rep = λ m o. of_open m o (commit_work world (work_of M m)) (commit_work_goes world (P m) (work_of M m) (flushes m (work_of M m) (start m)))
-  does_by orderly h start flushes (Call.Rollback em) rep = tt
-  does_by orderly h start flushes (Call.SetRollbackOnly em) rep = tt
-  does_by orderly h start flushes (Call.GetReference em name key) rep = λ m o. of_open m o (get_reference_call world name key (work_of M m)) (get_reference_call_goes (steps m) name key (work_of M m) (start m))
-  does_by orderly h start flushes (Call.Contains em object) rep = tt
-  does_by orderly h start flushes (Call.Clear em) rep = tt
-  does_by orderly h start flushes (Call.Close em) rep = tt
-  does_by orderly h start flushes (Call.SetFlushMode em mode) rep = tt
-  does_by orderly h start flushes (Call.Query em text parameters first max) rep = λ m o.
+  does_by orderly h start flushes (Call.Begin em) rep made = tt
+  does_by orderly h start flushes (Call.Persist em object) rep made = λ m o. of_open m o (persist_call world object (work_of M m)) (persist_call_goes (steps m) object (work_of M m) (start m))
+  does_by orderly h start flushes (Call.Remove em object) rep made = λ m o. of_open m o (remove_call world object (work_of M m)) (remove_call_goes (steps m) object (work_of M m) (start m))
+  does_by orderly h start flushes (Call.Refresh em object) rep made = λ m o. of_open m o (refresh_call world object (work_of M m)) (refresh_call_goes (steps m) object (work_of M m) (start m))
+  does_by orderly h start flushes (Call.Detach em object) rep made = λ m o. of_open m o (detach_call world object (work_of M m)) (detach_call_goes (steps m) object (work_of M m) (start m))
+  does_by orderly h start flushes (Call.Merge em object) rep made = λ m o. of_open m o (merge_call world object (work_of M m)) (merge_call_goes (steps m) orderly object (work_of M m) (start m))
+  does_by orderly h start flushes (Call.Lock em object mode) rep made = λ m o. of_open m o (lock_call world object mode (work_of M m)) (lock_call_goes (steps m) object mode (work_of M m) (start m))
+  does_by orderly h start flushes (Call.Flush em) rep made = λ m o. of_open m o (flush_call world (work_of M m)) (flush_call_goes world (P m) (work_of M m) (flushes m (work_of M m) (start m)))
+  does_by orderly h start flushes (Call.Commit em) rep made = λ m o. of_open m o (commit_work world (work_of M m)) (commit_work_goes world (P m) (work_of M m) (flushes m (work_of M m) (start m)))
+  does_by orderly h start flushes (Call.Rollback em) rep made = tt
+  does_by orderly h start flushes (Call.SetRollbackOnly em) rep made = tt
+  does_by orderly h start flushes (Call.GetReference em name key) rep made = λ m o. of_open m o (get_reference_call world name key (work_of M m)) (get_reference_call_goes (steps m) name key (work_of M m) (start m))
+  does_by orderly h start flushes (Call.Contains em object) rep made = tt
+  does_by orderly h start flushes (Call.Clear em) rep made = tt
+  does_by orderly h start flushes (Call.Close em) rep made = tt
+  does_by orderly h start flushes (Call.SetFlushMode em mode) rep made = tt
+  does_by orderly h start flushes (Call.Query em text parameters first max) rep made = λ m o.
       let q : Wanted = record { text = text; parameters = parameters; first = first; max = max } in
       of_open m o (query_call q (flushes_first M m) world (work_of M m)) (query_call_goes (steps m) (flushes m) q (flushes_first M m) (work_of M m) (start m))
-  does_by orderly h start flushes (Call.QuerySingle em text parameters first max) rep = λ m o.
+  does_by orderly h start flushes (Call.QuerySingle em text parameters first max) rep made = λ m o.
       let q : Wanted = record { text = text; parameters = parameters; first = first; max = max } in
       of_open m o (query_single_call q (flushes_first M m) world (work_of M m)) (query_single_call_goes (steps m) (flushes m) q (flushes_first M m) (work_of M m) (start m))
-  does_by orderly h start flushes (Call.Find em name key) rep = λ m o. of_open m o (find_call world name key (work_of M m)) (find_call_goes (steps m) name key (work_of M m) (start m))
+  does_by orderly h start flushes (Call.Find em name key) rep made = λ m o. of_open m o (find_call world name key (work_of M m)) (find_call_goes (steps m) name key (work_of M m) (start m))
+  does_by orderly h start flushes (Call.ExecuteUpdate em text parameters) rep made = λ m e o.
+      of_open m o (update_outcome world M text parameters m)
+      (update_call_goes (steps m) convertible inherited (flushes m) (viewed m) text parameters (has_transaction (manager_at M m)) (flushes_first M m) (work_of M m) (start m) (made m e))
 
 -- ---- what holds of the machine
 
@@ -94,7 +104,8 @@ pub record IsDone (world : World) (M : Machine) (m : ℕ) (w : Work) : Type 0 wh
   pub at : IsAtWork world M m w
   pub back : MayReturn M m w
 
-pub does : (world : World) (M : Machine) → IsOrderly world.model → IsRegular world → (call : Call) → hands_representable call ≡ true → IsMachine world M → Does world M (IsDone world M) (route call)
-does world M orderly regular call rep h =
-    does_by world M (IsAtWork world M) (IsDone world M) (λ m. at_work (others_of M) m orderly regular.heard) (λ m w p b. record { at = p; back = b }) orderly h (λ m. taken m h)
-    (λ m w p. only (IsAtWork world M m) w (flush world w) (flush_goes orderly regular p)) call rep
+pub does : (world : World) (M : Machine) → IsOrderly world.model → IsRegular world → AreInherited world.model → (call : Call) → hands_representable call ≡ true → MakesRepresentable world M call → IsMachine world M →
+    Does world M (IsDone world M) (route call)
+does world M orderly regular inherited call rep made h =
+    does_by world M (IsAtWork world M) (IsDone world M) (λ m. at_work (others_of M) m orderly regular.heard) (λ m w p b. record { at = p; back = b }) (λ m w s p held. viewed_at_work s held p) regular.convertible inherited
+    orderly h (λ m. taken m h) (λ m w p. only (IsAtWork world M m) w (flush world w) (flush_goes orderly regular p)) call rep made

@@ -37,26 +37,26 @@ use Rattle.jpa_provider.proofs.Handed.{told_holds}
 
 -- ---- what only reads
 
-abbrev IsRead : {A : Type 0} → Op A → Type 0
+abbrev pub IsRead : {A : Type 0} → Op A → Type 0
 IsRead op = (w : Work) → HoldsAfter (λ a v. v ≡ w) (op w)
 
-then_read : {A B : Type 0} (K : B → Work → Type 0) (op : Op A) (f : A → Op B) (w : Work) → IsRead op → ((a : A) → HoldsAfter K (f a w)) → HoldsAfter K (after (op w) f)
+pub then_read : {A B : Type 0} (K : B → Work → Type 0) (op : Op A) (f : A → Op B) (w : Work) → IsRead op → ((a : A) → HoldsAfter K (f a w)) → HoldsAfter K (after (op w) f)
 then_read K op f w h next = after_holds K (λ a v. v ≡ w) (op w) f (h w) (λ a v e. subst (λ v'. HoldsAfter K (f a v')) (sym e) (next a))
 
-given_or_reads : {A : Type 0} (r : Cause) (o : Option A) → IsRead (give_or r o)
+pub given_or_reads : {A : Type 0} (r : Cause) (o : Option A) → IsRead (give_or r o)
 given_or_reads r None w = tt
 given_or_reads r (Some a) w = refl
 
-given_reads : {A : Type 0} (o : Result A Cause) → IsRead (given o)
+pub given_reads : {A : Type 0} (o : Result A Cause) → IsRead (given o)
 given_reads (Ok a) w = refl
 given_reads (Err r) w = tt
 
-read_of_reads : (text : Text) → IsRead (read_of text)
+pub read_of_reads : (text : Text) → IsRead (read_of text)
 read_of_reads text w =
     let K : Option Query → Work → Type 0 = λ a v. v ≡ w in
     require_holds K (is_within text) Cause.Limit w _ (λ within. require_holds K (declares_few (query_of text)) Cause.Limit w _ (λ few. refl))
 
-statement_of_reads : (m : PersistenceUnit) (tree : Option Query) (bindings : List Binding) → IsRead (statement_of m tree bindings)
+pub statement_of_reads : (m : PersistenceUnit) (tree : Option Query) (bindings : List Binding) → IsRead (statement_of m tree bindings)
 statement_of_reads m tree bindings w =
     then_read _ (give_or (Cause.IllegalArgument Argument.Syntax) tree) _ w (given_or_reads (Cause.IllegalArgument Argument.Syntax) tree) (λ q.
     let o = checked m q (sorts_of m bindings w) in
@@ -90,7 +90,7 @@ bindings_read : (r : Cause) (o : Option (List Binding)) → IsRead (calls.give_o
 bindings_read r None w = tt
 bindings_read r (Some bs) w = refl
 
-bound_reads : (ps : List Parameter) → IsRead (bound ps)
+pub bound_reads : (ps : List Parameter) → IsRead (bound ps)
 bound_reads ps w =
     let K : List Binding → Work → Type 0 = λ a v. v ≡ w in
     let found = bindings_in (length w.objects) ps in

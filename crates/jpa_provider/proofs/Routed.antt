@@ -1,5 +1,5 @@
 -- How calls step whose route is an operation: of a manager that is named, or of whoever holds an object.
-use Rattle.std.proofs.Common.{◌≡◌, ◌<◌, inl, ℕ, ℤ, Bool, true, false, length, refl, ap, sym, subst, ◌∙◌}
+use Rattle.std.proofs.Common.{◌≡◌, ◌<◌, inl, ℕ, ℤ, Bool, true, false, List, length, refl, ap, sym, subst, ◌∙◌}
 use Rattle.std.specs.Prelude.{Option, Some, None, is_some, if◌then◌else◌}
 use Rattle.std.proofs.lemmas.Bool.{false≢true, true≢false}
 use Rattle.jpa_value.specs.declared.refusal.Cause.{Cause}
@@ -10,6 +10,8 @@ use Rattle.jpa_context.specs.Work.{Work}
 use Rattle.jpa_context.specs.Steps.{Done, Op, after, done}
 use Rattle.jpa_protocol.specs.declared.call.Call.{Call}
 use Rattle.jpa_protocol.specs.declared.call.LockMode.{LockMode}
+use Rattle.jpa_protocol.specs.declared.call.Parameter.{Parameter}
+use Rattle.jpa_provider.specs.Updating.{update_outcome}
 use Rattle.jpa_protocol.specs.declared.reply.Answer.{Answer}
 use Rattle.jpa_protocol.specs.declared.reply.Reply.{Reply}
 use Rattle.jpa_provider.specs.declared.operating.Operation.{Operation}
@@ -113,6 +115,14 @@ module _ (world : World) (s : Session) (em : ℤ) (op : Bool → World → Op An
   asked_so t m reply place h =
       let M = machine_of s in
       ended_step world call Rule.OfManager m (op (flushes_first M m) world (work_of M m)) (ap is_free e) (ap (by_route world M) e ∙ of_manager s asking em m place) h
+
+-- ---- of a manager that is told whether its transaction is open
+
+pub update_so : (world : World) (s : Session) (em : ℤ) (text : List ℕ) (ps : List Parameter) (t : Session) (m : ℕ) (reply : Reply) → named s em ≡ Some m →
+    EndsSo Rule.OfManager (machine_of s) m (update_outcome world (machine_of s) text ps m) reply (machine_of t) → Serves world s (Call.ExecuteUpdate em text ps) reply t
+update_so world s em text ps t m reply place h =
+    let M = machine_of s in
+    ended_step world (Call.ExecuteUpdate em text ps) Rule.OfManager m (update_outcome world M text ps m) refl (of_manager s (λ k. ended marks M k (update_outcome world M text ps k)) em m place) h
 
 -- ---- of whoever holds an object
 

@@ -1,6 +1,8 @@
 -- What holds between calls holds after each step.
 use Rattle.std.proofs.Common.{◌≡◌, ◌<◌, inl, ℕ, Bool, true, false, List, length, refl, sym, subst}
-use Rattle.std.specs.Prelude.{All}
+use Rattle.std.specs.Prelude.{All, OnOk}
+use Rattle.jpql_kept.specs.Fits.{AreInherited}
+use Rattle.jpa_provider.specs.Updating.{MakesRepresentable}
 use Rattle.std.proofs.lemmas.Bool.{false≢true}
 use Rattle.std.proofs.lemmas.List.Elements.{All-weaker}
 use Rattle.jpa_behaviour.specs.Behaviour.{World, IsRegular}
@@ -24,12 +26,14 @@ use Rattle.jpa_provider.proofs.Still.{step_still}
 use Rattle.jpa_fetch.specs.Orderly.{IsOrderly}
 
 -- whichever call it was
-pub serves_on : (world : World) (s t : Session) (call : Call) (reply : Reply) → IsServing world s → hands_representable call ≡ true → Serves world s call reply t → IsSettled t → IsServing world t
-serves_on world s t call reply h rep step settled =
+pub serves_on : (world : World) (s t : Session) (call : Call) (reply : Reply) → IsServing world s → hands_representable call ≡ true → OnOk reply.answer (MakesRepresentable world (machine_of s) call) →
+    Serves world s call reply t → IsSettled t → IsServing world t
+serves_on world s t call reply h rep made step settled =
     record {
       orderly = h.orderly;
       regular = h.regular;
-      machine = step_keeps h.orderly h.regular call rep h.machine step;
+      inherited = h.inherited;
+      machine = step_keeps h.orderly h.regular h.inherited call rep made h.machine step;
       one = step_one world call h.one step;
       settled = settled;
     }
@@ -60,11 +64,12 @@ entries_in {world} s h k =
 
 -- ---- as it is opened
 
-pub opened_serving : (world : World) (s : Session) (set : StoredSet) (numbers : List ℕ) → IsOrderly world.model → IsRegular world → CanBeHeld world set numbers → machine_of s ≡ opened set numbers → IsSettled s → IsServing world s
-opened_serving world s set numbers orderly regular held e settled =
+pub opened_serving : (world : World) (s : Session) (set : StoredSet) (numbers : List ℕ) → IsOrderly world.model → IsRegular world → AreInherited world.model → CanBeHeld world set numbers → machine_of s ≡ opened set numbers → IsSettled s → IsServing world s
+opened_serving world s set numbers orderly regular inherited held e settled =
     record {
       orderly = orderly;
       regular = regular;
+      inherited = inherited;
       machine = subst (IsMachine world) (sym e) (opened_holds held);
       one = subst HasOneTransaction (sym e) (λ m k a b. absurd (false≢true a));
       settled = settled;

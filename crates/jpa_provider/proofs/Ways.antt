@@ -20,7 +20,7 @@ use Rattle.jpa_protocol.specs.declared.reply.Reply.{Reply}
 use Rattle.jpa_provider.specs.Machine.{Machine, Manager, Transaction, manager_at, new_manager, has_transaction, is_busy, work_of, kept, marked, flushes_first, rolled_back, with_mode, cleared, closed, committed_after}
 use Rattle.jpa_provider.specs.Calls.{accepted, refused, because, ended, marks, marks_if_callback, marked_if, give_or}
 use Rattle.jpa_provider.specs.Transactions.{begin, begin_in, begun, commit, commit_in, commit_if, commit_of, commit_work, rollback, rollback_in, set_rollback_only, only_rollback_in}
-use Rattle.jpa_provider.specs.Routes.{Route, OfManager, ToQuery, InTransaction, OfObject, ToCreate, ToMake, ToBegin, ToCommit, ToRollBack, ToMark, ToAsk, ToClear, ToSetMode, ToClose, answered, by_route, if_open, if_begun, transaction_required, by_manager, close, made_new, holder, holder_in, commits, rolls_back}
+use Rattle.jpa_provider.specs.Routes.{Route, OfManager, ToQuery, ToUpdate, InTransaction, OfObject, ToCreate, ToMake, ToBegin, ToCommit, ToRollBack, ToMark, ToAsk, ToClear, ToSetMode, ToClose, answered, by_route, if_open, if_begun, transaction_required, by_manager, close, made_new, holder, holder_in, commits, rolls_back}
 use Rattle.jpa_provider.specs.Step.{Step, outcome}
 use Rattle.jpa_consistent.specs.Going.{HoldsAfter}
 use Rattle.jpa_provider.proofs.AtWork.{IsOpen}
@@ -54,6 +54,7 @@ pub record Ways (world : World) (M : Machine) (r : Route) (P : Reply × Machine 
 abbrev pub Does : World → Machine → (ℕ → Work → Type 0) → Route → Type 0
 Does world M K (OfManager em op) = (m : ℕ) → IsOpen M m → HoldsAfter (λ a w. K m w) (op world (work_of M m))
 Does world M K (ToQuery em op) = (m : ℕ) → IsOpen M m → HoldsAfter (λ a w. K m w) (op (flushes_first M m) world (work_of M m))
+Does world M K (ToUpdate em op) = (m : ℕ) → place_of (length M.managers) em ≡ Some m → IsOpen M m → HoldsAfter (λ a w. K m w) (op (has_transaction (manager_at M m)) (flushes_first M m) world (work_of M m))
 Does world M K (InTransaction em given op) = (m : ℕ) → IsOpen M m → HoldsAfter (λ a w. K m w) (op world (work_of M m))
 Does world M K (OfObject number op) = (n : ℕ) → n < length M.objects → let m = holder_in M (object_at M.objects n).life in HoldsAfter (λ a w. K m w) (op world n (work_of M m))
 Does world M K (ToCommit em) = (m : ℕ) → IsOpen M m → HoldsAfter (λ u w. K m w) (commit_work world (work_of M m))
@@ -75,6 +76,7 @@ holds_anyway (Refused r events) = tt
 pub does_something : (world : World) (M : Machine) (r : Route) → Does world M (λ m w. Unit {0}) r
 does_something world M (OfManager em op) = λ m o. holds_anyway (op world (work_of M m))
 does_something world M (ToQuery em op) = λ m o. holds_anyway (op (flushes_first M m) world (work_of M m))
+does_something world M (ToUpdate em op) = λ m e o. holds_anyway (op (has_transaction (manager_at M m)) (flushes_first M m) world (work_of M m))
 does_something world M (InTransaction em given op) = λ m o. holds_anyway (op world (work_of M m))
 does_something world M (OfObject number op) = λ n l. holds_anyway (op world n (work_of M (holder_in M (object_at M.objects n).life)))
 does_something world M (ToCommit em) = λ m o. holds_anyway (commit_work world (work_of M m))
@@ -113,6 +115,15 @@ module _ {world : World} {M : Machine} {r : Route} {P : Reply × Machine → Typ
 
   by_name : (next : ℕ → Reply × Machine) → ((m : ℕ) → IsOpen M m → P (next m)) → (em : ℤ) → P (by_manager M em next)
   by_name next f em = by_open next f (place_of (length M.managers) em) (place_within (length M.managers) em)
+
+  -- with the number that names it
+  by_number : (next : ℕ → Reply × Machine) (em : ℤ) → ((m : ℕ) → place_of (length M.managers) em ≡ Some m → IsOpen M m → P (next m)) → P (by_manager M em next)
+  by_number next em f = by_place (place_of (length M.managers) em) refl
+    where
+      by_place : (o : Option ℕ) → place_of (length M.managers) em ≡ o → P (if_open M o next)
+      by_place None e = h.same Cause.NoSuchManager
+      by_place (Some m) e =
+          cond_both (manager_at M m).is_open (next m) (because M Cause.NoSuchManager) P (λ is_open. f m e (record { within = place_within (length M.managers) em m e; is_open = is_open })) (λ shut. h.same Cause.NoSuchManager)
 
   by_object : IsOther r → (op : World → ℕ → Work → Outcome Answer) → ((n : ℕ) → n < length M.objects → let m = holder_in M (object_at M.objects n).life in HoldsAfter (λ a w. K m w) (op world n (work_of M m))) →
       (o : Option ℕ) → ((n : ℕ) → o ≡ Some n → n < length M.objects) →
@@ -159,6 +170,9 @@ on_route {world} {M} (OfManager em op) h k =
 on_route {world} {M} (ToQuery em op) h k =
     let o : ℕ → Outcome Answer = λ m. op (flushes_first M m) world (work_of M m) in
     by_name h (λ m. ended marks M m (o m)) (λ m is_open. ends h (record { no_commit = refl; no_rollback = refl }) marks m (o m) (k m is_open)) em
+on_route {world} {M} (ToUpdate em op) h k =
+    let o : ℕ → Outcome Answer = λ m. op (has_transaction (manager_at M m)) (flushes_first M m) world (work_of M m) in
+    by_number h (λ m. ended marks M m (o m)) em (λ m e is_open. ends h (record { no_commit = refl; no_rollback = refl }) marks m (o m) (k m e is_open))
 on_route {world} {M} (InTransaction em given op) h k =
     by_name h (λ m. if_begun M m (given (work_of M m)) (ended marks M m (op world (work_of M m)))) (λ m o. by_begun h (record { no_commit = refl; no_rollback = refl }) m (given (work_of M m)) (op world (work_of M m)) (k m o)) em
 on_route {world} {M} (OfObject number op) h k =

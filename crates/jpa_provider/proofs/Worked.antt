@@ -107,6 +107,15 @@ named_open s em m e = by_place (place_of (length s.managers.items) em) e
     by_place None q = absurd (false≢true (ap is_some q))
     by_place (Some k) q = by_flag k (is_open_status (manager_in s.managers.items k).status) refl q
 
+-- a number names one manager
+pub named_same : (s : Session) (em : ℤ) (m k : ℕ) → named s em ≡ Some m → place_of (length (machine_of s).managers) em ≡ Some k → m ≡ k
+named_same s em m k e place =
+    by_flag (is_open_status (manager_in s.managers.items k).status) (sym (ap (if_named s.managers.items) (ap (λ n. place_of n em) (sym (managers_count s)) ∙ place)) ∙ e)
+  where
+    by_flag : (b : Bool) → (if b then Some k else None) ≡ Some m → m ≡ k
+    by_flag true q = sym (some_same k m q)
+    by_flag false q = absurd (false≢true (ap is_some q))
+
 -- ---- while it works
 
 -- the view keeps what is committed, what was written before the call, and to whom it is shown

@@ -87,4 +87,5 @@ hands_representable (Call.Clear em) = true
 hands_representable (Call.Close em) = true
 hands_representable (Call.SetFlushMode em mode) = true
 hands_representable (Call.Query em text parameters first max) = list_all (λ (p : Parameter). given_representable p.value) parameters
+hands_representable (Call.ExecuteUpdate em text parameters) = list_all (λ (p : Parameter). given_representable p.value) parameters
 hands_representable (Call.QuerySingle em text parameters first max) = list_all (λ (p : Parameter). given_representable p.value) parameters

@@ -2,6 +2,7 @@ pub mod Machine
 pub mod Calls
 pub mod Transactions
 pub mod Querying
+pub mod Updating
 pub mod Routes
 pub mod Step
 pub mod Invariant

@@ -1,4 +1,5 @@
--- query and querySingle with what their calls hand in (Jakarta Persistence 3.1, chapters 3.10.1, 3.10.12 parameters).
+-- query, querySingle and executeUpdate with what their calls hand in (Jakarta Persistence 3.1, chapters 3.10.1, 3.10.12
+-- parameters).
 use Rattle.std.specs.Prelude.{ℕ, Bool, List, [], ◌∷◌, length, Option, Some, None}
 use Rattle.std.specs.List.{list_all}
 use Rattle.jpa_value.specs.declared.refusal.Cause.{Cause}
@@ -12,6 +13,7 @@ use Rattle.jpa_protocol.specs.declared.reply.Answer.{Answer}
 use Rattle.jpa_queries.specs.declared.asked.Asked.{Asked}
 use Rattle.jpa_queries.specs.declared.asked.Binding.{Binding}
 use Rattle.jpa_queries.specs.Queries.{query, query_single}
+use Rattle.jpa_updates.specs.Updates.{execute_update}
 use Rattle.jpa_provider.specs.declared.querying.Told.{Told}
 use Rattle.jpa_provider.specs.declared.querying.Wanted.{Wanted}
 use Rattle.jpa_provider.specs.Calls.{give_or, is_short_given, told_as}
@@ -72,3 +74,9 @@ query_single_call q flushes world = do
 abbrev pub query_told : Told → Wanted → Bool → World → Op Answer
 query_told Told.All = query_call
 query_told Told.Single = query_single_call
+
+-- an UPDATE or DELETE (chapter 4.10): how many objects it concerned
+abbrev pub update_call : List ℕ → List Parameter → Bool → Bool → World → Op Answer
+update_call text parameters is_active flushes world = do
+  bindings ← bound parameters
+  told_as Answer.Number (execute_update world is_active flushes text bindings)

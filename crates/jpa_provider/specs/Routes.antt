@@ -26,7 +26,7 @@ use Rattle.jpa_protocol.specs.declared.reply.Answer.{Answer}
 use Rattle.jpa_protocol.specs.declared.reply.Reply.{Reply}
 use Rattle.jpa_provider.specs.Machine.{Machine, new_manager, manager_at, has_transaction, work_of, with_mode, flushes_first, cleared, closed}
 use Rattle.jpa_provider.specs.Calls.{accepted, because, marks, marks_if_callback, ended, told_as, nothing, truth, object_told, object_or_null, got, object_numbered, handed, is_short_given, class_named, key_given}
-use Rattle.jpa_provider.specs.Querying.{query_call, query_single_call}
+use Rattle.jpa_provider.specs.Querying.{query_call, query_single_call, update_call}
 use Rattle.jpa_provider.specs.Transactions.{begin, commit, rollback, set_rollback_only}
 
 -- ---- managers
@@ -177,12 +177,14 @@ close M m = if has_transaction (manager_at M m) then because M (Cause.IllegalSta
 
 -- ---- routes
 
--- how a call is served: an operation of a manager, one before which its objects may be flushed, one that asks for its open transaction and before that of what it is
+-- how a call is served: an operation of a manager, one before which its objects may be flushed, one that also asks whether its
+-- transaction is open, one that asks for its open transaction and before that of what it is
 -- handed, an operation on an object of
 -- whoever holds it, or one of those that are none
 pub data Route : Type 0 where
   OfManager : ℤ → (World → Op Answer) → Route
   ToQuery : ℤ → (Bool → World → Op Answer) → Route
+  ToUpdate : ℤ → (Bool → Bool → World → Op Answer) → Route
   InTransaction : ℤ → Op (Unit {0}) → (World → Op Answer) → Route
   OfObject : ℤ → (World → ℕ → Op Answer) → Route
   ToCreate : Route
@@ -199,6 +201,7 @@ pub data Route : Type 0 where
 abbrev pub by_route : World → Machine → Route → Reply × Machine
 by_route world M (OfManager em op) = by_manager M em (λ m. ended marks M m (op world (work_of M m)))
 by_route world M (ToQuery em op) = by_manager M em (λ m. ended marks M m (op (flushes_first M m) world (work_of M m)))
+by_route world M (ToUpdate em op) = by_manager M em (λ m. ended marks M m (op (has_transaction (manager_at M m)) (flushes_first M m) world (work_of M m)))
 by_route world M (InTransaction em given op) = by_manager M em (λ m. if_begun M m (given (work_of M m)) (ended marks M m (op world (work_of M m))))
 by_route world M (OfObject number op) =
     let m = holder M (place_of (length M.objects) number) in
@@ -240,6 +243,7 @@ route (Call.Clear em) = ToClear em
 route (Call.SetFlushMode em mode) = ToSetMode em mode
 route (Call.Query em text parameters first max) = ToQuery em (query_call (record { text = text; parameters = parameters; first = first; max = max }))
 route (Call.QuerySingle em text parameters first max) = ToQuery em (query_single_call (record { text = text; parameters = parameters; first = first; max = max }))
+route (Call.ExecuteUpdate em text parameters) = ToUpdate em (update_call text parameters)
 route (Call.Close em) = ToClose em
 
 -- ---- what is told of a call by its route
@@ -249,6 +253,7 @@ abbrev pub commits : Route → Bool
 commits (ToCommit em) = true
 commits (OfManager em op) = false
 commits (ToQuery em op) = false
+commits (ToUpdate em op) = false
 commits (InTransaction em given op) = false
 commits (OfObject number op) = false
 commits ToCreate = false
@@ -265,6 +270,7 @@ abbrev pub rolls_back : Route → Bool
 rolls_back (ToRollBack em) = true
 rolls_back (OfManager em op) = false
 rolls_back (ToQuery em op) = false
+rolls_back (ToUpdate em op) = false
 rolls_back (InTransaction em given op) = false
 rolls_back (OfObject number op) = false
 rolls_back ToCreate = false
@@ -288,6 +294,7 @@ is_free (ToSetMode em mode) = true
 is_free (ToClose em) = true
 is_free (OfManager em op) = false
 is_free (ToQuery em op) = false
+is_free (ToUpdate em op) = false
 is_free (InTransaction em given op) = false
 is_free (OfObject number op) = false
 is_free ToCreate = false

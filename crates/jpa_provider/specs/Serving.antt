@@ -26,6 +26,7 @@ use Rattle.jpa_provider.specs.Machine.{Machine, Manager, Transaction, manager_at
 use Rattle.jpa_provider.specs.Step.{Step, gives_up}
 use Rattle.jpa_provider.specs.Invariant.{IsMachine, HasOneTransaction, context_of}
 use Rattle.jpa_fetch.specs.Orderly.{IsOrderly}
+use Rattle.jpql_kept.specs.Fits.{AreInherited}
 
 -- ---- managers
 
@@ -98,6 +99,7 @@ pub record IsSettled (s : Session) : Type 0 where
 pub record IsServing (world : World) (s : Session) : Type 0 where
   pub orderly : IsOrderly world.model
   pub regular : IsRegular world
+  pub inherited : AreInherited world.model
   pub machine : IsMachine world (machine_of s)
   pub one : HasOneTransaction (machine_of s)
   pub settled : IsSettled s

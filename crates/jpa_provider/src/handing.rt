@@ -151,6 +151,7 @@ pub(crate) fn hands_representable(call: &Call)
         Call::GetReference { key, .. } => key_representable(key.as_slice()),
         Call::Query { parameters, .. } => parameters_representable(parameters.as_slice()),
         Call::QuerySingle { parameters, .. } => parameters_representable(parameters.as_slice()),
+        Call::ExecuteUpdate { parameters, .. } => parameters_representable(parameters.as_slice()),
         _ => {}
     }
 }

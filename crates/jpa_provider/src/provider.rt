@@ -20,6 +20,7 @@ ghost use Rattle.jpa_provider.specs.Step.{IsGivenUp};
 ghost use Rattle.jpa_provider.specs.Routes.{is_commit, is_rollback};
 ghost use Rattle.jpa_object_store.specs.Written.{RunsAtMost, RunsDifference};
 ghost use Rattle.jpa_provider.specs.Provided.{rows_kept, rows_made, world_in, Stands};
+ghost use Rattle.jpa_provider.specs.Updating.{MakesRepresentable, is_bulk};
 ghost use Rattle.jpa_provider.specs.Serving.{machine_of, IsServing, IsSettled, Serves};
 
 use crate::asking::contains_call;
@@ -30,7 +31,7 @@ use crate::handing::hands_representable;
 use crate::moding::set_flush_mode_call;
 use crate::opening::{begin_call, create_call, new_call};
 use crate::operating::Operation;
-use crate::querying::{Told, Wanted, query_call};
+use crate::querying::{Told, Wanted, query_call, update_call};
 use crate::session::Session;
 use crate::working::{held, lock_call, worked};
 use jpa_behaviour::{Behaviour, Registry};
@@ -229,6 +230,9 @@ fn served<R: RowSource, B: Behaviour>(
     ensures told { R.faults rows.new ≡ faults_after_reply result (R.faults rows.old) }
     ensures refused { is_commit call ≡ true → IsErr result.answer
         → IsGivenUp result ⊎ (rows.new ≡ rows.old) }
+    ensures made { let world = world_of B.meaning metamodel.now registry.now in
+        is_bulk call ≡ true
+        → OnOk result.answer (MakesRepresentable world (machine_of session.old) call) }
     ensures schema { R.schema rows.new ≡ schema_of metamodel.now }
 {
     match call {
@@ -358,6 +362,14 @@ fn served<R: RowSource, B: Behaviour>(
                 wanted,
                 Told::Single,
             )
+        }
+        Call::ExecuteUpdate {
+            em,
+            text,
+            parameters,
+        } => {
+            let (text, parameters) = (text.as_str(), parameters.as_slice());
+            update_call(alloc, metamodel, registry, session, em, text, parameters)
         }
         Call::Close { em } => close_call(alloc, metamodel, registry, session, em),
     }

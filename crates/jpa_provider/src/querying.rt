@@ -1,8 +1,13 @@
-//! The calls query and querySingle (Jakarta Persistence 3.1, chapter 3.10).
-ghost use Rattle.std.specs.Prelude.{◌≡◌, T, false, length, true, IfErr, IfOk, IfSome};
+//! The calls query, querySingle and executeUpdate (Jakarta Persistence 3.1, chapters 3.10 and 4.10).
+ghost use Rattle.std.specs.Prelude.{◌≡◌, T, false, length, true, IfErr, IfOk, IfSome, OnOk};
 ghost use Rattle.std.specs.FinMap.Entries.{is_sorted};
 ghost use Rattle.jpa_behaviour.specs.Registered.{world_of};
-ghost use Rattle.jpa_context.specs.Steps.{Meets};
+ghost use Rattle.jpa_context.specs.Steps.{Done, Meets};
+ghost use Rattle.jpa_context.specs.Work.{Work};
+ghost use Rattle.jpa_rows.specs.Cells.{all_representable};
+ghost use Rattle.jpa_queries.specs.Queries.{flush_if};
+ghost use Rattle.jpa_updates.specs.Updates.{StaysSound};
+ghost use Rattle.jpa_provider.specs.Updating.{MakesRepresentable};
 ghost use Rattle.jpa_context.specs.Undo.{now, since};
 ghost use Rattle.jpa_fetch.specs.Grown.{IsReady};
 ghost use Rattle.jpa_fetch.specs.Orderly.{IsOrderly};
@@ -13,7 +18,7 @@ ghost use Rattle.jpa_provider.specs.Faults.{tells_fault};
 ghost use Rattle.jpa_provider.specs.Machine as machine;
 ghost use Rattle.jpa_provider.specs.Querying as querying;
 ghost use Rattle.jpa_provider.specs.Routes.{route, ToQuery};
-ghost use Rattle.jpa_provider.specs.Serving.{IsServing, IsSettled, Serves, is_begun_status};
+ghost use Rattle.jpa_provider.specs.Serving.{machine_of, IsServing, IsSettled, Serves, is_begun_status};
 ghost use Rattle.jpa_queries.specs.Premises.{AreInHeap, StaysReady};
 ghost use Rattle.jpa_stored.specs.Sets.{IsSound};
 ghost use Rattle.jpa_value.specs.Value.{identity_cmp};
@@ -29,6 +34,7 @@ use jpa_heap::Handed;
 use jpa_model::Metamodel;
 use jpa_protocol::{Answer, FlushMode, Given, Parameter, Reply};
 use jpa_queries::{Asked, Binding, query, query_single};
+use jpa_updates::execute_update;
 use jpa_value::{Cause, Seq, Text, TryCopy};
 use std::alloc::Global;
 
@@ -102,18 +108,27 @@ fn are_short(parameters: &[Parameter]) -> bool
     true
 }
 
-/// What a call asks, with what is bound to its parameters: `NoSuchObject` where a number names no object, then `Limit` where a
-/// value is too long; `OutOfMemory`.
+/// What is bound to a call's parameters: `NoSuchObject` where a number names no object, then `Limit` where a value is too long;
+/// `OutOfMemory`.
+fn bound(alloc: Global, work: &UnitOfWork, parameters: &[Parameter]) -> Result<Seq<Binding>, Cause>
+    ensures meets { Meets result (now work.now) (querying.bound parameters.now (now work.now)) }
+    ensures within { IfOk result (AreInHeap work.now.objects.now) }
+{
+    let Some(bindings) = bindings_in(alloc, work, parameters)? else {
+        return Err(Cause::NoSuchObject);
+    };
+    if !are_short(parameters) {
+        return Err(Cause::Limit);
+    }
+    Ok(bindings)
+}
+
+/// What a call asks, with what is bound to its parameters. Refused as `bound` is.
 fn asked_of(alloc: Global, work: &UnitOfWork, wanted: Wanted) -> Result<Asked, Cause>
     ensures meets { Meets result (now work.now) (querying.asked_of wanted (now work.now)) }
     ensures bound { IfOk result (λ asked. AreInHeap work.now.objects.now asked.bindings) }
 {
-    let Some(bindings) = bindings_in(alloc, work, wanted.parameters.as_slice())? else {
-        return Err(Cause::NoSuchObject);
-    };
-    if !are_short(wanted.parameters.as_slice()) {
-        return Err(Cause::Limit);
-    }
+    let bindings = bound(alloc, work, wanted.parameters.as_slice())?;
     Ok(Asked {
         text: wanted.text,
         bindings,
@@ -194,5 +209,82 @@ pub(crate) fn query_call<B: Behaviour>(
     take_work(session, manager);
     let work = &mut session.work;
     let answered = query_work(alloc, metamodel, registry, work, flushes, wanted, told);
+    conclude(alloc, session, manager, answered, Rule::OfManager)
+}
+
+/// An UPDATE or DELETE of a manager at work, and its answer. Refused as `bound` and `execute_update` are.
+fn update_work<B: Behaviour>(
+    alloc: Global,
+    metamodel: &Metamodel,
+    registry: &Registry<B>,
+    work: &mut UnitOfWork,
+    is_active: bool,
+    flushes: bool,
+    text: &str,
+    parameters: &[Parameter],
+) -> Result<Answer, Cause>
+    requires orderly { IsOrderly metamodel.now }
+    requires ready { IsReady metamodel.now (now work.old) }
+    requires shown { is_active ≡ true → work.old.view.is_shown ≡ true }
+    requires flushing { flushes ≡ true → is_active ≡ true }
+    requires sound { IsSound metamodel.now (now work.old).view }
+    requires rising { T (is_sorted identity_cmp (now work.old).view) }
+    requires distinct { has_distinct_entries metamodel.now (now work.old) ≡ true }
+    requires then_sound { StaysSound flushes (world_of B.meaning metamodel.now registry.now)
+        (now work.old) }
+    ensures meets { let world = world_of B.meaning metamodel.now registry.now in
+        Meets result (now work.new)
+        (querying.update_call text.now parameters.now is_active flushes world (now work.old)) }
+    ensures representable { OnOk result ((v : Work)
+        → flush_if flushes (world_of B.meaning metamodel.now registry.now) (now work.old)
+        ≡ Done tt v → all_representable v.view ≡ true
+        → all_representable (now work.new).view ≡ true) }
+    ensures since { since work.new ≡ since work.old }
+{
+    let bindings = bound(alloc, work, parameters)?;
+    let bindings = bindings.as_slice();
+    let count = execute_update(
+        alloc, metamodel, registry, work, is_active, flushes, text, bindings,
+    )?;
+    Ok(Answer::Number(count as u64))
+}
+
+/// The call executeUpdate (chapter 4.10). `TransactionRequired` where the manager's transaction is not open, after what is
+/// refused of what the call hands in.
+pub(crate) fn update_call<B: Behaviour>(
+    alloc: Global,
+    metamodel: &Metamodel,
+    registry: &Registry<B>,
+    session: &mut Session,
+    em: i64,
+    text: &str,
+    parameters: &[Parameter],
+) -> Reply
+    requires serving { IsServing (world_of B.meaning metamodel.now registry.now) session.old }
+    ensures step { Serves (world_of B.meaning metamodel.now registry.now) session.old
+        (Call.ExecuteUpdate em text.now parameters.now) result session.new }
+    ensures untold { tells_fault result ≡ false }
+    ensures settled { IsSettled session.new }
+    ensures made { let world = world_of B.meaning metamodel.now registry.now in
+        OnOk result.answer (MakesRepresentable world (machine_of session.old)
+        (Call.ExecuteUpdate em text.now parameters.now)) }
+{
+    let Some(manager) = manager_named(session, em) else {
+        return because(alloc, Cause::NoSuchManager);
+    };
+    let status = status_of(&session.managers, manager);
+    let flushes = flushes_first(status, mode_of(&session.managers, manager));
+    take_work(session, manager);
+    let work = &mut session.work;
+    let answered = update_work(
+        alloc,
+        metamodel,
+        registry,
+        work,
+        status.is_begun(),
+        flushes,
+        text,
+        parameters,
+    );
     conclude(alloc, session, manager, answered, Rule::OfManager)
 }

@@ -3,15 +3,17 @@ use Rattle.std.proofs.Common.{ap, arith, subst, sym, ◌∙◌, ◌<◌}
 use Rattle.std.specs.List.{filter, Contains}
 use Rattle.std.specs.Str.{is_utf8}
 use Rattle.std.proofs.lemmas.Str.{is_utf8-from_IsUtf8, IsUtf8-from_ascii}
-use Rattle.std.specs.Prelude.{codes, slice_index, slice_get, is_some, List, Some, ◌↔◌, ◌&&◌, ◌≡◌, refl, nat_lt, ℕ, zero, suc, pos, true, [], ◌∷◌}
-use Rattle.std.proofs.lemmas.Bool.{false≢true}
+use Rattle.std.specs.Prelude.{codes, slice_index, slice_get, is_some, List, Some, ◌↔◌, ◌&&◌, ◌||◌, ◌≡◌, refl, nat_lt, ℕ, zero, suc, pos, false, true, [], ◌∷◌}
+use Rattle.std.proofs.lemmas.Bool.{false≢true, ltb-true, ne_eqb}
 use Rattle.jpa_value.specs.declared.value.Value.{Value}
-use Rattle.jpa_model.specs.Chains.{relations_of, root_of, root_class}
+use Rattle.jpa_model.specs.Chains.{attributes_of, is_kind_of, relations_of, root_of, root_class}
 use Rattle.jpa_behaviour.proofs.Regular.{regular_without}
 use Rattle.jpa_behaviour.specs.Behaviour.{IsRegular}
 use Rattle.jpa_stored.specs.Sets.{is_key_of}
 use Rattle.jpa_rows.specs.Cells.{Cell, CanBeHeld, StandFor, is_own_cell}
+use Rattle.jpa_model.specs.declared.unit.Attribute.{Attribute}
 use Rattle.jpa_model.specs.declared.unit.Relation.{Relation}
+use Rattle.jpql_kept.specs.Fits.{AreInherited}
 use Rattle.jpa_fetch.specs.Orderly.{IsOrderly}
 use Rattle.jpa_provider.specs.Step.{machine_after}
 use Rattle.jpa_provider.specs.Invariant.{IsMachine}
@@ -49,6 +51,25 @@ persons_orderly =
 persons_regular : IsRegular P1
 persons_regular = regular_without P1.model
 
+persons_inherited : AreInherited P1.model
+persons_inherited = record { roots = roots; attributes = attributes; relations = relations }
+  where
+    itself : (class kind : ℕ) → nat_lt kind 1 ≡ true → is_kind_of P1.model kind class ≡ true → class ≡ kind
+    itself zero zero l h = refl
+    itself (suc class) zero l h = absurd (false≢true (sym (ap (λ b. b || false) (ne_eqb zero (suc class) (λ z. omega (arith, z)))) ∙ h))
+    itself class (suc kind) l h = absurd (omega (arith, ltb-true (suc kind) 1 l))
+
+    roots : (class kind : ℕ) → nat_lt kind 1 ≡ true → is_kind_of P1.model kind class ≡ true → root_of P1.model kind ≡ root_of P1.model class
+    roots class kind l h = ap (root_of P1.model) (sym (itself class kind l h))
+
+    attributes : (class kind i : ℕ) (a : Attribute) → nat_lt kind 1 ≡ true → is_kind_of P1.model kind class ≡ true →
+        slice_get (attributes_of P1.model class) i ≡ Some a → slice_get (attributes_of P1.model kind) i ≡ Some a
+    attributes class kind i a l h e = subst (λ k. slice_get (attributes_of P1.model k) i ≡ Some a) (itself class kind l h) e
+
+    relations : (class kind r : ℕ) (x : Relation) → nat_lt kind 1 ≡ true → is_kind_of P1.model kind class ≡ true →
+        slice_get (relations_of P1.model class) r ≡ Some x → slice_get (relations_of P1.model kind) r ≡ Some x
+    relations class kind r x l h e = subst (λ k. slice_get (relations_of P1.model k) r ≡ Some x) (itself class kind l h) e
+
 ada_text : is_utf8 (codes "Ada") ≡ true
 ada_text = is_utf8-from_IsUtf8 (codes "Ada") (IsUtf8-from_ascii (codes "Ada") below)
   where
@@ -67,17 +88,17 @@ committed_held = record { representable = ap (λ b. ((b && true) && true) && tru
 
 -- between any two calls
 first_holds : IsMachine P1 after_first
-first_holds = machine_after_keeps persons_orderly persons_regular fresh first_run (ap (λ b. b && true) ada_text) (opened_holds empty_held)
+first_holds = machine_after_keeps persons_orderly persons_regular persons_inherited fresh first_run (ap (λ b. b && true) ada_text) refl (opened_holds empty_held)
 
 set_key_holds : IsMachine P1 (machine_after P1 after_first set_key)
-set_key_holds = machine_after_keeps persons_orderly persons_regular after_first set_key refl first_holds
+set_key_holds = machine_after_keeps persons_orderly persons_regular persons_inherited after_first set_key refl refl first_holds
 
 -- also where rows leave
 removing_holds : IsMachine P1 (machine_after P1 after_first removing)
-removing_holds = machine_after_keeps persons_orderly persons_regular after_first removing refl first_holds
+removing_holds = machine_after_keeps persons_orderly persons_regular persons_inherited after_first removing refl refl first_holds
 
 reviving_holds : IsMachine P1 (machine_after P1 after_first reviving)
-reviving_holds = machine_after_keeps persons_orderly persons_regular after_first reviving refl first_holds
+reviving_holds = machine_after_keeps persons_orderly persons_regular persons_inherited after_first reviving refl refl first_holds
 
 -- its cells stand for what was committed, whatever stands in tables of others
 abbrev foreign : Cell

@@ -25,6 +25,8 @@ use Rattle.jpa_provider.specs.Machine.{Machine, opened}
 use Rattle.jpa_provider.specs.Step.{replies_of, machine_after}
 use Rattle.jpa_fetch.specs.Orderly.{IsOrderly}
 use Rattle.jpa_consistent.proofs.Units.{described_orderly}
+use Rattle.jpql_kept.specs.Fits.{AreInherited}
+use Rattle.jpql_kept.proofs.Inherited.{described_inherited}
 use Rattle.jpa_samples.proofs.Sample.{text, int, saw, ok, quiet, no}
 
 -- ---- hierarchies
@@ -60,6 +62,9 @@ described = (payments, (refl, refl))
 
 pub payments_orderly : IsOrderly unit
 payments_orderly = described_orderly unit described
+
+pub payments_inherited : AreInherited unit
+payments_inherited = described_inherited unit described
 
 abbrev pub H : World
 H = without_functions unit

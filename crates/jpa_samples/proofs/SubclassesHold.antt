@@ -10,7 +10,7 @@ use Rattle.jpa_provider.specs.Step.{machine_after}
 use Rattle.jpa_provider.proofs.Settled.{opened_holds}
 use Rattle.jpa_provider.proofs.Outcome.{machine_after_keeps}
 use Rattle.jpa_samples.proofs.Sample.{int}
-use Rattle.jpa_samples.proofs.Subclasses.{H, fresh, find, payments_orderly}
+use Rattle.jpa_samples.proofs.Subclasses.{H, fresh, find, payments_inherited, payments_orderly}
 
 payments_regular : IsRegular H
 payments_regular = regular_without H.model
@@ -28,11 +28,11 @@ abbrev paid : Machine
 paid = machine_after H fresh paying
 
 paid_holds : IsMachine H paid
-paid_holds = machine_after_keeps payments_orderly payments_regular fresh paying refl (opened_holds empty_held)
+paid_holds = machine_after_keeps payments_orderly payments_regular payments_inherited fresh paying refl refl (opened_holds empty_held)
 
 abbrev changing : List Call
 changing =
     Call.SetValue (pos 3) (codes "amount") (int 6) ∷ Call.Begin (pos 1) ∷ Call.Flush (pos 1) ∷ Call.Remove (pos 1) (pos 3) ∷ Call.Commit (pos 1) ∷ find (codes "Cheque") 2 ∷ []
 
 changed_holds : IsMachine H (machine_after H paid changing)
-changed_holds = machine_after_keeps payments_orderly payments_regular paid changing refl paid_holds
+changed_holds = machine_after_keeps payments_orderly payments_regular payments_inherited paid changing refl refl paid_holds

@@ -1,10 +1,14 @@
-use Rattle.std.proofs.Common.{◌≡◌, ℕ, List, inr, sym, subst}
+use Rattle.std.proofs.Common.{◌≡◌, ℕ, List, inr, ap, sym, subst}
+use Rattle.std.specs.Prelude.{not}
 use Rattle.jpa_behaviour.specs.Registered.{world_of}
 use Rattle.jpa_stored.specs.Sets.{StoredSet}
 use Rattle.jpa_object_rows.specs.Sets.{rows_of}
 use Rattle.jpa_provider.specs.Provided.{rows_made}
 use Rattle.jpa_provider.specs.Routes.{is_commit}
 use Rattle.jpa_provider.specs.Serving.{machine_of}
+use Rattle.jpa_provider.specs.Updating.{is_bulk}
+use Rattle.jpa_provider.proofs.Outcome.{plain_made}
+use Rattle.jpa_provider.proofs.Updated.{ok_from}
 use Rattle.jpa_provider.proofs.Crashed.{either_way}
 use Rattle.jpa_provider.proofs.Serving.{serves_on, stores_all}
 use Rattle.jpa_provider.proofs.Still.{step_still}
@@ -13,8 +17,10 @@ use Rattle.jpa_provider.proofs.provider.serve.Goals as goal
 
 pub returns-clause-serving : goal.returns-clause-serving
 returns-clause-serving g c =
-    serves_on (world_of g.B.Behaviour.meaning c.args.metamodel.now c.args.registry.now) c.args.session.now c.served.new.session c.args.call c.served.result c.requires.serving c.hands_representable.ensures c.served.ensures.step
-    c.served.ensures.settled
+    serves_on (world_of g.B.Behaviour.meaning c.args.metamodel.now c.args.registry.now) c.args.session.now c.served.new.session c.args.call c.served.result c.requires.serving c.hands_representable.ensures
+    (either_way (is_bulk c.args.call) (λ bulk. c.served.ensures.made bulk)
+    (λ other. ok_from c.served.result.answer (plain_made (world_of g.B.Behaviour.meaning c.args.metamodel.now c.args.registry.now) (machine_of c.args.session.now) c.args.call (ap not other))))
+    c.served.ensures.step c.served.ensures.settled
 
 pub returns-clause-holds : goal.returns-clause-holds
 returns-clause-holds g c = λ clean.
@@ -48,7 +54,10 @@ returns-clause-undone g c =
 
 pub returns-clause-rising : goal.returns-clause-rising
 returns-clause-rising g c =
-    step_rises (machine_of c.args.session.now) c.args.call c.served.result (machine_of c.served.new.session) c.requires.serving.orderly c.requires.serving.regular c.hands_representable.ensures c.requires.serving.machine c.served.ensures.step
+    step_rises (machine_of c.args.session.now) c.args.call c.served.result (machine_of c.served.new.session) c.requires.serving.orderly c.requires.serving.regular c.requires.serving.inherited c.hands_representable.ensures
+    (either_way (is_bulk c.args.call) (λ bulk. c.served.ensures.made bulk)
+    (λ other. ok_from c.served.result.answer (plain_made (world_of g.B.Behaviour.meaning c.args.metamodel.now c.args.registry.now) (machine_of c.args.session.now) c.args.call (ap not other))))
+    c.requires.serving.machine c.served.ensures.step
 
 pub returns-clause-refused : goal.returns-clause-refused
 returns-clause-refused g c = λ refused.

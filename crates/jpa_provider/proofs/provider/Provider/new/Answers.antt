@@ -5,6 +5,7 @@ use Rattle.jpa_object_rows.specs.Sets.{rows_of}
 use Rattle.jpa_provider.specs.Machine.{Machine, opened}
 use Rattle.jpa_provider.specs.Serving.{machine_of}
 use Rattle.jpa_consistent.proofs.Units.{described_orderly}
+use Rattle.jpql_kept.proofs.Inherited.{described_inherited}
 use Rattle.jpa_provider.proofs.Serving.{opened_serving}
 use Rattle.jpa_provider.proofs.provider.Provider.new.Goals as goal
 
@@ -17,7 +18,7 @@ invariant_of-result g c =
     let view : c.in-Ok-new.view ≡ unwritten c.args.committed = c.in-Ok-new.ensures.opened ∙ ap unwritten c.into_entries.ensures.all in
     let e : machine_of s ≡ opened c.args.committed c.args.numbers = c.opened-session.ensures.machine c.args.committed view (numbers.0 ∙ c.as_slice.ensures) in
     record {
-      serving = opened_serving world s c.args.committed c.args.numbers (described_orderly m c.unit.ensures.described) (c.laws.ensures.regular m) c.requires.held e (c.opened-session.ensures.settled c.args.committed view (numbers.1 ∙ sym numbers.0));
+      serving = opened_serving world s c.args.committed c.args.numbers (described_orderly m c.unit.ensures.described) (c.laws.ensures.regular m) (described_inherited m c.unit.ensures.described) c.requires.held e (c.opened-session.ensures.settled c.args.committed view (numbers.1 ∙ sym numbers.0));
       schema = c.requires.schema;
       holds = λ clean. subst (λ (M : Machine). g.R.RowSource.holds c.args.rows (rows_of world M.committed M.stored_numbers)) (sym e) (c.requires.holds clean);
     }

@@ -1,0 +1,130 @@
+use Rattle.std.proofs.Common.{◌≡◌, ℕ, Bool, false, true, refl, ap, sym, subst, ◌∙◌}
+use Rattle.std.specs.Prelude.{T, OnOk, Some}
+use Rattle.std.specs.FinMap.Entries.{is_sorted}
+use Rattle.std.proofs.Math.Facts.{to_z-of_z}
+use Rattle.std.proofs.lemmas.Bool.{false≢true}
+use Rattle.jpa_value.specs.Value.{identity_cmp}
+use Rattle.jpa_behaviour.specs.Registered.{world_of}
+use Rattle.jpa_stored.specs.Sets.{IsSound}
+use Rattle.jpa_context.specs.Work.{Work}
+use Rattle.jpa_context.specs.Steps.{Done, Meets}
+use Rattle.jpa_context.specs.Undo.{now}
+use Rattle.jpa_fetch.specs.Grown.{IsReady}
+use Rattle.jpa_ops.specs.Names.{has_distinct_entries}
+use Rattle.jpa_protocol.specs.declared.call.FlushMode.{FlushMode}
+use Rattle.jpa_queries.specs.Queries.{flush_if}
+use Rattle.jpa_updates.specs.Updates.{StaysSound}
+use Rattle.jpa_rows.specs.Cells.{all_representable}
+use Rattle.jpa_consistent.specs.Going.{HoldsAfter}
+use Rattle.jpa_protocol.specs.declared.reply.Answer.{Answer}
+use Rattle.jpa_provider.specs.declared.replies.Rule.{Rule}
+use Rattle.jpa_provider.specs.Machine.{flushes_in, flushes_first, has_transaction, manager_at, work_of}
+use Rattle.jpa_provider.specs.Updating.{update_outcome}
+use Rattle.jpa_provider.specs.Querying.{update_call}
+use Rattle.jpa_provider.specs.Serving.{machine_of, manager_in, is_begun_status, named, Serves}
+use Rattle.jpa_provider.proofs.Active.{entries_apart, view_sound, view_rises, update_sound, update_representable}
+use Rattle.jpa_provider.proofs.AtWork.{work_ready}
+use Rattle.jpa_provider.proofs.Routed.{update_so}
+use Rattle.jpa_provider.proofs.Updated.{made_so, told_ok, ok_weaker}
+use Rattle.jpa_provider.proofs.Sessions.{begun_there, manager_there}
+use Rattle.jpa_provider.proofs.Told.{no_fault}
+use Rattle.jpa_provider.proofs.Worked.{still_working, if_refused, ends_so, named_same}
+use Rattle.jpa_provider.proofs.querying.update_call.Goals as goal
+
+-- where the objects are flushed a transaction is open
+begun_then : (begun : Bool) (mode : FlushMode) → flushes_in begun mode ≡ true → begun ≡ true
+begun_then begun FlushMode.Auto h = h
+begun_then begun FlushMode.Commit h = absurd (false≢true h)
+
+pub update_work-answered-requires-clause-ready : goal.update_work-answered-requires-clause-ready
+update_work-answered-requires-clause-ready g c = subst (IsReady c.args.metamodel.now) (sym c.take_work.ensures.work) (work_ready c.in-Some.manager (c.requires.serving).machine)
+
+pub update_work-answered-requires-clause-shown : goal.update_work-answered-requires-clause-shown
+update_work-answered-requires-clause-shown g c = λ active.
+    let s = c.args.session.now in
+    let m = c.in-Some.manager in
+    ((c.take_work.ensures.working).away).shown ∙ begun_there s m ∙ ap is_begun_status (sym c.status_of-status.ensures) ∙ sym c.is_begun.ensures ∙ active
+
+pub update_work-answered-requires-clause-flushing : goal.update_work-answered-requires-clause-flushing
+update_work-answered-requires-clause-flushing g c = λ flushes.
+    c.is_begun.ensures ∙ begun_then (is_begun_status c.status_of-status.result) c.mode_of.result (sym c.flushes_first-flushes.ensures ∙ flushes)
+
+pub update_work-answered-requires-clause-sound : goal.update_work-answered-requires-clause-sound
+update_work-answered-requires-clause-sound g c =
+    let world = world_of g.B.Behaviour.meaning c.args.metamodel.now c.args.registry.now in
+    subst (λ (v : Work). IsSound c.args.metamodel.now v.view) (sym c.take_work.ensures.work) (view_sound world c.args.session.now c.in-Some.manager c.requires.serving)
+
+pub update_work-answered-requires-clause-rising : goal.update_work-answered-requires-clause-rising
+update_work-answered-requires-clause-rising g c =
+    let world = world_of g.B.Behaviour.meaning c.args.metamodel.now c.args.registry.now in
+    subst (λ (v : Work). T (is_sorted identity_cmp v.view)) (sym c.take_work.ensures.work) (view_rises world c.args.session.now c.in-Some.manager c.requires.serving)
+
+pub update_work-answered-requires-clause-distinct : goal.update_work-answered-requires-clause-distinct
+update_work-answered-requires-clause-distinct g c =
+    let world = world_of g.B.Behaviour.meaning c.args.metamodel.now c.args.registry.now in
+    subst (λ (v : Work). has_distinct_entries c.args.metamodel.now v ≡ true) (sym c.take_work.ensures.work) (entries_apart world c.args.session.now c.in-Some.manager c.requires.serving)
+
+pub update_work-answered-requires-clause-then_sound : goal.update_work-answered-requires-clause-then_sound
+update_work-answered-requires-clause-then_sound g c =
+    let world = world_of g.B.Behaviour.meaning c.args.metamodel.now c.args.registry.now in
+    subst (StaysSound c.flushes_first-flushes.result world) (sym c.take_work.ensures.work) (update_sound world c.args.session.now c.in-Some.manager c.requires.serving c.flushes_first-flushes.result)
+
+pub returns-clause-step : goal.returns-clause-step
+returns-clause-step g c =
+    let s = c.args.session.now in
+    let M = machine_of s in
+    let m = c.in-Some.manager in
+    let world = world_of g.B.Behaviour.meaning c.args.metamodel.now c.args.registry.now in
+    let done = c.update_work-answered in
+    let op = update_call c.args.text.now c.args.parameters.now in
+    let is : named s c.args.em ≡ Some m = ap (named s) (sym (to_z-of_z c.ranges.em)) ∙ sym c.in-Some.ensures.named in
+    let at = manager_there s m in
+    let active : c.is_begun.result ≡ has_transaction (manager_at M m) = c.is_begun.ensures ∙ ap is_begun_status c.status_of-status.ensures ∙ sym (begun_there s m) in
+    let flushes : c.flushes_first-flushes.result ≡ flushes_first M m =
+    c.flushes_first-flushes.ensures ∙ (λ i. flushes_in (is_begun_status (c.status_of-status.ensures i)) (c.mode_of.ensures i))
+    ∙ (λ i. flushes_in (sym (begun_there s m) i) (sym at i).mode) in
+    let working = still_working c.take_work.new.session done.new.work c.take_work.ensures.working done.ensures.since in
+    let met = subst (λ (p : Bool × Bool). Meets done.result (now done.new.work) (op p.0 p.1 world (work_of M m))) (λ i. (active i, flushes i))
+    (subst (λ (w : Work). Meets done.result (now done.new.work) (op c.is_begun.result c.flushes_first-flushes.result world w)) c.take_work.ensures.work done.ensures.meets) in
+    update_so world s c.args.em c.args.text.now c.args.parameters.now c.conclude.new.session m c.conclude.result is
+    (ends_so Rule.OfManager M (machine_of c.conclude.new.session) m (update_outcome world M c.args.text.now c.args.parameters.now m) done.result (now done.new.work) c.conclude.result met
+    (c.conclude.ensures.concludes M (c.requires.serving).one working.away (if_refused done.result working)))
+
+pub returns-clause-made : goal.returns-clause-made
+returns-clause-made g c =
+    let s = c.args.session.now in
+    let M = machine_of s in
+    let m = c.in-Some.manager in
+    let world = world_of g.B.Behaviour.meaning c.args.metamodel.now c.args.registry.now in
+    let done = c.update_work-answered in
+    let text = c.args.text.now in
+    let ps = c.args.parameters.now in
+    let w : Work = work_of M m in
+    let new : Work = now done.new.work in
+    let is : named s c.args.em ≡ Some m = ap (named s) (sym (to_z-of_z c.ranges.em)) ∙ sym c.in-Some.ensures.named in
+    let at = manager_there s m in
+    let active : c.is_begun.result ≡ has_transaction (manager_at M m) = c.is_begun.ensures ∙ ap is_begun_status c.status_of-status.ensures ∙ sym (begun_there s m) in
+    let flushes : c.flushes_first-flushes.result ≡ flushes_first M m =
+    c.flushes_first-flushes.ensures ∙ (λ i. flushes_in (is_begun_status (c.status_of-status.ensures i)) (c.mode_of.ensures i))
+    ∙ (λ i. flushes_in (sym (begun_there s m) i) (sym at i).mode) in
+    let working = still_working c.take_work.new.session done.new.work c.take_work.ensures.working done.ensures.since in
+    let made = made_so world text ps c.is_begun.result c.flushes_first-flushes.result w new done.result
+    (subst (λ (v : Work). Meets done.result new (update_call text ps c.is_begun.result c.flushes_first-flushes.result world v)) c.take_work.ensures.work done.ensures.meets)
+    (subst (λ (u : Work). OnOk done.result ((v : Work) → flush_if c.flushes_first-flushes.result world u ≡ Done tt v → all_representable v.view ≡ true → all_representable new.view ≡ true)) c.take_work.ensures.work done.ensures.representable)
+    (update_representable world s m c.requires.serving c.flushes_first-flushes.result) in
+    told_ok _ Rule.OfManager M (machine_of c.conclude.new.session) m new done.result c.conclude.result (c.conclude.ensures.concludes M (c.requires.serving).one working.away (if_refused done.result working))
+    (ok_weaker done.result (λ h. λ k place.
+    subst (λ j. HoldsAfter (λ (a : Answer) v. all_representable v.view ≡ true) (update_outcome world M text ps j)) (named_same s c.args.em m k is place)
+    (subst (λ (p : Bool × Bool). HoldsAfter (λ (a : Answer) v. all_representable v.view ≡ true) (update_call text ps p.0 p.1 world w)) (λ i. (active i, flushes i)) h)) made)
+
+pub returns-clause-settled : goal.returns-clause-settled
+returns-clause-settled g c =
+    let done = c.update_work-answered in
+    let working = still_working c.take_work.new.session done.new.work c.take_work.ensures.working done.ensures.since in
+    c.conclude.ensures.settled (machine_of c.args.session.now) working.away
+
+pub returns-clause-untold : goal.returns-clause-untold
+returns-clause-untold g c =
+    let world = world_of g.B.Behaviour.meaning c.args.metamodel.now c.args.registry.now in
+    let done = c.update_work-answered in
+    c.conclude.ensures.untold (no_fault done.result (now done.new.work) (update_call c.args.text.now c.args.parameters.now c.is_begun.result c.flushes_first-flushes.result world (now c.take_work.new.session.work)) done.ensures.meets)
