@@ -1,0 +1,33 @@
+#!/usr/bin/env bash
+# Each edit that must be refused, of must-fail/ and of planted/, is held against the text that it changes: what it replaces stands
+# there once, so that it can be laid when its turn comes. Nothing is proved.
+set -u
+cd "$(dirname "$0")/.." || exit 1
+if ! command -v python3 >/dev/null 2>&1; then
+    echo "python3 is not on this machine, so the edits were not held against the text"
+    exit 77
+fi
+python3 - <<'END'
+import glob, sys
+
+edits = wrong = 0
+for path in sorted(glob.glob("crates/*/must-fail/*.edit") + glob.glob("planted/*/*.edit") + glob.glob("planted/untried/*/*.edit")):
+    crate = path.split("/")[1] if path.startswith("crates/") else path.split("/")[-2]
+    texts, name, old = {}, None, None
+    edits += 1
+    for line in open(path, encoding="utf-8").read().splitlines():
+        word, _, rest = line.partition(":")
+        rest = rest[1:]
+        if word == "file":
+            name = rest
+            texts.setdefault(name, open(f"crates/{crate}/{name}", encoding="utf-8").read())
+        elif word == "old":
+            old = rest
+        elif texts[name].count(old) == 1:
+            texts[name] = texts[name].replace(old, rest)
+        else:
+            wrong += 1
+            print(f"{path}: what it replaces stands {texts[name].count(old)} times in {name}: {old}")
+print(f"{edits} edits, {wrong} of them can't be laid")
+sys.exit(1 if wrong or not edits else 0)
+END
