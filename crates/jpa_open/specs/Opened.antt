@@ -7,7 +7,7 @@ use Rattle.jpa_value.specs.declared.value.Identity.{Identity}
 use Rattle.jpa_value.specs.Value.{identity_cmp, same_identity}
 use Rattle.jpa_stored.specs.declared.stored.Stored.{Stored}
 use Rattle.jpa_stored.specs.Sets.{StoredSet, stored_at}
-use Rattle.jpa_open.specs.Layers.{Layer}
+use Rattle.jpa_open.specs.Layers.{Layer, over}
 
 -- what is committed, what the transaction kept over it, and what it sees; whether this is shown to the manager at work
 pub record Opened : Type 0 where
@@ -58,6 +58,9 @@ abbrev pub lent : List (Bor (Identity × Stored)) → StoredSet
 lent es = map (λ (e : Bor (Identity × Stored)). e.now) es
 
 -- identities where they stand
+abbrev pub lent_over : List (Identity × Stored) → List (Identity × Unit {0}) → List (Bor (Identity × Stored)) → StoredSet
+lent_over puts drops below = over (layer puts drops) (lent below)
+
 abbrev pub lent_ids : List (Bor Identity) → List Identity
 lent_ids ids = map (λ (id : Bor Identity). id.now) ids
 

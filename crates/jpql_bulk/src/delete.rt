@@ -25,8 +25,8 @@ fn identities_of<'a>(alloc: Global, objects: &[Object<'a>]) -> Result<Vec<&'a Id
     Ok(ids)
 }
 
-/// The identities of the objects that a DELETE of a class removes, in rising order; `is_named` says whether
-/// they have a variable. They are read off the old set alone.
+/// The identities of the objects that a DELETE of a class removes, in rising order; `is_named` says
+/// whether they have a variable. They are read off the old set alone.
 ///
 /// `Overflow` where some part is an integer outside 64 bits; `Memory` where a growth was refused.
 pub fn found_by_delete<'a>(
@@ -38,7 +38,8 @@ pub fn found_by_delete<'a>(
     is_named: bool,
     filter: &'a Option<Boxed<TypedCondition>>,
 ) -> Result<Vec<&'a Identity>, Failure>
-    ensures { Finds (λ v. identities v.items) result (changes.found_by_delete metamodel.now (opened.now set.now)
+    ensures { Finds (λ v. identities v.items) result
+        (changes.found_by_delete metamodel.now (opened.now set.now)
         parameters.now class is_named filter.now) }
 {
     let run = Run {

@@ -126,8 +126,8 @@ pub fn found_by_update<'a>(
     filter: &'a Option<Boxed<TypedCondition>>,
 ) -> Result<Vec<Change<'a>>, Failure>
     ensures { Finds (λ v. map change_in v.items) result
-        (changes.found_by_update metamodel.now (opened.now set.now) parameters.now class assignments.now
-        filter.now) }
+        (changes.found_by_update metamodel.now (opened.now set.now)
+        parameters.now class assignments.now filter.now) }
 {
     let run = Run {
         metamodel,

@@ -2,9 +2,8 @@
 ghost use Rattle.std.specs.Prelude.{◌≡◌, T, slice_get, IfOk};
 ghost use Rattle.std.specs.FinMap.Entries.{is_sorted};
 ghost use Rattle.jpa_value.specs.Value.{identity_cmp};
-ghost use Rattle.jpa_open.specs.Layers.{over};
 ghost use Rattle.jpa_open.specs.Opened as opened;
-ghost use Rattle.jpa_open.specs.Opened.{layer, lent, next_cmp};
+ghost use Rattle.jpa_open.specs.Opened.{lent, lent_over, next_cmp};
 
 use crate::ids::knows;
 use crate::open::OpenSet;
@@ -41,7 +40,8 @@ fn order_next(
     }
 }
 
-/// A layer over a set, both in rising order: what was put, and of the set what was neither taken out nor put anew.
+/// A layer over a set, both in rising order: what was put, and of the set what was neither taken
+/// out nor put anew.
 fn merged<'a>(
     alloc: Global,
     puts: &'a [Boxed<(Identity, Stored)>],
@@ -51,7 +51,8 @@ fn merged<'a>(
     requires puts { T (is_sorted identity_cmp puts.now) }
     requires drops { T (is_sorted identity_cmp drops.now.items) }
     requires below { T (is_sorted identity_cmp (lent below.now)) }
-    ensures { IfOk result (λ found. lent found.items ≡ over (layer puts.now drops.now.items) (lent below.now)) }
+    ensures { IfOk result (λ found. lent found.items
+        ≡ lent_over puts.now drops.now.items below.now) }
 {
     let mut found = Vec::new(alloc);
     let mut put_at = 0;
@@ -89,7 +90,8 @@ fn over_layer<'a>(
     requires puts { T (is_sorted identity_cmp puts.now) }
     requires drops { T (is_sorted identity_cmp drops.now.items) }
     requires below { T (is_sorted identity_cmp (lent below.items)) }
-    ensures { IfOk result (λ found. lent found.items ≡ over (layer puts.now drops.now.items) (lent below.entry.items)) }
+    ensures { IfOk result (λ found. lent found.items
+        ≡ lent_over puts.now drops.now.items below.entry.items) }
 {
     if puts.is_empty() && drops.is_empty() {
         return Ok(below);
@@ -98,10 +100,11 @@ fn over_layer<'a>(
 }
 
 impl OpenSet {
-    /// The objects that the manager at work sees with their identities, in rising order of the identities.
+    /// The objects that the manager at work sees with their identities, in rising order of the
+    /// identities.
     ///
-    /// With n of them it takes O(n) steps and room for as many pointers; where a layer has changes, O(log n) comparisons
-    /// for each. It fails for want of memory alone.
+    /// With n of them it takes O(n) steps and room for as many pointers; where a layer has changes,
+    /// O(log n) comparisons for each. It fails for want of memory alone.
     pub fn entries<'a>(&'a self, alloc: Global) -> Result<Vec<&'a (Identity, Stored)>, AllocError>
         ensures { IfOk result (λ found. lent found.items ≡ opened.now self.now) }
     {

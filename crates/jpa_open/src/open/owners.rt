@@ -17,7 +17,8 @@ use std::cmp::Ordering;
 
 /// The lower of two identities, where there are two.
 fn lower_of<'a>(first: Option<&'a Identity>, second: Option<&'a Identity>) -> Option<&'a Identity>
-    ensures { option_copied result ≡ lower (option_copied first.entry) (option_copied second.entry) }
+    ensures { option_copied result
+        ≡ lower (option_copied first.entry) (option_copied second.entry) }
 {
     let Some(one) = first else {
         return second;
@@ -34,7 +35,8 @@ fn lower_of<'a>(first: Option<&'a Identity>, second: Option<&'a Identity>) -> Op
 impl OpenSet {
     /// The lowest identity of an object of this very class that owns another at a place.
     fn first_owner<'a>(&'a self, class: usize, place: usize, id: &Identity) -> Option<&'a Identity>
-        ensures { option_copied result ≡ first_of (owns_as_class class place id.now) (opened.now self.now) }
+        ensures { option_copied result
+            ≡ first_of (owns_as_class class place id.now) (opened.now self.now) }
     {
         let alloc = *self.committed.allocator();
         let print = print_of(id);
@@ -50,7 +52,8 @@ impl OpenSet {
         lowest
     }
 
-    /// The lowest identity of an object of a class of the metamodel or below it that owns another at a place.
+    /// The lowest identity of an object of a class of the metamodel or below it that owns another
+    /// at a place.
     fn first_of_kind<'a>(
         &'a self,
         metamodel: &Metamodel,
@@ -59,7 +62,8 @@ impl OpenSet {
         id: &Identity,
     ) -> Option<&'a Identity>
         requires { class < length metamodel.now.entities }
-        ensures { option_copied result ≡ first_of (leads_as_kind metamodel.now class place id.now) (opened.now self.now) }
+        ensures { option_copied result
+            ≡ first_of (leads_as_kind metamodel.now class place id.now) (opened.now self.now) }
     {
         // All are in rising order, so that the lowest is the first.
         let _ = &self.committed;
@@ -72,8 +76,8 @@ impl OpenSet {
         lowest
     }
 
-    /// The first of the identities that `leading` answers, where it stands: what an inverse side of a relation to one
-    /// holds (chapter 2.9). Takes no memory.
+    /// The first of the identities that `leading` answers, where it stands: what an inverse side of
+    /// a relation to one holds (chapter 2.9). Takes no memory.
     pub fn first_leading<'a>(
         &'a self,
         metamodel: &Metamodel,
