@@ -72,25 +72,33 @@ def see_refused(program, refuse, folder, stood, growth):
             return struct.unpack("q", file.read())[0], status
 
 
+def over(folders, look):
+    """Looks at each of these runs, with the cells that the model has after each line, and prints what it tells; 1 where one differs."""
+    failed = 0
+    for folder in folders:
+        if any(read(folder, name) for name in ("status", "calls-2.jsonl", "words", "stage")):
+            continue
+        try:
+            told = look(folder, stands(folder))
+        except Differs as why:
+            failed, told = 1, why
+        print(f"jpa: {os.path.basename(folder.rstrip('/'))}: {told}", flush=True)
+    return failed
+
+
 def main(given):
     if len(given) < 4:
         sys.exit(__doc__)
-    program, refuse, most, failed = given[0], given[1], int(given[2]), 0
-    for folder in given[3:]:
-        name = os.path.basename(folder.rstrip("/"))
-        if read(folder, "status") or read(folder, "calls-2.jsonl") or read(folder, "words"):
-            continue
-        try:
-            stood = stands(folder)
-            growths, _ = see_refused(program, refuse, folder, stood, 0)
-            stride = (growths - most // 2) * 2 // most + 1 if growths > most else 1
-            tried = sorted({*range(1, min(growths, most // 2) + 1), *range(most // 2 + 1, growths + 1, stride)})
-            ended = sum(see_refused(program, refuse, folder, stood, growth)[1] != 0 for growth in tried)
-            print(f"jpa: {name}: {len(tried)} of {growths} growths refused in turn; {ended} runs ended for it", flush=True)
-        except Differs as why:
-            failed += 1
-            print(f"jpa: {name}: {why}", flush=True)
-    return 1 if failed else 0
+    program, refuse, most = given[0], given[1], int(given[2])
+
+    def look(folder, stood):
+        growths, _ = see_refused(program, refuse, folder, stood, 0)
+        stride = (growths - most // 2) * 2 // most + 1 if growths > most else 1
+        tried = sorted({*range(1, min(growths, most // 2) + 1), *range(most // 2 + 1, growths + 1, stride)})
+        ended = sum(see_refused(program, refuse, folder, stood, growth)[1] != 0 for growth in tried)
+        return f"{len(tried)} of {growths} growths refused in turn; {ended} runs ended for it"
+
+    return over(given[3:], look)
 
 
 if __name__ == "__main__":

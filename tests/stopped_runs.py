@@ -8,12 +8,9 @@ served and not answered.
 import os, signal, struct, subprocess, sys, tempfile
 
 sys.dont_write_bytecode = True
-from hostile_runs import cells_of, skipped, mapping_of, stands
+from hostile_runs import cells_of
+from refused_runs import Differs, over
 from runs import SECONDS, cells, fill, read, run, words_of
-
-
-class Differs(Exception):
-    pass
 
 
 def answered(process, line):
@@ -61,22 +58,16 @@ def see_stopped(program, stop, folder, stood, write, torn):
 def main(given):
     if len(given) < 3:
         sys.exit(__doc__)
-    failed = 0
-    for folder in given[2:]:
-        name = os.path.basename(folder.rstrip("/"))
-        if read(folder, "status") or read(folder, "calls-2.jsonl") or skipped(folder, mapping_of(folder)):
-            continue
-        try:
-            stood = stands(folder)
-            writes = see_stopped(*given[:2], folder, stood, 0, False)
-            for write in range(1, writes + 1):
-                for torn in (False, True):
-                    see_stopped(*given[:2], folder, stood, write, torn)
-            print(f"{name}: killed at each of {writes} writes, before it and within", flush=True)
-        except Differs as why:
-            failed += 1
-            print(f"{name}: {why}", flush=True)
-    return 1 if failed else 0
+    program, stop = given[:2]
+
+    def look(folder, stood):
+        writes = see_stopped(program, stop, folder, stood, 0, False)
+        for write in range(1, writes + 1):
+            for torn in (False, True):
+                see_stopped(program, stop, folder, stood, write, torn)
+        return f"killed at each of {writes} writes, before it and within"
+
+    return over(given[2:], look)
 
 
 if __name__ == "__main__":
