@@ -1,14 +1,14 @@
-//! SIZE, IS EMPTY and MEMBER OF (chapters 4.6.12, 4.6.13 and 4.7.2). A collection of null is null, which isn't empty.
+//! SIZE, IS EMPTY and MEMBER OF (chapters 4.6.12, 4.6.13 and 4.7.2). A collection of null is null,
+//! which isn't empty.
 ghost use Rattle.std.specs.Prelude.{◌≡◌};
 ghost use Rattle.std.specs.List.{list_any};
 ghost use Rattle.jpa_value.specs.Value.{same_identity};
-ghost use Rattle.jpa_open.specs.Opened as opened;
 ghost use Rattle.jpql_eval.specs.Answers.{gives};
 ghost use Rattle.jpql_eval.specs.Finds.{Finds, same};
 ghost use Rattle.jpql_eval.specs.Seen.{seen};
 ghost use Rattle.jpql_plan.specs.Meaning as meaning;
-ghost use Rattle.jpql_plan.specs.Paths as paths;
 ghost use Rattle.jpql_run.specs.Objects.{identities};
+ghost use Rattle.jpql_run.specs.Runs as runs;
 
 use crate::paths::collection;
 use crate::run::Run;
@@ -25,7 +25,8 @@ pub(crate) fn size<'a>(
     tuple: &Tuple<'a>,
     path: &TypedPath,
 ) -> Result<Seen<'a>, Failure>
-    ensures { Finds seen result (gives (meaning.size (paths.collection run.now.metamodel.now (opened.now run.now.set.now) tuple.now path.now))) }
+    ensures { Finds seen result
+        (gives (meaning.size (runs.collection run.now tuple.now path.now))) }
 {
     match collection(alloc, run, tuple, path)? {
         None => Ok(Seen::Null),
@@ -40,7 +41,8 @@ pub(crate) fn is_empty<'a>(
     tuple: &Tuple<'a>,
     path: &TypedPath,
 ) -> Result<Truth, Failure>
-    ensures { Finds same result (gives (meaning.emptiness (paths.collection run.now.metamodel.now (opened.now run.now.set.now) tuple.now path.now))) }
+    ensures { Finds same result
+        (gives (meaning.emptiness (runs.collection run.now tuple.now path.now))) }
 {
     match collection(alloc, run, tuple, path)? {
         None => Ok(Truth::Unknown),
@@ -82,7 +84,8 @@ pub(crate) fn is_member<'a>(
     element: &Seen<'a>,
     path: &TypedPath,
 ) -> Result<Truth, Failure>
-    ensures { Finds same result (gives (meaning.membership (seen element.now) (paths.collection run.now.metamodel.now (opened.now run.now.set.now) tuple.now path.now))) }
+    ensures { let members = runs.collection run.now tuple.now path.now in
+        Finds same result (gives (meaning.membership (seen element.now) members)) }
 {
     match collection(alloc, run, tuple, path)? {
         None => Ok(Truth::Unknown),

@@ -1,12 +1,12 @@
 //! Where paths lead from the objects of a tuple.
-ghost use Rattle.std.specs.Prelude.{◌≡◌, slice_index_or, option_map, Some, IfOk};
+ghost use Rattle.std.specs.Prelude.{◌≡◌, slice_index_or, option_map, IfOk};
 ghost use Rattle.std.specs.Option.{option_copied};
 ghost use Rattle.jpa_value.specs.declared.value.Value.{Value};
-ghost use Rattle.jpa_open.specs.Opened as opened;
 ghost use Rattle.jpql_plan.specs.Paths as paths;
 ghost use Rattle.jpql_eval.specs.declared.datum.Datum.{Datum};
 ghost use Rattle.jpql_eval.specs.Seen.{seen};
-ghost use Rattle.jpql_run.specs.Objects.{entry, identities};
+ghost use Rattle.jpql_run.specs.Objects.{entry, entry_of, identities};
+ghost use Rattle.jpql_run.specs.Runs as runs;
 
 use crate::links::{first_related, related};
 use crate::object::{Object, object_of};
@@ -57,7 +57,8 @@ fn entity<'a>(object: Option<Object<'a>>) -> Seen<'a>
 
 /// What a member of an object is.
 fn member<'a>(run: &Run<'a>, object: &Object<'a>, step: Step) -> Seen<'a>
-    ensures { seen result ≡ paths.member_datum run.now.metamodel.now (opened.now run.now.set.now) (entry object.now) step.class step.member }
+    ensures { seen result
+        ≡ runs.member_datum run.now (entry object.now) step.class step.member }
 {
     match step.member {
         Member::KeyPart(place) => part(object.id.key.as_slice(), place),
@@ -69,7 +70,7 @@ fn member<'a>(run: &Run<'a>, object: &Object<'a>, step: Step) -> Seen<'a>
 
 /// The last step of a path.
 fn last<'a>(run: &Run<'a>, object: Option<Object<'a>>, step: Step) -> Seen<'a>
-    ensures { seen result ≡ paths.step_datum run.now.metamodel.now (opened.now run.now.set.now) (option_map entry object.entry) step }
+    ensures { seen result ≡ runs.step_datum run.now (entry_of object.entry) step }
 {
     match object {
         None => Seen::Null,
@@ -79,7 +80,7 @@ fn last<'a>(run: &Run<'a>, object: Option<Object<'a>>, step: Step) -> Seen<'a>
 
 /// A step before the last.
 fn next<'a>(run: &Run<'a>, object: Option<Object<'a>>, step: Step) -> Option<Object<'a>>
-    ensures { option_map entry result ≡ paths.next run.now.metamodel.now (opened.now run.now.set.now) (option_map entry object.entry) step }
+    ensures { entry_of result ≡ runs.next run.now (entry_of object.entry) step }
 {
     let object = object?;
     let Member::Relation(place) = step.member else {
@@ -90,7 +91,7 @@ fn next<'a>(run: &Run<'a>, object: Option<Object<'a>>, step: Step) -> Option<Obj
 }
 
 fn walked<'a>(run: &Run<'a>, object: Option<Object<'a>>, steps: &[Step]) -> Seen<'a>
-    ensures { seen result ≡ paths.walked run.now.metamodel.now (opened.now run.now.set.now) (option_map entry object.entry) steps.now }
+    ensures { seen result ≡ runs.walked run.now (entry_of object.entry) steps.now }
 {
     match steps {
         [] => entity(object),
@@ -100,7 +101,7 @@ fn walked<'a>(run: &Run<'a>, object: Option<Object<'a>>, steps: &[Step]) -> Seen
 }
 
 fn breaks<'a>(run: &Run<'a>, object: Option<Object<'a>>, steps: &[Step]) -> bool
-    ensures { result ≡ paths.breaks run.now.metamodel.now (opened.now run.now.set.now) (option_map entry object.entry) steps.now }
+    ensures { result ≡ runs.breaks run.now (entry_of object.entry) steps.now }
 {
     let [step, rest @ ..] = steps else {
         return false;
@@ -114,14 +115,14 @@ fn breaks<'a>(run: &Run<'a>, object: Option<Object<'a>>, steps: &[Step]) -> bool
 
 /// What a path of a tuple leads to.
 pub fn path<'a>(run: &Run<'a>, tuple: &Tuple<'a>, path: &TypedPath) -> Seen<'a>
-    ensures { seen result ≡ paths.path_datum run.now.metamodel.now (opened.now run.now.set.now) tuple.now path.now }
+    ensures { seen result ≡ runs.path_datum run.now tuple.now path.now }
 {
     walked(run, tuple.get(path.variable), path.steps.as_slice())
 }
 
 /// Whether a path of a tuple has a null step before its last.
 pub fn is_broken<'a>(run: &Run<'a>, tuple: &Tuple<'a>, path: &TypedPath) -> bool
-    ensures { result ≡ paths.is_broken run.now.metamodel.now (opened.now run.now.set.now) tuple.now path.now }
+    ensures { result ≡ runs.is_broken run.now tuple.now path.now }
 {
     breaks(run, tuple.get(path.variable), path.steps.as_slice())
 }
@@ -133,7 +134,8 @@ pub(crate) fn related_along<'a>(
     object: &Object<'a>,
     step: Step,
 ) -> Result<Vec<&'a Identity>, AllocError>
-    ensures { IfOk result (λ found. identities found.items ≡ paths.related run.now.metamodel.now (opened.now run.now.set.now) (entry object.now) step) }
+    ensures { IfOk result (λ found. identities found.items
+        ≡ runs.related run.now (entry object.now) step) }
 {
     match step.member {
         Member::Relation(place) => related(alloc, run, step.class, object, place),
@@ -148,7 +150,8 @@ fn last_collection<'a>(
     object: Option<Object<'a>>,
     step: Step,
 ) -> Result<Option<Vec<&'a Identity>>, AllocError>
-    ensures { IfOk result (λ found. option_map (λ ids. identities ids.items) found ≡ option_map (λ e. paths.related run.now.metamodel.now (opened.now run.now.set.now) e step) (option_map entry object.entry)) }
+    ensures { IfOk result (λ found. option_map (λ ids. identities ids.items) found
+        ≡ option_map (λ e. runs.related run.now e step) (entry_of object.entry)) }
 {
     match object {
         None => Ok(None),
@@ -162,7 +165,8 @@ fn gathered<'a>(
     object: Option<Object<'a>>,
     steps: &[Step],
 ) -> Result<Option<Vec<&'a Identity>>, AllocError>
-    ensures { IfOk result (λ found. option_map (λ ids. identities ids.items) found ≡ paths.gathered run.now.metamodel.now (opened.now run.now.set.now) (option_map entry object.entry) steps.now) }
+    ensures { IfOk result (λ found. option_map (λ ids. identities ids.items) found
+        ≡ runs.gathered run.now (entry_of object.entry) steps.now) }
 {
     match steps {
         [] => Ok(None),
@@ -178,7 +182,8 @@ pub(crate) fn collection<'a>(
     tuple: &Tuple<'a>,
     path: &TypedPath,
 ) -> Result<Option<Vec<&'a Identity>>, AllocError>
-    ensures { IfOk result (λ found. option_map (λ ids. identities ids.items) found ≡ paths.collection run.now.metamodel.now (opened.now run.now.set.now) tuple.now path.now) }
+    ensures { IfOk result (λ found. option_map (λ ids. identities ids.items) found
+        ≡ runs.collection run.now tuple.now path.now) }
 {
     gathered(alloc, run, tuple.get(path.variable), path.steps.as_slice())
 }

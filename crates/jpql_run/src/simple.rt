@@ -1,13 +1,11 @@
 //! Tests of values.
 ghost use Rattle.std.specs.Prelude.{◌≡◌, map};
-ghost use Rattle.jpa_open.specs.Opened as opened;
 ghost use Rattle.jpql_eval.specs.Answers.{every, both, under};
 ghost use Rattle.jpql_eval.specs.Data as data_;
 ghost use Rattle.jpql_eval.specs.Calls as calls;
 ghost use Rattle.jpql_eval.specs.Truths as truths;
 ghost use Rattle.jpql_plan.specs.Meaning as meaning;
 ghost use Rattle.jpql_run.specs.Runs as runs;
-ghost use Rattle.jpql_plan.specs.Paths as paths;
 ghost use Rattle.jpql_eval.specs.Finds.{Finds, same};
 ghost use Rattle.jpql_eval.specs.Seen.{seen};
 
@@ -150,7 +148,9 @@ pub(crate) fn member<'a>(
     one: &'a TypedValue,
     path: &TypedPath,
 ) -> Result<Truth, Failure>
-    ensures { Finds same result (under (λ x. meaning.membership x (paths.collection run.now.metamodel.now (opened.now run.now.set.now) tuple.now path.now)) (runs.value run.now one.now (runs.case tuple.now group.now))) }
+    ensures { let members = runs.collection run.now tuple.now path.now in
+        Finds same result (under (λ x. meaning.membership x members)
+        (runs.value run.now one.now (runs.case tuple.now group.now))) }
 {
     let one = value(alloc, run, tuple, group, one)?;
     is_member(alloc, run, tuple, &one, path)
