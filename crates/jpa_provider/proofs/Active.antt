@@ -70,21 +70,22 @@ work_in w (Refused r events) = w
 pub flushed_ready : (world : World) (s : Session) (m : ℕ) → IsServing world s → (w : Work) → flush world (work_of (machine_of s) m) ≡ Done tt w → IsReady world.model w
 flushed_ready world s m h w e = ready_at_work (flushed_at_work (machine_of s) w h.orderly h.regular (taken m h.machine) e)
 
--- whether a query flushes first or not
-pub query_ready : (world : World) (s : Session) (m : ℕ) → IsServing world s → (flushes : Bool) → StaysReady flushes world (work_of (machine_of s) m)
-query_ready world s m h true = flushed_ready world s m h
-query_ready world s m h false = λ v e. subst (IsReady world.model) (done_same e) (work_ready m h.machine)
-  where
-    done_same : {v w : Work} → finished w ≡ finished v → w ≡ v
-    done_same {v} {w} e = ap (work_in w) e
+-- what is worked on after a flush, if there is one
+flush_if_ready : (world : World) (s : Session) (m : ℕ) → IsServing world s → (flushes : Bool) (v : Work) → flush_if flushes world (work_of (machine_of s) m) ≡ Done tt v → IsReady world.model v
+flush_if_ready world s m h true v e = flushed_ready world s m h v e
+flush_if_ready world s m h false v e = subst (IsReady world.model) (ap (work_in v) e) (work_ready m h.machine)
 
 -- what is seen after a flush, if there is one
 flush_if_held : (world : World) (s : Session) (m : ℕ) → IsServing world s → (flushes : Bool) (v : Work) → flush_if flushes world (work_of (machine_of s) m) ≡ Done tt v → CanBeHeld world v.view v.numbers
 flush_if_held world s m h true v e = (flushed_at_work (machine_of s) v h.orderly h.regular (taken m h.machine) e).view
 flush_if_held world s m h false v e = subst (λ (u : Work). CanBeHeld world u.view u.numbers) (ap (work_in v) e) (taken m h.machine).view
 
+-- whether a query flushes first or not
+pub query_ready : (world : World) (s : Session) (m : ℕ) → IsServing world s → (flushes : Bool) → StaysReady flushes world (work_of (machine_of s) m)
+query_ready world s m h flushes v e = record { ready = flush_if_ready world s m h flushes v e; rising = (flush_if_held world s m h flushes v e).rising }
+
 pub update_sound : (world : World) (s : Session) (m : ℕ) → IsServing world s → (flushes : Bool) → StaysSound flushes world (work_of (machine_of s) m)
-update_sound world s m h flushes v e = let held = flush_if_held world s m h flushes v e in (held.sound, held.rising)
+update_sound world s m h flushes v e = let held = flush_if_held world s m h flushes v e in record { sound = held.sound; rising = held.rising; shaped = held.shaped }
 
 pub update_representable : (world : World) (s : Session) (m : ℕ) → IsServing world s → (flushes : Bool) (v : Work) → flush_if flushes world (work_of (machine_of s) m) ≡ Done tt v → all_representable v.view ≡ true
 update_representable world s m h flushes v e = (flush_if_held world s m h flushes v e).representable

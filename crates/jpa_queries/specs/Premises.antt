@@ -1,6 +1,9 @@
 -- What code stands on.
-use Rattle.std.specs.Prelude.{◌≡◌, Bool, List}
+use Rattle.std.specs.Prelude.{◌≡◌, Bool, T, List}
+use Rattle.std.specs.FinMap.Entries.{is_sorted}
 use Rattle.std.specs.List.{All}
+use Rattle.jpa_value.specs.Value.{identity_cmp}
+use Rattle.jpa_model.specs.declared.unit.PersistenceUnit.{PersistenceUnit}
 use Rattle.jpa_behaviour.specs.Behaviour.{World}
 use Rattle.jpa_heap.specs.declared.LiveObject.{LiveObject}
 use Rattle.jpa_heap.specs.Shape.{IsInHeap}
@@ -14,6 +17,11 @@ use Rattle.jpa_queries.specs.Queries.{flush_if}
 abbrev pub AreInHeap : List LiveObject → List Binding → Type 0
 AreInHeap objects = All (λ (b : Binding). IsInHeap objects b.value)
 
--- operations may go on after the flush, if there is one
+-- operations may go on, and what is seen stands in rising order
+pub record IsReadyToAsk (m : PersistenceUnit) (w : Work) : Type 0 where
+  pub ready : IsReady m w
+  pub rising : T (is_sorted identity_cmp w.view)
+
+-- so it is after the flush, if there is one
 abbrev pub StaysReady : Bool → World → Work → Type 0
-StaysReady flushes world w = (v : Work) → flush_if flushes world w ≡ Done tt v → IsReady world.model v
+StaysReady flushes world w = (v : Work) → flush_if flushes world w ≡ Done tt v → IsReadyToAsk world.model v

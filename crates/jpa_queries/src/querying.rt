@@ -7,7 +7,7 @@ ghost use Rattle.jpa_context.specs.Undo.{now, since};
 ghost use Rattle.jpa_fetch.specs.Grown.{IsReady};
 ghost use Rattle.jpa_fetch.specs.Orderly.{IsOrderly};
 ghost use Rattle.jpa_ops.specs.Names.{has_distinct_entries};
-ghost use Rattle.jpa_queries.specs.Premises.{AreInHeap, StaysReady};
+ghost use Rattle.jpa_queries.specs.Premises.{AreInHeap, IsReadyToAsk, StaysReady};
 ghost use Rattle.jpa_queries.specs.Queries as queries;
 ghost use Rattle.jpa_stored.specs.Sets.{IsSound};
 ghost use Rattle.jpa_value.specs.Value.{identity_cmp};
@@ -90,6 +90,7 @@ fn rows_found(
     first: Option<i64>,
     max: Option<i64>,
 ) -> Result<Seq<Seq<Datum>>, Cause>
+    requires ready { IsReadyToAsk metamodel.now (now work.now) }
     ensures meets { Meets result (now work.now) (queries.rows_found metamodel.now select.now
         arguments.now first max (now work.now)) }
 {

@@ -6,7 +6,7 @@ use Rattle.jpa_value.specs.declared.refusal.State.{State}
 use Rattle.jpa_value.specs.Value.{identity_cmp}
 use Rattle.jpa_model.specs.declared.unit.PersistenceUnit.{PersistenceUnit}
 use Rattle.jpa_behaviour.specs.Behaviour.{World}
-use Rattle.jpa_stored.specs.Sets.{StoredSet, fault_of, IsSound}
+use Rattle.jpa_stored.specs.Sets.{StoredSet, fault_of, all_shaped, IsSound}
 use Rattle.jpa_context.specs.Work.{Work}
 use Rattle.jpa_context.specs.Steps.{◌>>=◌, ◌>>◌, Op, Done, give, require, read, change}
 use Rattle.jpa_flush.specs.Flush.{sound_or}
@@ -69,6 +69,12 @@ execute_update world is_active flushes text bindings = do
 
 -- ---- what code stands on
 
--- the set that is seen after the flush, if there is one, is sound and in order
+-- a set that is sound, stands in rising order, and has the shape of its classes
+pub record IsInOrder (m : PersistenceUnit) (s : StoredSet) : Type 0 where
+  pub sound : IsSound m s
+  pub rising : T (is_sorted identity_cmp s)
+  pub shaped : all_shaped m s ≡ true
+
+-- such is the set that is seen after the flush, if there is one
 abbrev pub StaysSound : Bool → World → Work → Type 0
-StaysSound flushes world w = (v : Work) → flush_if flushes world w ≡ Done tt v → IsSound world.model v.view × T (is_sorted identity_cmp v.view)
+StaysSound flushes world w = (v : Work) → flush_if flushes world w ≡ Done tt v → IsInOrder world.model v.view

@@ -1,5 +1,5 @@
 -- What the parts of UPDATE and DELETE mean, over what they are run over.
-use Rattle.std.specs.Prelude.{ℕ, Bool, not, ◌||◌, List, Option}
+use Rattle.std.specs.Prelude.{◌≡◌, ℕ, Bool, not, ◌||◌, List, Option}
 use Rattle.std.specs.List.{list_any, filter}
 use Rattle.jpa_open.specs.Opened.{now}
 use Rattle.jpql_types.specs.declared.typed.TypedAssignment.{TypedAssignment}
@@ -10,7 +10,7 @@ use Rattle.jpql_eval.specs.Answers.{Answer}
 use Rattle.jpql_plan.specs.Bulk as bulk
 use Rattle.jpql_plan.specs.Meaning.{alone, kept, drops_any, truth_of_any}
 use Rattle.jpql_plan.specs.Paths.{Entry, Tuple}
-use Rattle.jpql_run.specs.Runs.{any_condition}
+use Rattle.jpql_run.specs.Runs.{any_condition, objects}
 use Rattle.jpql_run.specs.declared.run.Run.{Run}
 
 abbrev pub tuple_of : Run → Bool → Entry → Tuple
@@ -32,6 +32,11 @@ kept_of run is_named where_ es = kept (λ e. truth_of_any (any_condition run whe
 abbrev pub concerned : Run → ℕ → Bool → List TypedAssignment → Option TypedCondition → Answer (List Entry)
 concerned run class is_named all where_ =
     bulk.concerned run.metamodel.now (now run.set.now) run.parameters.now class is_named (set_drops run all) where_
+
+-- WHERE leaves of these objects what it leaves of all of their class, whichever are dropped
+abbrev pub LeavesAll : Run → ℕ → Bool → Option TypedCondition → List Entry → Type 0
+LeavesAll run class is_named where_ es =
+    (drops : Entry → Bool) → kept_of run is_named where_ (filter (λ e. not (drops e)) (objects run class)) ≡ kept_of run is_named where_ (filter (λ e. not (drops e)) es)
 
 abbrev pub assignment_datum : Run → Entry → TypedAssignment → Answer (Member × Datum)
 assignment_datum run e a = bulk.assignment_datum run.metamodel.now (now run.set.now) run.parameters.now e a

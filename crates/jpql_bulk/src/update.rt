@@ -1,5 +1,8 @@
 //! UPDATE (chapter 4.10).
-ghost use Rattle.std.specs.Prelude.{◌≡◌, map};
+ghost use Rattle.std.specs.Prelude.{◌≡◌, true, map, T};
+ghost use Rattle.std.specs.FinMap.Entries.{is_sorted};
+ghost use Rattle.jpa_value.specs.Value.{identity_cmp};
+ghost use Rattle.jpa_stored.specs.Sets.{all_shaped};
 ghost use Rattle.jpa_open.specs.Opened as opened;
 ghost use Rattle.jpql_bulk.specs.Bulks as bulks;
 ghost use Rattle.jpql_bulk.specs.Changes as changes;
@@ -125,6 +128,8 @@ pub fn found_by_update<'a>(
     assignments: &'a [TypedAssignment],
     filter: &'a Option<Boxed<TypedCondition>>,
 ) -> Result<Vec<Change<'a>>, Failure>
+    requires rising { T (is_sorted identity_cmp (opened.now set.now)) }
+    requires shaped { all_shaped metamodel.now (opened.now set.now) ≡ true }
     ensures { Finds (λ v. map change_in v.items) result
         (changes.found_by_update metamodel.now (opened.now set.now)
         parameters.now class assignments.now filter.now) }

@@ -1,3 +1,8 @@
+pub mod Asked
+pub mod Begun
+pub mod Told
+pub mod Found
+pub mod Keyed
 pub mod Blocks
 pub mod Calls
 pub mod Dropped

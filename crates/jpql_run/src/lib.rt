@@ -4,11 +4,15 @@
 //! definitions of jpql_plan say: the same tuples in the same order, or the same Overflow.
 #![tactic(auto)]
 
+mod block;
+mod certain;
 mod classes;
 mod collections;
 mod conditions;
 mod drops;
+mod keys;
 mod links;
+mod looked_up;
 mod object;
 mod paths;
 mod run;
@@ -17,6 +21,7 @@ mod tuple;
 mod tuples;
 mod values;
 
+pub use block::{objects_for, tuples_for};
 pub use conditions::{kept, truth, tuples_of};
 pub use drops::{any_drops, filter_drops, value_drops};
 pub use object::Object;

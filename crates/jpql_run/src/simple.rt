@@ -30,7 +30,9 @@ pub(crate) fn compare<'a>(
     left: &'a TypedValue,
     right: &'a TypedValue,
 ) -> Result<Truth, Failure>
-    ensures { Finds same result (both (data_.compared comparison) (runs.value run.now left.now (runs.case tuple.now group.now)) (runs.value run.now right.now (runs.case tuple.now group.now))) }
+    ensures { Finds same result (both (data_.compared comparison)
+        (runs.value_in run.now tuple.now group.now left.now)
+        (runs.value_in run.now tuple.now group.now right.now)) }
 {
     let left = value(alloc, run, tuple, group, left)?;
     let right = value(alloc, run, tuple, group, right)?;
@@ -46,7 +48,9 @@ fn between_ends<'a>(
     low: &'a TypedValue,
     high: &'a TypedValue,
 ) -> Result<Truth, Failure>
-    ensures { Finds same result (both (data_.between (seen middle.now)) (runs.value run.now low.now (runs.case tuple.now group.now)) (runs.value run.now high.now (runs.case tuple.now group.now))) }
+    ensures { Finds same result (both (data_.between (seen middle.now))
+        (runs.value_in run.now tuple.now group.now low.now)
+        (runs.value_in run.now tuple.now group.now high.now)) }
 {
     let low = value(alloc, run, tuple, group, low)?;
     let high = value(alloc, run, tuple, group, high)?;
@@ -64,7 +68,10 @@ pub(crate) fn is_between<'a>(
     low: &'a TypedValue,
     high: &'a TypedValue,
 ) -> Result<Truth, Failure>
-    ensures { Finds same result (meaning.on_answer (runs.value run.now middle.now (runs.case tuple.now group.now)) (λ x. both (data_.between x) (runs.value run.now low.now (runs.case tuple.now group.now)) (runs.value run.now high.now (runs.case tuple.now group.now)))) }
+    ensures { Finds same result (meaning.on_answer
+        (runs.value_in run.now tuple.now group.now middle.now) (λ x. both (data_.between x)
+        (runs.value_in run.now tuple.now group.now low.now)
+        (runs.value_in run.now tuple.now group.now high.now))) }
 {
     let middle = value(alloc, run, tuple, group, middle)?;
     between_ends(alloc, run, tuple, group, &middle, low, high)
@@ -79,7 +86,8 @@ fn among_these<'a>(
     found: &Seen<'a>,
     all: &'a [TypedValue],
 ) -> Result<Truth, Failure>
-    ensures { Finds same result (meaning.among_all (seen found.now) (map (λ v. runs.value run.now v (runs.case tuple.now group.now)) all.now)) }
+    ensures { Finds same result (meaning.among_all (seen found.now)
+        (map (runs.value_in run.now tuple.now group.now) all.now)) }
 {
     let mut truth = Truth::No;
     for one in all {
@@ -99,7 +107,9 @@ pub(crate) fn among<'a>(
     one: &'a TypedValue,
     all: &'a [TypedValue],
 ) -> Result<Truth, Failure>
-    ensures { Finds same result (meaning.on_answer (runs.value run.now one.now (runs.case tuple.now group.now)) (λ x. meaning.among_all x (map (λ v. (runs.value run.now v (runs.case tuple.now group.now))) all.now))) }
+    ensures { Finds same result (meaning.on_answer
+        (runs.value_in run.now tuple.now group.now one.now)
+        (λ x. meaning.among_all x (map (runs.value_in run.now tuple.now group.now) all.now))) }
 {
     let one = value(alloc, run, tuple, group, one)?;
     among_these(alloc, run, tuple, group, &one, all)
@@ -116,7 +126,9 @@ pub(crate) fn is_like<'a>(
     pattern: &'a TypedValue,
     escape: &Option<Text>,
 ) -> Result<Truth, Failure>
-    ensures { Finds same result (both (calls.like escape.now) (runs.value run.now text.now (runs.case tuple.now group.now)) (runs.value run.now pattern.now (runs.case tuple.now group.now))) }
+    ensures { Finds same result (both (calls.like escape.now)
+        (runs.value_in run.now tuple.now group.now text.now)
+        (runs.value_in run.now tuple.now group.now pattern.now)) }
 {
     let text = value(alloc, run, tuple, group, text)?;
     let pattern = value(alloc, run, tuple, group, pattern)?;
@@ -132,7 +144,8 @@ pub(crate) fn is_null<'a>(
     group: &[Tuple<'a>],
     one: &'a TypedValue,
 ) -> Result<Truth, Failure>
-    ensures { Finds same result (under (λ x. truths.truth_of (data_.is_nothing x)) (runs.value run.now one.now (runs.case tuple.now group.now))) }
+    ensures { Finds same result (under (λ x. truths.truth_of (data_.is_nothing x))
+        (runs.value_in run.now tuple.now group.now one.now)) }
 {
     let one = value(alloc, run, tuple, group, one)?;
     Ok(truth_of(one.is_nothing()))

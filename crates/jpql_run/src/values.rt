@@ -70,7 +70,8 @@ fn call<'a>(
     function: Function,
     all: &'a [TypedValue],
 ) -> Result<Seen<'a>, Failure>
-    ensures { Finds seen result (meaning.call function (map (λ v. runs.value run.now v (runs.case tuple.now group.now)) all.now)) }
+    ensures { Finds seen result (meaning.call function
+        (map (runs.value_in run.now tuple.now group.now) all.now)) }
 {
     let mut found = Vec::new(alloc);
     for one in all {
@@ -88,7 +89,8 @@ fn over_group<'a>(
     is_distinct: bool,
     operand: &'a TypedValue,
 ) -> Result<Seen<'a>, Failure>
-    ensures { Finds seen result (meaning.aggregate aggregate is_distinct (map (λ t. runs.value run.now operand.now (meaning.alone t)) group.now)) }
+    ensures { Finds seen result (meaning.aggregate aggregate is_distinct
+        (map (runs.value_alone run.now operand.now) group.now)) }
 {
     let mut found = Vec::new(alloc);
     for other in group {

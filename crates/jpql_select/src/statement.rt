@@ -1,4 +1,8 @@
 //! SELECT statements.
+ghost use Rattle.std.specs.Prelude.{◌≡◌, true, T};
+ghost use Rattle.std.specs.FinMap.Entries.{is_sorted};
+ghost use Rattle.jpa_value.specs.Value.{identity_cmp};
+ghost use Rattle.jpa_stored.specs.Sets.{all_shaped};
 ghost use Rattle.jpa_open.specs.Opened as opened;
 ghost use Rattle.jpql_eval.specs.Finds.{Finds};
 ghost use Rattle.jpql_plan.specs.Selection as selection;
@@ -20,7 +24,10 @@ use std::alloc::Global;
 ///
 /// It has a row of each tuple, or of each group where there is GROUP BY, HAVING or an aggregate; with
 /// DISTINCT the first of the rows that are the same; in the order of ORDER BY, in which rows that tie
-/// stay in the order of their tuples. Every part is computed.
+/// stay in the order of their tuples. Every part is computed, but where WHERE has `key = value` of the first variable,
+/// with a literal or a parameter, and nothing that could overflow: then its object is looked up, and others decide nothing.
+///
+/// The set's objects have the shape of their classes, and stand in rising order.
 ///
 /// `Overflow` where some part is an integer outside 64 bits; `Memory` where a growth was refused.
 pub fn select<'a>(
@@ -30,6 +37,8 @@ pub fn select<'a>(
     parameters: &'a [Datum],
     statement: &'a TypedSelect,
 ) -> Result<Table<'a>, Failure>
+    requires rising { T (is_sorted identity_cmp (opened.now set.now)) }
+    requires shaped { all_shaped metamodel.now (opened.now set.now) ≡ true }
     ensures { Finds rows_in result
         (selection.selected metamodel.now (opened.now set.now) parameters.now statement.now) }
 {

@@ -19,4 +19,4 @@ returns-clause-meets g c =
     (subst (λ (ds : List Datum). meets (rows_found m q ds call.first call.max v)) c.as_slice.ensures c.rows_found.ensures.meets)
 
 pub returns-clause-ready : goal.returns-clause-ready
-returns-clause-ready g c = on_any c.rows_found.result (c.requires.then_ready (now c.flush_if.new.work) c.in_ok-flush_if.ensures.meets)
+returns-clause-ready g c = on_any c.rows_found.result (c.requires.then_ready (now c.flush_if.new.work) c.in_ok-flush_if.ensures.meets).ready
