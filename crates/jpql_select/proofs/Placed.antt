@@ -10,7 +10,7 @@ use Rattle.jpql_plan.specs.Paths.{Tuple}
 use Rattle.jpql_plan.specs.Selection.{put_tuple, put_tuples}
 use Rattle.jpql_rows.specs.Keys.{data_total}
 use Rattle.jpql_rows.proofs.Keys.{same_by_cmp}
-use Rattle.jpql_select.specs.Groups.{groups_in, add_at, begins_with, begins_at, place_of, all_some}
+use Rattle.jpql_select.specs.Groups.{groups_in, add_at, begins_with, place_of, all_some}
 
 pub added : {T : Type 0} (gs : List (Vec T)) (i : ℕ) (x y : Vec T) (t : T) → i < length gs → x ≡ slice_index_or gs i x → y.items ≡ x.items ++ t ∷ []
     → groups_in (slice_set gs i y) ≡ add_at (groups_in gs) i t
@@ -142,54 +142,3 @@ module _ (key : Tuple → List Datum) where
       → place_of key (key t) gs ≡ None → hs ≡ gs ++ (t ∷ []) ∷ [] → all ≡ put_tuples key gs rest → all ≡ put_tuples key hs later
   joined_new all gs hs rest later t at s p e h =
       h ∙ ap (put_tuples key gs) at ∙ ap (λ groups. put_tuples key groups later) (put_new t gs s p ∙ sym e)
-
-  -- ---- the group that was met last
-
-  at_begin : (a b c : List Datum) → same_data a b ≡ true → same_data a c ≡ true → same_data b c ≡ true
-  at_begin a b c h k = same_laws.congr a b c h ∙ k
-
-  begin_both : (gs : List (List Tuple)) (i : ℕ) (k q : List Datum) → begins_at key k gs i ≡ true → begins_at key q gs i ≡ true → same_data k q ≡ true
-  begin_both [] i k q h e = absurd (false≢true h)
-  begin_both ([] ∷ gs) zero k q h e = absurd (false≢true h)
-  begin_both ((one ∷ more) ∷ gs) zero k q h e = at_begin (key one) k q h e
-  begin_both (g ∷ gs) (suc i) k q h e = begin_both gs i k q h e
-
-  begins_found : (gs : List (List Tuple)) (i : ℕ) (k : List Datum) → place_of key k gs ≡ Some i → begins_at key k gs i ≡ true
-  begins_found [] i k h = absurd (cc)
-  begins_found (g ∷ gs) zero k h = first_by (begins_with key k g) (place_of key k gs) h
-  begins_found (g ∷ gs) (suc i) k h = begins_found gs i k (found_by (begins_with key k g) (place_of key k gs) i h).1
-
-  not_begun : (g : List Tuple) (k q : List Datum) → begins_with key k g ≡ false → same_data k q ≡ true → begins_with key q g ≡ false
-  not_begun [] k q n h = refl
-  not_begun (one ∷ more) k q n h = apart (key one) k q (same_data (key one) q) refl n h
-
-  -- it is the one group that begins with its key
-  pub met_there : (gs : List (List Tuple)) (i : ℕ) (k : List Datum) → place_of key k gs ≡ Some i → (q : List Datum) → begins_at key q gs i ≡ true → place_of key q gs ≡ Some i
-  met_there [] i k h q e = absurd (false≢true e)
-  met_there (g ∷ gs) zero k h q e = ap (λ b. cond b (Some 0) (option_map suc (place_of key q gs))) e
-  met_there (g ∷ gs) (suc i) k h q e =
-      let by = found_by (begins_with key k g) (place_of key k gs) i h in
-      ap (λ b. cond b (Some 0) (option_map suc (place_of key q gs))) (not_begun g k q by.0 (begin_both gs i k q (begins_found gs i k by.1) e))
-      ∙ ap (option_map suc) (met_there gs i k by.1 q e)
-
-  begins_stays : (gs : List (List Tuple)) (i j : ℕ) (t : Tuple) (q : List Datum) → all_some gs ≡ true → begins_at key q (add_at gs i t) j ≡ begins_at key q gs j
-  begins_stays [] i j t q s = refl
-  begins_stays ([] ∷ gs) i j t q s = absurd (false≢true s)
-  begins_stays ((one ∷ more) ∷ gs) zero zero t q s = refl
-  begins_stays ((one ∷ more) ∷ gs) zero (suc j) t q s = refl
-  begins_stays ((one ∷ more) ∷ gs) (suc i) zero t q s = refl
-  begins_stays ((one ∷ more) ∷ gs) (suc i) (suc j) t q s = begins_stays gs i j t q s
-
-  -- so it is when one more tuple stands in a group
-  pub met_still : (gs : List (List Tuple)) (i j : ℕ) (t : Tuple) → all_some gs ≡ true → ((q : List Datum) → begins_at key q gs j ≡ true → place_of key q gs ≡ Some j)
-      → (q : List Datum) → begins_at key q (add_at gs i t) j ≡ true → place_of key q (add_at gs i t) ≡ Some j
-  met_still gs i j t s h q e = place_stays q gs i t s ∙ h q (sym (begins_stays gs i j t q s) ∙ e)
-
-  begins_last : (gs : List (List Tuple)) (t : Tuple) (q : List Datum) → begins_at key q (gs ++ (t ∷ []) ∷ []) (length gs) ≡ same_data (key t) q
-  begins_last [] t q = refl
-  begins_last (g ∷ gs) t q = begins_last gs t q
-
-  -- and when a group is new
-  pub met_new : (gs : List (List Tuple)) (t : Tuple) → all_some gs ≡ true → place_of key (key t) gs ≡ None
-      → (q : List Datum) → begins_at key q (gs ++ (t ∷ []) ∷ []) (length gs) ≡ true → place_of key q (gs ++ (t ∷ []) ∷ []) ≡ Some (length gs)
-  met_new gs t s n q e = new_here t gs q s n (sym (begins_last gs t q) ∙ e)

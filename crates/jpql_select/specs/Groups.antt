@@ -18,12 +18,6 @@ abbrev pub begins_with : (Tuple → List Datum) → List Datum → List Tuple �
 begins_with key k [] = false
 begins_with key k (one ∷ more) = same_data (key one) k
 
--- whether the group at a place does
-abbrev pub begins_at : (Tuple → List Datum) → List Datum → List (List Tuple) → ℕ → Bool
-begins_at key k [] place = false
-begins_at key k (g ∷ gs) zero = begins_with key k g
-begins_at key k (g ∷ gs) (suc place) = begins_at key k gs place
-
 -- the place of the group of a key
 abbrev pub place_of : (Tuple → List Datum) → List Datum → List (List Tuple) → Option ℕ
 place_of key k [] = None

@@ -2,11 +2,9 @@
 //! their first tuples.
 ghost use Rattle.std.specs.Prelude.{◌≡◌, ◌<◌, ◌++◌, ◌∷◌, [], length, OnOk, IfOk};
 ghost use Rattle.jpql_plan.specs.Selection.{put_tuples};
-ghost use Rattle.jpql_eval.specs.Data.{same_data};
-ghost use Rattle.jpql_select.specs.Groups.{groups_in, add_at, begins_at};
+ghost use Rattle.jpql_select.specs.Groups.{groups_in, add_at};
 ghost use Rattle.jpql_select.specs.Selects as selects;
 
-use jpql_eval::is_same;
 use jpql_rows::Key;
 use jpql_run::{Run, Tuple, path};
 use jpql_types::TypedPath;
@@ -27,44 +25,6 @@ fn key_at<'a>(
         found.push(path(run, tuple, one))?;
     }
     Ok(Key { data: found })
-}
-
-/// Whether two tuples are grouped by the same.
-fn has_same_key<'a>(
-    run: &Run<'a>,
-    paths: &[TypedPath],
-    left: &Tuple<'a>,
-    right: &Tuple<'a>,
-) -> bool
-    ensures { result ≡ same_data (selects.group_key run.now paths.now left.now)
-        (selects.group_key run.now paths.now right.now) }
-{
-    for one in paths {
-        if !is_same(&path(run, left, one), &path(run, right, one)) {
-            return false;
-        }
-    }
-    true
-}
-
-/// Whether the group at a place has a tuple's key.
-fn goes_to<'a>(
-    run: &Run<'a>,
-    paths: &[TypedPath],
-    groups: &[Vec<Tuple<'a>>],
-    place: usize,
-    tuple: &Tuple<'a>,
-) -> bool
-    ensures { let key = selects.group_key run.now paths.now in
-        result ≡ begins_at key (key tuple.now) (groups_in groups.now) place }
-{
-    match groups.get(place) {
-        None => false,
-        Some(group) => match group.as_slice() {
-            [] => false,
-            [first, ..] => has_same_key(run, paths, first, tuple),
-        },
-    }
 }
 
 /// One more in the group at a place.
@@ -96,8 +56,7 @@ fn begin<'a>(
     Ok(())
 }
 
-/// The groups of tuples by these paths. The group of the tuple before is tried first, since tuples of one group often
-/// follow one another.
+/// The groups of tuples by these paths.
 pub(crate) fn grouped<'a>(
     alloc: Global,
     run: &Run<'a>,
@@ -109,21 +68,12 @@ pub(crate) fn grouped<'a>(
 {
     let mut places = BTreeMap::new(alloc);
     let mut groups = Vec::new(alloc);
-    let mut last = 0;
     for tuple in tuples {
-        if goes_to(run, paths, &groups, last, &tuple) {
-            add(&mut groups, last, tuple)?;
-            continue;
-        }
         let key = key_at(alloc, run, paths, &tuple)?;
         match places.get(&key) {
-            Some(place) => {
-                last = *place;
-                add(&mut groups, last, tuple)?;
-            }
+            Some(place) => add(&mut groups, *place, tuple)?,
             None => {
-                last = groups.len();
-                places.insert(key, last)?;
+                places.insert(key, groups.len())?;
                 begin(alloc, &mut groups, tuple)?;
             }
         }

@@ -1,9 +1,9 @@
-use Rattle.std.proofs.Common.{◌≡◌, List, [], true, drop, length, Some}
+use Rattle.std.proofs.Common.{◌≡◌, List, [], true, drop, length}
 use Rattle.std.specs.BTreeMap.{get}
 use Rattle.jpql_eval.specs.declared.datum.Datum.{Datum}
 use Rattle.jpql_plan.specs.Selection.{put_tuples}
 use Rattle.jpql_rows.specs.Keys.{data_cmp}
-use Rattle.jpql_select.specs.Groups.{groups_in, begins_at, place_of, all_some}
+use Rattle.jpql_select.specs.Groups.{groups_in, place_of, all_some}
 use Rattle.jpql_select.specs.Selects.{group_key}
 use Rattle.jpql_select.proofs.groups.grouped.Given as goal
 
@@ -15,5 +15,4 @@ invariant-loop-tuple l =
       groups : put_tuples key [] l.fn.tuples.items ≡ put_tuples key (groups_in l.groups.items) (drop (length l.yielded) l.fn.tuples.items);
       some : all_some (groups_in l.groups.items) ≡ true;
       places : (k : List Datum) → get data_cmp l.places k ≡ place_of key k (groups_in l.groups.items);
-      last : (k : List Datum) → begins_at key k (groups_in l.groups.items) l.last ≡ true → place_of key k (groups_in l.groups.items) ≡ Some l.last;
     }
