@@ -20,3 +20,6 @@ returns-clause-meets g c =
 
 pub returns-clause-ready : goal.returns-clause-ready
 returns-clause-ready g c = on_any c.rows_found.result (c.requires.then_ready (now c.flush_if.new.work) c.in_ok-flush_if.ensures.meets).ready
+
+pub rows_found-requires : goal.rows_found-requires
+rows_found-requires g c = record { ready = c.requires.then_ready (now c.flush_if.new.work) c.in_ok-flush_if.ensures.meets }
