@@ -5,7 +5,7 @@ from __future__ import annotations
 import enum
 import json
 import re
-from typing import Any, Callable, Mapping, NamedTuple, Optional, Tuple
+from typing import Any, Callable, List, Mapping, NamedTuple, Optional, Tuple
 
 from .strict_json import GREATEST_INTEGER, LEAST_INTEGER, NoJson, read, text_of
 
@@ -148,6 +148,11 @@ def line_of(call: str, members: Mapping[str, str]) -> bytes:
     return f"{said}}}".encode()
 
 
+def set_line(number: str, name: str, value: str) -> bytes:
+    """The line that sets a member of an object; the member's name and its value are JSON already."""
+    return f'{{"call":"set","object":{number},"name":{name},"value":{value}}}'.encode()
+
+
 def spelled(value: Any) -> str:
     """A value as JSON: None, an int of 64 bits, a str or bytes; anything else is a `TypeError` or an `OverflowError`."""
     kind = type(value)
@@ -185,12 +190,17 @@ NOTHING = b'{"events":[]' + DONE
 """The reply that says nothing."""
 
 _OBJECT_FRONT = b'{"events":[],"ok":{"object":'
+_OBJECT = re.compile(r'^\{"events":\[\],"ok":\{"object":([1-9][0-9]*)\}\}$', re.MULTILINE)
 _scan = json.JSONDecoder().scan_once
 
 
-def object_in(line: bytes) -> Optional[int]:
-    """The number of the object that a reply answers, where it is one that answers an object and tells no event."""
-    return int(line[len(_OBJECT_FRONT) : -2]) if line.startswith(_OBJECT_FRONT) and line.endswith(b"}}") else None
+def objects_in(lines: List[bytes]) -> List[str]:
+    """The digits of the numbers of the objects that replies answer, where each of them answers an object and tells no event; else none."""
+    if not lines[0].startswith(_OBJECT_FRONT):
+        return []
+    # No line has a line feed, so that each has at most one number.
+    numbers = _OBJECT.findall(b"\n".join(lines).decode(errors="replace"))
+    return numbers if len(numbers) == len(lines) else []
 
 
 def reply_of(line: bytes) -> Reply:
