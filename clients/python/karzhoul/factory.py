@@ -15,7 +15,7 @@ from threading import get_ident
 from typing import Any, Callable, Deque, Dict, Iterable, Iterator, List, Mapping, Optional, Sequence, Tuple, Type, TypeVar, Union
 
 from .entities import AnyEntity, Entity, Event, bind, class_of, handle_of, number_of
-from .lines import DONE, NOTHING, LifecycleEvent, is_call, line_of, objects_in, reply_of, set_line, spelled, text_spelled
+from .lines import DONE, NOTHING, LifecycleEvent, get_line, is_call, line_of, new_line, objects_in, reply_of, set_line, spelled, text_spelled
 from .manager import EntityManager
 from .program import Program, Sent, Words, find_program
 from .refusals import KarzhoulError, NotServed, Refused, refusal_named
@@ -127,7 +127,7 @@ class EntityManagerFactory:
         rows = list(rows)
         kind = self._class(entity)
         with self._lock:
-            made = self.ask_lines([_new_line(kind)] * len(rows), kind)
+            made = self.ask_lines([new_line(kind.__name__)] * len(rows), kind)
             with self.pipeline():
                 for each, row in zip(made, rows):
                     for name in row:
@@ -136,13 +136,13 @@ class EntityManagerFactory:
 
     def get(self, entity: Entity, name: str) -> Any:
         """The value of a member; of a collection a list of its members."""
-        return self.ask_line(_get_line(self.number(entity), text_spelled(name)), self._target(entity, name))
+        return self.ask_line(get_line(self.number(entity), text_spelled(name)), self._target(entity, name))
 
     def get_many(self, objects: Sequence[Entity], name: str) -> List[Any]:
         """The values that objects of one class have of a member, asked without waiting for each."""
         kind = self._target(objects[0], name) if objects else None
         spelling = text_spelled(name)
-        return self.ask_lines((_get_line(self.number(entity), spelling) for entity in objects), kind)
+        return self.ask_lines((get_line(self.number(entity), spelling) for entity in objects), kind)
 
     def set(self, entity: Entity, name: str, value: Any) -> None:
         """Sets a member."""
@@ -180,7 +180,7 @@ class EntityManagerFactory:
         """Makes a new object of the program for an object of Python."""
         with self._lock:
             self._settle()
-            sent = self._program.send_all([_new_line(type(entity))])
+            sent = self._program.send_all([new_line(type(entity).__name__)])
             numbers = objects_in(self._program.wait_for_all(sent)) or [number_of(self._taken([sent], None)[0])]
             self._bind(entity, numbers[0])
 
@@ -364,14 +364,6 @@ class EntityManagerFactory:
             self._is_notifying = False
         if faults:
             raise faults[0]
-
-
-def _new_line(kind: Type[Entity]) -> bytes:
-    return f'{{"call":"new","entity":{text_spelled(kind.__name__)}}}'.encode()
-
-
-def _get_line(number: str, name: str) -> bytes:
-    return f'{{"call":"get","object":{number},"name":{name}}}'.encode()
 
 
 def _refusal(refusal: Tuple[str, Optional[str]], events: Tuple[Event, ...], line: bytes) -> KarzhoulError:

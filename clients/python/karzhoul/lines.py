@@ -148,9 +148,32 @@ def line_of(call: str, members: Mapping[str, str]) -> bytes:
     return f"{said}}}".encode()
 
 
+# The lines of the most frequent calls are made without a dict of their members.
+
+
+def new_line(entity: str) -> bytes:
+    """The line that makes an object of the entity of this name."""
+    return f'{{"call":"new","entity":{text_spelled(entity)}}}'.encode()
+
+
+def get_line(number: str, name: str) -> bytes:
+    """The line that asks for a member, whose name is JSON already, of the object of this number."""
+    return f'{{"call":"get","object":{number},"name":{name}}}'.encode()
+
+
 def set_line(number: str, name: str, value: str) -> bytes:
-    """The line that sets a member of an object; the member's name and its value are JSON already."""
+    """The line that sets a member, whose name and value are JSON already, of the object of this number."""
     return f'{{"call":"set","object":{number},"name":{name},"value":{value}}}'.encode()
+
+
+def line_by_key(call: str, em: str, entity: str, key: str) -> bytes:
+    """The line of a call of a manager for an entity and a key, which are JSON already."""
+    return f'{{"call":"{call}","em":{em},"entity":{entity},"key":{key}}}'.encode()
+
+
+def line_on(call: str, em: str, number: str) -> bytes:
+    """The line of a call of a manager on the object of this number."""
+    return f'{{"call":"{call}","em":{em},"object":{number}}}'.encode()
 
 
 def spelled(value: Any) -> str:

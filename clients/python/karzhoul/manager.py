@@ -5,7 +5,7 @@ from __future__ import annotations
 from typing import TYPE_CHECKING, Any, Dict, Iterable, List, Mapping, Optional, Tuple, Type, TypeVar, Union
 
 from .entities import EmbeddedId, Entity
-from .lines import FlushModeType, LockModeType, spelled, text_spelled
+from .lines import FlushModeType, LockModeType, line_by_key, line_on, spelled, text_spelled
 from .refusals import KarzhoulError, NotServed, ProgramEnded, Rollback
 
 if TYPE_CHECKING:
@@ -62,14 +62,11 @@ class EntityManager:
     def find_many(self, entity: Union[str, Type[E]], keys: Iterable[Any]) -> List[Optional[E]]:
         """The object of each key, or None, asked without waiting for each."""
         name, kind = self._named(entity)
-        return self._factory.ask_lines((self._line_by_key("find", name, key) for key in keys), kind)
+        return self._factory.ask_lines((line_by_key("find", self._em, name, self._key(key)) for key in keys), kind)
 
     def _by_key(self, call: str, entity: Union[str, Type[E]], key: Any) -> Optional[E]:
         name, kind = self._named(entity)
-        return self._factory.ask_line(self._line_by_key(call, name, key), kind)  # type: ignore[no-any-return]
-
-    def _line_by_key(self, call: str, name: str, key: Any) -> bytes:
-        return f'{{"call":"{call}","em":{self._em},"entity":{name},"key":{self._key(key)}}}'.encode()
+        return self._factory.ask_line(line_by_key(call, self._em, name, self._key(key)), kind)  # type: ignore[no-any-return]
 
     def _named(self, entity: Union[str, Type[E]]) -> Tuple[str, Optional[Type[Entity]]]:
         if isinstance(entity, str):
@@ -175,8 +172,7 @@ class EntityManager:
         return self._factory.ask(call, kind, em=self._em, **members)
 
     def _tell_on(self, call: str, entity: Entity) -> None:
-        line = f'{{"call":"{call}","em":{self._em},"object":{self._factory.number(entity)}}}'
-        self._factory.tell_line(line.encode())
+        self._factory.tell_line(line_on(call, self._em, self._factory.number(entity)))
 
     def _tell(self, call: str, /, **members: str) -> None:
         self._factory.tell(call, em=self._em, **members)
