@@ -28,7 +28,7 @@ Asked = Union[str, Type[E]]
 Callback = Callable[[Event], None]
 
 _FEWEST_OBJECTS = 1_000
-_TOGETHER = 64
+_TOGETHER = 16
 """So many lines that don't wait for their replies are handed in together, and the program is at work on them while more are made."""
 
 

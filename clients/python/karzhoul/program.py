@@ -79,6 +79,7 @@ class Program:
         self.fault: Optional[KarzhoulError] = None
         """Why the program answers no more; None while it does."""
         self._is_moving = False
+        """Whether lines or bytes are on their way; where a call finds them so, an interrupt may have lost some of them."""
         self._reading, self._moving = select.poll(), select.poll()
         for poll in (self._reading, self._moving):
             poll.register(self._out, select.POLLIN)
