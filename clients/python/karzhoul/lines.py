@@ -38,6 +38,9 @@ class LifecycleEvent(str, enum.Enum):
     POST_LOAD = "PostLoad"
 
 
+_EVENTS = {event.value: event for event in LifecycleEvent}
+
+
 class Told(NamedTuple):
     """An event as a reply tells it: the object's number, and the listeners and callbacks that ran."""
 
@@ -230,7 +233,7 @@ def reply_of(line: bytes) -> Reply:
     """The reply on a line, which is compact JSON; a `ValueError` where there is none."""
     try:
         said = _scan(line.decode(), 0)[0]
-        events = tuple([Told(LifecycleEvent(name), number, tuple(ran)) for name, number, *ran in said["events"]])
+        events = tuple([Told(_EVENTS[name], number, tuple(ran)) for name, number, *ran in said["events"]])
         if "error" in said:
             return Reply(events, None, (said["error"]["name"], said["error"].get("why")))
         return Reply(events, said["ok"], None)
