@@ -74,7 +74,7 @@ class EntityManager:
         return text_spelled(entity.__name__), entity
 
     def _key(self, key: Any) -> str:
-        if type(key) is int:
+        if type(key) is int:  # The most frequent ones.
             return f"[{spelled(key)}]"
         if isinstance(key, (tuple, list, EmbeddedId)):
             return f"[{','.join([self._factory.given(part) for part in key])}]"
