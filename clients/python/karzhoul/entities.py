@@ -4,9 +4,9 @@ from __future__ import annotations
 
 from collections.abc import MutableSequence
 from dataclasses import dataclass
-from typing import TYPE_CHECKING, Any, ClassVar, Dict, Iterable, Iterator, List, NamedTuple, Optional, Tuple, Type, Union, overload
+from typing import TYPE_CHECKING, Any, Callable, ClassVar, Dict, Iterable, Iterator, List, Optional, Tuple, Type, Union, overload
 
-from .lines import LifecycleEvent
+from .lines import LifecycleEvent, set_line, text_spelled
 from .refusals import IllegalArgument
 from .unit import EntityDescription, Member, MemberKind
 
@@ -14,11 +14,8 @@ if TYPE_CHECKING:
     from .factory import EntityManagerFactory
 
 
-class Handle(NamedTuple):
-    """Where an object lives: its factory, and its number in the program."""
-
-    factory: EntityManagerFactory
-    number: int
+Handle = Tuple["EntityManagerFactory", str]
+"""Where an object lives: its factory, and the digits of its number in the program."""
 
 
 class Entity:
@@ -42,14 +39,13 @@ class Entity:
     def __getattr__(self, name: str) -> Any:
         if name.startswith("__") or name == "_karzhoul":
             raise AttributeError(name)
-        factory = handle_of(self).factory
         try:
-            return factory.get(self, name)
+            return factory_of(self).get(self, name)
         except IllegalArgument as refused:
             raise AttributeError(f"{self!r} has no member {name!r}") from refused
 
     def __repr__(self) -> str:
-        return f"<{type(self).__name__} #{handle_of(self).number}>"
+        return f"<{type(self).__name__} #{number_of(self)}>"
 
 
 class AnyEntity(Entity):
@@ -58,20 +54,24 @@ class AnyEntity(Entity):
     __slots__ = ()
 
     def __setattr__(self, name: str, value: Any) -> None:
-        handle_of(self).factory.set(self, name, value)
+        factory_of(self).set(self, name, value)
 
 
-_SLOT = Entity.__dict__["_karzhoul"]
+# The slot's own functions, since an entity may have a member of the slot's name.
+handle_of: Callable[[Entity], Handle] = Entity.__dict__["_karzhoul"].__get__
+"""An object's handle."""
+bind: Callable[[Entity, Handle], None] = Entity.__dict__["_karzhoul"].__set__
+"""Makes an object of Python stand for an object of the program."""
 
 
-def handle_of(entity: Entity) -> Handle:
-    """An object's handle, also where the entity has a member of the slot's name."""
-    return _SLOT.__get__(entity)  # type: ignore[no-any-return]
+def factory_of(entity: Entity) -> EntityManagerFactory:
+    """The factory that an object lives in."""
+    return handle_of(entity)[0]
 
 
-def bind(entity: Entity, handle: Handle) -> None:
-    """Makes an object of Python stand for an object of the program."""
-    _SLOT.__set__(entity, handle)
+def number_of(entity: Entity) -> str:
+    """The digits of an object's number in the program."""
+    return handle_of(entity)[1]
 
 
 class _Property:
@@ -79,18 +79,21 @@ class _Property:
 
     def __init__(self, member: Member) -> None:
         self.member = member
+        self.spelling = text_spelled(member.name)
+        self.is_collection = member.kind is MemberKind.COLLECTION
         self.__doc__ = f"{member.kind.value} of {member.type}"
 
     def __get__(self, entity: Optional[Entity], owner: Any = None) -> Any:
         if entity is None:
             return self
-        if self.member.kind is MemberKind.COLLECTION:
+        if self.is_collection:
             return Collection(entity, self.member.name)
-        return handle_of(entity).factory.get(entity, self.member.name)
+        return factory_of(entity).get(entity, self.member.name)
 
     def __set__(self, entity: Entity, value: Any) -> None:
-        if self.member.kind is not MemberKind.COLLECTION:
-            handle_of(entity).factory.set(entity, self.member.name, value)
+        if not self.is_collection:
+            factory, number = handle_of(entity)
+            factory.tell_line(set_line(number, self.spelling, factory.given(value)))
         # `object.members += [..]` has added them when it assigns.
         elif not (type(value) is Collection and value.is_of(entity, self.member.name)):
             Collection(entity, self.member.name).replace(value)
@@ -108,7 +111,7 @@ class _EmbeddedProperty:
     def __set__(self, entity: Entity, value: Union[Dict[str, Any], Iterable[Any]]) -> None:
         given = value if isinstance(value, dict) else dict(zip(self.parts, value))
         for part in given:
-            handle_of(entity).factory.set(entity, f"{self.name}.{part}", given[part])
+            factory_of(entity).set(entity, f"{self.name}.{part}", given[part])
 
 
 class EmbeddedId:
@@ -123,10 +126,10 @@ class EmbeddedId:
     def __getattr__(self, part: str) -> Any:
         if part not in self._parts:
             raise AttributeError(f"{self._name} of {self._entity!r} has no part {part!r}")
-        return handle_of(self._entity).factory.get(self._entity, f"{self._name}.{part}")
+        return factory_of(self._entity).get(self._entity, f"{self._name}.{part}")
 
     def __setattr__(self, part: str, value: Any) -> None:
-        handle_of(self._entity).factory.set(self._entity, f"{self._name}.{part}", value)
+        factory_of(self._entity).set(self._entity, f"{self._name}.{part}", value)
 
     def __iter__(self) -> Iterator[Any]:
         return iter([getattr(self, part) for part in self._parts])
@@ -157,7 +160,7 @@ class Collection(MutableSequence):  # type: ignore[type-arg]
         return self._entity is entity and self._name == name
 
     def _members(self) -> List[Entity]:
-        return handle_of(self._entity).factory.get(self._entity, self._name)  # type: ignore[no-any-return]
+        return factory_of(self._entity).get(self._entity, self._name)  # type: ignore[no-any-return]
 
     # ---- what it holds
 
@@ -194,7 +197,7 @@ class Collection(MutableSequence):  # type: ignore[type-arg]
 
     def append(self, member: Entity) -> None:
         """Adds a member at the end."""
-        handle_of(self._entity).factory.add(self._entity, self._name, member)
+        factory_of(self._entity).add(self._entity, self._name, member)
 
     def extend(self, members: Iterable[Entity]) -> None:
         """Adds members at the end."""
@@ -203,7 +206,7 @@ class Collection(MutableSequence):  # type: ignore[type-arg]
 
     def remove(self, member: Entity) -> None:
         """Takes out the first occurrence of a member; a `ValueError` where there is none."""
-        if not handle_of(self._entity).factory.take_out(self._entity, self._name, member):
+        if not factory_of(self._entity).take_out(self._entity, self._name, member):
             raise ValueError(f"{member!r} is not in {self._name} of {self._entity!r}")
 
     def clear(self) -> None:

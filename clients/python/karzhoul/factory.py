@@ -9,11 +9,13 @@ import threading
 import weakref
 from collections import deque
 from contextlib import contextmanager
+from itertools import islice
 from pathlib import Path
+from threading import get_ident
 from typing import Any, Callable, Deque, Dict, Iterable, Iterator, List, Mapping, Optional, Sequence, Tuple, Type, TypeVar, Union
 
-from .entities import AnyEntity, Entity, Event, Handle, bind, class_of, handle_of
-from .lines import DONE, NOTHING, LifecycleEvent, is_call, line_of, object_in, reply_of, spelled, text_spelled
+from .entities import AnyEntity, Entity, Event, bind, class_of, handle_of, number_of
+from .lines import DONE, NOTHING, LifecycleEvent, get_line, is_call, line_of, new_line, objects_in, reply_of, set_line, spelled, text_spelled
 from .manager import EntityManager
 from .program import Program, Sent, Words, find_program
 from .refusals import KarzhoulError, NotServed, Refused, refusal_named
@@ -26,6 +28,8 @@ Asked = Union[str, Type[E]]
 Callback = Callable[[Event], None]
 
 _FEWEST_OBJECTS = 1_000
+_TOGETHER = 16
+"""So many lines that don't wait for their replies are handed in together, and the program is at work on them while more are made."""
 
 
 def open(mapping: Union[Words, Mapping[str, Any]], db: Optional[Words] = None, *, program: Optional[Words] = None) -> EntityManagerFactory:
@@ -61,11 +65,14 @@ class EntityManagerFactory:
     def __init__(self, program: Program, entities: Mapping[str, EntityDescription]) -> None:
         self._program = program
         self._classes = {name: class_of(self, entity) for name, entity in entities.items()}
-        self._objects: Dict[int, weakref.ref[Entity]] = {}
+        self._objects: Dict[str, weakref.ref[Entity]] = {}
         self._most_objects = _FEWEST_OBJECTS
         self._lock = threading.RLock()
         self._pipelines = 0
-        self._deferred: List[Sent] = []
+        self._pipelining: Optional[int] = None
+        """The thread that has the pipelines, where there are any. It holds the lock all the while."""
+        self._deferred: List[bytes] = []
+        self._unsettled: List[Sent] = []
         self._callbacks: List[Tuple[Callback, frozenset[LifecycleEvent]]] = []
         self._events: Deque[Event] = deque()
         self._is_notifying = False
@@ -89,7 +96,12 @@ class EntityManagerFactory:
     def close(self) -> None:
         """Ends the program; what isn't committed is gone. Again it does nothing."""
         with self._lock:
-            self._program.close()
+            try:
+                self._hand_in()
+            except KarzhoulError:
+                pass  # Then it has ended already.
+            finally:
+                self._program.close()
 
     def entity(self, name: str) -> Type[Entity]:
         """The class of an entity: calling it makes a new object, as `Person(name="Ada")`."""
@@ -115,7 +127,7 @@ class EntityManagerFactory:
         rows = list(rows)
         kind = self._class(entity)
         with self._lock:
-            made = self.ask_many("new", [{"entity": text_spelled(kind.__name__)}] * len(rows), kind)
+            made = self.ask_lines([new_line(kind.__name__)] * len(rows), kind)
             with self.pipeline():
                 for each, row in zip(made, rows):
                     for name in row:
@@ -124,17 +136,17 @@ class EntityManagerFactory:
 
     def get(self, entity: Entity, name: str) -> Any:
         """The value of a member; of a collection a list of its members."""
-        return self.ask("get", self._target(entity, name), object=self.number(entity), name=text_spelled(name))
+        return self.ask_line(get_line(self.number(entity), text_spelled(name)), self._target(entity, name))
 
     def get_many(self, objects: Sequence[Entity], name: str) -> List[Any]:
         """The values that objects of one class have of a member, asked without waiting for each."""
         kind = self._target(objects[0], name) if objects else None
         spelling = text_spelled(name)
-        return self.ask_many("get", ({"object": self.number(entity), "name": spelling} for entity in objects), kind)
+        return self.ask_lines((get_line(self.number(entity), spelling) for entity in objects), kind)
 
     def set(self, entity: Entity, name: str, value: Any) -> None:
         """Sets a member."""
-        self.tell("set", object=self.number(entity), name=text_spelled(name), value=self.given(value))
+        self.tell_line(set_line(self.number(entity), text_spelled(name), self.given(value)))
 
     def add(self, entity: Entity, name: str, member: Entity) -> None:
         """Adds a member to a collection, at its end."""
@@ -149,7 +161,7 @@ class EntityManagerFactory:
         if isinstance(entity, Entity):
             factory, number = handle_of(entity)
             if factory is self:
-                return str(number)
+                return number
         raise ValueError(f"{entity!r} is no object of this factory")
 
     def given(self, value: Any) -> str:
@@ -162,19 +174,17 @@ class EntityManagerFactory:
             return [self.found(item, kind) for item in answer]
         if type(answer) is not dict:
             return answer
-        return bytes.fromhex(answer["hex"]) if "hex" in answer else self._object(answer["object"], kind or AnyEntity)
+        return bytes.fromhex(answer["hex"]) if "hex" in answer else self._object(str(answer["object"]), kind or AnyEntity)
 
     def adopt(self, entity: Entity) -> None:
         """Makes a new object of the program for an object of Python."""
         with self._lock:
             self._settle()
-            sent = self._program.send(line_of("new", {"entity": text_spelled(type(entity).__name__)}))
-            number = object_in(self._program.wait(sent))
-            if number is None:
-                number = handle_of(self._taken([sent], None)[0]).number
-            self._bind(entity, number)
+            sent = self._program.send_all([new_line(type(entity).__name__)])
+            numbers = objects_in(self._program.wait_for_all(sent)) or [number_of(self._taken([sent], None)[0])]
+            self._bind(entity, numbers[0])
 
-    def _object(self, number: int, kind: Type[Entity]) -> Entity:
+    def _object(self, number: str, kind: Type[Entity]) -> Entity:
         held = self._objects.get(number)
         known = held() if held is not None else None
         if known is None:
@@ -184,9 +194,9 @@ class EntityManagerFactory:
             object.__setattr__(known, "__class__", kind)
         return known
 
-    def _bind(self, entity: Entity, number: int) -> None:
+    def _bind(self, entity: Entity, number: str) -> None:
         """Makes an object of Python the one of this number. Those that nobody holds any more are forgotten from time to time."""
-        bind(entity, Handle(self, number))
+        bind(entity, (self, number))
         self._objects[number] = weakref.ref(entity)
         if len(self._objects) > self._most_objects:
             self._objects = {known: held for known, held in self._objects.items() if held() is not None}
@@ -208,40 +218,65 @@ class EntityManagerFactory:
         others as its `later`; what was sent after a refused call was done all the same. Other threads wait until the block ends."""
         with self._lock:
             self._pipelines += 1
+            self._pipelining = get_ident()
             try:
                 yield
             except BaseException:
-                self._pipelines -= 1
+                self._end_pipeline()
                 try:
                     self._settle()
                 except KarzhoulError:
                     pass  # What the block itself raised is told.
                 raise
-            self._pipelines -= 1
+            self._end_pipeline()
             if not self._pipelines:
                 self._settle()
 
+    def _end_pipeline(self) -> None:
+        self._pipelines -= 1
+        if not self._pipelines:
+            self._pipelining = None
+
     def ask(self, call: str, kind: Optional[Type[Entity]] = None, /, **members: str) -> Any:
         """Does a call, whose members are JSON, and gives its answer, with objects of this class where their class isn't known better."""
+        return self.ask_line(line_of(call, members), kind)
+
+    def ask_line(self, line: bytes, kind: Optional[Type[Entity]] = None) -> Any:
+        """Does the call of a line, as `ask` does."""
         with self._lock:
             self._settle()
-            sent = self._program.send(line_of(call, members))
-            number = object_in(self._program.wait(sent))
-            return self._taken([sent], kind)[0] if number is None else self._object(number, kind or AnyEntity)
+            sent = self._program.send_all([line])
+            numbers = objects_in(self._program.wait_for_all(sent))
+            return self._object(numbers[0], kind or AnyEntity) if numbers else self._taken([sent], kind)[0]
 
     def ask_many(self, call: str, members: Iterable[Dict[str, str]], kind: Optional[Type[Entity]] = None) -> List[Any]:
         """Does a call several times without waiting for each, and gives the answers."""
+        return self.ask_lines((line_of(call, each) for each in members), kind)
+
+    def ask_lines(self, lines: Iterable[bytes], kind: Optional[Type[Entity]] = None) -> List[Any]:
+        """Does the calls of lines, as `ask_many` does."""
         with self._lock:
             self._settle()
-            return self._taken([self._program.send(line_of(call, each)) for each in members], kind)
+            left = iter(lines)
+            together = iter(lambda: list(islice(left, _TOGETHER)), [])
+            return self._taken([self._program.send_all(some) for some in together], kind)
 
     def tell(self, call: str, /, **members: str) -> None:
         """Does a call that answers null; within a pipeline without waiting for its reply."""
+        self.tell_line(line_of(call, members))
+
+    def tell_line(self, line: bytes) -> None:
+        """Does the call of a line, as `tell` does."""
+        if self._pipelining == get_ident():
+            if self._program.fault:
+                raise self._program.fault
+            self._deferred.append(line)
+            if len(self._deferred) == _TOGETHER:
+                self._hand_in()
+            return
         with self._lock:
-            sent = self._program.send(line_of(call, members))
-            if self._pipelines:
-                self._deferred.append(sent)
-            elif not self._says_nothing(self._program.wait(sent)):
+            sent = self._program.send_all([line])
+            if not self._say_nothing(self._program.wait_for_all(sent)):
                 self._taken([sent], None)
 
     def send_line(self, line: str) -> Any:
@@ -252,35 +287,39 @@ class EntityManagerFactory:
             self._settle()
             return self._taken([self._program.send(line.encode())], None)[0]
 
-    def _says_nothing(self, line: bytes) -> bool:
-        """Whether a reply answers null, and tells no event that anybody hears."""
-        return line == NOTHING or (not self._callbacks and line.endswith(DONE))
+    def _say_nothing(self, replies: List[bytes]) -> bool:
+        """Whether replies answer null, and tell no event that anybody hears."""
+        if self._callbacks:
+            return replies.count(NOTHING) == len(replies)
+        return all([reply.endswith(DONE) for reply in replies])
+
+    def _hand_in(self) -> None:
+        deferred, self._deferred = self._deferred, []
+        if deferred:
+            self._unsettled.append(self._program.send_all(deferred))
 
     def _settle(self) -> None:
-        if self._deferred:
-            deferred, self._deferred = self._deferred, []
-            self._taken(deferred, None)
+        """Waits for the replies to what was sent without waiting for them, and raises its refusals."""
+        if self._deferred or self._unsettled:
+            try:
+                self._hand_in()
+            finally:
+                unsettled, self._unsettled = self._unsettled, []
+            self._taken(unsettled, None)
 
     def _taken(self, sent: Sequence[Sent], kind: Optional[Type[Entity]]) -> List[Any]:
         """The answers to lines. Their events are told first, and then the first refusal is raised."""
         answers: List[Any] = []
         refused: List[KarzhoulError] = []
         for each in sent:
-            line = each.reply or self._program.wait(each)
-            if self._says_nothing(line):
-                answers.append(None)
-                continue
-            number = object_in(line)
-            if number is not None:
-                answers.append(self._object(number, kind or AnyEntity))
-                continue
-            reply = reply_of(line)
-            answers.append(self.found(reply.ok, kind))
-            if reply.refusal is not None or (reply.events and self._callbacks):
-                events = tuple([Event(told.event, self._object(told.number, AnyEntity), told.ran) for told in reply.events])
-                self._events.extend(events)
-                if reply.refusal is not None:
-                    refused.append(_refusal(reply.refusal, events, each.line))
+            for lines, replies in self._program.answered(each):
+                numbers = objects_in(replies)
+                if numbers:
+                    answers += [self._object(number, kind or AnyEntity) for number in numbers]
+                elif self._say_nothing(replies):
+                    answers += [None] * len(replies)
+                else:
+                    answers += [self._answer(line, reply, kind, refused) for line, reply in zip(lines, replies)]
         try:
             self._notify()
         finally:
@@ -289,6 +328,22 @@ class EntityManagerFactory:
                     refused[0].later = tuple(refused[1:])
                 raise refused[0]
         return answers
+
+    def _answer(self, line: bytes, reply: bytes, kind: Optional[Type[Entity]], refused: List[KarzhoulError]) -> Any:
+        """The answer to a line. The events of its reply are kept to be told, and its refusal is added to those there are."""
+        if self._say_nothing([reply]):
+            return None
+        numbers = objects_in([reply])
+        if numbers:
+            return self._object(numbers[0], kind or AnyEntity)
+        said = reply_of(reply)
+        answer = self.found(said.ok, kind)
+        if said.refusal is not None or (said.events and self._callbacks):
+            events = tuple([Event(told.event, self._object(str(told.number), AnyEntity), told.ran) for told in said.events])
+            self._events.extend(events)
+            if said.refusal is not None:
+                refused.append(_refusal(said.refusal, events, line))
+        return answer
 
     def _notify(self) -> None:
         """Tells the events in their order; those of calls that a callback makes come after them."""

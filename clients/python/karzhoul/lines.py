@@ -5,7 +5,7 @@ from __future__ import annotations
 import enum
 import json
 import re
-from typing import Any, Callable, Mapping, NamedTuple, Optional, Tuple
+from typing import Any, Callable, List, Mapping, NamedTuple, Optional, Tuple
 
 from .strict_json import GREATEST_INTEGER, LEAST_INTEGER, NoJson, read, text_of
 
@@ -36,6 +36,9 @@ class LifecycleEvent(str, enum.Enum):
     PRE_UPDATE = "PreUpdate"
     POST_UPDATE = "PostUpdate"
     POST_LOAD = "PostLoad"
+
+
+_EVENTS = {event.value: event for event in LifecycleEvent}
 
 
 class Told(NamedTuple):
@@ -148,6 +151,34 @@ def line_of(call: str, members: Mapping[str, str]) -> bytes:
     return f"{said}}}".encode()
 
 
+# The lines of the most frequent calls are made without a dict of their members.
+
+
+def new_line(entity: str) -> bytes:
+    """The line that makes an object of the entity of this name."""
+    return f'{{"call":"new","entity":{text_spelled(entity)}}}'.encode()
+
+
+def get_line(number: str, name: str) -> bytes:
+    """The line that asks for a member, whose name is JSON already, of the object of this number."""
+    return f'{{"call":"get","object":{number},"name":{name}}}'.encode()
+
+
+def set_line(number: str, name: str, value: str) -> bytes:
+    """The line that sets a member, whose name and value are JSON already, of the object of this number."""
+    return f'{{"call":"set","object":{number},"name":{name},"value":{value}}}'.encode()
+
+
+def line_by_key(call: str, em: str, entity: str, key: str) -> bytes:
+    """The line of a call of a manager for an entity and a key, which are JSON already."""
+    return f'{{"call":"{call}","em":{em},"entity":{entity},"key":{key}}}'.encode()
+
+
+def line_on(call: str, em: str, number: str) -> bytes:
+    """The line of a call of a manager on the object of this number."""
+    return f'{{"call":"{call}","em":{em},"object":{number}}}'.encode()
+
+
 def spelled(value: Any) -> str:
     """A value as JSON: None, an int of 64 bits, a str or bytes; anything else is a `TypeError` or an `OverflowError`."""
     kind = type(value)
@@ -185,19 +216,24 @@ NOTHING = b'{"events":[]' + DONE
 """The reply that says nothing."""
 
 _OBJECT_FRONT = b'{"events":[],"ok":{"object":'
+_OBJECT = re.compile(r'^\{"events":\[\],"ok":\{"object":([1-9][0-9]*)\}\}$', re.MULTILINE)
 _scan = json.JSONDecoder().scan_once
 
 
-def object_in(line: bytes) -> Optional[int]:
-    """The number of the object that a reply answers, where it is one that answers an object and tells no event."""
-    return int(line[len(_OBJECT_FRONT) : -2]) if line.startswith(_OBJECT_FRONT) and line.endswith(b"}}") else None
+def objects_in(lines: List[bytes]) -> List[str]:
+    """The digits of the numbers of the objects that replies answer, where each of them answers an object and tells no event; else none."""
+    if not lines[0].startswith(_OBJECT_FRONT):
+        return []
+    # No line has a line feed, so that each has at most one number.
+    numbers = _OBJECT.findall(b"\n".join(lines).decode(errors="replace"))
+    return numbers if len(numbers) == len(lines) else []
 
 
 def reply_of(line: bytes) -> Reply:
     """The reply on a line, which is compact JSON; a `ValueError` where there is none."""
     try:
         said = _scan(line.decode(), 0)[0]
-        events = tuple([Told(LifecycleEvent(name), number, tuple(ran)) for name, number, *ran in said["events"]])
+        events = tuple([Told(_EVENTS[name], number, tuple(ran)) for name, number, *ran in said["events"]])
         if "error" in said:
             return Reply(events, None, (said["error"]["name"], said["error"].get("why")))
         return Reply(events, said["ok"], None)

@@ -5,7 +5,7 @@ from __future__ import annotations
 from typing import TYPE_CHECKING, Any, Dict, Iterable, List, Mapping, Optional, Tuple, Type, TypeVar, Union
 
 from .entities import EmbeddedId, Entity
-from .lines import FlushModeType, LockModeType, spelled, text_spelled
+from .lines import FlushModeType, LockModeType, line_by_key, line_on, spelled, text_spelled
 from .refusals import KarzhoulError, NotServed, ProgramEnded, Rollback
 
 if TYPE_CHECKING:
@@ -62,12 +62,11 @@ class EntityManager:
     def find_many(self, entity: Union[str, Type[E]], keys: Iterable[Any]) -> List[Optional[E]]:
         """The object of each key, or None, asked without waiting for each."""
         name, kind = self._named(entity)
-        asked = ({"em": self._em, "entity": name, "key": self._key(key)} for key in keys)
-        return self._factory.ask_many("find", asked, kind)
+        return self._factory.ask_lines((line_by_key("find", self._em, name, self._key(key)) for key in keys), kind)
 
     def _by_key(self, call: str, entity: Union[str, Type[E]], key: Any) -> Optional[E]:
         name, kind = self._named(entity)
-        return self._factory.ask(call, kind, em=self._em, entity=name, key=self._key(key))  # type: ignore[no-any-return]
+        return self._factory.ask_line(line_by_key(call, self._em, name, self._key(key)), kind)  # type: ignore[no-any-return]
 
     def _named(self, entity: Union[str, Type[E]]) -> Tuple[str, Optional[Type[Entity]]]:
         if isinstance(entity, str):
@@ -75,6 +74,8 @@ class EntityManager:
         return text_spelled(entity.__name__), entity
 
     def _key(self, key: Any) -> str:
+        if type(key) is int:  # The most frequent ones.
+            return f"[{spelled(key)}]"
         if isinstance(key, (tuple, list, EmbeddedId)):
             return f"[{','.join([self._factory.given(part) for part in key])}]"
         return f"[{self._factory.given(key)}]"
@@ -83,19 +84,19 @@ class EntityManager:
 
     def persist(self, entity: Entity) -> None:
         """Makes a new object managed; a commit stores it."""
-        self._tell("persist", object=self._factory.number(entity))
+        self._tell_on("persist", entity)
 
     def remove(self, entity: Entity) -> None:
         """Removes an object; a commit drops it."""
-        self._tell("remove", object=self._factory.number(entity))
+        self._tell_on("remove", entity)
 
     def refresh(self, entity: Entity) -> None:
         """Loads an object again."""
-        self._tell("refresh", object=self._factory.number(entity))
+        self._tell_on("refresh", entity)
 
     def detach(self, entity: Entity) -> None:
         """Takes an object out of the context."""
-        self._tell("detach", object=self._factory.number(entity))
+        self._tell_on("detach", entity)
 
     def merge(self, entity: E) -> E:
         """Copies an object's state onto the managed one of its identity, which is loaded or made where there is none, and is the answer; the
@@ -169,6 +170,9 @@ class EntityManager:
 
     def _ask(self, call: str, kind: Optional[Type[Entity]] = None, /, **members: str) -> Any:
         return self._factory.ask(call, kind, em=self._em, **members)
+
+    def _tell_on(self, call: str, entity: Entity) -> None:
+        self._factory.tell_line(line_on(call, self._em, self._factory.number(entity)))
 
     def _tell(self, call: str, /, **members: str) -> None:
         self._factory.tell(call, em=self._em, **members)

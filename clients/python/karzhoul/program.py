@@ -12,13 +12,14 @@ import tempfile
 import weakref
 from collections import deque
 from pathlib import Path
-from typing import IO, Deque, List, Optional, Sequence, Union
+from typing import IO, Deque, Iterator, List, Optional, Sequence, Tuple, Union
 
 from .refusals import KarzhoulError, ProgramEnded, ProgramNotFound, refusal_of
 
 VARIABLE = "KARZHOUL_PROGRAM"
 _SLICE = 1 << 16
 _PATIENCE = 2.0
+_INTERRUPTED = "a call was interrupted while bytes were on their way"
 
 Words = Union[str, "os.PathLike[str]"]
 
@@ -42,13 +43,13 @@ def find_program(given: Optional[Words] = None) -> str:
 
 
 class Sent:
-    """A line that was handed in, and its reply's line once that was read."""
+    """Lines that were handed in together, and those of their replies that were read."""
 
-    __slots__ = ("line", "reply")
+    __slots__ = ("lines", "replies")
 
-    def __init__(self, line: bytes) -> None:
-        self.line = line
-        self.reply: Optional[bytes] = None
+    def __init__(self, lines: List[bytes]) -> None:
+        self.lines = lines
+        self.replies: List[bytes] = []
 
 
 class Program:
@@ -75,8 +76,10 @@ class Program:
         self._outgoing = bytearray()
         self._incoming = b""
         self._unanswered: Deque[Sent] = deque()
-        self._fault: Optional[KarzhoulError] = None
+        self.fault: Optional[KarzhoulError] = None
+        """Why the program answers no more; None while it does."""
         self._is_moving = False
+        """Whether lines or bytes are on their way; where a call finds them so, an interrupt may have lost some of them."""
         self._reading, self._moving = select.poll(), select.poll()
         for poll in (self._reading, self._moving):
             poll.register(self._out, select.POLLIN)
@@ -88,36 +91,56 @@ class Program:
         """The process's number."""
         return self._process.pid
 
-    @property
-    def fault(self) -> Optional[KarzhoulError]:
-        """Why the program answers no more; None while it does."""
-        return self._fault
-
     def send(self, line: bytes) -> Sent:
-        """Hands in a line, which is written now or with later ones."""
-        if self._fault:
-            raise self._fault
-        sent = Sent(line)
+        """Hands in a line, as `send_all` does."""
+        return self.send_all([line])
+
+    def send_all(self, lines: List[bytes]) -> Sent:
+        """Hands in lines, one at least. As many as the pipe takes are written now, so that the program is at work on them already."""
+        if self.fault:
+            raise self.fault
+        if self._is_moving:
+            self._break(_INTERRUPTED)
+        self._is_moving = True
+        sent = Sent(lines)
         self._unanswered.append(sent)
-        self._outgoing += line + b"\n"
+        self._outgoing += b"\n".join(lines) + b"\n"
+        self._write()
+        self._is_moving = False
         while len(self._outgoing) >= _SLICE:
             self._exchange()
         return sent
 
     def wait(self, sent: Sent) -> bytes:
-        """The reply's line. The program's end is a `ProgramEnded`, or the refusal that it ended with."""
-        while sent.reply is None:
-            if self._fault:
-                raise self._fault
+        """The line of the reply to a line that was handed in alone."""
+        return self.wait_for_all(sent)[0]
+
+    def wait_for_all(self, sent: Sent) -> List[bytes]:
+        """The lines of the replies. The program's end is a `ProgramEnded`, or the refusal that it ended with."""
+        while len(sent.replies) < len(sent.lines):
+            if self.fault:
+                raise self.fault
             self._exchange()
-        return sent.reply
+        return sent.replies
+
+    def answered(self, sent: Sent) -> Iterator[Tuple[List[bytes], List[bytes]]]:
+        """Lines with those of their replies, some at a time as they come, so that these are dealt with while the program makes others."""
+        done = 0
+        while done < len(sent.lines):
+            known = len(sent.replies)
+            if done < known:
+                yield sent.lines[done:known], sent.replies[done:known]
+                done = known
+            elif self.fault:
+                raise self.fault
+            else:
+                self._exchange()
 
     def start(self) -> None:
         """Waits for the program to answer at all, by an empty line, which is no call. What it tells meanwhile, as where it is being
         built, goes to standard error."""
         sent, shown = self.send(b""), 0
-        self._write()
-        while sent.reply is None and self._fault is None:
+        while not sent.replies and self.fault is None:
             if self._reading.poll(_PATIENCE * 1000):
                 self._exchange()
             else:
@@ -128,12 +151,12 @@ class Program:
     def close(self) -> None:
         """Writes what was handed in, ends the program's input and waits for its end."""
         try:
-            while (self._outgoing or self._unanswered) and not self._fault:
+            while (self._outgoing or self._unanswered) and not self.fault:
                 self._exchange()
         except ProgramEnded:
             pass  # Then it has ended, as is wanted.
         finally:
-            self._fault = self._fault or ProgramEnded(None)
+            self.fault = self.fault or ProgramEnded(None)
             self._end()
 
     def kill(self) -> None:
@@ -154,7 +177,7 @@ class Program:
     def _exchange(self) -> None:
         """Moves some bytes: writes as far as the pipe takes them, and reads where there is something or nothing is left to write."""
         if self._is_moving:
-            self._break("a call was interrupted while bytes were on their way")
+            self._break(_INTERRUPTED)
         if self._outgoing:
             self._is_moving = True
             self._write()
@@ -183,19 +206,24 @@ class Program:
     def _read(self) -> None:
         chunk = os.read(self._out, _SLICE)
         if not chunk:
-            self._fault = self._ended()
+            self.fault = self._ended()
             return
-        lines: List[bytes] = (self._incoming + chunk).split(b"\n")
-        self._incoming = lines.pop()
-        for line in lines:
+        replies: List[bytes] = (self._incoming + chunk).split(b"\n")
+        self._incoming = replies.pop()
+        while replies:
             if not self._unanswered:
                 self._break("the program told more than it was asked")
-            self._unanswered.popleft().reply = line
+            sent = self._unanswered[0]
+            missing = len(sent.lines) - len(sent.replies)
+            sent.replies += replies[:missing]
+            if missing <= len(replies):
+                self._unanswered.popleft()
+            del replies[:missing]
 
     def _break(self, why: str) -> None:
         _kill(self._process)
-        self._fault = ProgramEnded(self._process.wait(), why)
-        raise self._fault
+        self.fault = ProgramEnded(self._process.wait(), why)
+        raise self.fault
 
     def _ended(self) -> KarzhoulError:
         """Why the program ended: the refusal that it told where it never came to answer, as of its mapping."""

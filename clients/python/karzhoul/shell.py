@@ -8,7 +8,7 @@ import sys
 from pathlib import Path
 from typing import Any, Callable, Dict, Iterable, List, Optional, Sequence, Tuple
 
-from .entities import Entity, Event, handle_of
+from .entities import Entity, Event, number_of
 from .factory import EntityManagerFactory
 from .lines import CALLS, FlushModeType, LockModeType, Takes, spelled, text_spelled
 from .refusals import KarzhoulError, ProgramEnded, Refused
@@ -152,14 +152,14 @@ class Shell:
         if asked == "entity":
             return self._app.entities
         if asked in ("object", "member"):
-            return [f"#{handle_of(held).number}" for held in dict.fromkeys(self._held)]
+            return [f"#{number_of(held)}" for held in dict.fromkeys(self._held)]
         if asked == "name":
             return self._members(words[0])
         modes = LockModeType if call == "lock" else FlushModeType
         return [mode.value for mode in modes] if asked == "mode" else ()
 
     def _members(self, word: str) -> Iterable[str]:
-        held = [type(each).__entity__ for each in self._held if f"#{handle_of(each).number}" == word]
+        held = [type(each).__entity__ for each in self._held if f"#{number_of(each)}" == word]
         known = [entity for entity in held if entity is not None] or list(self._app.entities.values())
         return {member.name for entity in known for member in entity.members}
 
@@ -187,7 +187,7 @@ def readable(answer: Any) -> str:
     """An answer as a reader sees it."""
     if isinstance(answer, Entity):
         known = type(answer).__entity__
-        return f"#{handle_of(answer).number}" + (f" {known.name}" if known else "")
+        return f"#{number_of(answer)}" + (f" {known.name}" if known else "")
     if isinstance(answer, bool):
         return "yes" if answer else "no"
     if isinstance(answer, list):

@@ -9,7 +9,7 @@ from dataclasses import dataclass
 from typing import Any, Dict, Iterable, List, Mapping, Optional, Sequence, Tuple
 
 from .diagram import diagram
-from .entities import Entity, handle_of
+from .entities import Entity, number_of
 from .factory import EntityManagerFactory
 from .manager import EntityManager
 from .refusals import NotServed, Refused
@@ -101,7 +101,7 @@ class _Reader:
         if isinstance(value, Entity):
             known = type(value).__entity__
             name = known.name if known else "object"
-            key = tuple(self._app.get(value, part.name) for part in known.key) if known else (handle_of(value).number,)
+            key = tuple(self._app.get(value, part.name) for part in known.key) if known else (int(number_of(value)),)
             return Link((name, key))
         return value
 

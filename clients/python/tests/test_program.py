@@ -107,6 +107,16 @@ class Ends(unittest.TestCase):
                 app.program.wait(sent[3])
             self.assertEqual(raised.exception.status, 4)
 
+    def test_an_interrupt_while_bytes_are_on_their_way_ends_the_program(self) -> None:
+        line = '{"call":"createEntityManager"}'
+        for moving in ("_write", "_read"):
+            with self.subTest(moving), played(f'> {line}\n< {{"events":[],"ok":1}}\n', PERSONS) as app:
+                with mock.patch.object(Program, moving, side_effect=KeyboardInterrupt), self.assertRaises(KeyboardInterrupt):
+                    app.create_entity_manager()
+                with self.assertRaises(karzhoul.ProgramEnded) as raised:
+                    app.create_entity_manager()
+                self.assertIn("interrupted", str(raised.exception))
+
     def test_a_transaction_whose_program_ends_raises_that(self) -> None:
         transcript = '> {"call":"createEntityManager"}\n< {"events":[],"ok":1}\n> {"call":"begin","em":1}\n< {"events":[],"ok":null}\n'
         with played(transcript + '> {"call":"flush","em":1}\n! 4\n', PERSONS) as app:
