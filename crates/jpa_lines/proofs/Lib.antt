@@ -1,11 +1,12 @@
 mod Examples
+pub mod Feeds
 pub mod Held
 pub mod InOrder
 pub mod Kept
 pub mod Lines
-pub mod NoFloat
 pub mod OneLine
 pub mod Parameters
 pub mod SoFar
 pub mod Taken
+pub mod Told
 pub mod Written

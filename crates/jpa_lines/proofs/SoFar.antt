@@ -1,4 +1,4 @@
--- A run, byte by byte.
+-- A run, piece by piece.
 use Rattle.jpa_value.specs.Limits.{most_line_bytes}
 use Rattle.std.proofs.Common.{◌≡◌, ◌==◌, inl, inr, ℕ, suc, ◌+◌, ◌<◌, ◌≤◌, Bool, false, List, [], ◌∷◌, ◌++◌, length, take, Option, Some, None, Result, Ok, Err, refl, sym, ap, ◌∙◌, subst, arith, append_assoc, append-nil, length-take, get_or, drop, IfErr}
 use Rattle.std.proofs.lemmas.Bool.Decides.{nat_tests}
@@ -27,9 +27,9 @@ line_last : (x : ℕ) (line : List ℕ) → IsUnbroken (x ∷ line) → lines_of
 line_last x [] h = rw h.0 refl
 line_last x (y ∷ line) h = rw h.0 (ap (onto_first x) (line_last y line h.1))
 
-unbroken_more : (line : List ℕ) (x : ℕ) → IsUnbroken line → (x == 10) ≡ false → IsUnbroken (line ++ x ∷ [])
-unbroken_more [] x h e = (e, tt)
-unbroken_more (y ∷ line) x h e = (h.0, unbroken_more line x h.1 e)
+unbroken_both : (line more : List ℕ) → IsUnbroken line → IsUnbroken more → IsUnbroken (line ++ more)
+unbroken_both [] more h k = k
+unbroken_both (x ∷ line) more h k = (h.0, unbroken_both line more h.1 k)
 
 -- ---- what is kept of a line means the same
 
@@ -39,10 +39,10 @@ meaning_kept line = elim (cases_lt most_line_bytes (length line)) [
   | inr short ↦ ap meaning (take_all kept_len line (omega arith))
 ]
 
-take_more_kept : (n : ℕ) (line : List ℕ) (x : ℕ) → take n (take n line ++ x ∷ []) ≡ take n (line ++ x ∷ [])
-take_more_kept n line x = elim (cases_lt (length line) n) [
-  | inl short ↦ ap (λ xs. take n (xs ++ x ∷ [])) (take_all n line (omega arith))
-  | inr long ↦ take-append-le n (take n line) (x ∷ []) (omega (arith, length-take n line)) ∙ take-take n n line (omega arith) ∙ sym (take-append-le n line (x ∷ []) long)
+take_more_kept : (n : ℕ) (line xs : List ℕ) → take n (take n line ++ xs) ≡ take n (line ++ xs)
+take_more_kept n line xs = elim (cases_lt (length line) n) [
+  | inl short ↦ ap (λ ys. take n (ys ++ xs)) (take_all n line (omega arith))
+  | inr long ↦ take-append-le n (take n line) xs (omega (arith, length-take n line)) ∙ take-take n n line (omega arith) ∙ sym (take-append-le n line xs long)
 ]
 
 none_kept : (n : ℕ) (line : List ℕ) → [] ≡ take (suc n) line → line ≡ []
@@ -83,15 +83,15 @@ starts steps m before = record {
   written = appends_nothing before;
 }
 
-pub byte_kept : {M : Type 0} (steps : M → Call → Reply → M → Type 0) (old : M) (held kept : List ℕ) (x : ℕ) (before : Option (List ℕ))
-    → (x == 10) ≡ false → (length held ≤ kept_len → kept ≡ take kept_len (held ++ x ∷ [])) → GoesOn steps old old held kept (x ∷ []) before before
-byte_kept steps old held kept x before other grows first taken start s = record {
+pub bytes_kept : {M : Type 0} (steps : M → Call → Reply → M → Type 0) (old : M) (held kept bytes : List ℕ) (before : Option (List ℕ))
+    → IsUnbroken bytes → (length held ≤ kept_len → kept ≡ take kept_len (held ++ bytes)) → GoesOn steps old old held kept bytes before before
+bytes_kept steps old held kept bytes before whole grows first taken start s = record {
   lines = s.lines;
-  current = s.current ++ x ∷ [];
-  read = ap (λ xs. xs ++ x ∷ []) s.read ∙ append_assoc (fed_text s.lines) s.current (x ∷ []);
-  split = λ rest. ap lines_of (append_assoc taken (x ∷ []) rest) ∙ s.split (x ∷ rest) ∙ ap (λ xs. s.lines ++ lines_of xs) (sym (append_assoc s.current (x ∷ []) rest));
-  unbroken = unbroken_more s.current x s.unbroken other;
-  kept = grows (omega (arith, ap length s.kept, length-take kept_len s.current)) ∙ ap (λ xs. take kept_len (xs ++ x ∷ [])) s.kept ∙ take_more_kept kept_len s.current x;
+  current = s.current ++ bytes;
+  read = ap (λ xs. xs ++ bytes) s.read ∙ append_assoc (fed_text s.lines) s.current bytes;
+  split = λ rest. ap lines_of (append_assoc taken bytes rest) ∙ s.split (bytes ++ rest) ∙ ap (λ xs. s.lines ++ lines_of xs) (sym (append_assoc s.current bytes rest));
+  unbroken = unbroken_both s.current bytes s.unbroken whole;
+  kept = grows (omega (arith, ap length s.kept, length-take kept_len s.current)) ∙ ap (λ xs. take kept_len (xs ++ bytes)) s.kept ∙ take_more_kept kept_len s.current bytes;
   replies = s.replies;
   run = s.run;
   written = s.written;
@@ -213,22 +213,20 @@ goes_off steps old mid new fault held kept xs ys zs before between after h k fir
 
 -- ---- in the words of the code
 
-pub line_served_at : {M : Type 0} (steps : M → Call → Reply → M → Type 0) (old new : M) (held shown kept : List ℕ) (x : ℕ) (before after : Option (List ℕ))
-    → x ≡ 10 → shown ≡ held → kept ≡ [] → ServesLine steps old new shown before after → GoesOn steps old new held kept (x ∷ []) before after
-line_served_at steps old new held shown kept x before after feed is none h =
-    rw (feed, none) (line_served steps old new held before after (subst (λ l. ServesLine steps old new l before after) is h))
+-- the end of a line is held, and then the line served
+pub end_served : {M : Type 0} (steps : M → Call → Reply → M → Type 0) (old new : M) (held kept shown left end : List ℕ) (before after : Option (List ℕ))
+    → IsUnbroken end → (length held ≤ kept_len → kept ≡ take kept_len (held ++ end)) → shown ≡ kept → left ≡ []
+    → ServesLine steps old new shown before after → GoesOn steps old new held left (end ++ 10 ∷ []) before after
+end_served steps old new held kept shown left end before after whole grows is none h =
+    goes_both steps old old new held kept left end (10 ∷ []) before before after (bytes_kept steps old held kept end before whole grows)
+    (rw none (line_served steps old new kept before after (subst (λ l. ServesLine steps old new l before after) is h)))
 
-pub line_off_at : {M : Type 0} (steps : M → Call → Reply → M → Type 0) (old new : M) (fault : RunFault) (held shown : List ℕ) (x : ℕ) (before after : Option (List ℕ))
-    → x ≡ 10 → shown ≡ held → BreaksLine steps old new fault shown before after → BreaksOff steps old new fault held (x ∷ []) before after
-line_off_at steps old new fault held shown x before after feed is h =
-    rw feed (line_off steps old new fault held before after (subst (λ l. BreaksLine steps old new fault l before after) is h))
-
-no_feed : (x : ℕ) (b : Bool) → (x == 10) ≡ b → (x ≡ 10 → ⊥) → b ≡ false
-no_feed x b e other = grind (arith, nat_tests)
-
-pub byte_kept_at : {M : Type 0} (steps : M → Call → Reply → M → Type 0) (old : M) (held kept : List ℕ) (x : ℕ) (before : Option (List ℕ))
-    → (x ≡ 10 → ⊥) → (length held ≤ kept_len → kept ≡ take kept_len (held ++ x ∷ [])) → GoesOn steps old old held kept (x ∷ []) before before
-byte_kept_at steps old held kept x before other grows = byte_kept steps old held kept x before (no_feed x (x == 10) refl other) grows
+pub end_off : {M : Type 0} (steps : M → Call → Reply → M → Type 0) (old new : M) (fault : RunFault) (held kept shown end : List ℕ) (before after : Option (List ℕ))
+    → IsUnbroken end → (length held ≤ kept_len → kept ≡ take kept_len (held ++ end)) → shown ≡ kept
+    → BreaksLine steps old new fault shown before after → BreaksOff steps old new fault held (end ++ 10 ∷ []) before after
+end_off steps old new fault held kept shown end before after whole grows is h =
+    goes_off steps old old new fault held kept end (10 ∷ []) [] before before after (bytes_kept steps old held kept end before whole grows)
+    (line_off steps old new fault kept before after (subst (λ l. BreaksLine steps old new fault l before after) is h))
 
 keeps_same : (a : Option (List ℕ)) → Keeps a a
 keeps_same None = tt
@@ -240,6 +238,3 @@ breaks_off steps old fault held bytes before first taken rest start s = stays_br
 pub if_err : {T E : Type 0} (Q : E → Type 0) (r : Result T E) → ((e : E) → Q e) → IfErr r Q
 if_err Q (Ok x) each = tt
 if_err Q (Err e) each = each e
-
-pub piece_split : (piece : List ℕ) (i d : ℕ) → i < length piece → take i piece ++ ((get_or piece i d ∷ []) ++ drop (i + 1) piece) ≡ piece
-piece_split piece i d h = ap (λ xs. take i piece ++ xs) (sym (drop_more piece i d h)) ∙ take-append-drop i piece

@@ -3,12 +3,13 @@ ghost use Rattle.std.specs.Prelude.{◌≡◌, ◌≤◌, ◌∷◌, [], ◌++�
 ghost use Rattle.std.specs.Io.{StartsWith};
 ghost use Rattle.std.specs.Io.KnownBytes.{Appends};
 ghost use Rattle.jpa_lines.specs.declared.run.RunFault.TheVariants.{Write as write_fault, Memory as memory_fault};
-ghost use Rattle.jpa_lines.specs.Run.{Answers, ServesLine, BreaksLine, GoesOn, BreaksOff, Finishes, FailsToFinish, Served, Broken, AnswersRead, IsNoRead, kept_len};
+ghost use Rattle.jpa_lines.specs.Run.{Answers, ServesLine, BreaksLine, GoesOn, BreaksOff, Finishes, FailsToFinish, Served, Broken, AnswersRead, IsNoRead, IsUnbroken, kept_len};
 
 use crate::reading::read_call;
 use crate::writing::write_reply;
 use jpa_protocol::{PersistenceProvider, Reply};
 use jpa_value::{Cause, Refusal, Seq};
+use memchr::memchr;
 use std::alloc::Global;
 use std::io::{Read, Write};
 use thiserror::Error;
@@ -139,42 +140,44 @@ fn take_piece<W: Write, P: PersistenceProvider>(
         held.old.items piece.now (W.contents writer.old) (W.contents writer.new)) }
     ensures no_read { IfErr result IsNoRead }
 {
-    for byte in piece {
-        take_byte(alloc, *byte, held, writer, provider)?;
+    let mut done = 0;
+    'lines: while let Some(len) = memchr(b'\n', &piece[done..]) {
+        take_end(alloc, &piece[done..done + len], held, writer, provider)?;
+        done += len + 1;
     }
-    Ok(())
+    hold(held, &piece[done..])
 }
 
-fn take_byte<W: Write, P: PersistenceProvider>(
+/// Takes the end of a line, of which the front is held.
+fn take_end<W: Write, P: PersistenceProvider>(
     alloc: Global,
-    byte: u8,
+    end: &[u8],
     held: &mut Vec<u8>,
     writer: &mut W,
     provider: &mut P,
 ) -> Result<(), RunFault>
+    requires { IsUnbroken end.now }
     ensures ok { OnOk result (GoesOn P.steps provider.old provider.new held.old.items held.new.items
-        (byte ∷ []) (W.contents writer.old) (W.contents writer.new)) }
+        (end.now ++ 10 ∷ []) (W.contents writer.old) (W.contents writer.new)) }
     ensures err { IfErr result (λ fault. BreaksOff P.steps provider.old provider.new fault
-        held.old.items (byte ∷ []) (W.contents writer.old) (W.contents writer.new)) }
+        held.old.items (end.now ++ 10 ∷ []) (W.contents writer.old) (W.contents writer.new)) }
     ensures no_read { IfErr result IsNoRead }
 {
-    if byte == b'\n' {
-        serve(alloc, held.as_slice(), writer, provider)?;
-        held.clear();
-        return Ok(());
-    }
-    hold(held, byte)
+    hold(held, end)?;
+    serve(alloc, held.as_slice(), writer, provider)?;
+    held.clear();
+    Ok(())
 }
 
-fn hold(held: &mut Vec<u8>, byte: u8) -> Result<(), RunFault>
+/// Holds the bytes too, of which those past what is kept of a line are skipped.
+fn hold(held: &mut Vec<u8>, bytes: &[u8]) -> Result<(), RunFault>
     ensures ok { OnOk result (length held.old.items ≤ kept_len
-        → held.new.items ≡ take kept_len (held.old.items ++ byte ∷ [])) }
+        → held.new.items ≡ take kept_len (held.old.items ++ bytes.now)) }
     ensures no_read { IfErr result IsNoRead }
 {
-    if held.len() >= KEPT_LEN {
-        return Ok(());
-    }
-    match held.push(byte) {
+    let room = KEPT_LEN.saturating_sub(held.len());
+    let kept = bytes.len().min(room);
+    match held.extend_from_slice(&bytes[..kept]) {
         Ok(()) => Ok(()),
         Err(_) => Err(RunFault::Memory),
     }

@@ -1,171 +1,234 @@
 //! The bytes of a reply.
-ghost use Rattle.std.specs.Prelude.{◌≡◌, map, IfOk, IfErr};
+ghost use Rattle.std.specs.Prelude.{◌≡◌, map, Some, None, IfOk, IfErr};
 ghost use Rattle.jpa_value.specs.declared.refusal.Cause.TheVariants.{OutOfMemory};
+ghost use Rattle.jpa_value.specs.declared.value.Value.TheVariants as values;
 ghost use Rattle.serde_json.specs.Data.{array};
-ghost use Rattle.serde_json.specs.View.{view, items_of};
-ghost use Rattle.jpa_lines.specs.Outcome.{Builds};
+ghost use Rattle.serde_json.specs.View.{items_of};
+ghost use Rattle.jpa_lines.specs.Outcome.{Tells, named_data};
 ghost use Rattle.jpa_lines.specs.ReplyText.{value_data, object_data, item_data, row_data, answer_data, event_data, events_data, refusal_data, accepted_data, refused_data, reply_data, reply_text};
 
 use jpa_protocol::{Answer, Item, Reply, Told};
 use jpa_value::{Cause, Refusal, Seq, Value};
-use serde_json::{Value as Json, json};
-use std::alloc::{AllocError, Global};
+use json::Writer;
+use std::alloc::Global;
+
+/// Room for a short reply, so that most take memory once.
+const SHORT_REPLY: usize = 128;
 
 /// A reply as compact JSON with its members in the order of their names, and a line feed.
-#[tactic(auto, using(crate::proofs::NoFloat::no_float))]
 pub fn write_reply(alloc: Global, reply: &Reply) -> Result<Vec<u8>, Cause>
     ensures ok { IfOk result (λ bytes. bytes.items ≡ reply_text reply.now) }
     ensures err { IfErr result (λ cause. cause ≡ OutOfMemory) }
 {
-    let json = reply_json(alloc, reply)?;
-    let mut bytes = json.to_vec(alloc)?;
+    let mut out = Writer::new(Vec::with_capacity(alloc, SHORT_REPLY)?);
+    tell_reply(alloc, &mut out, reply)?;
+    let mut bytes = out.into_inner();
     bytes.push(b'\n')?;
     Ok(bytes)
 }
 
-fn reply_json(alloc: Global, reply: &Reply) -> Result<Json, Cause>
-    ensures { Builds result (reply_data reply.now) }
+fn tell_reply(alloc: Global, out: &mut Writer, reply: &Reply) -> Result<(), Cause>
+    ensures { Tells result out.old out.new (reply_data reply.now) }
 {
-    let events = events_json(alloc, reply.events.as_slice())?;
+    let events = reply.events.as_slice();
     match &reply.answer {
-        Ok(answer) => {
-            let ok = answer_json(alloc, answer)?;
-            Ok(accepted_json(alloc, events, ok)?)
-        }
-        Err(refusal) => {
-            let error = refusal_json(alloc, refusal)?;
-            Ok(refused_json(alloc, events, error)?)
-        }
+        Ok(answer) => tell_accepted(alloc, out, events, answer),
+        Err(refusal) => tell_refused(alloc, out, events, refusal),
     }
 }
 
-fn accepted_json(alloc: Global, events: Json, ok: Json) -> Result<Json, AllocError>
-    ensures { IfOk result (λ v. view v ≡ accepted_data (view events) (view ok)) }
+fn tell_accepted(
+    alloc: Global,
+    out: &mut Writer,
+    events: &[Told],
+    answer: &Answer,
+) -> Result<(), Cause>
+    ensures { Tells result out.old out.new
+        (accepted_data (events_data events.now) (answer_data answer.now)) }
 {
-    json!(in alloc; {"events": events, "ok": ok})
+    out.begin_object()?;
+    out.key("events")?;
+    tell_events(out, events)?;
+    out.key("ok")?;
+    tell_answer(alloc, out, answer)?;
+    out.end_object()?;
+    Ok(())
 }
 
-fn refused_json(alloc: Global, events: Json, error: Json) -> Result<Json, AllocError>
-    ensures { IfOk result (λ v. view v ≡ refused_data (view events) (view error)) }
+fn tell_refused(
+    alloc: Global,
+    out: &mut Writer,
+    events: &[Told],
+    refusal: &Refusal,
+) -> Result<(), Cause>
+    ensures { Tells result out.old out.new
+        (refused_data (events_data events.now) (refusal_data refusal.now)) }
 {
-    json!(in alloc; {"error": error, "events": events})
+    out.begin_object()?;
+    out.key("error")?;
+    tell_refusal(alloc, out, refusal)?;
+    out.key("events")?;
+    tell_events(out, events)?;
+    out.end_object()?;
+    Ok(())
 }
 
-fn refusal_json(alloc: Global, refusal: &Refusal) -> Result<Json, Cause>
-    ensures { Builds result (refusal_data refusal.now) }
+fn tell_refusal(alloc: Global, out: &mut Writer, refusal: &Refusal) -> Result<(), Cause>
+    ensures { Tells result out.old out.new (refusal_data refusal.now) }
 {
     let name = refusal.name();
     let number = refusal.number();
     match refusal.detail(alloc)? {
-        None => Ok(json!(in alloc; {"name": name, "no": number})?),
-        Some(detail) => {
-            let why = detail.as_str();
-            Ok(json!(in alloc; {"name": name, "no": number, "why": why})?)
-        }
+        None => tell_plain_refusal(out, name, number),
+        Some(why) => tell_refusal_why(out, name, number, why.as_str()),
     }
 }
 
-fn events_json(alloc: Global, events: &[Told]) -> Result<Json, Cause>
-    ensures { Builds result (events_data events.now) }
+fn tell_plain_refusal(out: &mut Writer, name: &str, number: u64) -> Result<(), Cause>
+    ensures { Tells result out.old out.new (named_data name.now number None) }
 {
-    let mut list = Vec::new(alloc);
+    out.begin_object()?;
+    out.key("name")?;
+    out.string(name)?;
+    out.key("no")?;
+    out.u64(number)?;
+    out.end_object()?;
+    Ok(())
+}
+
+fn tell_refusal_why(out: &mut Writer, name: &str, number: u64, why: &str) -> Result<(), Cause>
+    ensures { Tells result out.old out.new (named_data name.now number (Some why.now)) }
+{
+    out.begin_object()?;
+    out.key("name")?;
+    out.string(name)?;
+    out.key("no")?;
+    out.u64(number)?;
+    out.key("why")?;
+    out.string(why)?;
+    out.end_object()?;
+    Ok(())
+}
+
+fn tell_events(out: &mut Writer, events: &[Told]) -> Result<(), Cause>
+    ensures { Tells result out.old out.new (events_data events.now) }
+{
+    out.begin_array()?;
     for told in events {
-        list.push(event_json(alloc, told)?)?;
+        tell_event(out, told)?;
     }
-    Ok(Json::from(list))
+    out.end_array()?;
+    Ok(())
 }
 
-fn event_json(alloc: Global, told: &Told) -> Result<Json, Cause>
-    ensures { Builds result (event_data told.now) }
+fn tell_event(out: &mut Writer, told: &Told) -> Result<(), Cause>
+    ensures { Tells result out.old out.new (event_data told.now) }
 {
-    let mut list = Vec::new(alloc);
-    list.push(Json::try_from_str(alloc, told.event.name())?)?;
-    list.push(Json::from(told.object))?;
+    out.begin_array()?;
+    out.string(told.event.name())?;
+    out.u64(told.object)?;
     for name in told.ran.as_slice() {
-        list.push(Json::try_from_str(alloc, name.as_str())?)?;
+        out.string(name.as_str())?;
     }
-    Ok(Json::from(list))
+    out.end_array()?;
+    Ok(())
 }
 
-fn answer_json(alloc: Global, answer: &Answer) -> Result<Json, Cause>
-    ensures { Builds result (answer_data answer.now) }
+fn tell_answer(alloc: Global, out: &mut Writer, answer: &Answer) -> Result<(), Cause>
+    ensures { Tells result out.old out.new (answer_data answer.now) }
 {
     match answer {
-        Answer::Null => Ok(Json::Null),
-        Answer::Truth(b) => Ok(Json::from(*b)),
-        Answer::Number(n) => Ok(Json::from(*n)),
-        Answer::Value(value) => value_json(alloc, value),
-        Answer::Object(n) => object_json(alloc, *n),
-        Answer::Objects(numbers) => objects_json(alloc, numbers.as_slice()),
-        Answer::Row(items) => row_json(alloc, items.as_slice()),
-        Answer::Rows(rows) => rows_json(alloc, rows.as_slice()),
+        Answer::Null => Ok(out.null()?),
+        Answer::Truth(b) => Ok(out.boolean(*b)?),
+        Answer::Number(n) => Ok(out.u64(*n)?),
+        Answer::Value(value) => tell_value(alloc, out, value),
+        Answer::Object(n) => tell_object(out, *n),
+        Answer::Objects(numbers) => tell_objects(out, numbers.as_slice()),
+        Answer::Row(items) => tell_row(alloc, out, items.as_slice()),
+        Answer::Rows(rows) => tell_rows(alloc, out, rows.as_slice()),
     }
 }
 
-fn objects_json(alloc: Global, numbers: &[u64]) -> Result<Json, Cause>
-    ensures { Builds result (array (items_of (map object_data numbers.now))) }
+fn tell_objects(out: &mut Writer, numbers: &[u64]) -> Result<(), Cause>
+    ensures { Tells result out.old out.new (array (items_of (map object_data numbers.now))) }
 {
-    let mut list = Vec::new(alloc);
+    out.begin_array()?;
     for number in numbers {
-        list.push(object_json(alloc, *number)?)?;
+        tell_object(out, *number)?;
     }
-    Ok(Json::from(list))
+    out.end_array()?;
+    Ok(())
 }
 
-fn rows_json(alloc: Global, rows: &[Seq<Item>]) -> Result<Json, Cause>
-    ensures { Builds result (array (items_of (map row_data rows.now))) }
+fn tell_rows(alloc: Global, out: &mut Writer, rows: &[Seq<Item>]) -> Result<(), Cause>
+    ensures { Tells result out.old out.new (array (items_of (map row_data rows.now))) }
 {
-    let mut list = Vec::new(alloc);
+    out.begin_array()?;
     for row in rows {
-        list.push(row_json(alloc, row.as_slice())?)?;
+        tell_row(alloc, out, row.as_slice())?;
     }
-    Ok(Json::from(list))
+    out.end_array()?;
+    Ok(())
 }
 
-fn row_json(alloc: Global, items: &[Item]) -> Result<Json, Cause>
-    ensures { Builds result (row_data items.now) }
+fn tell_row(alloc: Global, out: &mut Writer, items: &[Item]) -> Result<(), Cause>
+    ensures { Tells result out.old out.new (row_data items.now) }
 {
     match items {
-        [item] => item_json(alloc, item),
-        _ => items_json(alloc, items),
+        [item] => tell_item(alloc, out, item),
+        _ => tell_items(alloc, out, items),
     }
 }
 
-fn items_json(alloc: Global, items: &[Item]) -> Result<Json, Cause>
-    ensures { Builds result (array (items_of (map item_data items.now))) }
+fn tell_items(alloc: Global, out: &mut Writer, items: &[Item]) -> Result<(), Cause>
+    ensures { Tells result out.old out.new (array (items_of (map item_data items.now))) }
 {
-    let mut list = Vec::new(alloc);
+    out.begin_array()?;
     for item in items {
-        list.push(item_json(alloc, item)?)?;
+        tell_item(alloc, out, item)?;
     }
-    Ok(Json::from(list))
+    out.end_array()?;
+    Ok(())
 }
 
-fn item_json(alloc: Global, item: &Item) -> Result<Json, Cause>
-    ensures { Builds result (item_data item.now) }
+fn tell_item(alloc: Global, out: &mut Writer, item: &Item) -> Result<(), Cause>
+    ensures { Tells result out.old out.new (item_data item.now) }
 {
     match item {
-        Item::Value(value) => value_json(alloc, value),
-        Item::Object(n) => object_json(alloc, *n),
+        Item::Value(value) => tell_value(alloc, out, value),
+        Item::Object(n) => tell_object(out, *n),
     }
 }
 
-fn object_json(alloc: Global, number: u64) -> Result<Json, Cause>
-    ensures { Builds result (object_data number) }
+fn tell_object(out: &mut Writer, number: u64) -> Result<(), Cause>
+    ensures { Tells result out.old out.new (object_data number) }
 {
-    Ok(json!(in alloc; {"object": number})?)
+    out.begin_object()?;
+    out.key("object")?;
+    out.u64(number)?;
+    out.end_object()?;
+    Ok(())
 }
 
-fn value_json(alloc: Global, value: &Value) -> Result<Json, Cause>
-    ensures { Builds result (value_data value.now) }
+fn tell_value(alloc: Global, out: &mut Writer, value: &Value) -> Result<(), Cause>
+    ensures { Tells result out.old out.new (value_data value.now) }
 {
     match value {
-        Value::Null => Ok(Json::Null),
-        Value::Int(n) => Ok(Json::from(*n)),
-        Value::Text(text) => Ok(Json::try_from_str(alloc, text.as_str())?),
-        Value::Bytes(bytes) => {
-            let digits = hex::encode(alloc, bytes.as_slice())?;
-            Ok(json!(in alloc; {"hex": digits})?)
-        }
+        Value::Null => Ok(out.null()?),
+        Value::Int(n) => Ok(out.i64(*n)?),
+        Value::Text(text) => Ok(out.string(text.as_str())?),
+        Value::Bytes(bytes) => tell_bytes(alloc, out, bytes.as_slice()),
     }
+}
+
+/// Bytes as hex digits.
+fn tell_bytes(alloc: Global, out: &mut Writer, bytes: &[u8]) -> Result<(), Cause>
+    ensures { Tells result out.old out.new (value_data (values.Bytes bytes.now)) }
+{
+    let digits = hex::encode(alloc, bytes)?;
+    out.begin_object()?;
+    out.key("hex")?;
+    out.string(digits.as_str())?;
+    out.end_object()?;
+    Ok(())
 }

@@ -1,10 +1,9 @@
-use Rattle.std.proofs.Common.{◌∙◌, arith}
+use Rattle.std.proofs.Common.{◌≡◌, ◌-◌, length, min, ap, ◌∙◌, arith}
 use Rattle.jpa_lines.specs.Run.{kept_len}
-use Rattle.jpa_lines.proofs.Held.{hold_all, hold_more}
+use Rattle.jpa_lines.proofs.Held.{hold_front}
 use Rattle.jpa_lines.proofs.run.hold.Goals as goal
 
-pub returns-then-len-ge-KEPT_LEN : goal.returns-then-len-ge-KEPT_LEN
-returns-then-len-ge-KEPT_LEN c = record { ok = λ fits. hold_all kept_len c.args.held.now.items c.args.byte (omega arith) fits; no_read = tt }
-
-pub returns-in-Ok : goal.returns-in-Ok
-returns-in-Ok c = record { ok = λ fits. c.in-Ok.ensures.items ∙ hold_more kept_len c.args.held.now.items c.args.byte (omega arith); no_read = tt }
+pub returns-in-Ok-clause-ok : goal.returns-in-Ok-clause-ok
+returns-in-Ok-clause-ok c fits =
+    let room : c.saturating_sub-room.result ≡ kept_len - length c.args.held.now.items = omega (arith, c.saturating_sub-room.ensures, c.len.ensures) in
+    c.in-Ok.ensures.items ∙ hold_front kept_len c.min-kept.result c.args.held.now.items c.args.bytes.now (c.min-kept.ensures ∙ ap (λ r. min (length c.args.bytes.now) r) room) fits

@@ -1,29 +1,36 @@
-use Rattle.std.proofs.Common.{◌∷◌, [], take, drop, get_or, ◌+◌, subst, sym, arith}
-use Rattle.std.proofs.lemmas.Result.{err_from_is_err_and}
-use Rattle.std.proofs.lemmas.List.{take_more, take_all}
-use Rattle.jpa_lines.specs.Run.{GoesOn, BreaksOff}
-use Rattle.jpa_lines.proofs.SoFar.{goes_both, goes_off, piece_split}
+use Rattle.std.proofs.lemmas.Result.{err_from_is_err_and, on_ok_weaker}
+use Rattle.jpa_lines.specs.Run.{BreaksOff}
+use Rattle.jpa_lines.proofs.Feeds.{end_unbroken, feed_within, line_more, line_breaks, rest_held, rest_breaks}
+use Rattle.jpa_lines.proofs.SoFar.{if_err}
 use Rattle.jpa_lines.proofs.run.take_piece.Goals as goal
 
-pub returns-in_err-take_byte-clause-err : goal.returns-in_err-take_byte-clause-err
-returns-in_err-take_byte-clause-err g c =
+pub take_end-requires : goal.take_end-requires
+take_end-requires g c = end_unbroken c.args.piece.now c.lines.done c.in-Some.len c.in-Some.ensures
+
+pub returns-in_err-take_end-clause-err : goal.returns-in_err-take_end-clause-err
+returns-in_err-take_end-clause-err g c =
     let p = err_from_is_err_and c.from_residual.result c.from_residual.ensures.1 in
     rw (p.1, p.2)
-    (subst (λ xs. BreaksOff g.P.PersistenceProvider.steps c.args.provider.now c.take_byte.new.provider c.in_err-take_byte.field-0.0 c.args.held.now.items xs (g.W.Write.contents c.args.writer.now) (g.W.Write.contents c.take_byte.new.writer))
-    (piece_split c.args.piece.now c.loop-byte.byte-index 0 (omega arith))
-    (goes_off g.P.PersistenceProvider.steps c.args.provider.now c.loop-byte.provider c.take_byte.new.provider c.in_err-take_byte.field-0.0 c.args.held.now.items c.loop-byte.held.items
-    (take c.loop-byte.byte-index c.args.piece.now) (get_or c.args.piece.now c.loop-byte.byte-index 0 ∷ []) (drop (c.loop-byte.byte-index + 1) c.args.piece.now) _ _ _
-    c.loop-byte.invariant c.in_err-take_byte.ensures.err))
+    (line_breaks g.P.PersistenceProvider.steps c.args.provider.now c.lines.provider c.take_end.new.provider c.args.held.now.items c.lines.held.items c.take_end.new.held.items c.args.piece.now c.lines.done _ _ _
+    c.lines.invariant.gone c.in_err-take_end.field-0.0 c.in-Some.len c.in-Some.ensures c.in_err-take_end.ensures.err)
 
-pub loop-byte-preserved : goal.loop-byte-preserved
-loop-byte-preserved g c =
-    subst (λ xs. GoesOn g.P.PersistenceProvider.steps c.args.provider.now c.take_byte.new.provider c.args.held.now.items c.take_byte.new.held.items xs (g.W.Write.contents c.args.writer.now) (g.W.Write.contents c.take_byte.new.writer))
-    (sym (take_more c.args.piece.now c.loop-byte.byte-index 0 (omega arith)))
-    (goes_both g.P.PersistenceProvider.steps c.args.provider.now c.loop-byte.provider c.take_byte.new.provider c.args.held.now.items c.loop-byte.held.items c.take_byte.new.held.items
-    (take c.loop-byte.byte-index c.args.piece.now) (get_or c.args.piece.now c.loop-byte.byte-index 0 ∷ []) _ _ _
-    c.loop-byte.invariant c.in_ok-take_byte.ensures.ok)
+pub lines-preserved : goal.lines-preserved
+lines-preserved g c = record {
+  within = feed_within c.args.piece.now c.lines.done c.in-Some.len c.lines.invariant.within c.in-Some.ensures;
+  gone =
+      line_more g.P.PersistenceProvider.steps c.args.provider.now c.lines.provider c.take_end.new.provider c.args.held.now.items c.lines.held.items c.take_end.new.held.items c.args.piece.now c.lines.done _ _ _
+      c.lines.invariant.gone c.in-Some.len c.in-Some.ensures c.in_ok-take_end.ensures.ok;
+}
 
 pub returns-clause-ok : goal.returns-clause-ok
 returns-clause-ok g c =
-    subst (λ xs. GoesOn g.P.PersistenceProvider.steps c.args.provider.now c.loop-byte.provider c.args.held.now.items c.loop-byte.held.items xs (g.W.Write.contents c.args.writer.now) (g.W.Write.contents c.loop-byte.writer))
-    (take_all c.loop-byte.byte-index c.args.piece.now (omega arith)) c.loop-byte.invariant
+    on_ok_weaker c.hold.result
+    (rest_held g.P.PersistenceProvider.steps c.args.provider.now c.lines.provider c.lines.provider c.args.held.now.items c.lines.held.items c.hold.new.held.items c.args.piece.now c.lines.done _ _ (g.W.Write.contents c.lines.writer)
+    c.lines.invariant.gone c.in_default.ensures)
+    c.hold.ensures.ok
+
+pub returns-clause-err : goal.returns-clause-err
+returns-clause-err g c =
+    if_err (λ fault. BreaksOff g.P.PersistenceProvider.steps c.args.provider.now c.lines.provider fault c.args.held.now.items c.args.piece.now (g.W.Write.contents c.args.writer.now) (g.W.Write.contents c.lines.writer))
+    c.hold.result
+    (rest_breaks g.P.PersistenceProvider.steps c.args.provider.now c.lines.provider c.lines.provider c.args.held.now.items c.lines.held.items c.lines.held.items c.args.piece.now c.lines.done _ _ (g.W.Write.contents c.lines.writer) c.lines.invariant.gone)

@@ -1,6 +1,12 @@
-use Rattle.std.proofs.Common.{take}
+use Rattle.std.proofs.Common.{take, length, ◌-◌, ◌≤◌}
 use Rattle.jpa_lines.specs.Run.{GoesOn}
 use Rattle.jpa_lines.proofs.run.take_piece.Given as goal
 
-abbrev pub invariant-loop-byte : goal.invariant-loop-byte
-invariant-loop-byte g l = GoesOn g.P.PersistenceProvider.steps l.fn.provider l.provider l.fn.held.items l.held.items (take l.byte-index l.piece) (g.W.Write.contents l.fn.writer) (g.W.Write.contents l.writer)
+abbrev pub invariant-lines : goal.invariant-lines
+invariant-lines g l = record {
+  within : l.done ≤ length l.piece;
+  gone : GoesOn g.P.PersistenceProvider.steps l.fn.provider l.provider l.fn.held.items l.held.items (take l.done l.piece) (g.W.Write.contents l.fn.writer) (g.W.Write.contents l.writer);
+}
+
+abbrev pub decreases-lines : goal.decreases-lines
+decreases-lines g l = length l.piece - l.done
