@@ -1,5 +1,5 @@
 -- What names and paths are found by, where no list is walked.
-use Rattle.std.specs.Prelude.{ℕ, Bool, List, ◌∷◌, Option, Some, None}
+use Rattle.std.specs.Prelude.{Bool, List, ◌∷◌, Option, Some, None}
 use Rattle.std.specs.Cmp.{IsTotalOrder}
 use Rattle.std.specs.Cmp.Lexicographic.{slice_cmp, lists_total, nat_list_cmp_total}
 use Rattle.std.specs.Ordering.{is_eq, nat_cmp}

@@ -1,4 +1,4 @@
-use Rattle.std.proofs.Common.{◌≡◌, ap, sym, ◌∙◌, ℕ, suc, ◌<◌, ◌-◌, true, cond, List, ◌∷◌, length, drop, drop-cons, arith}
+use Rattle.std.proofs.Common.{◌≡◌, ap, sym, ◌∙◌, suc, ◌<◌, ◌-◌, true, cond, List, ◌∷◌, length, drop, drop-cons, arith}
 use Rattle.std.specs.Prelude.{string_bytes}
 use Rattle.std.specs.BTreeSet.{contains, contains_text}
 use Rattle.std.specs.List.{list_any}

@@ -1,4 +1,4 @@
-use Rattle.std.proofs.Common.{◌≡◌, ap, ◌∙◌, Bool, List}
+use Rattle.std.proofs.Common.{◌≡◌, ap, ◌∙◌, List}
 use Rattle.std.specs.List.{list_any}
 use Rattle.jpql_tree.specs.declared.Item.{Item}
 use Rattle.jpql_tree.specs.Grammar.{Text}

@@ -1,4 +1,4 @@
-use Rattle.std.proofs.Common.{rules, ap, ◌∙◌, is_some}
+use Rattle.std.proofs.Common.{ap, ◌∙◌, is_some}
 use Rattle.jpql_types.specs.Indexes.{has_name}
 use Rattle.jpql_types.proofs.ByName.{any_by_place}
 use Rattle.jpql_types.proofs.index.by_name.NameIndex.has.Goals as goal
