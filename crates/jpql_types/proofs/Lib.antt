@@ -1,4 +1,7 @@
 mod SameName
+mod ByName
+mod ByPath
+mod Twice
 mod Calls
 mod Blocks
 mod Joined

@@ -6,3 +6,4 @@ pub mod Trees
 pub mod Statements
 pub mod Gives
 pub mod Within
+pub mod Indexes

@@ -8,17 +8,17 @@ ghost use Rattle.jpql_types.specs.Trees as trees;
 ghost use Rattle.jpql_types.specs.Within.{IsScope};
 
 use crate::conditions::typed_filter;
-use crate::context::Context;
+use crate::context::{Context, Groups, Parameters};
 use crate::distinct::{are_distinct_assignments, are_given, has_distinct_names};
 use crate::error::TypingError;
 use crate::scope::{Clause, Variable};
 use crate::select::typed_select;
 use crate::setting::typed_assignments;
-use crate::sort::{ParamType, Sort};
+use crate::sort::ParamType;
 use crate::typed::Typed;
 use jpa_model::Metamodel;
 use jpa_value::{Argument, Boxed, Cause, Seq, Text};
-use jpql_tree::{Assignment, Condition, Query};
+use jpql_tree::{Assignment, Condition, Path, Query};
 use std::alloc::{AllocError, Global};
 
 type Filter = Option<Boxed<Condition>>;
@@ -63,7 +63,7 @@ fn update_of(
         (map (trees.typed_assignment context.now.metamodel.now context.now.parameters.now scope.now) assignments.now)
         (trees.typed_filter context.now.metamodel.now context.now.parameters.now scope.now filter.now)) }
 {
-    if !are_distinct_assignments(assignments) {
+    if !are_distinct_assignments(alloc, assignments)? {
         return Err(TypingError::Typing);
     }
     let found = typed_assignments(alloc, context, scope, assignments)?;
@@ -123,16 +123,18 @@ fn typed_delete(
 fn typed_statement(
     alloc: Global,
     metamodel: &Metamodel,
-    parameters: &[(Text, Sort)],
+    parameters: &Parameters<'_>,
     query: &Query,
 ) -> Result<Typed, TypingError>
     ensures typed { IsJudged result (spec.is_statement_typed metamodel.now parameters.now query.now) }
     ensures tree { IfOk result (λ found. found ≡ trees.typed_statement metamodel.now parameters.now query.now) }
 {
+    let no_groups: &[Path] = &[];
+    let groups = Groups::of(alloc, no_groups)?;
     let context = Context {
         metamodel,
         parameters,
-        groups: &[],
+        groups: &groups,
     };
     match query {
         Query::Select(select) => Ok(Typed::Select(typed_select(
@@ -163,7 +165,7 @@ fn typed_statement(
 fn typed_query(
     alloc: Global,
     metamodel: &Metamodel,
-    parameters: &[(Text, Sort)],
+    parameters: &Parameters<'_>,
     query: &Query,
 ) -> Result<Typed, TypingError>
     ensures typed { IsJudged result (spec.is_typed metamodel.now parameters.now query.now) }
@@ -179,7 +181,7 @@ fn typed_query(
 /// A tree, where each parameter of a statement is given, and no other.
 fn with_parameters<T: Drop>(
     alloc: Global,
-    parameters: &[(Text, Sort)],
+    parameters: &Parameters<'_>,
     query: &Query,
     tree: T,
 ) -> Result<T, Cause>
@@ -196,14 +198,15 @@ fn checked_query(
     alloc: Global,
     metamodel: &Metamodel,
     query: &Query,
-    parameters: &[(Text, Sort)],
+    parameters: &[(Text, ParamType)],
 ) -> Result<Typed, Cause>
     ensures { IsUnlessMemory result (spec.checked metamodel.now query.now parameters.now) }
 {
-    match typed_query(alloc, metamodel, parameters, query) {
+    let parameters = Parameters::of(alloc, parameters)?;
+    match typed_query(alloc, metamodel, &parameters, query) {
         Err(TypingError::Memory) => Err(Cause::OutOfMemory),
         Err(TypingError::Typing) => Err(Cause::IllegalArgument(Argument::Typing)),
-        Ok(typed) => with_parameters(alloc, parameters, query, typed),
+        Ok(typed) => with_parameters(alloc, &parameters, query, typed),
     }
 }
 

@@ -5,12 +5,15 @@ ghost use Rattle.jpa_model.specs.Chains.{same_name};
 ghost use Rattle.jpql_types.specs.Scope.{same_variable};
 ghost use Rattle.jpql_types.specs.Statements as spec;
 
+use crate::context::Parameters;
+use crate::index::NameIndex;
 use crate::names::{Names, names_in};
-use crate::paths::{is_same_name, is_same_variable};
+use crate::paths::is_same_variable;
 use crate::sort::Sort;
-use jpa_value::Text;
+use jpa_value::{Seq, Text};
 use jpql_tree::{Assignment, Query};
 use std::alloc::{AllocError, Global};
+use std::collections::BTreeSet;
 
 fn is_variable(name: &Text, variables: &[Text]) -> bool
     ensures { result ≡ list_any (same_variable name.now) variables.now }
@@ -31,21 +34,18 @@ fn are_distinct_variables(variables: &[Text]) -> bool
     true
 }
 
-fn has_name(name: &Text, names: &[Text]) -> bool
-    ensures { result ≡ list_any (same_name name.now) names.now }
+fn are_distinct_names(alloc: Global, names: &[Text]) -> Result<bool, AllocError>
+    ensures { IfOk result (λ are. are ≡ spec.are_distinct same_name names.now) }
 {
-    names.iter().any(|other| is_same_name(name, other))
-}
-
-fn are_distinct_names(names: &[Text]) -> bool
-    ensures { result ≡ spec.are_distinct same_name names.now }
-{
-    for (place, name) in names.iter().enumerate() {
-        if has_name(name, &names[place + 1..]) {
-            return false;
+    let mut later = BTreeSet::new(alloc);
+    let mut left = names.len();
+    while left > 0 {
+        left -= 1;
+        if !later.insert(String::from_str(alloc, names[left].as_str())?)? {
+            return Ok(false);
         }
     }
-    true
+    Ok(true)
 }
 
 fn are_no_variables(names: &[Text], variables: &[Text]) -> bool
@@ -60,64 +60,69 @@ pub(crate) fn has_distinct_names(alloc: Global, query: &Query) -> Result<bool, A
 {
     let variables = names_in(alloc, Names::Variables, query)?;
     let items = names_in(alloc, Names::Items, query)?;
+    let are_distinct_items = are_distinct_names(alloc, items.as_slice())?;
     Ok(
         are_distinct_variables(variables.as_slice())
-            && are_distinct_names(items.as_slice())
+            && are_distinct_items
             && are_no_variables(items.as_slice(), variables.as_slice()),
     )
 }
 
-fn sets_name(assignments: &[Assignment], name: &Text) -> bool
-    ensures { result ≡ list_any (same_name name.now) (map (λ a. a.name) assignments.now) }
+fn names_of(alloc: Global, assignments: &[Assignment]) -> Result<Seq<Text>, AllocError>
+    ensures { IfOk result (λ names. names ≡ map (λ a. a.name) assignments.now) }
 {
+    let mut names = Seq::new(alloc);
     for assignment in assignments {
-        if is_same_name(name, &assignment.name) {
-            return true;
-        }
+        names.push(Text::of(alloc, assignment.name.as_str())?)?;
     }
-    false
+    Ok(names)
 }
 
-/// Whether no name is set twice.
-pub(crate) fn are_distinct_assignments(assignments: &[Assignment]) -> bool
-    ensures { result ≡ spec.are_distinct same_name (map (λ a. a.name) assignments.now) }
+/// Whether no name is set twice; fails for want of memory alone.
+pub(crate) fn are_distinct_assignments(
+    alloc: Global,
+    assignments: &[Assignment],
+) -> Result<bool, AllocError>
+    ensures { IfOk result (λ are.
+        are ≡ spec.are_distinct same_name (map (λ a. a.name) assignments.now)) }
 {
-    for (place, assignment) in assignments.iter().enumerate() {
-        if sets_name(&assignments[place + 1..], &assignment.name) {
-            return false;
-        }
-    }
-    true
+    let names = names_of(alloc, assignments)?;
+    are_distinct_names(alloc, names.as_slice())
 }
 
-fn is_given(parameters: &[(Text, Sort)], name: &Text) -> bool
+fn is_given(parameters: &Parameters<'_>, name: &Text) -> bool
     ensures { result ≡ list_any (λ p. same_name p.0 name.now) parameters.now }
 {
-    parameters
-        .iter()
-        .any(|(given, _)| is_same_name(given, name))
+    parameters.has(name)
 }
 
-fn are_all_given(names: &[Text], parameters: &[(Text, Sort)]) -> bool
+fn are_all_given(names: &[Text], parameters: &Parameters<'_>) -> bool
     ensures { result ≡ list_all (λ name. list_any (λ p. same_name p.0 name) parameters.now) names.now }
 {
     names.iter().all(|name| is_given(parameters, name))
 }
 
-fn are_all_used(parameters: &[(Text, Sort)], names: &[Text]) -> bool
+fn is_used(names: &NameIndex<'_, Text>, name: &Text) -> bool
+    ensures { result ≡ list_any (same_name name.now) names.now }
+{
+    names.has(name)
+}
+
+fn are_all_used(parameters: &[(Text, Sort)], names: &NameIndex<'_, Text>) -> bool
     ensures { result ≡ list_all (λ p. list_any (same_name p.0) names.now) parameters.now }
 {
-    parameters.iter().all(|(given, _)| has_name(given, names))
+    parameters.iter().all(|(given, _)| is_used(names, given))
 }
 
 /// Whether each parameter of a statement is given, and no other (chapter 4.6.4).
 pub(crate) fn are_given(
     alloc: Global,
-    parameters: &[(Text, Sort)],
+    parameters: &Parameters<'_>,
     query: &Query,
 ) -> Result<bool, AllocError>
     ensures { IfOk result (λ given. given ≡ spec.are_given parameters.now query.now) }
 {
-    let used = names_in(alloc, Names::Parameters, query)?;
-    Ok(are_all_given(used.as_slice(), parameters) && are_all_used(parameters, used.as_slice()))
+    let names = names_in(alloc, Names::Parameters, query)?;
+    let used = NameIndex::of(alloc, names.as_slice())?;
+    Ok(are_all_given(names.as_slice(), parameters) && are_all_used(parameters.as_slice(), &used))
 }

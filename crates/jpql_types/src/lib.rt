@@ -4,7 +4,8 @@
 //!
 //! The rules stand in `specs/`: in `Scope` what paths mean from the variables in scope, in `Sorts` what values are of
 //! and which go together, in `Typing` which values, conditions and nested SELECTs are well typed, in `Statements` which
-//! statements are, and what a check of one answers; in `Names` the names that a statement has, in `Trees` its typed tree.
+//! statements are, and what a check of one answers; in `Names` the names that a statement has, in `Trees` its typed tree;
+//! in `Indexes` what its names and paths are found by.
 //! The crate stands on those of values, of the metamodel and of the trees that are written.
 #![tactic(auto)]
 
@@ -16,6 +17,7 @@ mod ends;
 mod error;
 mod from;
 mod groups;
+mod index;
 mod names;
 mod nodes;
 mod order;

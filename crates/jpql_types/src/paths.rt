@@ -1,20 +1,19 @@
 //! What paths mean from the variables in scope.
 ghost use Rattle.std.specs.Prelude.{◌≡◌, ◌<◌, ◌++◌, [], ◌∷◌, length, option_map, IfSome, IfOk};
 ghost use Rattle.std.specs.List.{list_any, position_from};
-ghost use lib.Pointwise.{pointwise};
 ghost use Rattle.std.specs.Option.{option_copied};
 ghost use Rattle.jpa_model.specs.Chains.{same_name};
 ghost use Rattle.jpql_types.specs.Gives.{Gives};
 ghost use Rattle.jpql_types.specs.Scope as scopes;
 ghost use Rattle.jpql_types.specs.Within.{IsClass, IsScope, IsPath, AreSteps};
 
-use crate::context::Context;
+use crate::context::{Context, Groups};
 use crate::error::TypingError;
 use crate::scope::{Clause, Step, TypedPath, Variable};
 use jpa_model::{Member, Metamodel, Part, Relation};
 use jpa_value::{Seq, Text};
 use jpql_tree::Path;
-use std::alloc::Global;
+use std::alloc::{AllocError, Global};
 
 /// Whether two names are one.
 #[tactic(auto, using(crate::proofs::SameName::same_names))]
@@ -228,28 +227,6 @@ fn path_of(
     })
 }
 
-fn are_same_names(a: &[Text], b: &[Text]) -> bool
-    ensures { result ≡ pointwise same_name a.now b.now }
-{
-    if a.len() != b.len() {
-        return false;
-    }
-    for (place, name) in a.iter().enumerate() {
-        if !is_same_name(name, &b[place]) {
-            return false;
-        }
-    }
-    true
-}
-
-/// Whether two paths are one.
-pub(crate) fn is_same_path(a: &Path, b: &Path) -> bool
-    ensures { result ≡ scopes.same_path a.now b.now }
-{
-    is_same_variable(&a.variable, &b.variable)
-        && are_same_names(a.names.as_slice(), b.names.as_slice())
-}
-
 fn allows_steps(clause: Clause, count: usize) -> bool
     ensures { result ≡ scopes.allows_steps clause count }
 {
@@ -259,18 +236,23 @@ fn allows_steps(clause: Clause, count: usize) -> bool
     }
 }
 
-fn is_grouping_path(groups: &[Path], path: &Path) -> bool
-    ensures { result ≡ list_any (scopes.same_path path.now) groups.now }
+fn is_grouping_path(alloc: Global, groups: &Groups<'_>, path: &Path) -> Result<bool, AllocError>
+    ensures { IfOk result (λ is. is ≡ list_any (scopes.same_path path.now) groups.now) }
 {
-    groups.iter().any(|group| is_same_path(path, group))
+    groups.has(alloc, &path.variable, path.names.as_slice())
 }
 
-fn allows_path(clause: Clause, groups: &[Path], path: &Path) -> bool
-    ensures { result ≡ scopes.allows_path clause groups.now path.now }
+fn allows_path(
+    alloc: Global,
+    clause: Clause,
+    groups: &Groups<'_>,
+    path: &Path,
+) -> Result<bool, AllocError>
+    ensures { IfOk result (λ allows. allows ≡ scopes.allows_path clause groups.now path.now) }
 {
     match clause {
-        Clause::Grouped | Clause::Having => is_grouping_path(groups, path),
-        _ => true,
+        Clause::Grouped | Clause::Having => is_grouping_path(alloc, groups, path),
+        _ => Ok(true),
     }
 }
 
@@ -288,7 +270,8 @@ pub(crate) fn resolved(
     ensures within { IfOk result (λ p. IsPath context.now.metamodel.now p) }
 {
     let found = path_of(alloc, context.metamodel, scope, path)?;
-    if allows_steps(clause, found.steps.len()) && allows_path(clause, context.groups, path) {
+    let allows_path = allows_path(alloc, clause, context.groups, path)?;
+    if allows_path && allows_steps(clause, found.steps.len()) {
         Ok(found)
     } else {
         Err(TypingError::Typing)

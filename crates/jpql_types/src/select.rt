@@ -8,7 +8,7 @@ ghost use Rattle.jpql_types.specs.Trees as trees;
 ghost use Rattle.jpql_types.specs.Within.{IsScope};
 
 use crate::conditions::{typed_filter, typed_sources};
-use crate::context::Context;
+use crate::context::{Context, Groups, Parameters};
 use crate::error::TypingError;
 use crate::groups::select_clause;
 use crate::order::typed_keys;
@@ -17,7 +17,7 @@ use crate::sort::Sort;
 use crate::typed::{TypedSelect, TypedSource, TypedValue};
 use crate::values::{typed_path, typed_value};
 use jpa_model::Metamodel;
-use jpa_value::{Seq, Text};
+use jpa_value::Seq;
 use jpql_tree::{Item, Select};
 use std::alloc::Global;
 
@@ -118,16 +118,17 @@ fn typed_select_in(
 pub(crate) fn typed_select(
     alloc: Global,
     metamodel: &Metamodel,
-    parameters: &[(Text, Sort)],
+    parameters: &Parameters<'_>,
     select: &Select,
 ) -> Result<TypedSelect, TypingError>
     ensures typed { IsJudged result (spec.is_select_typed metamodel.now parameters.now select.now) }
     ensures tree { IfOk result (λ found. found ≡ trees.typed_select metamodel.now parameters.now select.now) }
 {
+    let groups = Groups::of(alloc, select.groups.as_slice())?;
     let context = Context {
         metamodel,
         parameters,
-        groups: select.groups.as_slice(),
+        groups: &groups,
     };
     let (scope, sources) = typed_sources(
         alloc,

@@ -8,11 +8,11 @@ ghost use Rattle.jpql_types.specs.Typing as typing;
 ghost use Rattle.jpql_types.specs.Trees as trees;
 ghost use Rattle.jpql_types.specs.Within.{IsClass, IsScope};
 
-use crate::context::Context;
+use crate::context::{Context, Parameters};
 use crate::ends::{collection_class, path_sort};
 use crate::error::TypingError;
 use crate::nodes;
-use crate::paths::{is_same_name, resolved};
+use crate::paths::resolved;
 use crate::scope::{Clause, TypedPath, Variable};
 use crate::sort::{INTEGER, Sort, TEXT};
 use crate::typed::TypedValue;
@@ -20,15 +20,13 @@ use jpa_value::{Seq, Text};
 use jpql_tree::{Aggregate, Arithmetic, Function, Path, Sign, Value};
 use std::alloc::Global;
 
-fn parameter_sort(parameters: &[(Text, Sort)], name: &Text) -> Sort
+fn parameter_sort(parameters: &Parameters<'_>, name: &Text) -> Sort
     ensures { result ≡ typing.parameter_sort parameters.now name.now }
 {
-    for (given, sort) in parameters {
-        if is_same_name(given, name) {
-            return *sort;
-        }
+    match parameters.first(name) {
+        None => Sort::Null,
+        Some((_, sort)) => *sort,
     }
-    Sort::Null
 }
 
 fn allows_aggregates(clause: Clause) -> bool
@@ -73,15 +71,10 @@ pub(crate) fn typed_collection(
     nodes::beside(path, class)
 }
 
-fn place_of_parameter(parameters: &[(Text, Sort)], name: &Text) -> usize
+fn place_of_parameter(parameters: &Parameters<'_>, name: &Text) -> usize
     ensures { result ≡ trees.place_of_parameter parameters.now name.now }
 {
-    for (place, (given, _)) in parameters.iter().enumerate() {
-        if is_same_name(given, name) {
-            return place;
-        }
-    }
-    0
+    parameters.place(name).unwrap_or(0)
 }
 
 fn typed_parameter(context: &Context<'_>, name: &Text) -> (TypedValue, Sort)
