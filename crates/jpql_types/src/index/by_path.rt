@@ -95,8 +95,8 @@ impl<'a, T: Pathed> PathIndex<'a, T> {
         variable: &Text,
         names: &[Text],
     ) -> Result<bool, AllocError>
-        ensures { IfOk result (λ has. has ≡ list_any (λ x.
-            is_path (record { variable = variable.now; names = names.now }) (T.path_of x)) self.now) }
+        ensures { IfOk result (λ has. has ≡ list_any (λ x. is_path
+            (record { variable = variable.now; names = names.now }) (T.path_of x)) self.now) }
     {
         let key = PathKey::of(alloc, variable, names)?;
         Ok(self.paths.contains(&key))
