@@ -1,16 +1,14 @@
 //! What a statement changes of the set that a manager sees.
-ghost use Rattle.std.specs.Prelude.{◌≡◌, true, T, IfOk, IfErr, Ok};
-ghost use Rattle.std.specs.FinMap.Entries.{is_sorted};
+ghost use Rattle.std.specs.Prelude.{◌≡◌, true, IfOk, IfErr, Ok};
 ghost use Rattle.jpa_behaviour.specs.Registered.{world_of};
 ghost use Rattle.jpa_open.specs.Opened as opened;
 ghost use Rattle.jpa_updates.specs.Changing.{AnswersAs, same, failure_cause};
 ghost use Rattle.jpa_rows.specs.Cells.{all_representable};
-ghost use Rattle.jpa_stored.specs.Sets.{all_shaped};
-ghost use Rattle.jpa_value.specs.Value.{identity_cmp};
 ghost use Rattle.jpa_value.specs.declared.refusal.Cause.{Cause};
 ghost use Rattle.jpql_bulk.specs.Changes as changes;
 ghost use Rattle.jpql_kept.specs.Fits.{throws_in};
 ghost use Rattle.jpql_plan.specs.Bulk as bulk;
+ghost use Rattle.jpql_run.specs.Keys as keys;
 ghost use Rattle.jpql_run.specs.Objects.{identities};
 
 use crate::representable::objects_are_representable;
@@ -50,8 +48,7 @@ pub(crate) fn made_by_update<'a, B: Behaviour>(
     assignments: &'a [TypedAssignment],
     filter: &'a Option<Boxed<TypedCondition>>,
 ) -> Result<Vec<(Identity, Stored)>, Cause>
-    requires rising { T (is_sorted identity_cmp (opened.now view.now)) }
-    requires shaped { all_shaped metamodel.now (opened.now view.now) ≡ true }
+    requires looked_up { keys.CanBeLookedUp metamodel.now (opened.now view.now) }
     ensures made { let world = world_of B.meaning metamodel.now registry.now in
         AnswersAs (λ v. v.items) result (bulk.or_refuse (changes.found_by_update metamodel.now
         (opened.now view.now) arguments.now class assignments.now filter.now)
@@ -102,8 +99,7 @@ pub(crate) fn taken_by_delete<'a>(
     is_named: bool,
     filter: &'a Option<Boxed<TypedCondition>>,
 ) -> Result<Seq<Identity>, Cause>
-    requires rising { T (is_sorted identity_cmp (opened.now view.now)) }
-    requires shaped { all_shaped metamodel.now (opened.now view.now) ≡ true }
+    requires looked_up { keys.CanBeLookedUp metamodel.now (opened.now view.now) }
     ensures { AnswersAs same result (bulk.or_refuse (changes.found_by_delete metamodel.now
         (opened.now view.now) arguments.now class is_named filter.now) (λ ids. Ok ids)) }
 {

@@ -12,7 +12,7 @@ ghost use Rattle.jpa_queries.specs.Premises.{AreInHeap};
 ghost use Rattle.jpa_queries.specs.Queries as queries;
 ghost use Rattle.jpa_updates.specs.Updates as updates;
 ghost use Rattle.jpa_rows.specs.Cells.{all_representable};
-ghost use Rattle.jpa_stored.specs.Sets.{IsSound, all_shaped};
+ghost use Rattle.jpa_stored.specs.Sets.{IsSound};
 ghost use Rattle.jpa_value.specs.Value.{identity_cmp};
 ghost use Rattle.jpql_types.specs.declared.typed.Typed.{Typed};
 
@@ -103,9 +103,7 @@ fn update<B: Behaviour>(
     filter: &Option<Boxed<TypedCondition>>,
 ) -> Result<usize, Cause>
     requires shown { work.old.view.is_shown ≡ true }
-    requires sound { IsSound metamodel.now (now work.old).view }
-    requires rising { T (is_sorted identity_cmp (now work.old).view) }
-    requires shaped { all_shaped metamodel.now (now work.old).view ≡ true }
+    requires in_order { updates.IsInOrder metamodel.now (now work.old).view }
     ensures meets { let world = world_of B.meaning metamodel.now registry.now in
         Meets result (now work.new) (updates.settled metamodel.now (updates.changed_by world
         (Typed.Update class assignments.now filter.now) arguments.now (now work.old).view)
@@ -139,9 +137,7 @@ fn delete<B: Behaviour>(
     filter: &Option<Boxed<TypedCondition>>,
 ) -> Result<usize, Cause>
     requires shown { work.old.view.is_shown ≡ true }
-    requires sound { IsSound metamodel.now (now work.old).view }
-    requires rising { T (is_sorted identity_cmp (now work.old).view) }
-    requires shaped { all_shaped metamodel.now (now work.old).view ≡ true }
+    requires in_order { updates.IsInOrder metamodel.now (now work.old).view }
     ensures meets { let world = world_of B.meaning metamodel.now registry.now in
         Meets result (now work.new) (updates.settled metamodel.now (updates.changed_by world
         (Typed.Delete class is_named filter.now) arguments.now (now work.old).view)
@@ -165,9 +161,7 @@ fn run<B: Behaviour>(
     statement: &Statement,
 ) -> Result<usize, Cause>
     requires shown { work.old.view.is_shown ≡ true }
-    requires sound { IsSound metamodel.now (now work.old).view }
-    requires rising { T (is_sorted identity_cmp (now work.old).view) }
-    requires shaped { all_shaped metamodel.now (now work.old).view ≡ true }
+    requires in_order { updates.IsInOrder metamodel.now (now work.old).view }
     ensures meets { let world = world_of B.meaning metamodel.now registry.now in
         Meets result (now work.new) (updates.run_bulk world statement.now (now work.old)) }
     ensures representable { OnOk result (all_representable (now work.old).view ≡ true

@@ -1,11 +1,9 @@
 //! DELETE (chapter 4.10).
 ghost use Rattle.std.specs.Prelude.{◌≡◌, true, map, T, IfOk};
-ghost use Rattle.std.specs.FinMap.Entries.{is_sorted};
-ghost use Rattle.jpa_value.specs.Value.{identity_cmp};
-ghost use Rattle.jpa_stored.specs.Sets.{all_shaped};
 ghost use Rattle.jpa_open.specs.Opened as opened;
 ghost use Rattle.jpql_bulk.specs.Changes as changes;
 ghost use Rattle.jpql_eval.specs.Finds.{Finds};
+ghost use Rattle.jpql_run.specs.Keys as keys;
 ghost use Rattle.jpql_run.specs.Objects.{entry, identities};
 
 use crate::concerned::concerned;
@@ -41,8 +39,7 @@ pub fn found_by_delete<'a>(
     is_named: bool,
     filter: &'a Option<Boxed<TypedCondition>>,
 ) -> Result<Vec<&'a Identity>, Failure>
-    requires rising { T (is_sorted identity_cmp (opened.now set.now)) }
-    requires shaped { all_shaped metamodel.now (opened.now set.now) ≡ true }
+    requires looked_up { keys.CanBeLookedUp metamodel.now (opened.now set.now) }
     ensures { Finds (λ v. identities v.items) result
         (changes.found_by_delete metamodel.now (opened.now set.now)
         parameters.now class is_named filter.now) }

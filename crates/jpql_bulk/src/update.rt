@@ -1,8 +1,5 @@
 //! UPDATE (chapter 4.10).
 ghost use Rattle.std.specs.Prelude.{◌≡◌, true, map, T};
-ghost use Rattle.std.specs.FinMap.Entries.{is_sorted};
-ghost use Rattle.jpa_value.specs.Value.{identity_cmp};
-ghost use Rattle.jpa_stored.specs.Sets.{all_shaped};
 ghost use Rattle.jpa_open.specs.Opened as opened;
 ghost use Rattle.jpql_bulk.specs.Bulks as bulks;
 ghost use Rattle.jpql_bulk.specs.Changes as changes;
@@ -13,6 +10,7 @@ ghost use Rattle.jpql_eval.specs.Answers.{if_any};
 ghost use Rattle.jpql_eval.specs.Finds.{Finds};
 ghost use Rattle.jpql_eval.specs.Seen.{seen};
 ghost use Rattle.jpql_plan.specs.Meaning.{alone};
+ghost use Rattle.jpql_run.specs.Keys as keys;
 ghost use Rattle.jpql_run.specs.Objects.{entry};
 ghost use Rattle.jpql_run.specs.Runs as runs;
 
@@ -128,8 +126,7 @@ pub fn found_by_update<'a>(
     assignments: &'a [TypedAssignment],
     filter: &'a Option<Boxed<TypedCondition>>,
 ) -> Result<Vec<Change<'a>>, Failure>
-    requires rising { T (is_sorted identity_cmp (opened.now set.now)) }
-    requires shaped { all_shaped metamodel.now (opened.now set.now) ≡ true }
+    requires looked_up { keys.CanBeLookedUp metamodel.now (opened.now set.now) }
     ensures { Finds (λ v. map change_in v.items) result
         (changes.found_by_update metamodel.now (opened.now set.now)
         parameters.now class assignments.now filter.now) }

@@ -1,11 +1,8 @@
 //! SELECT statements.
-ghost use Rattle.std.specs.Prelude.{◌≡◌, true, T};
-ghost use Rattle.std.specs.FinMap.Entries.{is_sorted};
-ghost use Rattle.jpa_value.specs.Value.{identity_cmp};
-ghost use Rattle.jpa_stored.specs.Sets.{all_shaped};
 ghost use Rattle.jpa_open.specs.Opened as opened;
 ghost use Rattle.jpql_eval.specs.Finds.{Finds};
 ghost use Rattle.jpql_plan.specs.Selection as selection;
+ghost use Rattle.jpql_run.specs.Keys as keys;
 ghost use Rattle.jpql_rows.specs.Tables.{rows_in};
 
 use crate::case::cases_of;
@@ -37,8 +34,7 @@ pub fn select<'a>(
     parameters: &'a [Datum],
     statement: &'a TypedSelect,
 ) -> Result<Table<'a>, Failure>
-    requires rising { T (is_sorted identity_cmp (opened.now set.now)) }
-    requires shaped { all_shaped metamodel.now (opened.now set.now) ≡ true }
+    requires looked_up { keys.CanBeLookedUp metamodel.now (opened.now set.now) }
     ensures { Finds rows_in result
         (selection.selected metamodel.now (opened.now set.now) parameters.now statement.now) }
 {
