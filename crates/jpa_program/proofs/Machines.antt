@@ -8,7 +8,7 @@ use Rattle.jpa_protocol.specs.declared.reply.Reply.{Reply}
 use Rattle.jpa_lines.specs.declared.run.RunFault.{RunFault}
 use Rattle.jpa_lines.specs.Run.{Served, Broken, AnswersRead}
 use Rattle.jpa_provider.specs.Provided.{Provided, Steps, world_in}
-use Rattle.jpa_provider.specs.Step.{Step}
+use Rattle.jpa_machine.specs.Step.{Step}
 use Rattle.jpa_program.proofs.Mapped as mapped
 
 module _ {R L C : Type 0} (meaning : Meaning L C) (store : Ghosts R) where

@@ -9,7 +9,7 @@ ghost use Rattle.jpa_object_rows.specs.Sets.{rows_of};
 ghost use Rattle.jpa_cells_meaning.specs.Store.{IsClean, IsOpen, IsOrderedIfFound, Keeps, Opens, HoldsTable, HasFault};
 ghost use Rattle.jpa_rowspace.specs.Space.{HoldsRows, IsStoreCause};
 ghost use Rattle.jpa_functions.specs.Known as known;
-ghost use Rattle.jpa_provider.specs.Machine.{opened};
+ghost use Rattle.jpa_machine.specs.Machine.{opened};
 ghost use Rattle.jpa_program.specs.Opening.{OpensReading, KeepsOrMakes, EnduresMaking, HoldsCells, IsOpenCause};
 ghost use Rattle.jpa_program.specs.Run.{HoldsCommitted};
 

@@ -2,7 +2,7 @@
 ghost use Rattle.std.specs.Prelude.{◌≡◌, OnOk, IfErr};
 ghost use Rattle.jpa_lines.specs.Run.{Served, Broken, AnswersRead};
 ghost use Rattle.jpa_provider.specs.Provided.{Steps, world_in};
-ghost use Rattle.jpa_provider.specs.Step.{Step};
+ghost use Rattle.jpa_machine.specs.Step.{Step};
 ghost use Rattle.jpa_program.specs.Run.{HoldsCommitted, rows_over};
 
 use jpa_behaviour::Behaviour;

@@ -16,14 +16,14 @@ use Rattle.jpa_updates.specs.Updates.{StaysSound}
 use Rattle.jpa_context.specs.Undo.{Since}
 use Rattle.jpa_fetch.specs.Grown.{IsReady}
 use Rattle.jpa_flush.specs.Flush.{flush}
-use Rattle.jpa_provider.specs.Transactions.{commit_work}
+use Rattle.jpa_machine.specs.Transactions.{commit_work}
 use Rattle.jpa_ops.specs.Names.{has_distinct_entries}
 use Rattle.jpa_provider.specs.declared.session.Session.{Session}
-use Rattle.jpa_provider.specs.Machine.{Machine, manager_at, is_begun, work_of}
-use Rattle.jpa_provider.specs.Invariant.{IsMachine, HasOneTransaction, context_of}
+use Rattle.jpa_machine.specs.Machine.{Machine, manager_at, is_begun, work_of}
+use Rattle.jpa_machine.specs.Invariant.{IsMachine, HasOneTransaction, context_of}
 use Rattle.jpa_provider.specs.Serving.{machine_of, manager_in, is_begun_status, EndsAlone, IsCommitting, IsServing, IsSettled, IsWorking}
-use Rattle.jpa_provider.proofs.AtWork.{IsAtWork, each_manager, taken, work_ready}
-use Rattle.jpa_provider.proofs.AfterFlush.{flushed_at_work, still_at_work, numbers_rise}
+use Rattle.jpa_machine.proofs.AtWork.{IsAtWork, each_manager, taken, work_ready}
+use Rattle.jpa_machine.proofs.AfterFlush.{flushed_at_work, still_at_work, numbers_rise}
 use Rattle.jpa_consistent.specs.Consistent.{IsEntry}
 use Rattle.jpa_consistent.proofs.Ready.{ready_at_work}
 use Rattle.jpa_provider.proofs.Serving.{entries_in}

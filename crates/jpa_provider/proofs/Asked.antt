@@ -13,9 +13,9 @@ use Rattle.jpa_protocol.specs.declared.call.FlushMode.{FlushMode}
 use Rattle.jpa_protocol.specs.declared.reply.Answer.{Answer}
 use Rattle.jpa_protocol.specs.declared.reply.Reply.{Reply}
 use Rattle.jpa_provider.specs.declared.session.Session.{Session}
-use Rattle.jpa_provider.specs.Machine.{Machine, Manager, with_manager, with_mode, cleared}
-use Rattle.jpa_provider.specs.Calls.{accepted}
-use Rattle.jpa_provider.specs.Routes.{answered, contains, contains_in}
+use Rattle.jpa_machine.specs.Machine.{Machine, Manager, with_manager, with_mode, cleared}
+use Rattle.jpa_machine.specs.Calls.{accepted}
+use Rattle.jpa_machine.specs.Routes.{answered, contains, contains_in}
 use Rattle.jpa_open.specs.Opened.{Opened}
 use Rattle.jpa_provider.specs.Serving.{manager_in, machine_of, named, Serves}
 use Rattle.jpa_provider.proofs.Opened.{told, refusal, replaced}

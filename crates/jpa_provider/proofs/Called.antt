@@ -20,8 +20,8 @@ use Rattle.jpa_context.specs.Work.{Work}
 use Rattle.jpa_context.specs.Steps.{Outcome, Op, Done, Refused, after, require, IsRefusedAs}
 use Rattle.jpa_fetch.specs.Load.{find}
 use Rattle.jpa_fetch.specs.Members.{placed, set}
-use Rattle.jpa_provider.specs.Calls.{give_or, handed, is_short_given, class_named, key_given, whole_key, told_as, nothing, object_or_null}
-use Rattle.jpa_provider.specs.Routes.{set_call, find_call}
+use Rattle.jpa_machine.specs.Calls.{give_or, handed, is_short_given, class_named, key_given, whole_key, told_as, nothing, object_or_null}
+use Rattle.jpa_machine.specs.Routes.{set_call, find_call}
 use Rattle.jpa_provider.specs.Operations.{on_numbered}
 
 -- ---- an object by its number

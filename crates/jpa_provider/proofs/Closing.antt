@@ -10,9 +10,9 @@ use Rattle.jpa_protocol.specs.declared.reply.Answer.{Answer}
 use Rattle.jpa_provider.specs.declared.session.Session.{Session}
 use Rattle.jpa_provider.specs.declared.session.Status.{Status}
 use Rattle.jpa_provider.specs.declared.session.EntityManager.{EntityManager}
-use Rattle.jpa_provider.specs.Machine.{Machine, Manager, manager_at, closed, cleared, with_manager}
-use Rattle.jpa_provider.specs.Calls.{because, accepted}
-use Rattle.jpa_provider.specs.Routes.{close}
+use Rattle.jpa_machine.specs.Machine.{Machine, Manager, manager_at, closed, cleared, with_manager}
+use Rattle.jpa_machine.specs.Calls.{because, accepted}
+use Rattle.jpa_machine.specs.Routes.{close}
 use Rattle.jpa_provider.specs.Serving.{manager_in, managers_of, machine_of, is_begun_status, named, Serves}
 use Rattle.jpa_provider.proofs.Opened.{told, refusal, none_there}
 use Rattle.jpa_provider.proofs.Sessions.{managers_changed, manager_there, begun_there}

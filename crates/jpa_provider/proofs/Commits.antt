@@ -23,10 +23,10 @@ use Rattle.jpa_ops.specs.States.{detach_each}
 use Rattle.jpa_provider.specs.declared.session.Status.{Status}
 use Rattle.jpa_provider.specs.declared.session.EntityManager.{EntityManager}
 use Rattle.jpa_provider.specs.declared.session.Session.{Session}
-use Rattle.jpa_provider.specs.Machine.{Machine, manager_at, is_begun, with_manager, work_of, is_gone, committed_after, rolled_back, IsStoredAs}
-use Rattle.jpa_provider.specs.Calls.{accepted}
-use Rattle.jpa_provider.specs.Transactions.{commit, commit_in, commit_of, commit_work}
-use Rattle.jpa_provider.specs.Step.{outcome, gives_up}
+use Rattle.jpa_machine.specs.Machine.{Machine, manager_at, is_begun, with_manager, work_of, is_gone, committed_after, rolled_back, IsStoredAs}
+use Rattle.jpa_machine.specs.Calls.{accepted}
+use Rattle.jpa_machine.specs.Transactions.{commit, commit_in, commit_of, commit_work}
+use Rattle.jpa_machine.specs.Step.{outcome, gives_up}
 use Rattle.jpa_provider.specs.Serving.{transaction_in, is_begun_status, managers_of, manager_in, machine_of, named, detached_at, detached_all, gone_objects, gave_up, Refuses, Stores, IsCommitting, Serves}
 use Rattle.jpa_provider.proofs.Counted.{begun_is_open}
 use Rattle.jpa_provider.proofs.Opened.{refusal, transaction_there, none_there}

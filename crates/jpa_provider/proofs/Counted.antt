@@ -10,8 +10,8 @@ use Rattle.jpa_open.specs.Opened.{Opened, with_kept, with_seen, after_keeping}
 use Rattle.jpa_provider.specs.declared.session.Status.{Status}
 use Rattle.jpa_provider.specs.declared.session.EntityManager.{EntityManager}
 use Rattle.jpa_provider.specs.declared.session.Session.{Session}
-use Rattle.jpa_provider.specs.Machine.{Machine, Manager, manager_at, is_begun, has_transaction, is_busy}
-use Rattle.jpa_provider.specs.Invariant.{HasOneTransaction}
+use Rattle.jpa_machine.specs.Machine.{Machine, Manager, manager_at, is_begun, has_transaction, is_busy}
+use Rattle.jpa_machine.specs.Invariant.{HasOneTransaction}
 use Rattle.jpa_provider.specs.Serving.{is_open_status, is_begun_status, manager_of, managers_of, manager_in, nobody, machine_of, IsAway, IsCounted}
 use Rattle.jpa_provider.proofs.Sessions.{there, begun_same, HasOthers, ended_all}
 

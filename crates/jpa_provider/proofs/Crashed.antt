@@ -9,10 +9,10 @@ use Rattle.jpa_protocol.specs.declared.event.Told.{Told}
 use Rattle.jpa_protocol.specs.declared.reply.Reply.{Reply}
 use Rattle.jpa_context.specs.Work.{Work}
 use Rattle.jpa_context.specs.Steps.{Done}
-use Rattle.jpa_provider.specs.Transactions.{commit_work}
+use Rattle.jpa_machine.specs.Transactions.{commit_work}
 use Rattle.jpa_provider.specs.declared.session.Status.{Status}
 use Rattle.jpa_provider.specs.declared.session.Session.{Session}
-use Rattle.jpa_provider.specs.Machine.{Machine, work_of}
+use Rattle.jpa_machine.specs.Machine.{Machine, work_of}
 use Rattle.jpa_provider.specs.Provided.{rows_made}
 use Rattle.jpa_provider.specs.Serving.{machine_of, manager_in, named, Refuses}
 use Rattle.jpa_provider.proofs.Commits.{stored_outcome}

@@ -24,11 +24,11 @@ use Rattle.jpa_ops.specs.States.{detach_each}
 use Rattle.jpa_provider.specs.declared.session.Status.{Status}
 use Rattle.jpa_provider.specs.declared.session.EntityManager.{EntityManager}
 use Rattle.jpa_provider.specs.declared.session.Session.{Session}
-use Rattle.jpa_provider.specs.Machine.{Machine, Manager, Transaction, manager_at, new_manager, is_begun, marked, rolled_back, cleared, with_manager}
-use Rattle.jpa_provider.specs.Calls.{because}
-use Rattle.jpa_provider.specs.Transactions.{begin, begin_in, begun, rollback, rollback_in, set_rollback_only, only_rollback_in}
-use Rattle.jpa_provider.specs.Routes.{by_manager, made_new}
-use Rattle.jpa_provider.specs.Step.{outcome}
+use Rattle.jpa_machine.specs.Machine.{Machine, Manager, Transaction, manager_at, new_manager, is_begun, marked, rolled_back, cleared, with_manager}
+use Rattle.jpa_machine.specs.Calls.{because}
+use Rattle.jpa_machine.specs.Transactions.{begin, begin_in, begun, rollback, rollback_in, set_rollback_only, only_rollback_in}
+use Rattle.jpa_machine.specs.Routes.{by_manager, made_new}
+use Rattle.jpa_machine.specs.Step.{outcome}
 use Rattle.jpa_provider.specs.Serving.{transaction_in, is_open_status, is_begun_status, manager_of, managers_of, manager_in, nobody, machine_of, named, detached_at, detached_all, EndsAlone, IsCounted, Serves}
 use Rattle.jpa_provider.proofs.Counted.{open_count, busy_there, begun_is_open}
 use Rattle.jpa_provider.proofs.Sessions.{manager_there, managers_changed, managers_count, none_begun, begun_there, others_shut, own_others}

@@ -11,20 +11,20 @@ use Rattle.jpa_context.specs.Steps.{Done, Op, after, done}
 use Rattle.jpa_protocol.specs.declared.call.Call.{Call}
 use Rattle.jpa_protocol.specs.declared.call.LockMode.{LockMode}
 use Rattle.jpa_protocol.specs.declared.call.Parameter.{Parameter}
-use Rattle.jpa_provider.specs.Updating.{update_outcome}
+use Rattle.jpa_machine.specs.Updating.{update_outcome}
 use Rattle.jpa_protocol.specs.declared.reply.Answer.{Answer}
 use Rattle.jpa_protocol.specs.declared.reply.Reply.{Reply}
 use Rattle.jpa_provider.specs.declared.operating.Operation.{Operation}
 use Rattle.jpa_provider.specs.declared.replies.Rule.{Rule}
 use Rattle.jpa_provider.specs.declared.session.Session.{Session}
-use Rattle.jpa_provider.specs.Machine.{Machine, flushes_first, work_of}
-use Rattle.jpa_provider.specs.Calls.{because, ended, marks, marks_if_callback, give_or}
-use Rattle.jpa_provider.specs.Routes.{OfManager, ToQuery, InTransaction, OfObject, by_route, holder, holder_in, if_begun, transaction_required, required_of, stands_numbered, flush_call, lock_call, is_free, route}
+use Rattle.jpa_machine.specs.Machine.{Machine, flushes_first, work_of}
+use Rattle.jpa_machine.specs.Calls.{because, ended, marks, marks_if_callback, give_or}
+use Rattle.jpa_machine.specs.Routes.{OfManager, ToQuery, InTransaction, OfObject, by_route, holder, holder_in, if_begun, transaction_required, required_of, stands_numbered, flush_call, lock_call, is_free, route}
 use Rattle.jpa_provider.specs.Operations.{on_numbered, operation_of, manager_holding, EndsSo}
 use Rattle.jpa_consistent.specs.Consistent.{stands_in}
-use Rattle.jpa_provider.specs.Invariant.{IsMachine, context_of}
+use Rattle.jpa_machine.specs.Invariant.{IsMachine, context_of}
 use Rattle.jpa_provider.specs.Serving.{machine_of, manager_in, is_begun_status, named, Serves}
-use Rattle.jpa_provider.proofs.AtWork.{IsOpen, holding_open}
+use Rattle.jpa_machine.proofs.AtWork.{IsOpen, holding_open}
 use Rattle.jpa_provider.proofs.Opened.{refusal}
 use Rattle.jpa_provider.proofs.Worked.{of_manager, of_nobody, some_same, ended_step}
 use Rattle.jpa_provider.proofs.Sessions.{managers_count, begun_there}

@@ -2,7 +2,7 @@
 use Rattle.std.proofs.Common.{◌≡◌, ◌<◌, inl, ℕ, Bool, true, false, List, length, refl, sym, subst}
 use Rattle.std.specs.Prelude.{All, OnOk}
 use Rattle.jpql_kept.specs.Fits.{AreInherited}
-use Rattle.jpa_provider.specs.Updating.{MakesRepresentable}
+use Rattle.jpa_machine.specs.Updating.{MakesRepresentable}
 use Rattle.std.proofs.lemmas.Bool.{false≢true}
 use Rattle.std.proofs.lemmas.List.Elements.{All-weaker}
 use Rattle.jpa_behaviour.specs.Behaviour.{World, IsRegular}
@@ -12,17 +12,17 @@ use Rattle.jpa_context.specs.declared.Entry.{Entry}
 use Rattle.jpa_protocol.specs.declared.call.Call.{Call}
 use Rattle.jpa_protocol.specs.declared.reply.Reply.{Reply}
 use Rattle.jpa_provider.specs.declared.session.Session.{Session}
-use Rattle.jpa_provider.specs.Machine.{Manager, manager_at, opened, IsStoredAs}
+use Rattle.jpa_machine.specs.Machine.{Manager, manager_at, opened, IsStoredAs}
 use Rattle.jpa_consistent.specs.Consistent.{IsEntry}
-use Rattle.jpa_provider.specs.Invariant.{HasOneTransaction, IsMachine, hands_representable}
-use Rattle.jpa_provider.specs.Routes.{is_commit}
+use Rattle.jpa_machine.specs.Invariant.{HasOneTransaction, IsMachine, hands_representable}
+use Rattle.jpa_machine.specs.Routes.{is_commit}
 use Rattle.jpa_provider.specs.Serving.{machine_of, manager_in, IsServing, IsSettled, Serves}
-use Rattle.jpa_provider.proofs.OneTransaction.{step_one}
-use Rattle.jpa_provider.proofs.AtWork.{each_manager}
+use Rattle.jpa_machine.proofs.OneTransaction.{step_one}
+use Rattle.jpa_machine.proofs.AtWork.{each_manager}
 use Rattle.jpa_provider.proofs.Sessions.{manager_there}
-use Rattle.jpa_provider.proofs.Settled.{opened_holds}
-use Rattle.jpa_provider.proofs.Outcome.{step_keeps}
-use Rattle.jpa_provider.proofs.Still.{step_still}
+use Rattle.jpa_machine.proofs.Settled.{opened_holds}
+use Rattle.jpa_machine.proofs.Outcome.{step_keeps}
+use Rattle.jpa_machine.proofs.Still.{step_still}
 use Rattle.jpa_fetch.specs.Orderly.{IsOrderly}
 
 -- whichever call it was

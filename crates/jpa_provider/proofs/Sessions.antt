@@ -12,11 +12,11 @@ use Rattle.jpa_context.specs.Undo.{now, since}
 use Rattle.jpa_provider.specs.declared.session.Status.{Status}
 use Rattle.jpa_provider.specs.declared.session.EntityManager.{EntityManager}
 use Rattle.jpa_provider.specs.declared.session.Session.{Session}
-use Rattle.jpa_provider.specs.Machine.{Machine, Manager, Transaction, manager_at, with_manager, no_manager, is_begun, has_transaction, work_of, view_in, seen_in, kept, marked, marked_in, with_mode}
+use Rattle.jpa_machine.specs.Machine.{Machine, Manager, Transaction, manager_at, with_manager, no_manager, is_begun, has_transaction, work_of, view_in, seen_in, kept, marked, marked_in, with_mode}
 use Rattle.jpa_protocol.specs.declared.call.FlushMode.{FlushMode}
-use Rattle.jpa_provider.specs.Invariant.{HasOneTransaction}
+use Rattle.jpa_machine.specs.Invariant.{HasOneTransaction}
 use Rattle.jpa_provider.specs.Serving.{transaction_in, is_open_status, is_begun_status, manager_of, managers_of, manager_in, nobody, machine_of, marked_status, IsCounted, IsSettled, IsAway, IsWorking}
-use Rattle.jpa_provider.proofs.AtWork.{manager_set}
+use Rattle.jpa_machine.proofs.AtWork.{manager_set}
 
 -- ---- managers at their places
 

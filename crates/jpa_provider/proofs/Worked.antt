@@ -1,6 +1,6 @@
 -- How the calls that work on a manager's context step.
-use Rattle.std.proofs.Common.{◌≡◌, ◌⊎◌, inl, inr, ℕ, ℤ, Bool, true, false, List, [], length, refl, ap, sym, ◌∙◌}
-use Rattle.std.specs.Prelude.{slice_set, Option, Some, None, is_some, Result, Ok, Err, OnErr, if◌then◌else◌}
+use Rattle.std.proofs.Common.{◌≡◌, ◌⊎◌, inl, inr, ℕ, ℤ, Bool, true, false, List, [], length, refl, ap, sym, subst, ◌∙◌}
+use Rattle.std.specs.Prelude.{slice_set, Option, Some, None, is_some, Result, Ok, Err, OnOk, OnErr, if◌then◌else◌}
 use Rattle.std.specs.Option.{unwrap_or}
 use Rattle.std.proofs.lemmas.Bool.{false≢true, true≢false}
 use Rattle.jpa_value.specs.declared.refusal.Cause.{Cause}
@@ -18,12 +18,13 @@ use Rattle.jpa_context.specs.Undo.{since, Since}
 use Rattle.jpa_provider.specs.declared.session.Session.{Session}
 use Rattle.jpa_provider.specs.declared.session.EntityManager.{EntityManager}
 use Rattle.jpa_provider.specs.declared.replies.Rule.{Rule}
-use Rattle.jpa_provider.specs.Machine.{Machine, Manager, manager_at, with_manager}
-use Rattle.jpa_provider.specs.Calls.{because, ended, marks, marks_if_callback, marked_if}
-use Rattle.jpa_provider.specs.Routes.{by_manager, if_open, takes_nothing}
-use Rattle.jpa_provider.specs.Step.{Step, IsGivenUp, gives_up, outcome}
+use Rattle.jpa_machine.specs.Machine.{Machine, Manager, manager_at, with_manager}
+use Rattle.jpa_machine.specs.Calls.{because, ended, marks, marks_if_callback, marked_if}
+use Rattle.jpa_machine.specs.Routes.{by_manager, if_open, takes_nothing}
+use Rattle.jpa_machine.specs.Step.{Step, IsGivenUp, gives_up, outcome}
 use Rattle.jpa_provider.specs.Operations.{told_of, is_marked_by, Concludes, EndsSo}
 use Rattle.jpa_provider.specs.Serving.{machine_of, manager_in, manager_of, managers_of, transaction_in, is_open_status, if_named, named, IsAway, IsWorking}
+use Rattle.jpa_machine.proofs.Updated.{ok_from}
 use Rattle.jpa_provider.proofs.Sessions.{manager_there, managers_count}
 
 -- ---- refusals
@@ -172,6 +173,11 @@ ends_so rule M N m o (Err r) w reply a c = by_end (ends r w.events o a)
     by_end : IsEnd r w.events o → EndsSo rule M m o reply N
     by_end (inl g) = inr (gave r reply g.0 (c.0 ∙ ap (λ es. record { events = es; answer = Err (Refusal.Because r) }) g.1), c.1 ∙ ap (λ b. marked_if b M m) (unmarked rule r g.0))
     by_end (inr g) = inl (ap (ended (is_marked_by rule) M m) g.0 ∙ (λ i. (sym (c.0 ∙ ap (λ es. record { events = es; answer = Err (Refusal.Because r) }) g.1) i, sym c.1 i)))
+
+-- what an answer tells the reply does
+pub told_ok : (X : Type 0) (rule : Rule) (M N : Machine) (m : ℕ) (w : Work) (answered : Result Answer Cause) (reply : Reply) → Concludes rule M m w answered reply N → OnOk answered X → OnOk reply.answer X
+told_ok X rule M N m w (Ok a) reply c x = ok_from reply.answer x
+told_ok X rule M N m w (Err r) reply c x = subst (λ (y : Reply). OnOk y.answer X) (sym c.0) tt
 
 -- a call along a route that takes memory steps so
 pub ended_step : (world : World) {M N : Machine} {reply : Reply} (call : Call) (rule : Rule) (m : ℕ) (o : Outcome Answer) → takes_nothing call ≡ false → outcome world M call ≡ ended (is_marked_by rule) M m o →

@@ -1,13 +1,3 @@
-pub mod Machine
-pub mod Calls
-pub mod Transactions
-pub mod Querying
-pub mod Updating
-pub mod Routes
-pub mod Step
-pub mod Invariant
 pub mod Operations
 pub mod Serving
-pub mod Left
-pub mod Faults
 pub mod Provided

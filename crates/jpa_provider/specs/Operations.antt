@@ -9,12 +9,16 @@ use Rattle.jpa_protocol.specs.declared.reply.Reply.{Reply}
 use Rattle.jpa_heap.specs.declared.Life.{Life}
 use Rattle.jpa_context.specs.Work.{Work}
 use Rattle.jpa_context.specs.Steps.{◌>>=◌, Outcome, Op}
+use Rattle.jpa_queries.specs.declared.asked.Asked.{Asked}
 use Rattle.jpa_provider.specs.declared.operating.Operation.{Operation}
+use Rattle.jpa_provider.specs.declared.querying.Told as rows
+use Rattle.jpa_provider.specs.declared.querying.Wanted.{Wanted}
 use Rattle.jpa_provider.specs.declared.replies.Rule.{Rule}
-use Rattle.jpa_provider.specs.Machine.{Machine, kept}
-use Rattle.jpa_provider.specs.Calls.{ended, marks, marks_if_callback, marked_if, object_numbered}
-use Rattle.jpa_provider.specs.Routes.{get_call, set_call, add_call, take_out_call, persist_call, remove_call, refresh_call, detach_call, merge_call, lock_call, find_call, get_reference_call}
-use Rattle.jpa_provider.specs.Step.{IsGivenUp}
+use Rattle.jpa_machine.specs.Machine.{Machine, kept}
+use Rattle.jpa_machine.specs.Calls.{ended, marks, marks_if_callback, marked_if, object_numbered}
+use Rattle.jpa_machine.specs.Routes.{get_call, set_call, add_call, take_out_call, persist_call, remove_call, refresh_call, detach_call, merge_call, lock_call, find_call, get_reference_call}
+use Rattle.jpa_machine.specs.Querying.{asked_of, query_call, query_single_call}
+use Rattle.jpa_machine.specs.Step.{IsGivenUp}
 
 -- an operation on an object by its number
 abbrev pub on_numbered : ℤ → (World → ℕ → Op Answer) → World → Op Answer
@@ -36,6 +40,17 @@ operation_of (Operation.Merge object) = λ world. merge_call world object
 operation_of (Operation.Lock object mode) = λ world. lock_call world object mode
 operation_of (Operation.Find entity key) = λ world. find_call world entity key
 operation_of (Operation.GetReference entity key) = λ world. get_reference_call world entity key
+
+-- ---- queries
+
+-- what is asked, with what is bound to its parameters
+abbrev pub asked : Wanted → Op Asked
+asked q = asked_of q.text q.parameters q.first q.max
+
+-- all rows, or the one row
+abbrev pub query_told : rows.Told → Wanted → Bool → World → Op Answer
+query_told rows.Told.All q = query_call q.text q.parameters q.first q.max
+query_told rows.Told.Single q = query_single_call q.text q.parameters q.first q.max
 
 -- ---- which refusals mark the transaction
 

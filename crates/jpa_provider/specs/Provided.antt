@@ -10,11 +10,11 @@ use Rattle.jpa_rows.specs.declared.source.RowSource.{Ghosts}
 use Rattle.jpa_object_store.specs.Written.{RunsAtMost, RunsDifference}
 use Rattle.jpa_protocol.specs.declared.call.Call.{Call}
 use Rattle.jpa_protocol.specs.declared.reply.Reply.{Reply}
-use Rattle.jpa_provider.specs.Machine.{Machine, IsStoredAs}
-use Rattle.jpa_provider.specs.Step.{Step, IsGivenUp, outcome}
-use Rattle.jpa_provider.specs.Left.{LivesAsBefore, HoldsSameValues}
-use Rattle.jpa_provider.specs.Routes.{is_commit, is_rollback}
-use Rattle.jpa_provider.specs.Faults.{faults_after_reply}
+use Rattle.jpa_machine.specs.Machine.{Machine, IsStoredAs}
+use Rattle.jpa_machine.specs.Step.{Step, IsGivenUp, outcome}
+use Rattle.jpa_machine.specs.Left.{LivesAsBefore, HoldsSameValues}
+use Rattle.jpa_machine.specs.Routes.{is_commit, is_rollback}
+use Rattle.jpa_machine.specs.Faults.{faults_after_reply}
 
 -- the unit that it serves with what is registered, the machine, and the store of rows
 pub record Provided (R L C : Type 0) : Type 0 where

@@ -22,9 +22,9 @@ use Rattle.jpa_heap.specs.Objects.{place_of, object_at, with_life}
 use Rattle.jpa_provider.specs.declared.session.Status.{Status}
 use Rattle.jpa_provider.specs.declared.session.EntityManager.{EntityManager}
 use Rattle.jpa_provider.specs.declared.session.Session.{Session}
-use Rattle.jpa_provider.specs.Machine.{Machine, Manager, Transaction, manager_at, is_begun, with_manager, is_gone, committed_after, rolled_back}
-use Rattle.jpa_provider.specs.Step.{Step, gives_up}
-use Rattle.jpa_provider.specs.Invariant.{IsMachine, HasOneTransaction, context_of}
+use Rattle.jpa_machine.specs.Machine.{Machine, Manager, Transaction, manager_at, is_begun, with_manager, is_gone, committed_after, rolled_back}
+use Rattle.jpa_machine.specs.Step.{Step, gives_up}
+use Rattle.jpa_machine.specs.Invariant.{IsMachine, HasOneTransaction, context_of}
 use Rattle.jpa_fetch.specs.Orderly.{IsOrderly}
 use Rattle.jpql_kept.specs.Fits.{AreInherited}
 

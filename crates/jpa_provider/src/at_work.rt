@@ -2,10 +2,10 @@
 //! work.
 ghost use Rattle.std.specs.Prelude.{◌≡◌, ◌<◌, false, length, IfErr, IfSome, OnErr};
 ghost use Rattle.jpa_context.specs.Undo.{now, since, IsKept};
-ghost use Rattle.jpa_provider.specs.Faults.{is_store_fault, tells_fault};
-ghost use Rattle.jpa_provider.specs.Machine.{Machine, kept, marked, work_of};
+ghost use Rattle.jpa_machine.specs.Faults.{is_store_fault, tells_fault};
+ghost use Rattle.jpa_machine.specs.Machine.{Machine, kept, marked, work_of};
 ghost use Rattle.jpa_provider.specs.Operations.{Concludes};
-ghost use Rattle.jpa_provider.specs.Invariant.{HasOneTransaction};
+ghost use Rattle.jpa_machine.specs.Invariant.{HasOneTransaction};
 ghost use Rattle.jpa_provider.specs.Serving as serving;
 ghost use Rattle.jpa_provider.specs.Serving.{machine_of, manager_in, named, IsAway, IsCounted, IsSettled, IsWorking};
 

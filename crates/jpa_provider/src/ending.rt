@@ -3,9 +3,9 @@ ghost use Rattle.std.specs.Prelude.{◌≡◌, ◌<◌, [], ℕ, All, false, tru
 ghost use Rattle.jpa_behaviour.specs.Registered.{world_of};
 ghost use Rattle.jpa_ops.specs.States.{detach_each};
 ghost use Rattle.jpa_protocol.specs.declared.call.Call.{Call};
-ghost use Rattle.jpa_provider.specs.Faults.{tells_fault};
-ghost use Rattle.jpa_provider.specs.Invariant.{HasOneTransaction};
-ghost use Rattle.jpa_provider.specs.Machine.{cleared, closed, rolled_back};
+ghost use Rattle.jpa_machine.specs.Faults.{tells_fault};
+ghost use Rattle.jpa_machine.specs.Invariant.{HasOneTransaction};
+ghost use Rattle.jpa_machine.specs.Machine.{cleared, closed, rolled_back};
 ghost use Rattle.jpa_provider.specs.Serving.{machine_of, manager_in, detached_all, detached_at, is_open_status, is_begun_status, EndsAlone, IsSettled, Serves};
 
 use crate::at_work::{manager_named, mark};

@@ -6,8 +6,8 @@ ghost use Rattle.jpa_heap.specs.Objects.{place_of};
 ghost use Rattle.jpa_heap.specs.Shape.{IsInHeap};
 ghost use Rattle.jpa_context.specs.Steps.{Meets};
 ghost use Rattle.jpa_context.specs.Work.{Work};
-ghost use Rattle.jpa_provider.specs.Calls as calls;
-ghost use Rattle.jpa_provider.specs.Invariant as invariant;
+ghost use Rattle.jpa_machine.specs.Calls as calls;
+ghost use Rattle.jpa_machine.specs.Invariant as invariant;
 
 use jpa_heap::Handed;
 use jpa_model::Part;

@@ -11,8 +11,8 @@ ghost use Rattle.jpa_fetch.specs.Grown.{IsReady};
 ghost use Rattle.jpa_fetch.specs.Members.{IsGotWithin};
 ghost use Rattle.jpa_fetch.specs.Orderly.{IsOrderly};
 ghost use Rattle.jpa_fetch.specs.declared.getting.Got.{Got};
-ghost use Rattle.jpa_provider.specs.Calls as calls;
-ghost use Rattle.jpa_provider.specs.Routes as routes;
+ghost use Rattle.jpa_machine.specs.Calls as calls;
+ghost use Rattle.jpa_machine.specs.Routes as routes;
 ghost use Rattle.jpa_provider.specs.Operations as operations;
 ghost use Rattle.jpa_provider.specs.declared.operating.Operation.{Operation};
 

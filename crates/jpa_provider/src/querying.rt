@@ -7,17 +7,18 @@ ghost use Rattle.jpa_context.specs.Work.{Work};
 ghost use Rattle.jpa_rows.specs.Cells.{all_representable};
 ghost use Rattle.jpa_queries.specs.Queries.{flush_if};
 ghost use Rattle.jpa_updates.specs.Updates.{StaysSound};
-ghost use Rattle.jpa_provider.specs.Updating.{MakesRepresentable};
+ghost use Rattle.jpa_machine.specs.Updating.{MakesRepresentable};
 ghost use Rattle.jpa_context.specs.Undo.{now, since};
 ghost use Rattle.jpa_fetch.specs.Grown.{IsReady};
 ghost use Rattle.jpa_fetch.specs.Orderly.{IsOrderly};
 ghost use Rattle.jpa_heap.specs.Shape.{IsInHeap};
 ghost use Rattle.jpa_ops.specs.Names.{has_distinct_entries};
 ghost use Rattle.jpa_protocol.specs.declared.call.Call.{Call};
-ghost use Rattle.jpa_provider.specs.Faults.{tells_fault};
-ghost use Rattle.jpa_provider.specs.Machine as machine;
-ghost use Rattle.jpa_provider.specs.Querying as querying;
-ghost use Rattle.jpa_provider.specs.Routes.{route, ToQuery};
+ghost use Rattle.jpa_machine.specs.Faults.{tells_fault};
+ghost use Rattle.jpa_machine.specs.Machine as machine;
+ghost use Rattle.jpa_machine.specs.Querying as querying;
+ghost use Rattle.jpa_provider.specs.Operations as operations;
+ghost use Rattle.jpa_machine.specs.Routes.{route, ToQuery};
 ghost use Rattle.jpa_provider.specs.Serving.{machine_of, IsServing, IsSettled, Serves, is_begun_status};
 ghost use Rattle.jpa_queries.specs.Premises.{AreInHeap, StaysReady};
 ghost use Rattle.jpa_stored.specs.Sets.{IsSound};
@@ -125,7 +126,7 @@ fn bound(alloc: Global, work: &UnitOfWork, parameters: &[Parameter]) -> Result<S
 
 /// What a call asks, with what is bound to its parameters. Refused as `bound` is.
 fn asked_of(alloc: Global, work: &UnitOfWork, wanted: Wanted) -> Result<Asked, Cause>
-    ensures meets { Meets result (now work.now) (querying.asked_of wanted (now work.now)) }
+    ensures meets { Meets result (now work.now) (operations.asked wanted (now work.now)) }
     ensures bound { IfOk result (λ asked. AreInHeap work.now.objects.now asked.bindings) }
 {
     let bindings = bound(alloc, work, wanted.parameters.as_slice())?;
@@ -156,7 +157,7 @@ fn query_work<B: Behaviour>(
     requires then_ready { StaysReady flushes (world_of B.meaning metamodel.now registry.now)
         (now work.old) }
     ensures meets { let world = world_of B.meaning metamodel.now registry.now in
-        Meets result (now work.new) (querying.query_told told wanted flushes world (now work.old)) }
+        Meets result (now work.new) (operations.query_told told wanted flushes world (now work.old)) }
     ensures since { since work.new ≡ since work.old }
 {
     let asked = asked_of(alloc, work, wanted)?;
@@ -194,7 +195,7 @@ pub(crate) fn query_call<B: Behaviour>(
 ) -> Reply
     requires serving { IsServing (world_of B.meaning metamodel.now registry.now) session.old }
     ensures step { let world = world_of B.meaning metamodel.now registry.now in
-        (call : Call) → route call ≡ ToQuery em (querying.query_told told wanted)
+        (call : Call) → route call ≡ ToQuery em (operations.query_told told wanted)
         → Serves world session.old call result session.new }
     ensures untold { tells_fault result ≡ false }
     ensures settled { IsSettled session.new }

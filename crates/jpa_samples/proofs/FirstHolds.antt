@@ -15,13 +15,13 @@ use Rattle.jpa_model.specs.declared.unit.Attribute.{Attribute}
 use Rattle.jpa_model.specs.declared.unit.Relation.{Relation}
 use Rattle.jpql_kept.specs.Fits.{AreInherited}
 use Rattle.jpa_fetch.specs.Orderly.{IsOrderly}
-use Rattle.jpa_provider.specs.Step.{machine_after}
-use Rattle.jpa_provider.specs.Invariant.{IsMachine}
+use Rattle.jpa_machine.specs.Step.{machine_after}
+use Rattle.jpa_machine.specs.Invariant.{IsMachine}
 use Rattle.jpa_samples.proofs.Sample.{P1}
 use Rattle.jpa_samples.proofs.FirstRun.{fresh, first_run, after_first, person_cells, first_cells, set_key}
 use Rattle.jpa_samples.proofs.States.{removing, reviving}
-use Rattle.jpa_provider.proofs.Settled.{opened_holds}
-use Rattle.jpa_provider.proofs.Outcome.{machine_after_keeps}
+use Rattle.jpa_machine.proofs.Settled.{opened_holds}
+use Rattle.jpa_machine.proofs.Outcome.{machine_after_keeps}
 
 persons_orderly : IsOrderly P1.model
 persons_orderly =

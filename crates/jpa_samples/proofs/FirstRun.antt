@@ -7,8 +7,8 @@ use Rattle.jpa_value.specs.declared.event.LifecycleEvent.{LifecycleEvent}
 use Rattle.jpa_rows.specs.Cells.{Cell, rows}
 use Rattle.jpa_protocol.specs.declared.call.Call.{Call}
 use Rattle.jpa_protocol.specs.declared.reply.Answer.{Answer}
-use Rattle.jpa_provider.specs.Machine.{Machine, opened}
-use Rattle.jpa_provider.specs.Step.{replies_of, machine_after}
+use Rattle.jpa_machine.specs.Machine.{Machine, opened}
+use Rattle.jpa_machine.specs.Step.{replies_of, machine_after}
 use Rattle.jpa_samples.proofs.Sample.{P1, text, int, saw, ok, quiet, no}
 
 abbrev pub fresh : Machine

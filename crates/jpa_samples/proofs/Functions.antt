@@ -23,8 +23,8 @@ use Rattle.jpa_protocol.specs.declared.call.Call.{Call}
 use Rattle.jpa_protocol.specs.declared.call.Given.{Given}
 use Rattle.jpa_protocol.specs.declared.event.Told.{Told}
 use Rattle.jpa_protocol.specs.declared.reply.Answer.{Answer}
-use Rattle.jpa_provider.specs.Machine.{Machine, opened}
-use Rattle.jpa_provider.specs.Step.{replies_of, machine_after}
+use Rattle.jpa_machine.specs.Machine.{Machine, opened}
+use Rattle.jpa_machine.specs.Step.{replies_of, machine_after}
 use Rattle.jpa_samples.proofs.Sample.{person_entity, order_entity, name_attribute, amount_attribute, person_relation, all_cascades, world_of, P, text, int, saw, ok, quiet, no}
 
 abbrev both_fresh : Machine

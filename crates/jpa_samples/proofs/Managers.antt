@@ -10,9 +10,9 @@ use Rattle.jpa_value.specs.declared.event.LifecycleEvent.{LifecycleEvent}
 use Rattle.jpa_stored.specs.Sets.{StoredSet}
 use Rattle.jpa_protocol.specs.declared.call.Call.{Call}
 use Rattle.jpa_protocol.specs.declared.reply.Answer.{Answer}
-use Rattle.jpa_provider.specs.Machine.{Machine, opened, new_manager}
-use Rattle.jpa_provider.specs.Step.{replies_of, machine_after, outcome}
-use Rattle.jpa_provider.specs.Left.{LivesAsBefore, HoldsSameValues}
+use Rattle.jpa_machine.specs.Machine.{Machine, opened, new_manager}
+use Rattle.jpa_machine.specs.Step.{replies_of, machine_after, outcome}
+use Rattle.jpa_machine.specs.Left.{LivesAsBefore, HoldsSameValues}
 use Rattle.jpa_samples.proofs.Sample.{P1, flat, text, int, saw, ok, quiet, no}
 use Rattle.jpa_samples.proofs.FirstRun.{fresh, after_first}
 

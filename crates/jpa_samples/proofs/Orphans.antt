@@ -6,8 +6,8 @@ use Rattle.jpa_protocol.specs.declared.call.Given.{Given}
 use Rattle.jpa_protocol.specs.declared.event.Told.{Told}
 use Rattle.jpa_protocol.specs.declared.reply.Answer.{Answer}
 use Rattle.jpa_protocol.specs.declared.reply.Reply.{Reply}
-use Rattle.jpa_provider.specs.Machine.{Machine, opened}
-use Rattle.jpa_provider.specs.Step.{replies_of, machine_after}
+use Rattle.jpa_machine.specs.Machine.{Machine, opened}
+use Rattle.jpa_machine.specs.Step.{replies_of, machine_after}
 use Rattle.jpa_samples.proofs.Sample.{P, int, saw, ok, quiet}
 
 abbrev new_order : ℕ → ℕ → List Call

@@ -11,8 +11,8 @@ use Rattle.jpa_protocol.specs.declared.call.Call.{Call}
 use Rattle.jpa_protocol.specs.declared.event.Told.{Told}
 use Rattle.jpa_protocol.specs.declared.reply.Answer.{Answer}
 use Rattle.jpa_protocol.specs.declared.reply.Reply.{Reply}
-use Rattle.jpa_provider.specs.Machine.{Machine}
-use Rattle.jpa_provider.specs.Step.{replies_of, machine_after}
+use Rattle.jpa_machine.specs.Machine.{Machine}
+use Rattle.jpa_machine.specs.Step.{replies_of, machine_after}
 use Rattle.jpa_samples.proofs.Sample.{P1, text, int, saw, ok, quiet, no}
 use Rattle.jpa_samples.proofs.FirstRun.{after_first, cells_of, key_one, person_cells}
 

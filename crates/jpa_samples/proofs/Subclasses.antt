@@ -21,8 +21,8 @@ use Rattle.jpa_protocol.specs.declared.call.Call.{Call}
 use Rattle.jpa_protocol.specs.declared.event.Told.{Told}
 use Rattle.jpa_protocol.specs.declared.reply.Answer.{Answer}
 use Rattle.jpa_protocol.specs.declared.reply.Reply.{Reply}
-use Rattle.jpa_provider.specs.Machine.{Machine, opened}
-use Rattle.jpa_provider.specs.Step.{replies_of, machine_after}
+use Rattle.jpa_machine.specs.Machine.{Machine, opened}
+use Rattle.jpa_machine.specs.Step.{replies_of, machine_after}
 use Rattle.jpa_fetch.specs.Orderly.{IsOrderly}
 use Rattle.jpa_consistent.proofs.Units.{described_orderly}
 use Rattle.jpql_kept.specs.Fits.{AreInherited}

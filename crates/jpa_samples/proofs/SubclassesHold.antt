@@ -4,11 +4,11 @@ use Rattle.jpa_behaviour.proofs.Regular.{regular_without}
 use Rattle.jpa_behaviour.specs.Behaviour.{IsRegular}
 use Rattle.jpa_rows.specs.Cells.{CanBeHeld}
 use Rattle.jpa_protocol.specs.declared.call.Call.{Call}
-use Rattle.jpa_provider.specs.Machine.{Machine}
-use Rattle.jpa_provider.specs.Invariant.{IsMachine}
-use Rattle.jpa_provider.specs.Step.{machine_after}
-use Rattle.jpa_provider.proofs.Settled.{opened_holds}
-use Rattle.jpa_provider.proofs.Outcome.{machine_after_keeps}
+use Rattle.jpa_machine.specs.Machine.{Machine}
+use Rattle.jpa_machine.specs.Invariant.{IsMachine}
+use Rattle.jpa_machine.specs.Step.{machine_after}
+use Rattle.jpa_machine.proofs.Settled.{opened_holds}
+use Rattle.jpa_machine.proofs.Outcome.{machine_after_keeps}
 use Rattle.jpa_samples.proofs.Sample.{int}
 use Rattle.jpa_samples.proofs.Subclasses.{H, fresh, find, payments_inherited, payments_orderly}
 

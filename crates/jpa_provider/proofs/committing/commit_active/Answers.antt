@@ -11,7 +11,7 @@ use Rattle.jpa_context.specs.Work.{Work}
 use Rattle.jpa_context.specs.Steps.{Done, IsRefusedAs}
 use Rattle.jpa_context.specs.Undo.{now, since}
 use Rattle.jpa_flush.specs.Flush.{flush}
-use Rattle.jpa_provider.specs.Transactions.{commit_work}
+use Rattle.jpa_machine.specs.Transactions.{commit_work}
 use Rattle.jpa_fetch.specs.Grown.{IsReady}
 use Rattle.jpa_ops.specs.Names.{has_distinct_entries}
 use Rattle.jpa_protocol.specs.declared.call.Call.{Call}
@@ -21,7 +21,7 @@ use Rattle.jpa_provider.specs.Serving.{machine_of, is_begun_status}
 use Rattle.jpa_provider.proofs.Active.{committing, entries_since, entries_apart, view_sound, view_rises, flushed_held, flushed_ready, flushed_rising, flushed_within}
 use Rattle.jpa_provider.proofs.Commits.{refused_step, stored_step, refused_still}
 use Rattle.jpa_provider.proofs.Crashed.{made_by, not_accepted}
-use Rattle.jpa_provider.proofs.AtWork.{work_ready}
+use Rattle.jpa_machine.proofs.AtWork.{work_ready}
 use Rattle.jpa_provider.proofs.Sessions.{begun_there}
 use Rattle.jpa_provider.proofs.Worked.{still_working}
 use Rattle.jpa_provider.proofs.committing.commit_active.Goals as goal

@@ -11,7 +11,7 @@ use Rattle.jpa_context.specs.Work.{Work, unlocked}
 use Rattle.jpa_provider.specs.declared.session.EntityManager.{EntityManager}
 use Rattle.jpa_provider.specs.declared.session.Session.{Session}
 use Rattle.jpa_provider.specs.declared.session.Status.{Status}
-use Rattle.jpa_provider.specs.Machine.{is_gone}
+use Rattle.jpa_machine.specs.Machine.{is_gone}
 use Rattle.jpa_provider.specs.Serving.{manager_in, detached_all}
 use Rattle.jpa_provider.proofs.Counted.{counted_ended, own_begun}
 use Rattle.jpa_provider.proofs.Opened.{twice}

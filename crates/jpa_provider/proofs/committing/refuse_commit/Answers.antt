@@ -1,7 +1,7 @@
 use Rattle.std.proofs.Common.{inl, inr, refl, ap, sym, ◌∙◌}
 use Rattle.std.specs.Prelude.{Err}
 use Rattle.jpa_value.specs.declared.refusal.Refusal.{Refusal}
-use Rattle.jpa_provider.specs.Machine.{Machine, rolled_back}
+use Rattle.jpa_machine.specs.Machine.{Machine, rolled_back}
 use Rattle.jpa_provider.proofs.Active.{ends_alone}
 use Rattle.jpa_provider.proofs.Worked.{still_working}
 use Rattle.jpa_provider.proofs.committing.refuse_commit.Goals as goal

@@ -3,7 +3,7 @@ use Rattle.std.specs.Prelude.{map}
 use Rattle.std.specs.List.{filter}
 use Rattle.jpa_context.specs.declared.Entry.{Entry}
 use Rattle.jpa_context.specs.Undo.{now}
-use Rattle.jpa_provider.specs.Machine.{is_gone}
+use Rattle.jpa_machine.specs.Machine.{is_gone}
 use Rattle.jpa_provider.proofs.committing.removed_of.Given as goal
 
 -- those of the entries before this one

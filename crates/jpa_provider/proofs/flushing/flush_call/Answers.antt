@@ -12,14 +12,14 @@ use Rattle.jpa_fetch.specs.Grown.{IsReady}
 use Rattle.jpa_ops.specs.Names.{has_distinct_entries}
 use Rattle.jpa_protocol.specs.declared.call.Call.{Call}
 use Rattle.jpa_provider.specs.declared.replies.Rule.{Rule}
-use Rattle.jpa_provider.specs.Machine.{work_of}
-use Rattle.jpa_provider.specs.Routes.{flush_call}
+use Rattle.jpa_machine.specs.Machine.{work_of}
+use Rattle.jpa_machine.specs.Routes.{flush_call}
 use Rattle.jpa_provider.specs.Serving.{machine_of, manager_in, is_begun_status, named, Serves}
 use Rattle.jpa_provider.proofs.Active.{entries_apart, view_sound, view_rises}
-use Rattle.jpa_provider.proofs.AtWork.{work_ready}
+use Rattle.jpa_machine.proofs.AtWork.{work_ready}
 use Rattle.jpa_provider.proofs.Routed.{flush_idle, flush_so}
 use Rattle.jpa_provider.proofs.Sessions.{begun_there}
-use Rattle.jpa_provider.proofs.Told.{no_fault}
+use Rattle.jpa_machine.proofs.Told.{no_fault}
 use Rattle.jpa_provider.proofs.Worked.{still_working, if_refused, ends_so}
 use Rattle.jpa_provider.proofs.flushing.flush_call.Goals as goal
 

@@ -7,8 +7,8 @@ use Rattle.jpa_heap.specs.Objects.{place_of}
 use Rattle.jpa_context.specs.Steps.{after, give, IsRefusedAs}
 use Rattle.jpa_context.specs.Undo.{now}
 use Rattle.jpa_ops.specs.States.{detach}
-use Rattle.jpa_provider.specs.Calls.{give_or, nothing, told_as}
-use Rattle.jpa_provider.specs.Routes.{detach_call}
+use Rattle.jpa_machine.specs.Calls.{give_or, nothing, told_as}
+use Rattle.jpa_machine.specs.Routes.{detach_call}
 use Rattle.jpa_provider.proofs.Called.{refused_on}
 use Rattle.jpa_provider.proofs.operating.detach_numbered.Goals as goal
 

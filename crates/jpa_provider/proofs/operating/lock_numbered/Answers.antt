@@ -12,8 +12,8 @@ use Rattle.jpa_context.specs.Undo.{now}
 use Rattle.jpa_context.specs.Work.{Work}
 use Rattle.jpa_ops.specs.States.{lock}
 use Rattle.jpa_ops.proofs.Refused.{refused_after}
-use Rattle.jpa_provider.specs.Calls.{give_or, nothing, told_as}
-use Rattle.jpa_provider.specs.Routes.{lock_of}
+use Rattle.jpa_machine.specs.Calls.{give_or, nothing, told_as}
+use Rattle.jpa_machine.specs.Routes.{lock_of}
 use Rattle.jpa_provider.proofs.operating.lock_numbered.Goals as goal
 
 pub returns-clause-meets : goal.returns-clause-meets

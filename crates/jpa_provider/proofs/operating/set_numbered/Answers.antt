@@ -10,7 +10,7 @@ use Rattle.jpa_heap.specs.Shape.{IsInHeap}
 use Rattle.jpa_context.specs.Steps.{IsRefusedAs}
 use Rattle.jpa_context.specs.Undo.{now}
 use Rattle.jpa_provider.specs.Operations.{on_numbered}
-use Rattle.jpa_provider.specs.Routes.{set_call}
+use Rattle.jpa_machine.specs.Routes.{set_call}
 use Rattle.jpa_provider.proofs.Called.{set_refused, set_assigned}
 use Rattle.jpa_provider.proofs.operating.set_numbered.Goals as goal
 

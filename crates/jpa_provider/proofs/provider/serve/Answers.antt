@@ -4,15 +4,15 @@ use Rattle.jpa_behaviour.specs.Registered.{world_of}
 use Rattle.jpa_stored.specs.Sets.{StoredSet}
 use Rattle.jpa_object_rows.specs.Sets.{rows_of}
 use Rattle.jpa_provider.specs.Provided.{rows_made}
-use Rattle.jpa_provider.specs.Routes.{is_commit}
+use Rattle.jpa_machine.specs.Routes.{is_commit}
 use Rattle.jpa_provider.specs.Serving.{machine_of}
-use Rattle.jpa_provider.specs.Updating.{is_bulk}
-use Rattle.jpa_provider.proofs.Outcome.{plain_made}
-use Rattle.jpa_provider.proofs.Updated.{ok_from}
+use Rattle.jpa_machine.specs.Updating.{is_bulk}
+use Rattle.jpa_machine.proofs.Outcome.{plain_made}
+use Rattle.jpa_machine.proofs.Updated.{ok_from}
 use Rattle.jpa_provider.proofs.Crashed.{either_way}
 use Rattle.jpa_provider.proofs.Serving.{serves_on, stores_all}
-use Rattle.jpa_provider.proofs.Still.{step_still}
-use Rattle.jpa_provider.proofs.Left.{step_left, step_undone, step_rises}
+use Rattle.jpa_machine.proofs.Still.{step_still}
+use Rattle.jpa_machine.proofs.Left.{step_left, step_undone, step_rises}
 use Rattle.jpa_provider.proofs.provider.serve.Goals as goal
 
 pub returns-clause-serving : goal.returns-clause-serving

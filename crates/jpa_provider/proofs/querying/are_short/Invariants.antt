@@ -1,5 +1,5 @@
 use Rattle.std.proofs.Common.{◌≡◌, drop}
-use Rattle.jpa_provider.specs.Querying.{are_short}
+use Rattle.jpa_machine.specs.Querying.{are_short}
 use Rattle.jpa_provider.proofs.querying.are_short.Given as goal
 
 abbrev pub invariant-loop-parameter : goal.invariant-loop-parameter

@@ -1,7 +1,7 @@
 use Rattle.std.proofs.Common.{◌≡◌, ◌++◌, drop, length}
 use Rattle.std.specs.Option.{option_map}
 use Rattle.jpa_queries.specs.Premises.{AreInHeap}
-use Rattle.jpa_provider.specs.Querying.{bindings_in}
+use Rattle.jpa_machine.specs.Querying.{bindings_in}
 use Rattle.jpa_provider.proofs.querying.bindings_in.Given as goal
 
 -- those so far, before what the rest makes, are all

@@ -14,14 +14,14 @@ use Rattle.jpa_ops.specs.Names.{has_distinct_entries}
 use Rattle.jpa_protocol.specs.declared.call.FlushMode.{FlushMode}
 use Rattle.jpa_queries.specs.Premises.{StaysReady}
 use Rattle.jpa_provider.specs.declared.replies.Rule.{Rule}
-use Rattle.jpa_provider.specs.Machine.{flushes_in, flushes_first, work_of}
-use Rattle.jpa_provider.specs.Querying.{query_told}
+use Rattle.jpa_machine.specs.Machine.{flushes_in, flushes_first, work_of}
+use Rattle.jpa_provider.specs.Operations.{query_told}
 use Rattle.jpa_provider.specs.Serving.{machine_of, manager_in, is_begun_status, named, Serves}
 use Rattle.jpa_provider.proofs.Active.{entries_apart, view_sound, view_rises, query_ready}
-use Rattle.jpa_provider.proofs.AtWork.{work_ready}
+use Rattle.jpa_machine.proofs.AtWork.{work_ready}
 use Rattle.jpa_provider.proofs.Routed.{asked_alone, asked_so}
 use Rattle.jpa_provider.proofs.Sessions.{begun_there, manager_there}
-use Rattle.jpa_provider.proofs.Told.{no_fault}
+use Rattle.jpa_machine.proofs.Told.{no_fault}
 use Rattle.jpa_provider.proofs.Worked.{still_working, if_refused, ends_so}
 use Rattle.jpa_provider.proofs.querying.query_call.Goals as goal
 

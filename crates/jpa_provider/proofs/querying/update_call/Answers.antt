@@ -18,17 +18,17 @@ use Rattle.jpa_rows.specs.Cells.{all_representable}
 use Rattle.jpa_consistent.specs.Going.{HoldsAfter}
 use Rattle.jpa_protocol.specs.declared.reply.Answer.{Answer}
 use Rattle.jpa_provider.specs.declared.replies.Rule.{Rule}
-use Rattle.jpa_provider.specs.Machine.{flushes_in, flushes_first, has_transaction, manager_at, work_of}
-use Rattle.jpa_provider.specs.Updating.{update_outcome}
-use Rattle.jpa_provider.specs.Querying.{update_call}
+use Rattle.jpa_machine.specs.Machine.{flushes_in, flushes_first, has_transaction, manager_at, work_of}
+use Rattle.jpa_machine.specs.Updating.{update_outcome}
+use Rattle.jpa_machine.specs.Querying.{update_call}
 use Rattle.jpa_provider.specs.Serving.{machine_of, manager_in, is_begun_status, named, Serves}
 use Rattle.jpa_provider.proofs.Active.{entries_apart, view_sound, view_rises, update_sound, update_representable}
-use Rattle.jpa_provider.proofs.AtWork.{work_ready}
+use Rattle.jpa_machine.proofs.AtWork.{work_ready}
 use Rattle.jpa_provider.proofs.Routed.{update_so}
-use Rattle.jpa_provider.proofs.Updated.{made_so, told_ok, ok_weaker}
+use Rattle.jpa_machine.proofs.Updated.{made_so, ok_weaker}
 use Rattle.jpa_provider.proofs.Sessions.{begun_there, manager_there}
-use Rattle.jpa_provider.proofs.Told.{no_fault}
-use Rattle.jpa_provider.proofs.Worked.{still_working, if_refused, ends_so, named_same}
+use Rattle.jpa_machine.proofs.Told.{no_fault}
+use Rattle.jpa_provider.proofs.Worked.{still_working, if_refused, ends_so, named_same, told_ok}
 use Rattle.jpa_provider.proofs.querying.update_call.Goals as goal
 
 -- where the objects are flushed a transaction is open

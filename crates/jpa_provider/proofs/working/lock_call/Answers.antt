@@ -7,9 +7,9 @@ use Rattle.jpa_protocol.specs.declared.call.Call.{Call}
 use Rattle.jpa_provider.specs.Serving.{machine_of, manager_in, is_begun_status, named, Serves}
 use Rattle.jpa_provider.specs.declared.operating.Operation.{Operation}
 use Rattle.jpa_provider.specs.declared.replies.Rule.{Rule}
-use Rattle.jpa_provider.specs.Machine.{work_of}
+use Rattle.jpa_machine.specs.Machine.{work_of}
 use Rattle.jpa_provider.specs.Operations.{operation_of, EndsSo}
-use Rattle.jpa_provider.specs.Routes.{required_of}
+use Rattle.jpa_machine.specs.Routes.{required_of}
 use Rattle.jpa_provider.proofs.Opened.{refusal}
 use Rattle.jpa_provider.proofs.Routed.{lock_idle, lock_so}
 use Rattle.jpa_provider.proofs.working.lock_call.Goals as goal

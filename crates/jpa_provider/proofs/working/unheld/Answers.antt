@@ -11,10 +11,10 @@ use Rattle.jpa_context.specs.Undo.{now, Since}
 use Rattle.jpa_fetch.specs.Grown.{IsReady}
 use Rattle.jpa_provider.specs.declared.replies.Rule.{Rule}
 use Rattle.jpa_provider.specs.declared.session.Session.{Session}
-use Rattle.jpa_provider.specs.Machine.{work_of}
+use Rattle.jpa_machine.specs.Machine.{work_of}
 use Rattle.jpa_provider.specs.Operations.{operation_of, is_marked_by, told_of}
 use Rattle.jpa_provider.specs.Serving.{machine_of}
-use Rattle.jpa_provider.proofs.AtWork.{work_ready}
+use Rattle.jpa_machine.proofs.AtWork.{work_ready}
 use Rattle.jpa_provider.proofs.Counted.{counted_here}
 use Rattle.jpa_provider.proofs.Unheld.{hidden_keep, nobody_works, nobody_keeps, nobody_restores}
 use Rattle.jpa_provider.proofs.Worked.{ends_so}

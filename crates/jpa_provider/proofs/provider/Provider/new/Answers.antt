@@ -2,7 +2,7 @@ use Rattle.std.proofs.Common.{◌≡◌, ap, sym, subst, ◌∙◌}
 use Rattle.jpa_behaviour.specs.Registered.{world_of}
 use Rattle.jpa_open.specs.Opened.{unwritten}
 use Rattle.jpa_object_rows.specs.Sets.{rows_of}
-use Rattle.jpa_provider.specs.Machine.{Machine, opened}
+use Rattle.jpa_machine.specs.Machine.{Machine, opened}
 use Rattle.jpa_provider.specs.Serving.{machine_of}
 use Rattle.jpa_consistent.proofs.Units.{described_orderly}
 use Rattle.jpql_kept.proofs.Inherited.{described_inherited}

@@ -8,8 +8,8 @@ use Rattle.jpa_consistent.specs.Going.{HoldsAfter}
 use Rattle.jpa_protocol.specs.declared.call.Call.{Call}
 use Rattle.jpa_protocol.specs.declared.call.Parameter.{Parameter}
 use Rattle.jpa_protocol.specs.declared.reply.Answer.{Answer}
-use Rattle.jpa_provider.specs.Machine.{Machine, manager_at, has_transaction, flushes_first, work_of}
-use Rattle.jpa_provider.specs.Querying.{update_call}
+use Rattle.jpa_machine.specs.Machine.{Machine, manager_at, has_transaction, flushes_first, work_of}
+use Rattle.jpa_machine.specs.Querying.{update_call}
 
 abbrev pub is_bulk : Call → Bool
 is_bulk (Call.ExecuteUpdate em text parameters) = true

@@ -26,14 +26,13 @@ use Rattle.jpa_queries.specs.declared.asked.Binding.{Binding}
 use Rattle.jpa_queries.specs.Asking.{give_or, given, read_of, statement_of, sorts_of, arguments_of, select_in}
 use Rattle.jpa_queries.specs.Reading.{query_of, is_within, declares_few}
 use Rattle.jpa_queries.specs.Queries.{answer, flush_if, judged, table_of, rows_found, rows_asked, item_of, row_of, query, the_one, query_single, is_count}
-use Rattle.jpa_provider.specs.Calls as calls
-use Rattle.jpa_provider.specs.declared.querying.Wanted.{Wanted}
-use Rattle.jpa_provider.specs.Querying.{are_short, asked_of, bindings_in, bound, query_call, query_single_call}
+use Rattle.jpa_machine.specs.Calls as calls
+use Rattle.jpa_machine.specs.Querying.{are_short, asked_of, bindings_in, bound, query_call, query_single_call}
 use Rattle.jpa_consistent.specs.Going.{HoldsAfter}
 use Rattle.jpa_consistent.proofs.Going.{More, after_holds, require_holds}
 use Rattle.jpa_consistent.proofs.Members.{Leads}
 use Rattle.jpa_consistent.proofs.Laws.{Steps, reach_goes}
-use Rattle.jpa_provider.proofs.Handed.{told_holds}
+use Rattle.jpa_machine.proofs.Handed.{told_holds}
 
 -- ---- what only reads
 
@@ -96,8 +95,8 @@ bound_reads ps w =
     let found = bindings_in (length w.objects) ps in
     then_read K (calls.give_or Cause.NoSuchObject found) _ w (bindings_read Cause.NoSuchObject found) (λ bs. require_holds K (are_short ps) Cause.Limit w _ (λ short. refl))
 
-pub asked_of_reads : (q : Wanted) → IsRead (asked_of q)
-asked_of_reads q w = then_read (λ a v. v ≡ w) (bound q.parameters) _ w (bound_reads q.parameters) (λ bs. refl)
+asked_of_reads : (text : Text) (ps : List Parameter) (first max : Option ℤ) → IsRead (asked_of text ps first max)
+asked_of_reads text ps first max w = then_read (λ a v. v ≡ w) (bound ps) _ w (bound_reads ps) (λ bs. refl)
 
 -- ---- with what the steps and a flush keep
 
@@ -148,10 +147,10 @@ module _ {world : World} {P : Work → Type 0} (steps : Steps world P) (flushed 
 
   -- ---- with what the calls hand in
 
-  pub query_call_goes : (q : Wanted) (flushes : Bool) (w : Work) → P w → HoldsAfter (λ a v. P v) (query_call q flushes world w)
-  query_call_goes q flushes w p =
-      then_read (λ a v. P v) (asked_of q) _ w (asked_of_reads q) (λ call. told_holds P Answer.Rows (query world flushes call w) (query_goes flushes call w p))
+  pub query_call_goes : (text : Text) (ps : List Parameter) (first max : Option ℤ) (flushes : Bool) (w : Work) → P w → HoldsAfter (λ a v. P v) (query_call text ps first max flushes world w)
+  query_call_goes text ps first max flushes w p =
+      then_read (λ a v. P v) (asked_of text ps first max) _ w (asked_of_reads text ps first max) (λ call. told_holds P Answer.Rows (query world flushes call w) (query_goes flushes call w p))
 
-  pub query_single_call_goes : (q : Wanted) (flushes : Bool) (w : Work) → P w → HoldsAfter (λ a v. P v) (query_single_call q flushes world w)
-  query_single_call_goes q flushes w p =
-      then_read (λ a v. P v) (asked_of q) _ w (asked_of_reads q) (λ call. told_holds P Answer.Row (query_single world flushes call w) (query_single_goes flushes call w p))
+  pub query_single_call_goes : (text : Text) (ps : List Parameter) (first max : Option ℤ) (flushes : Bool) (w : Work) → P w → HoldsAfter (λ a v. P v) (query_single_call text ps first max flushes world w)
+  query_single_call_goes text ps first max flushes w p =
+      then_read (λ a v. P v) (asked_of text ps first max) _ w (asked_of_reads text ps first max) (λ call. told_holds P Answer.Row (query_single world flushes call w) (query_single_goes flushes call w p))

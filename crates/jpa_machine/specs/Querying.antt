@@ -1,6 +1,6 @@
 -- query, querySingle and executeUpdate with what their calls hand in (Jakarta Persistence 3.1, chapters 3.10.1, 3.10.12
 -- parameters).
-use Rattle.std.specs.Prelude.{ℕ, Bool, List, [], ◌∷◌, length, Option, Some, None}
+use Rattle.std.specs.Prelude.{ℕ, ℤ, Bool, List, [], ◌∷◌, length, Option, Some, None}
 use Rattle.std.specs.List.{list_all}
 use Rattle.jpa_value.specs.declared.refusal.Cause.{Cause}
 use Rattle.jpa_behaviour.specs.Behaviour.{World}
@@ -14,9 +14,7 @@ use Rattle.jpa_queries.specs.declared.asked.Asked.{Asked}
 use Rattle.jpa_queries.specs.declared.asked.Binding.{Binding}
 use Rattle.jpa_queries.specs.Queries.{query, query_single}
 use Rattle.jpa_updates.specs.Updates.{execute_update}
-use Rattle.jpa_provider.specs.declared.querying.Told.{Told}
-use Rattle.jpa_provider.specs.declared.querying.Wanted.{Wanted}
-use Rattle.jpa_provider.specs.Calls.{give_or, is_short_given, told_as}
+use Rattle.jpa_machine.specs.Calls.{give_or, is_short_given, told_as}
 
 -- ---- parameters
 
@@ -52,28 +50,21 @@ bound parameters = do
 
 -- ---- calls
 
-abbrev pub asked_with : Wanted → List Binding → Asked
-asked_with q bindings = record { text = q.text; bindings = bindings; first = q.first; max = q.max }
+-- a statement's text with what is bound to its parameters, how many rows are skipped, and how many are told at most
+abbrev pub asked_of : List ℕ → List Parameter → Option ℤ → Option ℤ → Op Asked
+asked_of text parameters first max = do
+  bindings ← bound parameters
+  give (record { text = text; bindings = bindings; first = first; max = max })
 
-abbrev pub asked_of : Wanted → Op Asked
-asked_of q = do
-  bindings ← bound q.parameters
-  give (asked_with q bindings)
-
-abbrev pub query_call : Wanted → Bool → World → Op Answer
-query_call q flushes world = do
-  call ← asked_of q
+abbrev pub query_call : List ℕ → List Parameter → Option ℤ → Option ℤ → Bool → World → Op Answer
+query_call text parameters first max flushes world = do
+  call ← asked_of text parameters first max
   told_as Answer.Rows (query world flushes call)
 
-abbrev pub query_single_call : Wanted → Bool → World → Op Answer
-query_single_call q flushes world = do
-  call ← asked_of q
+abbrev pub query_single_call : List ℕ → List Parameter → Option ℤ → Option ℤ → Bool → World → Op Answer
+query_single_call text parameters first max flushes world = do
+  call ← asked_of text parameters first max
   told_as Answer.Row (query_single world flushes call)
-
--- all rows, or the one row
-abbrev pub query_told : Told → Wanted → Bool → World → Op Answer
-query_told Told.All = query_call
-query_told Told.Single = query_single_call
 
 -- an UPDATE or DELETE (chapter 4.10): how many objects it concerned
 abbrev pub update_call : List ℕ → List Parameter → Bool → Bool → World → Op Answer

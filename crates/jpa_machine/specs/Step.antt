@@ -6,8 +6,8 @@ use Rattle.jpa_value.specs.declared.refusal.Refusal.{Refusal}
 use Rattle.jpa_behaviour.specs.Behaviour.{World}
 use Rattle.jpa_protocol.specs.declared.call.Call.{Call}
 use Rattle.jpa_protocol.specs.declared.reply.Reply.{Reply}
-use Rattle.jpa_provider.specs.Machine.{Machine}
-use Rattle.jpa_provider.specs.Routes.{by_route, route, takes_nothing}
+use Rattle.jpa_machine.specs.Machine.{Machine}
+use Rattle.jpa_machine.specs.Routes.{by_route, route, takes_nothing}
 
 -- the reply to a call, and the machine after it
 abbrev pub outcome : World → Machine → Call → Reply × Machine

@@ -16,19 +16,18 @@ use Rattle.jpa_consistent.proofs.Going.{only}
 use Rattle.jpa_consistent.proofs.Instances.{at_work}
 use Rattle.jpa_consistent.proofs.Unheld.{empty_unheld}
 use Rattle.jpa_consistent.proofs.Flushed.{flush_goes, viewed_at_work}
-use Rattle.jpa_provider.specs.Machine.{Machine, manager_at, has_transaction, flushes_first, work_of}
-use Rattle.jpa_provider.specs.Updating.{MakesRepresentable, update_outcome}
-use Rattle.jpa_provider.proofs.Updated.{update_call_goes}
-use Rattle.jpa_provider.specs.declared.querying.Wanted.{Wanted}
-use Rattle.jpa_provider.specs.Querying.{query_call, query_single_call}
-use Rattle.jpa_provider.proofs.Queried.{query_call_goes, query_single_call_goes}
-use Rattle.jpa_provider.specs.Transactions.{commit_work}
+use Rattle.jpa_machine.specs.Machine.{Machine, manager_at, has_transaction, flushes_first, work_of}
+use Rattle.jpa_machine.specs.Updating.{MakesRepresentable, update_outcome}
+use Rattle.jpa_machine.proofs.Updated.{update_call_goes}
+use Rattle.jpa_machine.specs.Querying.{query_call, query_single_call}
+use Rattle.jpa_machine.proofs.Queried.{query_call_goes, query_single_call_goes}
+use Rattle.jpa_machine.specs.Transactions.{commit_work}
 use Rattle.jpa_flush.specs.Flush.{flush}
-use Rattle.jpa_provider.specs.Routes.{route, holder_in, get_call, set_call, add_call, take_out_call, persist_call, remove_call, refresh_call, detach_call, merge_call, lock_call, flush_call, find_call, get_reference_call}
-use Rattle.jpa_provider.specs.Invariant.{IsMachine, hands_representable}
-use Rattle.jpa_provider.proofs.AtWork.{others_of, IsAtWork, IsOpen, MayReturn, taken, holder_may, may_still}
-use Rattle.jpa_provider.proofs.Handed.{get_call_goes, get_call_unheld, add_call_goes, add_call_unheld, take_out_call_goes, take_out_call_unheld, set_call_holds, persist_call_goes, remove_call_goes, refresh_call_goes, detach_call_goes, merge_call_goes, lock_call_goes, flush_call_goes, find_call_goes, get_reference_call_goes, commit_work_goes}
-use Rattle.jpa_provider.proofs.Ways.{Does}
+use Rattle.jpa_machine.specs.Routes.{route, holder_in, get_call, set_call, add_call, take_out_call, persist_call, remove_call, refresh_call, detach_call, merge_call, lock_call, flush_call, find_call, get_reference_call}
+use Rattle.jpa_machine.specs.Invariant.{IsMachine, hands_representable}
+use Rattle.jpa_machine.proofs.AtWork.{others_of, IsAtWork, IsOpen, MayReturn, taken, holder_may, may_still}
+use Rattle.jpa_machine.proofs.Handed.{get_call_goes, get_call_unheld, add_call_goes, add_call_unheld, take_out_call_goes, take_out_call_unheld, set_call_holds, persist_call_goes, remove_call_goes, refresh_call_goes, detach_call_goes, merge_call_goes, lock_call_goes, flush_call_goes, find_call_goes, get_reference_call_goes, commit_work_goes}
+use Rattle.jpa_machine.proofs.Ways.{Does}
 use Rattle.jpa_fetch.specs.Orderly.{IsOrderly}
 
 -- ---- of a manager that is open, and of whoever holds an object
@@ -87,11 +86,9 @@ module _ (world : World) (M : Machine) (P K : ℕ → Work → Type 0) (steps : 
   does_by orderly h start flushes (Call.Close em) rep made = tt
   does_by orderly h start flushes (Call.SetFlushMode em mode) rep made = tt
   does_by orderly h start flushes (Call.Query em text parameters first max) rep made = λ m o.
-      let q : Wanted = record { text = text; parameters = parameters; first = first; max = max } in
-      of_open m o (query_call q (flushes_first M m) world (work_of M m)) (query_call_goes (steps m) (flushes m) q (flushes_first M m) (work_of M m) (start m))
+      of_open m o (query_call text parameters first max (flushes_first M m) world (work_of M m)) (query_call_goes (steps m) (flushes m) text parameters first max (flushes_first M m) (work_of M m) (start m))
   does_by orderly h start flushes (Call.QuerySingle em text parameters first max) rep made = λ m o.
-      let q : Wanted = record { text = text; parameters = parameters; first = first; max = max } in
-      of_open m o (query_single_call q (flushes_first M m) world (work_of M m)) (query_single_call_goes (steps m) (flushes m) q (flushes_first M m) (work_of M m) (start m))
+      of_open m o (query_single_call text parameters first max (flushes_first M m) world (work_of M m)) (query_single_call_goes (steps m) (flushes m) text parameters first max (flushes_first M m) (work_of M m) (start m))
   does_by orderly h start flushes (Call.Find em name key) rep made = λ m o. of_open m o (find_call world name key (work_of M m)) (find_call_goes (steps m) name key (work_of M m) (start m))
   does_by orderly h start flushes (Call.ExecuteUpdate em text parameters) rep made = λ m e o.
       of_open m o (update_outcome world M text parameters m)

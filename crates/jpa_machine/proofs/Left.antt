@@ -4,7 +4,7 @@ use Rattle.std.specs.Prelude.{Option, Some, None, IsErr, OnOk, Result, Ok, Err, 
 use Rattle.jpa_value.specs.declared.refusal.Refusal.{Refusal}
 use Rattle.jpa_protocol.specs.declared.reply.Answer.{Answer}
 use Rattle.jpql_kept.specs.Fits.{AreInherited}
-use Rattle.jpa_provider.specs.Updating.{MakesRepresentable}
+use Rattle.jpa_machine.specs.Updating.{MakesRepresentable}
 use Rattle.std.proofs.lemmas.Bool.{false≢true, true≢false}
 use Rattle.std.proofs.Math.Seq.{map-set_same}
 use Rattle.jpa_behaviour.specs.Behaviour.{World, IsRegular}
@@ -16,15 +16,15 @@ use Rattle.jpa_context.specs.declared.Entry.{Entry}
 use Rattle.jpa_ops.specs.States.{detach_each}
 use Rattle.jpa_protocol.specs.declared.call.Call.{Call}
 use Rattle.jpa_protocol.specs.declared.reply.Reply.{Reply}
-use Rattle.jpa_provider.specs.Machine.{Machine, Transaction, manager_at, no_manager, marked_in, rolled_back}
-use Rattle.jpa_provider.specs.Calls.{marked_if}
-use Rattle.jpa_provider.specs.Routes.{Route, commits, rolls_back, route, is_commit, is_rollback}
-use Rattle.jpa_provider.specs.Step.{Step}
-use Rattle.jpa_provider.specs.Invariant.{IsMachine, hands_representable}
-use Rattle.jpa_provider.specs.Left.{unmarked, unmarked_in, stateless, LivesAsBefore, HoldsSameValues}
+use Rattle.jpa_machine.specs.Machine.{Machine, Transaction, manager_at, no_manager, marked_in, rolled_back}
+use Rattle.jpa_machine.specs.Calls.{marked_if}
+use Rattle.jpa_machine.specs.Routes.{Route, commits, rolls_back, route, is_commit, is_rollback}
+use Rattle.jpa_machine.specs.Step.{Step}
+use Rattle.jpa_machine.specs.Invariant.{IsMachine, hands_representable}
+use Rattle.jpa_machine.specs.Left.{unmarked, unmarked_in, stateless, LivesAsBefore, HoldsSameValues}
 use Rattle.jpa_consistent.proofs.Facts.{numbers_same}
-use Rattle.jpa_provider.proofs.Ways.{IsOther, Ways, does_something, on_route, on_step}
-use Rattle.jpa_provider.proofs.Operated.{IsDone, does}
+use Rattle.jpa_machine.proofs.Ways.{IsOther, Ways, does_something, on_route, on_step}
+use Rattle.jpa_machine.proofs.Operated.{IsDone, does}
 use Rattle.jpa_fetch.specs.Orderly.{IsOrderly}
 
 unmarked_same : (t : Option Transaction) → unmarked_in (marked_in t) ≡ unmarked_in t

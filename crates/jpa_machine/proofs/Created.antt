@@ -12,9 +12,9 @@ use Rattle.jpa_behaviour.specs.Behaviour.{World}
 use Rattle.jpa_heap.specs.Objects.{new_object}
 use Rattle.jpa_consistent.proofs.Facts.{numbers_same}
 use Rattle.jpa_consistent.proofs.Kept.{holds_more, live_more, placed_more, new_live}
-use Rattle.jpa_provider.specs.Machine.{Machine}
-use Rattle.jpa_provider.specs.Invariant.{IsMachine, context_of}
-use Rattle.jpa_provider.proofs.AtWork.{manager_kept}
+use Rattle.jpa_machine.specs.Machine.{Machine}
+use Rattle.jpa_machine.specs.Invariant.{IsMachine, context_of}
+use Rattle.jpa_machine.proofs.AtWork.{manager_kept}
 
 -- ---- a new object
 

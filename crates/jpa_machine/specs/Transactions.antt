@@ -14,8 +14,8 @@ use Rattle.jpa_context.specs.Steps.{◌>>=◌, ◌>>◌, Outcome, Done, Refused,
 use Rattle.jpa_flush.specs.Flush.{flush, reads_hold}
 use Rattle.jpa_protocol.specs.declared.reply.Answer.{Answer}
 use Rattle.jpa_protocol.specs.declared.reply.Reply.{Reply}
-use Rattle.jpa_provider.specs.Machine.{Machine, Transaction, manager_at, with_manager, is_busy, work_of, marked, rolled_back, committed_after}
-use Rattle.jpa_provider.specs.Calls.{accepted, refused, because}
+use Rattle.jpa_machine.specs.Machine.{Machine, Transaction, manager_at, with_manager, is_busy, work_of, marked, rolled_back, committed_after}
+use Rattle.jpa_machine.specs.Calls.{accepted, refused, because}
 
 -- ---- begin
 

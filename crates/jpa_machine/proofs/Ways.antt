@@ -17,15 +17,15 @@ use Rattle.jpa_protocol.specs.declared.call.FlushMode.{FlushMode}
 use Rattle.jpa_protocol.specs.declared.event.Told.{Told}
 use Rattle.jpa_protocol.specs.declared.reply.Answer.{Answer}
 use Rattle.jpa_protocol.specs.declared.reply.Reply.{Reply}
-use Rattle.jpa_provider.specs.Machine.{Machine, Manager, Transaction, manager_at, new_manager, has_transaction, is_busy, work_of, kept, marked, flushes_first, rolled_back, with_mode, cleared, closed, committed_after}
-use Rattle.jpa_provider.specs.Calls.{accepted, refused, because, ended, marks, marks_if_callback, marked_if, give_or}
-use Rattle.jpa_provider.specs.Transactions.{begin, begin_in, begun, commit, commit_in, commit_if, commit_of, commit_work, rollback, rollback_in, set_rollback_only, only_rollback_in}
-use Rattle.jpa_provider.specs.Routes.{Route, OfManager, ToQuery, ToUpdate, InTransaction, OfObject, ToCreate, ToMake, ToBegin, ToCommit, ToRollBack, ToMark, ToAsk, ToClear, ToSetMode, ToClose, answered, by_route, if_open, if_begun, transaction_required, by_manager, close, made_new, holder, holder_in, commits, rolls_back}
-use Rattle.jpa_provider.specs.Step.{Step, outcome}
+use Rattle.jpa_machine.specs.Machine.{Machine, Manager, Transaction, manager_at, new_manager, has_transaction, is_busy, work_of, kept, marked, flushes_first, rolled_back, with_mode, cleared, closed, committed_after}
+use Rattle.jpa_machine.specs.Calls.{accepted, refused, because, ended, marks, marks_if_callback, marked_if, give_or}
+use Rattle.jpa_machine.specs.Transactions.{begin, begin_in, begun, commit, commit_in, commit_if, commit_of, commit_work, rollback, rollback_in, set_rollback_only, only_rollback_in}
+use Rattle.jpa_machine.specs.Routes.{Route, OfManager, ToQuery, ToUpdate, InTransaction, OfObject, ToCreate, ToMake, ToBegin, ToCommit, ToRollBack, ToMark, ToAsk, ToClear, ToSetMode, ToClose, answered, by_route, if_open, if_begun, transaction_required, by_manager, close, made_new, holder, holder_in, commits, rolls_back}
+use Rattle.jpa_machine.specs.Step.{Step, outcome}
 use Rattle.jpa_consistent.specs.Going.{HoldsAfter}
-use Rattle.jpa_provider.proofs.AtWork.{IsOpen}
-use Rattle.jpa_provider.proofs.Created.{class_within}
-use Rattle.jpa_provider.proofs.Handed.{place_within}
+use Rattle.jpa_machine.proofs.AtWork.{IsOpen}
+use Rattle.jpa_machine.proofs.Created.{class_within}
+use Rattle.jpa_machine.proofs.Handed.{place_within}
 
 -- no commit and no rollback
 pub record IsOther (r : Route) : Type 0 where

@@ -7,13 +7,13 @@ use Rattle.jpa_behaviour.specs.Behaviour.{World}
 use Rattle.jpa_stored.specs.Sets.{StoredSet}
 use Rattle.jpa_protocol.specs.declared.call.Call.{Call}
 use Rattle.jpa_protocol.specs.declared.reply.Reply.{Reply}
-use Rattle.jpa_provider.specs.Machine.{Machine, Manager, Transaction, manager_at, no_manager, new_manager, is_begun, has_transaction, is_busy, seen_in, marked_in, kept, rolled_back, with_mode, cleared, closed, committed_after}
-use Rattle.jpa_provider.specs.Calls.{marked_if}
-use Rattle.jpa_provider.specs.Transactions.{begun}
-use Rattle.jpa_provider.specs.Routes.{Route, route}
-use Rattle.jpa_provider.specs.Step.{Step}
-use Rattle.jpa_provider.specs.Invariant.{HasOneTransaction}
-use Rattle.jpa_provider.proofs.Ways.{Ways, does_something, on_route, on_step}
+use Rattle.jpa_machine.specs.Machine.{Machine, Manager, Transaction, manager_at, no_manager, new_manager, is_begun, has_transaction, is_busy, seen_in, marked_in, kept, rolled_back, with_mode, cleared, closed, committed_after}
+use Rattle.jpa_machine.specs.Calls.{marked_if}
+use Rattle.jpa_machine.specs.Transactions.{begun}
+use Rattle.jpa_machine.specs.Routes.{Route, route}
+use Rattle.jpa_machine.specs.Step.{Step}
+use Rattle.jpa_machine.specs.Invariant.{HasOneTransaction}
+use Rattle.jpa_machine.proofs.Ways.{Ways, does_something, on_route, on_step}
 
 -- no manager has a transaction that had none
 abbrev OpensNone : Machine → Machine → Type 0

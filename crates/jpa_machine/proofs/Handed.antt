@@ -20,10 +20,10 @@ use Rattle.jpa_fetch.specs.Members.{get, set, add, take_out, is_held}
 use Rattle.jpa_ops.specs.States.{persist, remove, refresh, detach, lock}
 use Rattle.jpa_merge.specs.Merge.{merge}
 use Rattle.jpa_flush.specs.Flush.{flush, reads_hold}
-use Rattle.jpa_provider.specs.Calls.{object_numbered, handed, got, nothing, truth, object_told, object_or_null, told_as, give_or, class_named, key_given, is_short_given, whole_key}
-use Rattle.jpa_provider.specs.Transactions.{commit_work}
-use Rattle.jpa_provider.specs.Routes.{get_call, set_call, add_call, take_out_call, persist_call, remove_call, refresh_call, detach_call, merge_call, lock_call, lock_of, flush_call, find_call, get_reference_call, there_must_be}
-use Rattle.jpa_provider.specs.Invariant.{given_representable}
+use Rattle.jpa_machine.specs.Calls.{object_numbered, handed, got, nothing, truth, object_told, object_or_null, told_as, give_or, class_named, key_given, is_short_given, whole_key}
+use Rattle.jpa_machine.specs.Transactions.{commit_work}
+use Rattle.jpa_machine.specs.Routes.{get_call, set_call, add_call, take_out_call, persist_call, remove_call, refresh_call, detach_call, merge_call, lock_call, lock_of, flush_call, find_call, get_reference_call, there_must_be}
+use Rattle.jpa_machine.specs.Invariant.{given_representable}
 use Rattle.jpa_consistent.specs.Going.{HoldsAfter}
 use Rattle.jpa_fetch.specs.Orderly.{IsOrderly}
 use Rattle.jpa_consistent.proofs.Going.{after_holds, require_holds, require_holds_last, More, only}

@@ -19,10 +19,10 @@ use Rattle.jpa_consistent.proofs.Facts.{numbers_same}
 use Rattle.jpa_consistent.proofs.Going.{stands_same}
 use Rattle.jpa_consistent.proofs.Kept.{others_kept, distinct_same, HaveNames}
 use Rattle.jpa_consistent.proofs.Detached.{stands, freed, length_detached, detached_at, detached_live, same_object, holds_detached, held_once, stands_held, leaving, staying, leaves_not, stays, staying_each, any_part, distinct_part, any_unlocked, distinct_unlocked, unlocked_entry, entry_stays}
-use Rattle.jpa_provider.specs.Machine.{Machine, Manager, manager_at, no_manager, rolled_back, committed_after, cleared, closed, is_begun, has_transaction, Transaction}
-use Rattle.jpa_provider.specs.Invariant.{IsMachine, IsManager, context_of, is_idle}
-use Rattle.jpa_provider.proofs.Settled.{same_context, with_transaction}
-use Rattle.jpa_provider.proofs.AtWork.{IsAtWork, others_of, manager_then, managers_set, taken, contexts_set}
+use Rattle.jpa_machine.specs.Machine.{Machine, Manager, manager_at, no_manager, rolled_back, committed_after, cleared, closed, is_begun, has_transaction, Transaction}
+use Rattle.jpa_machine.specs.Invariant.{IsMachine, IsManager, context_of, is_idle}
+use Rattle.jpa_machine.proofs.Settled.{same_context, with_transaction}
+use Rattle.jpa_machine.proofs.AtWork.{IsAtWork, others_of, manager_then, managers_set, taken, contexts_set}
 
 -- ---- a manager lets go of the objects that pass the test
 

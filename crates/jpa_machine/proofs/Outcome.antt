@@ -9,18 +9,18 @@ use Rattle.jpa_protocol.specs.declared.call.Call.{Call}
 use Rattle.jpa_protocol.specs.declared.reply.Answer.{Answer}
 use Rattle.jpa_protocol.specs.declared.reply.Reply.{Reply}
 use Rattle.jpql_kept.specs.Fits.{AreInherited}
-use Rattle.jpa_provider.specs.Updating.{MakesRepresentable, is_bulk}
-use Rattle.jpa_provider.specs.Machine.{Machine}
-use Rattle.jpa_provider.specs.Calls.{marked_if}
-use Rattle.jpa_provider.specs.Routes.{Route, route}
-use Rattle.jpa_provider.specs.Step.{outcome, machine_after, Step}
-use Rattle.jpa_provider.specs.Invariant.{IsMachine, hands_representable}
-use Rattle.jpa_provider.proofs.AtWork.{returned}
-use Rattle.jpa_provider.proofs.Settled.{created_holds, begun_holds, marked_holds, mode_holds}
-use Rattle.jpa_provider.proofs.Created.{object_made}
-use Rattle.jpa_provider.proofs.Ended.{cleared_holds, closed_holds, committed_holds, rolled_back_holds}
-use Rattle.jpa_provider.proofs.Ways.{Ways, does_something, on_route, on_step}
-use Rattle.jpa_provider.proofs.Operated.{IsDone, does}
+use Rattle.jpa_machine.specs.Updating.{MakesRepresentable, is_bulk}
+use Rattle.jpa_machine.specs.Machine.{Machine}
+use Rattle.jpa_machine.specs.Calls.{marked_if}
+use Rattle.jpa_machine.specs.Routes.{Route, route}
+use Rattle.jpa_machine.specs.Step.{outcome, machine_after, Step}
+use Rattle.jpa_machine.specs.Invariant.{IsMachine, hands_representable}
+use Rattle.jpa_machine.proofs.AtWork.{returned}
+use Rattle.jpa_machine.proofs.Settled.{created_holds, begun_holds, marked_holds, mode_holds}
+use Rattle.jpa_machine.proofs.Created.{object_made}
+use Rattle.jpa_machine.proofs.Ended.{cleared_holds, closed_holds, committed_holds, rolled_back_holds}
+use Rattle.jpa_machine.proofs.Ways.{Ways, does_something, on_route, on_step}
+use Rattle.jpa_machine.proofs.Operated.{IsDone, does}
 use Rattle.jpa_fetch.specs.Orderly.{IsOrderly}
 
 ways : {world : World} {M : Machine} (r : Route) → IsMachine world M → Ways world M r (λ o. IsMachine world o.1) (IsDone world M)

@@ -6,15 +6,15 @@ use Rattle.jpa_stored.specs.Sets.{each_fits}
 use Rattle.jpa_context.specs.Work.{Work}
 use Rattle.jpa_context.specs.Steps.{Done}
 use Rattle.jpa_flush.specs.Flush.{flush}
-use Rattle.jpa_provider.specs.Machine.{Machine}
-use Rattle.jpa_provider.specs.Invariant.{IsMachine}
+use Rattle.jpa_machine.specs.Machine.{Machine}
+use Rattle.jpa_machine.specs.Invariant.{IsMachine}
 use Rattle.jpa_consistent.proofs.Facts.{numbers_trans}
 use Rattle.jpa_consistent.specs.Going.{HoldsAfter}
-use Rattle.jpa_provider.proofs.AtWork.{IsAtWork}
+use Rattle.jpa_machine.proofs.AtWork.{IsAtWork}
 use Rattle.jpa_consistent.proofs.Flushed.{flush_goes}
 use Rattle.jpa_consistent.proofs.Going.{More, only}
-use Rattle.jpa_provider.specs.Transactions.{commit_work}
-use Rattle.jpa_provider.proofs.Handed.{commit_work_goes}
+use Rattle.jpa_machine.specs.Transactions.{commit_work}
+use Rattle.jpa_machine.proofs.Handed.{commit_work_goes}
 use Rattle.jpa_fetch.specs.Orderly.{IsOrderly}
 
 pub flushed_at_work : {world : World} (M : Machine) {m : ℕ} {w : Work} (w' : Work) → IsOrderly world.model → IsRegular world → IsAtWork world M m w → flush world w ≡ Done tt w' →

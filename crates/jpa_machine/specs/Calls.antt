@@ -17,7 +17,7 @@ use Rattle.jpa_protocol.specs.declared.call.Given.{Given}
 use Rattle.jpa_protocol.specs.declared.event.Told.{Told}
 use Rattle.jpa_protocol.specs.declared.reply.Answer.{Answer}
 use Rattle.jpa_protocol.specs.declared.reply.Reply.{Reply}
-use Rattle.jpa_provider.specs.Machine.{Machine, kept, marked}
+use Rattle.jpa_machine.specs.Machine.{Machine, kept, marked}
 
 -- ---- what is handed in
 

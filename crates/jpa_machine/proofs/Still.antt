@@ -5,11 +5,11 @@ use Rattle.std.proofs.lemmas.Bool.{false≢true, true≢false}
 use Rattle.jpa_behaviour.specs.Behaviour.{World}
 use Rattle.jpa_protocol.specs.declared.call.Call.{Call}
 use Rattle.jpa_protocol.specs.declared.reply.Reply.{Reply}
-use Rattle.jpa_provider.specs.Machine.{Machine, IsStoredAs}
-use Rattle.jpa_provider.specs.Calls.{marked_if}
-use Rattle.jpa_provider.specs.Routes.{Route, commits, route, is_commit}
-use Rattle.jpa_provider.specs.Step.{Step}
-use Rattle.jpa_provider.proofs.Ways.{Ways, does_something, on_route, on_step}
+use Rattle.jpa_machine.specs.Machine.{Machine, IsStoredAs}
+use Rattle.jpa_machine.specs.Calls.{marked_if}
+use Rattle.jpa_machine.specs.Routes.{Route, commits, route, is_commit}
+use Rattle.jpa_machine.specs.Step.{Step}
+use Rattle.jpa_machine.proofs.Ways.{Ways, does_something, on_route, on_step}
 
 still : (M : Machine) → IsStoredAs M M
 still M = record { committed = refl; numbers = refl }

@@ -14,7 +14,6 @@ use Rattle.jpa_rows.specs.Cells.{CanBeHeld, all_representable}
 use Rattle.jpa_protocol.specs.declared.call.Given.{Given}
 use Rattle.jpa_protocol.specs.declared.call.Parameter.{Parameter}
 use Rattle.jpa_protocol.specs.declared.reply.Answer.{Answer}
-use Rattle.jpa_protocol.specs.declared.reply.Reply.{Reply}
 use Rattle.jpa_heap.specs.declared.Handed.{Handed}
 use Rattle.jpa_heap.specs.declared.LiveObject.{LiveObject}
 use Rattle.jpa_heap.specs.Objects.{no_object, place_of}
@@ -35,13 +34,10 @@ use Rattle.jpa_consistent.specs.Consistent.{IsLive}
 use Rattle.jpa_consistent.specs.Going.{HoldsAfter}
 use Rattle.jpa_consistent.proofs.Going.{after_holds, require_holds}
 use Rattle.jpa_consistent.proofs.Laws.{Steps}
-use Rattle.jpa_provider.specs.declared.replies.Rule.{Rule}
-use Rattle.jpa_provider.specs.Calls as calls
-use Rattle.jpa_provider.specs.Machine.{Machine}
-use Rattle.jpa_provider.specs.Operations.{Concludes}
-use Rattle.jpa_provider.specs.Querying.{are_short, before, bindings_in, bound, handed_in, object_handed, update_call}
-use Rattle.jpa_provider.proofs.Handed.{place_within, told_holds}
-use Rattle.jpa_provider.proofs.Queried.{IsRead, then_read, read_of_reads, statement_of_reads, bound_reads}
+use Rattle.jpa_machine.specs.Calls as calls
+use Rattle.jpa_machine.specs.Querying.{are_short, before, bindings_in, bound, handed_in, object_handed, update_call}
+use Rattle.jpa_machine.proofs.Handed.{place_within, told_holds}
+use Rattle.jpa_machine.proofs.Queried.{IsRead, then_read, read_of_reads, statement_of_reads, bound_reads}
 
 -- ---- the objects that are bound stand in the heap
 
@@ -167,8 +163,3 @@ ok_from (Err e) x = tt
 pub ok_weaker : {A E X Y : Type 0} (r : Result A E) → (X → Y) → OnOk r X → OnOk r Y
 ok_weaker (Ok a) f x = f x
 ok_weaker (Err e) f x = tt
-
--- what an answer tells the reply does
-pub told_ok : (X : Type 0) (rule : Rule) (M N : Machine) (m : ℕ) (w : Work) (answered : Result Answer Cause) (reply : Reply) → Concludes rule M m w answered reply N → OnOk answered X → OnOk reply.answer X
-told_ok X rule M N m w (Ok a) reply c x = ok_from reply.answer x
-told_ok X rule M N m w (Err r) reply c x = subst (λ (y : Reply). OnOk y.answer X) (sym c.0) tt

@@ -19,9 +19,9 @@ use Rattle.jpa_consistent.specs.Consistent.{Others, IsContext, IsConsistent, con
 use Rattle.jpa_consistent.proofs.Going.{stands_same}
 use Rattle.jpa_consistent.proofs.Ready.{ready_at_work}
 use Rattle.jpa_consistent.proofs.Kept.{KeepsHeld, others_kept}
-use Rattle.jpa_provider.specs.Machine.{Machine, Manager, Transaction, manager_at, no_manager, work_of, kept, seen_in, view_in}
-use Rattle.jpa_provider.specs.Routes.{holder_in}
-use Rattle.jpa_provider.specs.Invariant.{IsMachine, IsManager, IsTransaction, is_idle, context_of}
+use Rattle.jpa_machine.specs.Machine.{Machine, Manager, Transaction, manager_at, no_manager, work_of, kept, seen_in, view_in}
+use Rattle.jpa_machine.specs.Routes.{holder_in}
+use Rattle.jpa_machine.specs.Invariant.{IsMachine, IsManager, IsTransaction, is_idle, context_of}
 use Rattle.jpa_consistent.proofs.Facts.{held_more, numbers_same, numbers_trans}
 
 -- ---- a manager at work

@@ -24,10 +24,10 @@ use Rattle.jpa_protocol.specs.declared.call.LockMode.{LockMode}
 use Rattle.jpa_protocol.specs.declared.call.FlushMode.{FlushMode}
 use Rattle.jpa_protocol.specs.declared.reply.Answer.{Answer}
 use Rattle.jpa_protocol.specs.declared.reply.Reply.{Reply}
-use Rattle.jpa_provider.specs.Machine.{Machine, new_manager, manager_at, has_transaction, work_of, with_mode, flushes_first, cleared, closed}
-use Rattle.jpa_provider.specs.Calls.{accepted, because, marks, marks_if_callback, ended, told_as, nothing, truth, object_told, object_or_null, got, object_numbered, handed, is_short_given, class_named, key_given}
-use Rattle.jpa_provider.specs.Querying.{query_call, query_single_call, update_call}
-use Rattle.jpa_provider.specs.Transactions.{begin, commit, rollback, set_rollback_only}
+use Rattle.jpa_machine.specs.Machine.{Machine, new_manager, manager_at, has_transaction, work_of, with_mode, flushes_first, cleared, closed}
+use Rattle.jpa_machine.specs.Calls.{accepted, because, marks, marks_if_callback, ended, told_as, nothing, truth, object_told, object_or_null, got, object_numbered, handed, is_short_given, class_named, key_given}
+use Rattle.jpa_machine.specs.Querying.{query_call, query_single_call, update_call}
+use Rattle.jpa_machine.specs.Transactions.{begin, commit, rollback, set_rollback_only}
 
 -- ---- managers
 
@@ -241,8 +241,8 @@ route (Call.GetReference em name key) = OfManager em (λ world. get_reference_ca
 route (Call.Contains em object) = ToAsk em (contains object)
 route (Call.Clear em) = ToClear em
 route (Call.SetFlushMode em mode) = ToSetMode em mode
-route (Call.Query em text parameters first max) = ToQuery em (query_call (record { text = text; parameters = parameters; first = first; max = max }))
-route (Call.QuerySingle em text parameters first max) = ToQuery em (query_single_call (record { text = text; parameters = parameters; first = first; max = max }))
+route (Call.Query em text parameters first max) = ToQuery em (query_call text parameters first max)
+route (Call.QuerySingle em text parameters first max) = ToQuery em (query_single_call text parameters first max)
 route (Call.ExecuteUpdate em text parameters) = ToUpdate em (update_call text parameters)
 route (Call.Close em) = ToClose em
 

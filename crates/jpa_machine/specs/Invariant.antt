@@ -14,7 +14,7 @@ use Rattle.jpa_consistent.specs.Consistent.{IsLive, IsEntry, are_one, stands_in}
 use Rattle.jpa_protocol.specs.declared.call.Call.{Call}
 use Rattle.jpa_protocol.specs.declared.call.Given.{Given}
 use Rattle.jpa_protocol.specs.declared.call.Parameter.{Parameter}
-use Rattle.jpa_provider.specs.Machine.{Machine, Manager, Transaction, manager_at, has_transaction}
+use Rattle.jpa_machine.specs.Machine.{Machine, Manager, Transaction, manager_at, has_transaction}
 
 -- ---- managers
 

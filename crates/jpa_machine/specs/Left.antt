@@ -4,7 +4,7 @@ use Rattle.std.specs.Prelude.{◌≡◌, false, map, Option, Some, None}
 use Rattle.jpa_heap.specs.declared.Life.{Life}
 use Rattle.jpa_heap.specs.declared.LiveObject.{LiveObject}
 use Rattle.jpa_heap.specs.Objects.{with_life}
-use Rattle.jpa_provider.specs.Machine.{Machine, Manager, Transaction}
+use Rattle.jpa_machine.specs.Machine.{Machine, Manager, Transaction}
 
 -- a manager but for the mark of its transaction
 abbrev pub unmarked_in : Option Transaction → Option Transaction

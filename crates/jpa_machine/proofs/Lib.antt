@@ -1,0 +1,15 @@
+pub mod AtWork
+pub mod Settled
+pub mod Created
+pub mod Ended
+pub mod Handed
+pub mod Ways
+pub mod Queried
+pub mod Updated
+pub mod Operated
+pub mod Outcome
+pub mod OneTransaction
+pub mod AfterFlush
+pub mod Still
+pub mod Left
+pub mod Told

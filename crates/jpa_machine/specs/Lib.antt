@@ -1,0 +1,10 @@
+pub mod Machine
+pub mod Calls
+pub mod Transactions
+pub mod Querying
+pub mod Updating
+pub mod Routes
+pub mod Step
+pub mod Invariant
+pub mod Left
+pub mod Faults
