@@ -10,6 +10,7 @@ mod classes;
 mod collections;
 mod conditions;
 mod drops;
+mod joins;
 mod keys;
 mod links;
 mod looked_up;

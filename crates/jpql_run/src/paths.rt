@@ -1,5 +1,5 @@
 //! Where paths lead from the objects of a tuple.
-ghost use Rattle.std.specs.Prelude.{◌≡◌, slice_index_or, option_map, IfOk};
+ghost use Rattle.std.specs.Prelude.{◌≡◌, slice_index_or, option_map, IfOk, IfSome};
 ghost use Rattle.std.specs.Option.{option_copied};
 ghost use Rattle.jpa_value.specs.declared.value.Value.{Value};
 ghost use Rattle.jpql_plan.specs.Paths as paths;
@@ -8,7 +8,7 @@ ghost use Rattle.jpql_eval.specs.Seen.{seen};
 ghost use Rattle.jpql_run.specs.Objects.{entry, entry_of, identities};
 ghost use Rattle.jpql_run.specs.Runs as runs;
 
-use crate::links::{first_related, related};
+use crate::links::{first_related, held_by_itself, related};
 use crate::object::{Object, object_of};
 use crate::run::Run;
 use crate::tuple::Tuple;
@@ -140,6 +140,20 @@ pub(crate) fn related_along<'a>(
     match step.member {
         Member::Relation(place) => related(alloc, run, step.class, object, place),
         Member::KeyPart(_) | Member::Version | Member::Attribute(_) => Ok(Vec::new(alloc)),
+    }
+}
+
+/// The identities that a step from an object leads to, rising, where the object itself holds them.
+pub(crate) fn held_along<'a>(
+    run: &Run<'a>,
+    object: &Object<'a>,
+    step: Step,
+) -> Option<&'a [Identity]>
+    ensures { IfSome result (λ ids. ids.now ≡ runs.related run.now (entry object.now) step) }
+{
+    match step.member {
+        Member::Relation(place) => held_by_itself(run, step.class, object, place),
+        Member::KeyPart(_) | Member::Version | Member::Attribute(_) => Some(&[]),
     }
 }
 

@@ -10,7 +10,7 @@ use Rattle.jpql_plan.specs.Paths.{Tuple}
 use Rattle.jpql_plan.specs.Selection.{put_tuple, put_tuples}
 use Rattle.jpql_rows.specs.Keys.{data_total}
 use Rattle.jpql_rows.proofs.Keys.{same_by_cmp}
-use Rattle.jpql_select.specs.Groups.{groups_in, add_at, begins_with, place_of, all_some}
+use Rattle.jpql_select.specs.Groups.{groups_in, add_at, begins_with, place_of, all_some, AreApart}
 
 pub added : {T : Type 0} (gs : List (Vec T)) (i : ℕ) (x y : Vec T) (t : T) → i < length gs → x ≡ slice_index_or gs i x → y.items ≡ x.items ++ t ∷ []
     → groups_in (slice_set gs i y) ≡ add_at (groups_in gs) i t
@@ -130,6 +130,50 @@ module _ (key : Tuple → List Datum) where
       by : (b : Bool) → same_data (key t) q ≡ b → place_of key q (gs ++ (t ∷ []) ∷ []) ≡ cond (same_data (key t) q) (Some (length gs)) (place_of key q gs)
       by true e = new_here t gs q s h e ∙ ap (λ b. cond b (Some (length gs)) (place_of key q gs)) (sym e)
       by false e = new_not_here t gs q e ∙ ap (λ b. cond b (Some (length gs)) (place_of key q gs)) (sym e)
+
+  -- ---- no two groups are of one key
+
+  by_key : (b c : Bool) (o p : Option ℕ) → b ≡ c → o ≡ p → cond b (Some 0) (option_map suc o) ≡ cond c (Some 0) (option_map suc p)
+  by_key b c o p e f = ap (λ x. cond x (Some 0) (option_map suc o)) e ∙ ap (λ x. cond c (Some 0) (option_map suc x)) f
+
+  same_begin : (k q : List Datum) (g : List Tuple) → same_data k q ≡ true → begins_with key k g ≡ begins_with key q g
+  same_begin k q [] e = refl
+  same_begin k q (one ∷ more) e = same_laws.symm (key one) k ∙ same_laws.congr k q (key one) e ∙ same_laws.symm q (key one)
+
+  same_place : (k q : List Datum) (gs : List (List Tuple)) → same_data k q ≡ true → place_of key k gs ≡ place_of key q gs
+  same_place k q [] e = refl
+  same_place k q (g ∷ gs) e = by_key _ _ _ _ (same_begin k q g e) (same_place k q gs e)
+
+  none_begins : (q : List Datum) (g : List Tuple) (gs : List (List Tuple)) (i : ℕ) → AreApart key (g ∷ gs) → place_of key q gs ≡ Some i → (b : Bool) → begins_with key q g ≡ b → b ≡ false
+  unfolding is_none_of
+  none_begins q g gs i h p false e = refl
+  none_begins q [] gs i h p true e = absurd (false≢true e)
+  none_begins q (one ∷ more) gs i h p true e = absurd (false≢true (sym (ap is_none_of (sym h.0 ∙ same_place (key one) q gs e ∙ p))))
+
+  tail_apart : (g : List Tuple) (gs : List (List Tuple)) → AreApart key (g ∷ gs) → AreApart key gs
+  tail_apart [] gs h = h
+  tail_apart (one ∷ more) gs h = h.1
+
+  -- the group that begins so is the one of the key
+  pub place_here : (q : List Datum) (gs : List (List Tuple)) (i : ℕ) → AreApart key gs → begins_with key q (slice_index_or gs i []) ≡ true → place_of key q gs ≡ Some i
+  place_here q [] i h e = absurd (false≢true e)
+  place_here q (g ∷ gs) zero h e = ap (λ b. cond b (Some 0) (option_map suc (place_of key q gs))) e
+  place_here q (g ∷ gs) (suc i) h e =
+      let p = place_here q gs i (tail_apart g gs h) e in
+      ap (λ b. cond b (Some 0) (option_map suc (place_of key q gs))) (none_begins q g gs i h p (begins_with key q g) refl) ∙ ap (option_map suc) p
+
+  pub apart_stay : (gs : List (List Tuple)) (i : ℕ) (t : Tuple) → all_some gs ≡ true → AreApart key gs → AreApart key (add_at gs i t)
+  apart_stay [] i t s h = h
+  apart_stay ([] ∷ gs) i t s h = absurd (false≢true s)
+  apart_stay ((one ∷ more) ∷ gs) zero t s h = h
+  apart_stay ((one ∷ more) ∷ gs) (suc i) t s h = (place_stays (key one) gs i t s ∙ h.0, apart_stay gs i t s h.1)
+
+  pub apart_more : (gs : List (List Tuple)) (t : Tuple) → all_some gs ≡ true → place_of key (key t) gs ≡ None → AreApart key gs → AreApart key (gs ++ (t ∷ []) ∷ [])
+  apart_more [] t s p h = (refl, tt)
+  apart_more ([] ∷ gs) t s p h = absurd (false≢true s)
+  apart_more ((one ∷ more) ∷ gs) t s p h =
+      let by = none_by (same_data (key one) (key t)) (place_of key (key t) gs) p in
+      (new_not_here t gs (key one) (sym (same_laws.symm (key one) (key t)) ∙ by.0) ∙ h.0, apart_more gs t s by.1 h.1)
 
   -- ---- one more tuple of those that are left
 

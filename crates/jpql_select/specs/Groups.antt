@@ -1,5 +1,5 @@
 -- Groups of tuples, and where they stand.
-use Rattle.std.specs.Prelude.{ℕ, zero, suc, Bool, true, false, List, [], ◌∷◌, ◌++◌, map, Option, Some, None, option_map, if◌then◌else◌}
+use Rattle.std.specs.Prelude.{◌≡◌, ℕ, zero, suc, Bool, true, false, List, [], ◌∷◌, ◌++◌, map, Option, Some, None, option_map, if◌then◌else◌}
 use Rattle.std.specs.Global.{Vec}
 use Rattle.jpql_eval.specs.declared.datum.Datum.{Datum}
 use Rattle.jpql_eval.specs.Data.{same_data}
@@ -22,6 +22,12 @@ begins_with key k (one ∷ more) = same_data (key one) k
 abbrev pub place_of : (Tuple → List Datum) → List Datum → List (List Tuple) → Option ℕ
 place_of key k [] = None
 place_of key k (g ∷ gs) = if begins_with key k g then Some 0 else option_map suc (place_of key k gs)
+
+-- no two groups are of one key
+abbrev pub AreApart : (Tuple → List Datum) → List (List Tuple) → Type 0
+AreApart key [] = Unit {0}
+AreApart key ([] ∷ gs) = AreApart key gs
+AreApart key ((one ∷ more) ∷ gs) = (place_of key (key one) gs ≡ None) × AreApart key gs
 
 -- whether each group has a tuple
 abbrev pub all_some : List (List Tuple) → Bool

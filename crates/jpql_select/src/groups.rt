@@ -1,10 +1,12 @@
 //! GROUP BY (chapter 4.8): tuples with the same key stand in one group, and groups in the order of
 //! their first tuples.
-ghost use Rattle.std.specs.Prelude.{◌≡◌, ◌<◌, ◌++◌, ◌∷◌, [], length, OnOk, IfOk};
+ghost use Rattle.std.specs.Prelude.{◌≡◌, ◌<◌, ◌++◌, ◌∷◌, [], length, slice_index_or, OnOk, IfOk};
+ghost use Rattle.jpql_eval.specs.Data.{same_data};
 ghost use Rattle.jpql_plan.specs.Selection.{put_tuples};
-ghost use Rattle.jpql_select.specs.Groups.{groups_in, add_at};
+ghost use Rattle.jpql_select.specs.Groups.{groups_in, add_at, begins_with};
 ghost use Rattle.jpql_select.specs.Selects as selects;
 
+use jpql_eval::is_same;
 use jpql_rows::Key;
 use jpql_run::{Run, Tuple, path};
 use jpql_types::TypedPath;
@@ -56,7 +58,45 @@ fn begin<'a>(
     Ok(())
 }
 
-/// The groups of tuples by these paths.
+/// Whether two tuples are grouped by the same.
+fn are_alike<'a>(
+    run: &Run<'a>,
+    paths: &[TypedPath],
+    one: &Tuple<'a>,
+    other: &Tuple<'a>,
+) -> bool
+    ensures { result ≡ same_data (selects.group_key run.now paths.now one.now)
+        (selects.group_key run.now paths.now other.now) }
+{
+    for by in paths {
+        if !is_same(&path(run, one, by), &path(run, other, by)) {
+            return false;
+        }
+    }
+    true
+}
+
+/// Whether the group at a place, if one is there, is the one that a tuple belongs to.
+fn is_at<'a>(
+    run: &Run<'a>,
+    paths: &[TypedPath],
+    groups: &[Vec<Tuple<'a>>],
+    place: usize,
+    tuple: &Tuple<'a>,
+) -> bool
+    ensures { let key = selects.group_key run.now paths.now in
+        result ≡ begins_with key (key tuple.now) (slice_index_or (groups_in groups.now) place []) }
+{
+    match groups.get(place) {
+        None => false,
+        Some(group) => match group.as_slice() {
+            [] => false,
+            [first, ..] => are_alike(run, paths, first, tuple),
+        },
+    }
+}
+
+/// The groups of tuples by these paths. The group of the tuple before is tried first.
 pub(crate) fn grouped<'a>(
     alloc: Global,
     run: &Run<'a>,
@@ -68,12 +108,21 @@ pub(crate) fn grouped<'a>(
 {
     let mut places = BTreeMap::new(alloc);
     let mut groups = Vec::new(alloc);
+    let mut last = 0;
     for tuple in tuples {
+        if is_at(run, paths, &groups, last, &tuple) {
+            add(&mut groups, last, tuple)?;
+            continue;
+        }
         let key = key_at(alloc, run, paths, &tuple)?;
         match places.get(&key) {
-            Some(place) => add(&mut groups, *place, tuple)?,
+            Some(place) => {
+                last = *place;
+                add(&mut groups, last, tuple)?;
+            }
             None => {
-                places.insert(key, groups.len())?;
+                last = groups.len();
+                places.insert(key, last)?;
                 begin(alloc, &mut groups, tuple)?;
             }
         }

@@ -3,7 +3,7 @@ use Rattle.std.specs.BTreeMap.{get}
 use Rattle.jpql_eval.specs.declared.datum.Datum.{Datum}
 use Rattle.jpql_plan.specs.Selection.{put_tuples}
 use Rattle.jpql_rows.specs.Keys.{data_cmp}
-use Rattle.jpql_select.specs.Groups.{groups_in, place_of, all_some}
+use Rattle.jpql_select.specs.Groups.{groups_in, place_of, all_some, AreApart}
 use Rattle.jpql_select.specs.Selects.{group_key}
 use Rattle.jpql_select.proofs.groups.grouped.Given as goal
 
@@ -14,5 +14,6 @@ invariant-loop-tuple l =
     record {
       groups : put_tuples key [] l.fn.tuples.items ≡ put_tuples key (groups_in l.groups.items) (drop (length l.yielded) l.fn.tuples.items);
       some : all_some (groups_in l.groups.items) ≡ true;
+      apart : AreApart key (groups_in l.groups.items);
       places : (k : List Datum) → get data_cmp l.places k ≡ place_of key k (groups_in l.groups.items);
     }
