@@ -17,7 +17,7 @@ pub type Table<'a> = Vec<Vec<Seen<'a>>>;
 fn table_of<'a>(alloc: Global, rows: Vec<Row<'a>>) -> Result<Table<'a>, AllocError>
     ensures { IfOk result (λ table. rows_in table ≡ items_in rows.entry.items) }
 {
-    let mut table = Vec::new(alloc);
+    let mut table = Vec::with_capacity(alloc, rows.len())?;
     for row in rows {
         table.push(row.items)?;
     }

@@ -73,7 +73,7 @@ fn call<'a>(
     ensures { Finds seen result (meaning.call function
         (map (runs.value_in run.now tuple.now group.now) all.now)) }
 {
-    let mut found = Vec::new(alloc);
+    let mut found = Vec::with_capacity(alloc, all.len())?;
     for one in all {
         found.push(value(alloc, run, tuple, group, one)?)?;
     }
@@ -92,7 +92,7 @@ fn over_group<'a>(
     ensures { Finds seen result (meaning.aggregate aggregate is_distinct
         (map (runs.value_alone run.now operand.now) group.now)) }
 {
-    let mut found = Vec::new(alloc);
+    let mut found = Vec::with_capacity(alloc, group.len())?;
     for other in group {
         found.push(value(alloc, run, other, &[], operand)?)?;
     }

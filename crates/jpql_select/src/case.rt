@@ -73,7 +73,7 @@ fn each_alone<'a>(alloc: Global, tuples: Vec<Tuple<'a>>) -> Result<Vec<Case<'a>>
     ensures { IfOk result (λ cases. map case_in cases.items
         ≡ map meaning.alone tuples.entry.items) }
 {
-    let mut cases = Vec::new(alloc);
+    let mut cases = Vec::with_capacity(alloc, tuples.len())?;
     for tuple in tuples {
         cases.push(Case {
             tuple,
@@ -99,7 +99,7 @@ fn each_group<'a>(alloc: Global, groups: Vec<Vec<Tuple<'a>>>) -> Result<Vec<Case
     ensures { IfOk result (λ cases. map case_in cases.items
         ≡ map selection.case_of (groups_in groups.entry.items)) }
 {
-    let mut cases = Vec::new(alloc);
+    let mut cases = Vec::with_capacity(alloc, groups.len())?;
     for group in groups {
         cases.push(case_of(alloc, group)?)?;
     }

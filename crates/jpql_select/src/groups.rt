@@ -22,7 +22,7 @@ fn key_at<'a>(
 ) -> Result<Key<'a>, AllocError>
     ensures { IfOk result (λ key. key ≡ selects.group_key run.now paths.now tuple.now) }
 {
-    let mut found = Vec::new(alloc);
+    let mut found = Vec::with_capacity(alloc, paths.len())?;
     for one in paths {
         found.push(path(run, tuple, one))?;
     }
