@@ -1,4 +1,4 @@
-use Rattle.std.proofs.Common.{◌≡◌, ◌+◌, ◌++◌, [], ◌∷◌, cond, List, length, drop, Some, None, sym, ap, ◌∙◌}
+use Rattle.std.proofs.Common.{◌≡◌, true, slice_index_or, ◌+◌, ◌++◌, [], ◌∷◌, cond, List, length, drop, Some, None, sym, ap, subst, ◌∙◌}
 use Rattle.std.specs.BTreeMap.{get}
 use Rattle.std.specs.Option.{option_copied}
 use Rattle.std.proofs.lemmas.Iterator.Adapters.{YieldsList-from_vec}
@@ -8,17 +8,52 @@ use Rattle.jpql_eval.specs.declared.datum.Datum.{Datum}
 use Rattle.jpql_eval.specs.Data.{same_data}
 use Rattle.jpql_rows.specs.Keys.{data_cmp}
 use Rattle.jpql_rows.proofs.Keys.{same_by_cmp}
-use Rattle.jpql_select.specs.Groups.{groups_in, add_at, place_of, all_some}
+use Rattle.jpql_select.specs.Groups.{groups_in, add_at, begins_with, place_of, all_some, AreApart}
 use Rattle.jpql_select.specs.Selects.{group_key}
-use Rattle.jpql_select.proofs.Placed.{place_within, joined_there, joined_new, some_stay, some_more, place_stays, place_new}
+use Rattle.jpql_select.proofs.Placed.{place_within, joined_there, joined_new, some_stay, some_more, place_stays, place_new, place_here, apart_stay, apart_more}
 use Rattle.jpql_select.proofs.groups.grouped.Goals as goal
 
 pub add-requires : goal.add-requires
 add-requires c =
     let key = group_key c.args.run.now c.args.paths.now in
+    let gs = groups_in c.loop-tuple.groups.items in
+    let i = c.loop-tuple.last in
+    let x = c.in-Some.tuple in
+    place_within key (key x) c.loop-tuple.groups.items i
+    (place_here key (key x) gs i c.loop-tuple.invariant.apart
+    (ap (λ items. begins_with key (key x) (slice_index_or (groups_in items) i [])) (sym c.deref.ensures.value) ∙ sym c.is_at.ensures ∙ c.if-is_at.true))
+
+pub add-requires-in-Some-get : goal.add-requires-in-Some-get
+add-requires-in-Some-get c =
+    let key = group_key c.args.run.now c.args.paths.now in
     let k = c.in_ok-key.key in
     place_within key k c.loop-tuple.groups.items c.in-Some-get.place.now
     (sym (c.loop-tuple.invariant.places k) ∙ sym c.get.ensures.value ∙ ap option_copied c.in-Some-get.is)
+
+-- the group of the tuple before is the one
+pub loop-tuple-preserved-then-is_at : goal.loop-tuple-preserved-then-is_at
+loop-tuple-preserved-then-is_at c =
+    let key = group_key c.args.run.now c.args.paths.now in
+    let all = c.args.tuples.items in
+    let xs = c.loop-tuple.yielded in
+    let x = c.in-Some.tuple in
+    let gs = groups_in c.loop-tuple.groups.items in
+    let i = c.loop-tuple.last in
+    let some = c.loop-tuple.invariant.some in
+    let begins : begins_with key (key x) (slice_index_or gs i []) ≡ true =
+    ap (λ items. begins_with key (key x) (slice_index_or (groups_in items) i [])) (sym c.deref.ensures.value) ∙ sym c.is_at.ensures ∙ c.if-is_at.true in
+    let place : place_of key (key x) gs ≡ Some i = place_here key (key x) gs i c.loop-tuple.invariant.apart begins in
+    let road = YieldsList-from_vec {s = c.into_iter-tuple-iterator.result} all (cc) (cc) in
+    let turn = YieldsList-turn road xs c.loop-tuple.tuple-iterator c.loop-tuple.yielded_by c.next.result c.next.new.self x c.in-Some.is c.next.ensures.steps in
+    let at : drop (length xs) all ≡ x ∷ drop (length (xs ++ x ∷ [])) all =
+    drop_more all (length xs) x turn.0 ∙ ap (λ y. y ∷ drop (length xs + 1) all) (sym turn.1) ∙ ap (λ n. x ∷ drop n all) (sym (length_push xs x)) in
+    let added : groups_in c.add.new.groups.items ≡ add_at gs i x = c.in_ok-add.ensures in
+    record {
+      groups = joined_there key _ gs _ (drop (length xs) all) _ x i at some place added c.loop-tuple.invariant.groups;
+      some = ap all_some added ∙ some_stay key gs i x some;
+      apart = subst (AreApart key) (sym added) (apart_stay key gs i x some c.loop-tuple.invariant.apart);
+      places = λ q. c.loop-tuple.invariant.places q ∙ sym (ap (place_of key q) added ∙ place_stays key q gs i x some);
+    }
 
 -- a group of the key is there
 pub loop-tuple-preserved-in-Some-get : goal.loop-tuple-preserved-in-Some-get
@@ -38,10 +73,11 @@ loop-tuple-preserved-in-Some-get c =
     let turn = YieldsList-turn road xs c.loop-tuple.tuple-iterator c.loop-tuple.yielded_by c.next.result c.next.new.self x c.in-Some.is c.next.ensures.steps in
     let at : drop (length xs) all ≡ x ∷ drop (length (xs ++ x ∷ [])) all =
     drop_more all (length xs) x turn.0 ∙ ap (λ y. y ∷ drop (length xs + 1) all) (sym turn.1) ∙ ap (λ n. x ∷ drop n all) (sym (length_push xs x)) in
-    let added : groups_in c.add.new.groups.items ≡ add_at gs i x = c.in_ok-add-in-Some-get.ensures in
+    let added : groups_in c.add-in-Some-get.new.groups.items ≡ add_at gs i x = c.in_ok-add-in-Some-get.ensures in
     record {
       groups = joined_there key _ gs _ (drop (length xs) all) _ x i at some place added c.loop-tuple.invariant.groups;
       some = ap all_some added ∙ some_stay key gs i x some;
+      apart = subst (AreApart key) (sym added) (apart_stay key gs i x some c.loop-tuple.invariant.apart);
       places = λ q. c.loop-tuple.invariant.places q ∙ sym (ap (place_of key q) added ∙ place_stays key q gs i x some);
     }
 
@@ -54,7 +90,7 @@ loop-tuple-preserved c =
     let x = c.in-Some.tuple in
     let gs = groups_in c.loop-tuple.groups.items in
     let k = c.in_ok-key.key in
-    let n = c.len.result in
+    let n = c.len-last.result in
     let some = c.loop-tuple.invariant.some in
     let keyed : k ≡ key x = c.in_ok-key.ensures in
     let none : place_of key (key x) gs ≡ None =
@@ -64,10 +100,11 @@ loop-tuple-preserved c =
     let at : drop (length xs) all ≡ x ∷ drop (length (xs ++ x ∷ [])) all =
     drop_more all (length xs) x turn.0 ∙ ap (λ y. y ∷ drop (length xs + 1) all) (sym turn.1) ∙ ap (λ n. x ∷ drop n all) (sym (length_push xs x)) in
     let begun : groups_in c.begin.new.groups.items ≡ gs ++ (x ∷ []) ∷ [] = c.in_ok-begin-in-None-get.ensures in
-    let count : n ≡ length gs = c.len.ensures ∙ c.loop-tuple.groups.ok.0 ∙ sym (length-map c.loop-tuple.groups.items _) in
+    let count : n ≡ length gs = c.len-last.ensures ∙ c.loop-tuple.groups.ok.0 ∙ sym (length-map c.loop-tuple.groups.items _) in
     record {
       groups = joined_new key _ gs _ (drop (length xs) all) _ x at some none begun c.loop-tuple.invariant.groups;
       some = ap all_some begun ∙ some_more key gs x some;
+      apart = subst (AreApart key) (sym begun) (apart_more key gs x some none c.loop-tuple.invariant.apart);
       places = λ q.
           c.in_ok-insert-in-None-get.ensures.updates.0 q
           ∙ ap (λ b. cond b (Some n) (get data_cmp c.loop-tuple.places q)) (same_by_cmp k q)
