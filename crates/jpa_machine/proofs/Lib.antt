@@ -12,4 +12,3 @@ pub mod OneTransaction
 pub mod AfterFlush
 pub mod Still
 pub mod Left
-pub mod Told

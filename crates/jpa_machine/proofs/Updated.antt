@@ -1,9 +1,7 @@
 -- What executeUpdate keeps: a set that a store can hold is made one that a store can hold, where what is put into it are values of
 -- the program.
-use Rattle.std.proofs.Common.{◌≡◌, ◌<◌, ℕ, ℤ, Bool, true, false, List, [], ◌∷◌, length, refl, ap, sym, subst}
-use Rattle.std.specs.Prelude.{All, OnOk, Option, Some, None, Result, Ok, Err, is_some}
-use Rattle.std.specs.Option.{unwrap_or}
-use Rattle.std.proofs.lemmas.Bool.{false≢true}
+use Rattle.std.proofs.Common.{◌≡◌, ℕ, ℤ, Bool, true, false, List, [], ◌∷◌, length, refl, sym, subst}
+use Rattle.std.specs.Prelude.{OnOk, Option, Some, None, Result, Ok, Err}
 use Rattle.std.proofs.lemmas.List.Elements.{All-cons, All-nil}
 use Rattle.jpa_value.specs.declared.refusal.Cause.{Cause}
 use Rattle.jpa_value.specs.declared.refusal.State.{State}
@@ -30,7 +28,6 @@ use Rattle.jpa_queries.specs.Queries.{flush_if}
 use Rattle.jpa_updates.specs.Held.{HaveKeys}
 use Rattle.jpa_updates.specs.Updates.{is_bulk, judged_bulk, with_view, run_bulk, execute_update}
 use Rattle.jpa_updates.proofs.Executed.{executed}
-use Rattle.jpa_consistent.specs.Consistent.{IsLive}
 use Rattle.jpa_consistent.specs.Going.{HoldsAfter}
 use Rattle.jpa_consistent.proofs.Going.{after_holds, require_holds}
 use Rattle.jpa_consistent.proofs.Laws.{Steps}

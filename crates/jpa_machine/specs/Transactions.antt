@@ -1,15 +1,9 @@
 -- begin, commit and rollback (Jakarta Persistence 3.1, chapters 7.5 transactions, 3.4 optimistic locking).
-use Rattle.std.specs.Prelude.{ℕ, Bool, true, false, not, ◌&&◌, ◌||◌, [], Option, Some, None, if◌then◌else◌}
-use Rattle.std.specs.List.{list_all}
+use Rattle.std.specs.Prelude.{ℕ, Bool, true, false, [], Option, Some, None, if◌then◌else◌}
 use Rattle.jpa_value.specs.declared.refusal.Cause.{Cause}
 use Rattle.jpa_value.specs.declared.refusal.Refusal.{Refusal}
 use Rattle.jpa_value.specs.declared.refusal.State.{State}
-use Rattle.jpa_model.specs.declared.unit.PersistenceUnit.{PersistenceUnit}
 use Rattle.jpa_behaviour.specs.Behaviour.{World}
-use Rattle.jpa_context.specs.declared.Base.{Base}
-use Rattle.jpa_context.specs.declared.Entry.{Entry}
-use Rattle.jpa_context.specs.declared.Lock.{Lock}
-use Rattle.jpa_context.specs.Work.{Work, state_of, is_managed, row_at, identity_at}
 use Rattle.jpa_context.specs.Steps.{◌>>=◌, ◌>>◌, Outcome, Done, Refused, Op, require, read}
 use Rattle.jpa_flush.specs.Flush.{flush, reads_hold}
 use Rattle.jpa_protocol.specs.declared.reply.Answer.{Answer}

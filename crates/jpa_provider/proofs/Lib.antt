@@ -11,3 +11,4 @@ pub mod Serving
 pub mod Commits
 pub mod Active
 pub mod Crashed
+pub mod Told

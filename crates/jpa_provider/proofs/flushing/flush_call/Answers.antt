@@ -19,7 +19,7 @@ use Rattle.jpa_provider.proofs.Active.{entries_apart, view_sound, view_rises}
 use Rattle.jpa_machine.proofs.AtWork.{work_ready}
 use Rattle.jpa_provider.proofs.Routed.{flush_idle, flush_so}
 use Rattle.jpa_provider.proofs.Sessions.{begun_there}
-use Rattle.jpa_machine.proofs.Told.{no_fault}
+use Rattle.jpa_provider.proofs.Told.{no_fault}
 use Rattle.jpa_provider.proofs.Worked.{still_working, if_refused, ends_so}
 use Rattle.jpa_provider.proofs.flushing.flush_call.Goals as goal
 

@@ -27,7 +27,7 @@ use Rattle.jpa_machine.proofs.AtWork.{work_ready}
 use Rattle.jpa_provider.proofs.Routed.{update_so}
 use Rattle.jpa_machine.proofs.Updated.{made_so, ok_weaker}
 use Rattle.jpa_provider.proofs.Sessions.{begun_there, manager_there}
-use Rattle.jpa_machine.proofs.Told.{no_fault}
+use Rattle.jpa_provider.proofs.Told.{no_fault}
 use Rattle.jpa_provider.proofs.Worked.{still_working, if_refused, ends_so, named_same, told_ok}
 use Rattle.jpa_provider.proofs.querying.update_call.Goals as goal
 

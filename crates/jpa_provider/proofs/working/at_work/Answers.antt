@@ -9,7 +9,7 @@ use Rattle.jpa_machine.specs.Machine.{work_of}
 use Rattle.jpa_provider.specs.Operations.{operation_of}
 use Rattle.jpa_provider.specs.Serving.{machine_of}
 use Rattle.jpa_machine.proofs.AtWork.{work_ready}
-use Rattle.jpa_machine.proofs.Told.{no_fault}
+use Rattle.jpa_provider.proofs.Told.{no_fault}
 use Rattle.jpa_provider.proofs.Worked.{still_away, still_working, on_err, ends_so}
 use Rattle.jpa_provider.proofs.working.at_work.Goals as goal
 
