@@ -1,6 +1,6 @@
 -- What a commit that reached the store made of it, and what a crash may leave.
 use Rattle.std.proofs.Common.{◌≡◌, inl, inr, ℕ, ℤ, Bool, true, false, List, refl, ap, sym, subst}
-use Rattle.std.specs.Prelude.{All, Some, OnOk}
+use Rattle.std.specs.Prelude.{Some, OnOk}
 use Rattle.jpa_value.specs.declared.refusal.Cause.{Cause}
 use Rattle.jpa_behaviour.specs.Behaviour.{World}
 use Rattle.jpa_object_rows.specs.Sets.{rows_of}

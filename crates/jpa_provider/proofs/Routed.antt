@@ -7,7 +7,7 @@ use Rattle.jpa_behaviour.specs.Behaviour.{World}
 use Rattle.jpa_heap.specs.declared.Life.{Life}
 use Rattle.jpa_heap.specs.Objects.{place_of, object_at}
 use Rattle.jpa_context.specs.Work.{Work}
-use Rattle.jpa_context.specs.Steps.{Done, Op, after, done}
+use Rattle.jpa_context.specs.Steps.{Op, after, done}
 use Rattle.jpa_protocol.specs.declared.call.Call.{Call}
 use Rattle.jpa_protocol.specs.declared.call.LockMode.{LockMode}
 use Rattle.jpa_protocol.specs.declared.call.Parameter.{Parameter}

@@ -1,5 +1,5 @@
 use Rattle.std.proofs.Common.{◌≡◌, ap, sym, subst, ◌∙◌}
-use Rattle.std.specs.Prelude.{length, Some, Err}
+use Rattle.std.specs.Prelude.{length, Some}
 use Rattle.std.proofs.Math.Facts.{to_z-of_z}
 use Rattle.std.proofs.lemmas.Result.{err_from_is_err_and}
 use Rattle.jpa_value.specs.declared.refusal.Cause.{Cause}
@@ -7,7 +7,7 @@ use Rattle.jpa_behaviour.specs.Behaviour.{World}
 use Rattle.jpa_behaviour.specs.Registered.{world_of}
 use Rattle.jpa_heap.specs.Objects.{place_of}
 use Rattle.jpa_context.specs.declared.Lock.{Lock}
-use Rattle.jpa_context.specs.Steps.{Done, Meets, IsRefusedAs, after, give}
+use Rattle.jpa_context.specs.Steps.{Done, IsRefusedAs, after, give}
 use Rattle.jpa_context.specs.Undo.{now}
 use Rattle.jpa_context.specs.Work.{Work}
 use Rattle.jpa_ops.specs.States.{lock}

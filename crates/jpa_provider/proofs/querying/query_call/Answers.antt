@@ -1,4 +1,4 @@
-use Rattle.std.proofs.Common.{◌≡◌, ℕ, Bool, false, true, refl, ap, sym, subst, ◌∙◌}
+use Rattle.std.proofs.Common.{◌≡◌, Bool, true, ap, sym, subst, ◌∙◌}
 use Rattle.std.specs.Prelude.{T, Some}
 use Rattle.std.specs.FinMap.Entries.{is_sorted}
 use Rattle.std.proofs.Math.Facts.{to_z-of_z}
@@ -16,10 +16,10 @@ use Rattle.jpa_queries.specs.Premises.{StaysReady}
 use Rattle.jpa_provider.specs.declared.replies.Rule.{Rule}
 use Rattle.jpa_machine.specs.Machine.{flushes_in, flushes_first, work_of}
 use Rattle.jpa_provider.specs.Operations.{query_told}
-use Rattle.jpa_provider.specs.Serving.{machine_of, manager_in, is_begun_status, named, Serves}
+use Rattle.jpa_provider.specs.Serving.{machine_of, is_begun_status, named}
 use Rattle.jpa_provider.proofs.Active.{entries_apart, view_sound, view_rises, query_ready}
 use Rattle.jpa_machine.proofs.AtWork.{work_ready}
-use Rattle.jpa_provider.proofs.Routed.{asked_alone, asked_so}
+use Rattle.jpa_provider.proofs.Routed.{asked_so}
 use Rattle.jpa_provider.proofs.Sessions.{begun_there, manager_there}
 use Rattle.jpa_provider.proofs.Told.{no_fault}
 use Rattle.jpa_provider.proofs.Worked.{still_working, if_refused, ends_so}

@@ -1,4 +1,4 @@
-use Rattle.std.proofs.Common.{◌≡◌, ℕ, Bool, false, true, refl, ap, sym, subst, ◌∙◌}
+use Rattle.std.proofs.Common.{◌≡◌, Bool, true, ap, sym, subst, ◌∙◌}
 use Rattle.std.specs.Prelude.{T, OnOk, Some}
 use Rattle.std.specs.FinMap.Entries.{is_sorted}
 use Rattle.std.proofs.Math.Facts.{to_z-of_z}
@@ -21,7 +21,7 @@ use Rattle.jpa_provider.specs.declared.replies.Rule.{Rule}
 use Rattle.jpa_machine.specs.Machine.{flushes_in, flushes_first, has_transaction, manager_at, work_of}
 use Rattle.jpa_machine.specs.Updating.{update_outcome}
 use Rattle.jpa_machine.specs.Querying.{update_call}
-use Rattle.jpa_provider.specs.Serving.{machine_of, manager_in, is_begun_status, named, Serves}
+use Rattle.jpa_provider.specs.Serving.{machine_of, is_begun_status, named}
 use Rattle.jpa_provider.proofs.Active.{entries_apart, view_sound, view_rises, update_sound, update_representable}
 use Rattle.jpa_machine.proofs.AtWork.{work_ready}
 use Rattle.jpa_provider.proofs.Routed.{update_so}
