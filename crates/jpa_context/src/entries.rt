@@ -8,7 +8,7 @@ ghost use Rattle.jpa_context.specs.Work.{unlocked};
 use crate::Entry;
 use crate::fingerprint::fingerprint;
 use crate::index::PlaceIndex;
-use crate::leaving::{drop_unplaced, forget_objects, forget_removed};
+use crate::leaving::{any_removed, drop_unplaced, forget_objects, forget_removed};
 use crate::object_places::ObjectPlaces;
 use crate::unlocking::unlock_each;
 use jpa_heap::LiveObject;
@@ -171,6 +171,11 @@ impl PersistenceContext {
         ensures now { self.new.now ≡ without_removed objects.now manager self.old.now }
         ensures since { self.new.since ≡ self.new.now }
     {
+        // (mostly none is)
+        if !any_removed(self.list.as_slice(), objects, manager) {
+            self.keep();
+            return;
+        }
         forget_removed(&mut self.at, self.list.as_slice(), objects, manager);
         self.kept = drop_unplaced(&mut self.list, &mut self.index, &mut self.at);
     }

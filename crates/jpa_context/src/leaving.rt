@@ -1,6 +1,7 @@
 //! How entries leave a context for good, without memory: the objects that leave lose their places first, then the entries without a
 //! place go, and the others get new places.
 ghost use Rattle.std.specs.Prelude.{◌≡◌, length};
+ghost use Rattle.std.specs.List.{list_any};
 ghost use Rattle.jpa_context.specs.Indexed as indexed;
 ghost use Rattle.jpa_context.specs.Places as places;
 
@@ -31,6 +32,15 @@ fn is_gone(objects: &[LiveObject], object: usize, manager: usize) -> bool
         },
         None => false,
     }
+}
+
+/// Whether the object of some entry is removed for a manager.
+pub(crate) fn any_removed(entries: &[Entry], objects: &[LiveObject], manager: usize) -> bool
+    ensures { result ≡ list_any (λ e. places.is_gone objects.now manager e.object) entries.now }
+{
+    entries
+        .iter()
+        .any(|entry| is_gone(objects, entry.object, manager))
 }
 
 /// Takes the places of the entries' objects that are removed for a manager.

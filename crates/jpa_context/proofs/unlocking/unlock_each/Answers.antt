@@ -1,4 +1,4 @@
-use Rattle.std.proofs.Common.{◌≡◌, ◌∙◌, ◌<◌, ◌+◌, List, length, get_or, ap, sym, arith}
+use Rattle.std.proofs.Common.{◌≡◌, ◌∙◌, ◌<◌, length, get_or, ap, sym, arith}
 use Rattle.std.specs.Prelude.{slice_set}
 use Rattle.jpa_undo.specs.Undo.{Changes}
 use Rattle.jpa_context.specs.declared.Entry.{Entry}
