@@ -109,9 +109,9 @@ class Ends(unittest.TestCase):
 
     def test_an_interrupt_while_bytes_are_on_their_way_ends_the_program(self) -> None:
         line = '{"call":"createEntityManager"}'
-        for moving in ("_write", "_read"):
+        for moving in ("write", "read"):
             with self.subTest(moving), played(f'> {line}\n< {{"events":[],"ok":1}}\n', PERSONS) as app:
-                with mock.patch.object(Program, moving, side_effect=KeyboardInterrupt), self.assertRaises(KeyboardInterrupt):
+                with mock.patch(f"karzhoul.program.os.{moving}", side_effect=KeyboardInterrupt), self.assertRaises(KeyboardInterrupt):
                     app.create_entity_manager()
                 with self.assertRaises(karzhoul.ProgramEnded) as raised:
                     app.create_entity_manager()
