@@ -10,7 +10,7 @@ from collections import deque
 from contextlib import AbstractContextManager, contextmanager, suppress
 from pathlib import Path
 from typing import Any, Callable, Deque, Dict, FrozenSet, Iterable, Iterator, List, Mapping, Optional, Sequence, Tuple, Type, Union
-from weakref import WeakValueDictionary
+from weakref import ref
 
 from .entities import E, EmbeddedId, Entity, Event, class_of
 from .lines import FlushModeType, LifecycleEvent, LockModeType, line_of, spelled, text_spelled
@@ -62,7 +62,8 @@ class EntityManagerFactory(AbstractContextManager["EntityManagerFactory"]):
         # Of an object whose class isn't known yet, as one that an event told first, each name is a member to the program.
         unknown = {"__slots__": (), "__factory__": self, "__setattr__": lambda entity, name, value: self.set(entity, name, value)}
         self._unknown: Type[Entity] = type("AnyEntity", (Entity,), unknown)
-        self._objects: WeakValueDictionary[int, Entity] = WeakValueDictionary()
+        self._objects: Dict[int, ref[Entity]] = {}
+        self._most_objects = 1000
         self._lock = threading.RLock()
         # How many pipelines the thread that holds the lock is in, and the lines that were told in them, with their numbers.
         self._pipelines = 0
@@ -191,11 +192,12 @@ class EntityManagerFactory(AbstractContextManager["EntityManagerFactory"]):
         kind = self._classes.get(entity)
         answers = [self._answer(self.program.wait(number), line, kind, bad_line) for number, line in sent]
         refused = [answer for answer in answers if isinstance(answer, Refused)]
-        raised = [*refused, *self._tell_events()]
-        if refused:
-            refused[0].later = tuple(refused[1:])
-        if raised:
-            raise raised[0]
+        if refused or self._untold:
+            raised = [*refused, *self._tell_events()]
+            if refused:
+                refused[0].later = tuple(refused[1:])
+            if raised:
+                raise raised[0]
         return answers
 
     def _answer(self, reply: bytes, line: bytes, kind: Optional[Type[Entity]], bad_line: Type[BadLine]) -> Any:
@@ -226,11 +228,15 @@ class EntityManagerFactory(AbstractContextManager["EntityManagerFactory"]):
 
     def _object(self, number: int, kind: Optional[Type[Entity]] = None) -> Entity:
         """The object of this number, of this class where it isn't known better."""
-        known = self._objects.get(number)
+        held = self._objects.get(number)
+        known = held() if held else None
         if known is None:
             known = object.__new__(kind or self._unknown)
             object.__setattr__(known, "__number__", number)
-            self._objects[number] = known
+            self._objects[number] = ref(known)
+            if len(self._objects) > self._most_objects:
+                self._objects = {number: held for number, held in self._objects.items() if held()}
+                self._most_objects = 1000 + 2 * len(self._objects)
         elif kind is not None and type(known) is self._unknown:
             object.__setattr__(known, "__class__", kind)
         return known
@@ -285,11 +291,11 @@ class EntityManager(AbstractContextManager["EntityManager"]):
     def _by_key(self, call: str, entity: Union[str, Type[E]], keys: Iterable[Any]) -> List[Any]:
         name = entity if isinstance(entity, str) else entity.__name__
         named = {"em": self._em, "entity": text_spelled(name)}
-        return self.factory.ask_lines((line_of(call, {**named, "key": self._key(key)}) for key in keys), name)
+        return self.factory.ask_lines([line_of(call, {**named, "key": self._key(key)}) for key in keys], name)
 
     def _key(self, key: Any) -> str:
-        parts = key if isinstance(key, (tuple, list, EmbeddedId)) else [key]
-        return f"[{','.join([self.factory.given(part) for part in parts])}]"
+        parts = key if isinstance(key, (tuple, list, EmbeddedId)) else (key,)
+        return f"[{','.join(map(self.factory.given, parts))}]"
 
     # ---- the life of objects
 

@@ -15,7 +15,6 @@ from typing import IO, Dict, Optional, Sequence, Union
 
 from .refusals import KarzhoulError, ProgramEnded, ProgramNotFound, refusal_of
 
-_TOGETHER = 1 << 10
 _PATIENCE = 2.0
 
 Words = Union[str, "os.PathLike[str]"]
@@ -36,9 +35,8 @@ def find_program(given: Optional[Words] = None) -> str:
 class Program:
     """A program that was started with these words. Not for use by two threads at a time.
 
-    Lines are written a few short ones or one at a time, when all that were written before are answered: so a write never waits for a
-    program that itself waits for its replies to be read. What the program tells on standard error goes to a file, and is told where
-    it ends.
+    No more is written than every pipe holds, or one line, before all replies are read: so a write never waits for a program that
+    itself waits for its replies to be read. What the program tells on standard error goes to a file, and is told where it ends.
     """
 
     def __init__(self, words: Sequence[Words]) -> None:
@@ -54,8 +52,9 @@ class Program:
         # Why the program answers no more; None while it does.
         self.fault: Optional[KarzhoulError] = None
         self._outgoing = self._incoming = b""
-        # How many lines were written and how many answered, and the replies that nobody has waited for yet, by the lines' numbers.
-        self._written = self._answered = 0
+        # How many lines were written and how many answered, how many bytes were written since all were, and the replies that nobody
+        # has waited for yet, by the numbers of their lines.
+        self._written = self._answered = self._ahead = 0
         self._replies: Dict[int, bytes] = {}
         # Whether bytes are on their way; where a call finds them so, an interrupt may have lost some of them.
         self._is_moving = False
@@ -63,7 +62,7 @@ class Program:
     def send(self, line: bytes) -> int:
         """Hands in a line, and gives its number, by which `wait` gives its reply."""
         self._raise_fault()
-        if len(self._outgoing) + len(line) >= _TOGETHER:
+        if len(self._outgoing) + len(line) >= select.PIPE_BUF // 4:
             self._write()
         self._outgoing += line + b"\n"
         return self._written + self._outgoing.count(b"\n")
@@ -92,8 +91,7 @@ class Program:
         """Waits for the replies to what was written, ends the program's input and waits for its end."""
         with suppress(KarzhoulError):  # Then it has ended, as is wanted.
             self._write()
-            while self._answered < self._written:
-                self._read()
+            self._read_all()
         self.fault = self.fault or ProgramEnded(None)
         self._end()
 
@@ -103,16 +101,24 @@ class Program:
         self.close()
 
     def _write(self) -> None:
-        while self._answered < self._written:
-            self._read()
+        if self._ahead + len(self._outgoing) >= select.PIPE_BUF:
+            self._read_all()
         self._raise_fault()
         self._is_moving = True
         left, self._outgoing = self._outgoing, b""
         self._written += left.count(b"\n")
-        with suppress(BrokenPipeError):  # What it told before its end is still read.
+        self._ahead += len(left)
+        try:
             while left:
                 left = left[os.write(self._in, left) :]
+        except BrokenPipeError:
+            pass  # What it told before its end is still read.
         self._is_moving = False
+
+    def _read_all(self) -> None:
+        while self._answered < self._written:
+            self._read()
+        self._ahead = 0
 
     def _read(self) -> None:
         self._raise_fault()
