@@ -65,9 +65,9 @@ class EntityManagerFactory(AbstractContextManager["EntityManagerFactory"]):
         self._objects: Dict[int, ref[Entity]] = {}
         self._most_objects = 1000
         self._lock = threading.RLock()
-        # How many pipelines the thread that holds the lock is in, and the lines that were told in them, with their numbers.
+        # How many pipelines the thread that holds the lock is in, and the lines that were told in them.
         self._pipelines = 0
-        self._unsettled: List[Tuple[int, bytes]] = []
+        self._told: List[bytes] = []
         self._callbacks: List[Tuple[Callable[[Event], None], FrozenSet[LifecycleEvent]]] = []
         self._untold: Deque[Tuple[Callable[[Event], None], Event]] = deque()
         self._is_telling = False
@@ -78,7 +78,10 @@ class EntityManagerFactory(AbstractContextManager["EntityManagerFactory"]):
     def close(self) -> None:
         """Ends the program; what isn't committed is gone. Again it does nothing."""
         with self._lock:
-            self.program.close()
+            try:
+                self._settle()
+            finally:
+                self.program.close()
 
     def entity(self, name: Union[str, Type[E]]) -> Type[E]:
         """The class of an entity: calling it makes a new object, as `Person(name="Ada")`."""
@@ -115,16 +118,18 @@ class EntityManagerFactory(AbstractContextManager["EntityManagerFactory"]):
     def get_many(self, objects: Sequence[Entity], name: str) -> List[Any]:
         """The values that objects of one class have of a member, asked without waiting for each."""
         target = getattr(getattr(type(objects[0]), name, None), "target", "") if objects else ""
-        lines = (line_of("get", {"object": self.number(entity), "name": text_spelled(name)}) for entity in objects)
+        spelling = text_spelled(name)
+        lines = [f'{{"call":"get","object":{self.number(entity)},"name":{spelling}}}'.encode() for entity in objects]
         return self.ask_lines(lines, target)
 
     def set(self, entity: Entity, name: str, value: Any) -> None:
         """Sets a member."""
-        self.tell("set", object=self.number(entity), name=text_spelled(name), value=self.given(value))
+        said = f'{{"call":"set","object":{self.number(entity)},"name":{text_spelled(name)},"value":{self.given(value)}}}'
+        self.tell(said.encode())
 
     def add(self, entity: Entity, name: str, member: Entity) -> None:
         """Adds a member to a collection, at its end."""
-        self.tell("add", object=self.number(entity), name=text_spelled(name), member=self.number(member))
+        self.tell(line_of("add", {"object": self.number(entity), "name": text_spelled(name), "member": self.number(member)}))
 
     def take_out(self, entity: Entity, name: str, member: Entity) -> bool:
         """Takes the first occurrence of a member out of a collection, and answers whether there was one."""
@@ -146,17 +151,18 @@ class EntityManagerFactory(AbstractContextManager["EntityManagerFactory"]):
         """Does a call, whose members are JSON, and gives its answer, with objects of this entity where their class isn't known better."""
         return self.ask_lines([line_of(call, members)], entity)[0]
 
-    def ask_lines(self, lines: Iterable[bytes], entity: str = "", bad_line: Type[BadLine] = NotServed) -> List[Any]:
+    def ask_lines(self, lines: Sequence[bytes], entity: str = "", bad_line: Type[BadLine] = NotServed) -> List[Any]:
         """Does the calls of lines without waiting for each, and gives the answers. A line that is taken for no call is a `bad_line`."""
         with self._lock:
             self._settle()
-            return self._answers([(self.program.send(line), line) for line in lines], entity, bad_line)
+            return self._answers(lines, entity, bad_line)
 
-    def tell(self, call: str, /, **members: str) -> None:
-        """Does a call that answers null; within a pipeline without waiting for its reply."""
-        line = line_of(call, members)
+    def tell(self, line: bytes) -> None:
+        """Does the call of a line, which answers null; within a pipeline it is kept."""
         with self._lock:
-            self._unsettled.append((self.program.send(line), line))
+            if self.program.fault:
+                raise self.program.fault
+            self._told.append(line)
             if not self._pipelines:
                 self._settle()
 
@@ -166,9 +172,9 @@ class EntityManagerFactory(AbstractContextManager["EntityManagerFactory"]):
 
     @contextmanager
     def pipeline(self) -> Iterator[None]:
-        """Within it, calls that answer nothing but null (`set`, `add`, `persist` and the like) are sent without waiting for their
-        replies. A call that answers something, and the end of the block, wait for all replies, and raise the first refusal, with the
-        others as its `later`; what was sent after a refused call was done all the same. Other threads wait until the block ends."""
+        """Within it, calls that answer nothing but null (`set`, `add`, `persist` and the like) are kept. A call that answers something,
+        and the end of the block, send them together, and raise the first refusal, with the others as its `later`; what was sent after
+        a refused call was done all the same. Other threads wait until the block ends."""
         with self._lock:
             self._pipelines += 1
             try:
@@ -182,15 +188,18 @@ class EntityManagerFactory(AbstractContextManager["EntityManagerFactory"]):
             self._settle()
 
     def _settle(self) -> None:
-        """Waits for the replies to what was sent without waiting for them, and raises its refusals."""
-        if self._unsettled:
-            unsettled, self._unsettled = self._unsettled, []
-            self._answers(unsettled)
+        """Does the calls that were kept, and raises their refusals."""
+        if self._told:
+            told, self._told = self._told, []
+            self._answers(told)
 
-    def _answers(self, sent: Iterable[Tuple[int, bytes]], entity: str = "", bad_line: Type[BadLine] = NotServed) -> List[Any]:
+    def _answers(self, lines: Sequence[bytes], entity: str = "", bad_line: Type[BadLine] = NotServed) -> List[Any]:
         """The answers to lines. Their events are told first, and then the first refusal is raised."""
+        replies = self.program.replies(lines)
+        if not self._callbacks and all([reply.endswith(_DONE) for reply in replies]):
+            return [None] * len(replies)
         kind = self._classes.get(entity)
-        answers = [self._answer(self.program.wait(number), line, kind, bad_line) for number, line in sent]
+        answers = [self._answer(line, reply, kind, bad_line) for line, reply in zip(lines, replies)]
         refused = [answer for answer in answers if isinstance(answer, Refused)]
         if refused or self._untold:
             raised = [*refused, *self._tell_events()]
@@ -200,10 +209,8 @@ class EntityManagerFactory(AbstractContextManager["EntityManagerFactory"]):
                 raise raised[0]
         return answers
 
-    def _answer(self, reply: bytes, line: bytes, kind: Optional[Type[Entity]], bad_line: Type[BadLine]) -> Any:
+    def _answer(self, line: bytes, reply: bytes, kind: Optional[Type[Entity]], bad_line: Type[BadLine]) -> Any:
         """The answer to a line, or its refusal. The events of its reply are kept to be told."""
-        if reply.endswith(_DONE) and not self._callbacks:
-            return None
         if found := _OBJECT.fullmatch(reply):
             return self._object(int(found[1]), kind)
         said = _decode(reply.decode())[0]
@@ -290,8 +297,8 @@ class EntityManager(AbstractContextManager["EntityManager"]):
 
     def _by_key(self, call: str, entity: Union[str, Type[E]], keys: Iterable[Any]) -> List[Any]:
         name = entity if isinstance(entity, str) else entity.__name__
-        named = {"em": self._em, "entity": text_spelled(name)}
-        return self.factory.ask_lines([line_of(call, {**named, "key": self._key(key)}) for key in keys], name)
+        front = f'{{"call":"{call}","em":{self._em},"entity":{text_spelled(name)},"key":'
+        return self.factory.ask_lines([f"{front}{self._key(key)}}}".encode() for key in keys], name)
 
     def _key(self, key: Any) -> str:
         parts = key if isinstance(key, (tuple, list, EmbeddedId)) else (key,)
@@ -301,19 +308,22 @@ class EntityManager(AbstractContextManager["EntityManager"]):
 
     def persist(self, entity: Entity) -> None:
         """Makes a new object managed; a commit stores it."""
-        self.factory.tell("persist", em=self._em, object=self.factory.number(entity))
+        self._tell_on("persist", entity)
 
     def remove(self, entity: Entity) -> None:
         """Removes an object; a commit drops it."""
-        self.factory.tell("remove", em=self._em, object=self.factory.number(entity))
+        self._tell_on("remove", entity)
 
     def refresh(self, entity: Entity) -> None:
         """Loads an object again."""
-        self.factory.tell("refresh", em=self._em, object=self.factory.number(entity))
+        self._tell_on("refresh", entity)
 
     def detach(self, entity: Entity) -> None:
         """Takes an object out of the context."""
-        self.factory.tell("detach", em=self._em, object=self.factory.number(entity))
+        self._tell_on("detach", entity)
+
+    def _tell_on(self, call: str, entity: Entity) -> None:
+        self.factory.tell(f'{{"call":"{call}","em":{self._em},"object":{self.factory.number(entity)}}}'.encode())
 
     def merge(self, entity: E) -> E:
         """Copies an object's state onto the managed one of its identity, which is loaded or made where there is none, and is the
@@ -328,11 +338,12 @@ class EntityManager(AbstractContextManager["EntityManager"]):
     def lock(self, entity: Entity, mode: LockModeType) -> None:
         """Locks a managed object, which has a version, until the open transaction ends: READ asks at the commit that it still stands
         as it was read, WRITE raises its version at the next flush."""
-        self.factory.tell("lock", em=self._em, object=self.factory.number(entity), mode=text_spelled(LockModeType(mode)))
+        members = {"em": self._em, "object": self.factory.number(entity), "mode": text_spelled(LockModeType(mode))}
+        self.factory.tell(line_of("lock", members))
 
     def clear(self) -> None:
         """Takes all objects out of the context."""
-        self.factory.tell("clear", em=self._em)
+        self.factory.tell(line_of("clear", {"em": self._em}))
 
     def flush(self) -> None:
         """Writes what has changed into the transaction."""
@@ -340,7 +351,7 @@ class EntityManager(AbstractContextManager["EntityManager"]):
 
     def set_flush_mode(self, mode: FlushModeType) -> None:
         """Says when a query in a transaction flushes first."""
-        self.factory.tell("setFlushMode", em=self._em, mode=text_spelled(FlushModeType(mode)))
+        self.factory.tell(line_of("setFlushMode", {"em": self._em, "mode": text_spelled(FlushModeType(mode))}))
 
     def close(self) -> None:
         """Ends the manager, which owns no open transaction."""
@@ -398,7 +409,7 @@ class EntityTransaction:
 
     def set_rollback_only(self) -> None:
         """Leaves it able only to roll back."""
-        self._factory.tell("setRollbackOnly", em=self._em)
+        self._factory.tell(line_of("setRollbackOnly", {"em": self._em}))
 
     __enter__ = begin
 

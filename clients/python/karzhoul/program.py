@@ -11,7 +11,7 @@ import tempfile
 import weakref
 from contextlib import suppress
 from subprocess import PIPE, Popen, TimeoutExpired
-from typing import IO, Dict, Optional, Sequence, Union
+from typing import IO, Iterable, List, Optional, Sequence, Union
 
 from .refusals import KarzhoulError, ProgramEnded, ProgramNotFound, refusal_of
 
@@ -35,8 +35,9 @@ def find_program(given: Optional[Words] = None) -> str:
 class Program:
     """A program that was started with these words. Not for use by two threads at a time.
 
-    No more is written than every pipe holds, or one line, before all replies are read: so a write never waits for a program that
-    itself waits for its replies to be read. What the program tells on standard error goes to a file, and is told where it ends.
+    Lines are written a few short ones or one at a time, when all that were written before are answered: so a write never waits for a
+    program that itself waits for its replies to be read. What the program tells on standard error goes to a file, and is told where
+    it ends.
     """
 
     def __init__(self, words: Sequence[Words]) -> None:
@@ -51,46 +52,40 @@ class Program:
         self.pid = self._process.pid
         # Why the program answers no more; None while it does.
         self.fault: Optional[KarzhoulError] = None
-        self._outgoing = self._incoming = b""
-        # How many lines were written and how many answered, how many bytes were written since all were, and the replies that nobody
-        # has waited for yet, by the numbers of their lines.
-        self._written = self._answered = self._ahead = 0
-        self._replies: Dict[int, bytes] = {}
+        self._unanswered, self._incoming = 0, b""
+        self._replies: List[bytes] = []
         # Whether bytes are on their way; where a call finds them so, an interrupt may have lost some of them.
         self._is_moving = False
 
-    def send(self, line: bytes) -> int:
-        """Hands in a line, and gives its number, by which `wait` gives its reply."""
-        self._raise_fault()
-        if len(self._outgoing) + len(line) >= select.PIPE_BUF // 4:
-            self._write()
-        self._outgoing += line + b"\n"
-        return self._written + self._outgoing.count(b"\n")
-
-    def wait(self, number: int) -> bytes:
-        """The line of the reply to a line. The program's end is a `ProgramEnded`, or the refusal that it ended with."""
-        if number > self._written:
-            self._write()
-        while number not in self._replies:
-            self._read()
-        return self._replies.pop(number)
+    def replies(self, lines: Iterable[bytes]) -> List[bytes]:
+        """Writes lines, and gives their replies. The program's end is a `ProgramEnded`, or the refusal that it ended with."""
+        self._read_all()  # What a call that was interrupted left.
+        self._replies, together = [], b""
+        for line in lines:
+            if len(together) + len(line) >= select.PIPE_BUF:
+                self._write(together)
+                together = b""
+            together += line + b"\n"
+        self._write(together)
+        self._read_all()
+        return self._replies
 
     def start(self) -> None:
         """Waits for the program to answer at all, by an empty line, which is no call. What it tells meanwhile, as where it is being
         built, goes to standard error."""
-        number, shown = self.send(b""), 0
-        self._write()
+        self._write(b"\n")
+        shown = 0
         while not self._reading.poll(1000 * _PATIENCE):
             if told := self._told()[shown:]:
                 print(f"karzhoul: waiting for {self._name}: {told.strip()}", file=sys.stderr)
                 shown += len(told)
-        if b'"BadLine"' not in self.wait(number):
+        self._read_all()
+        if b'"BadLine"' not in self._replies[0]:
             raise ProgramNotFound(f"{self._name!r} is no program that answers calls")
 
     def close(self) -> None:
         """Waits for the replies to what was written, ends the program's input and waits for its end."""
         with suppress(KarzhoulError):  # Then it has ended, as is wanted.
-            self._write()
             self._read_all()
         self.fault = self.fault or ProgramEnded(None)
         self._end()
@@ -100,40 +95,33 @@ class Program:
         _stopped(self._process, 0)
         self.close()
 
-    def _write(self) -> None:
-        if self._ahead + len(self._outgoing) >= select.PIPE_BUF:
-            self._read_all()
+    def _write(self, lines: bytes) -> None:
+        self._read_all()
         self._raise_fault()
         self._is_moving = True
-        left, self._outgoing = self._outgoing, b""
-        self._written += left.count(b"\n")
-        self._ahead += len(left)
+        self._unanswered += lines.count(b"\n")
         try:
-            while left:
-                left = left[os.write(self._in, left) :]
+            while lines:
+                lines = lines[os.write(self._in, lines) :]
         except BrokenPipeError:
             pass  # What it told before its end is still read.
         self._is_moving = False
 
     def _read_all(self) -> None:
-        while self._answered < self._written:
-            self._read()
-        self._ahead = 0
-
-    def _read(self) -> None:
-        self._raise_fault()
-        self._reading.poll()  # An interrupt of this loses nothing.
-        self._is_moving = True
-        chunk = os.read(self._out, 1 << 16)
-        if not chunk:
-            self.fault = self._why_it_ended()
-        *replies, self._incoming = (self._incoming + chunk).split(b"\n")
-        self._replies.update(enumerate(replies, self._answered + 1))
-        self._answered += len(replies)
-        self._is_moving = False
+        while self._unanswered > 0:
+            self._raise_fault()
+            self._reading.poll()  # An interrupt of this loses nothing.
+            self._is_moving = True
+            chunk = os.read(self._out, 1 << 16)
+            if not chunk:
+                self.fault = self._why_it_ended()
+            *replies, self._incoming = (self._incoming + chunk).split(b"\n")
+            self._replies += replies
+            self._unanswered -= len(replies)
+            self._is_moving = False
 
     def _raise_fault(self) -> None:
-        if not self.fault and (self._is_moving or self._answered > self._written):
+        if not self.fault and (self._is_moving or self._unanswered < 0):
             why = "a call was interrupted while bytes were on their way" if self._is_moving else "the program told more than it was asked"
             self.fault = ProgramEnded(_stopped(self._process, 0), why)
         if self.fault:
