@@ -69,9 +69,6 @@ class EmbeddedId:
     def __eq__(self, other: object) -> bool:
         return tuple(self) == tuple(other) if isinstance(other, (EmbeddedId, tuple)) else NotImplemented
 
-    def __repr__(self) -> str:
-        return f"<{self._name} of {self._entity!r}>"
-
     def _assign(self, given: Union[Mapping[str, Any], Iterable[Any]]) -> None:
         for part, value in given.items() if isinstance(given, Mapping) else zip(self._parts, given):
             setattr(self, part, value)
@@ -113,10 +110,6 @@ class Collection(MutableSequence):  # type: ignore[type-arg]
     def clear(self) -> None:
         """Takes all members out."""
         self._change(list.clear)
-
-    def reverse(self) -> None:
-        """Turns the order of the members round."""
-        self._change(list.reverse)
 
     def _change(self, change: Callable[..., Any], *given: Any) -> None:
         """Has the members of the list that a change makes of them."""

@@ -7,7 +7,7 @@ import re
 import tempfile
 import threading
 from collections import deque
-from contextlib import AbstractContextManager, contextmanager, suppress
+from contextlib import AbstractContextManager, closing, contextmanager, suppress
 from pathlib import Path
 from typing import Any, Callable, Deque, Dict, FrozenSet, Iterable, Iterator, List, Mapping, Optional, Sequence, Tuple, Type, Union
 from weakref import ref
@@ -77,11 +77,8 @@ class EntityManagerFactory(AbstractContextManager["EntityManagerFactory"]):
 
     def close(self) -> None:
         """Ends the program; what isn't committed is gone. Again it does nothing."""
-        with self._lock:
-            try:
-                self._settle()
-            finally:
-                self.program.close()
+        with self._lock, closing(self.program):
+            self._settle()
 
     def entity(self, name: Union[str, Type[E]]) -> Type[E]:
         """The class of an entity: calling it makes a new object, as `Person(name="Ada")`."""
@@ -118,14 +115,12 @@ class EntityManagerFactory(AbstractContextManager["EntityManagerFactory"]):
     def get_many(self, objects: Sequence[Entity], name: str) -> List[Any]:
         """The values that objects of one class have of a member, asked without waiting for each."""
         target = getattr(getattr(type(objects[0]), name, None), "target", "") if objects else ""
-        spelling = text_spelled(name)
-        lines = [f'{{"call":"get","object":{self.number(entity)},"name":{spelling}}}'.encode() for entity in objects]
+        lines = [f'{{"call":"get","object":{self.number(entity)},"name":{text_spelled(name)}}}'.encode() for entity in objects]
         return self.ask_lines(lines, target)
 
     def set(self, entity: Entity, name: str, value: Any) -> None:
         """Sets a member."""
-        said = f'{{"call":"set","object":{self.number(entity)},"name":{text_spelled(name)},"value":{self.given(value)}}}'
-        self.tell(said.encode())
+        self.tell(f'{{"call":"set","object":{self.number(entity)},"name":{text_spelled(name)},"value":{self.given(value)}}}'.encode())
 
     def add(self, entity: Entity, name: str, member: Entity) -> None:
         """Adds a member to a collection, at its end."""
@@ -201,12 +196,11 @@ class EntityManagerFactory(AbstractContextManager["EntityManagerFactory"]):
         kind = self._classes.get(entity)
         answers = [self._answer(line, reply, kind, bad_line) for line, reply in zip(lines, replies)]
         refused = [answer for answer in answers if isinstance(answer, Refused)]
-        if refused or self._untold:
-            raised = [*refused, *self._tell_events()]
-            if refused:
-                refused[0].later = tuple(refused[1:])
-            if raised:
-                raise raised[0]
+        raised = [*refused, *self._tell_events()] if refused or self._untold else []
+        if refused:
+            refused[0].later = tuple(refused[1:])
+        if raised:
+            raise raised[0]
         return answers
 
     def _answer(self, line: bytes, reply: bytes, kind: Optional[Type[Entity]], bad_line: Type[BadLine]) -> Any:
@@ -322,8 +316,8 @@ class EntityManager(AbstractContextManager["EntityManager"]):
         """Takes an object out of the context."""
         self._tell_on("detach", entity)
 
-    def _tell_on(self, call: str, entity: Entity) -> None:
-        self.factory.tell(f'{{"call":"{call}","em":{self._em},"object":{self.factory.number(entity)}}}'.encode())
+    def _tell_on(self, call: str, entity: Entity, more: str = "") -> None:
+        self.factory.tell(f'{{"call":"{call}","em":{self._em},"object":{self.factory.number(entity)}{more}}}'.encode())
 
     def merge(self, entity: E) -> E:
         """Copies an object's state onto the managed one of its identity, which is loaded or made where there is none, and is the
@@ -338,8 +332,7 @@ class EntityManager(AbstractContextManager["EntityManager"]):
     def lock(self, entity: Entity, mode: LockModeType) -> None:
         """Locks a managed object, which has a version, until the open transaction ends: READ asks at the commit that it still stands
         as it was read, WRITE raises its version at the next flush."""
-        members = {"em": self._em, "object": self.factory.number(entity), "mode": text_spelled(LockModeType(mode))}
-        self.factory.tell(line_of("lock", members))
+        self._tell_on("lock", entity, f',"mode":{text_spelled(LockModeType(mode))}')
 
     def clear(self) -> None:
         """Takes all objects out of the context."""

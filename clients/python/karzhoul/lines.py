@@ -43,15 +43,13 @@ def spelled(value: Any) -> str:
     """A value as JSON: None, an int of 64 bits, a str or bytes; anything else is a `TypeError` or an `OverflowError`."""
     if isinstance(value, str):
         return text_spelled(value)
-    if isinstance(value, int) and not isinstance(value, bool):
-        if -(2**63) <= value < 2**63:
-            return str(int(value))
-        raise OverflowError(f"{value} is no integer of 64 bits")
     if isinstance(value, (bytes, bytearray, memoryview)):
         return f'{{"hex":"{bytes(value).hex()}"}}'
-    if value is None:
-        return "null"
-    raise TypeError(f"a value is None, an int, a str, bytes or an object of an entity, and no {type(value).__name__}")
+    if isinstance(value, bool) or not isinstance(value, (int, type(None))):
+        raise TypeError(f"a value is None, an int, a str, bytes or an object of an entity, and no {type(value).__name__}")
+    if value is not None and not -(2**63) <= value < 2**63:
+        raise OverflowError(f"{value} is no integer of 64 bits")
+    return "null" if value is None else str(int(value))
 
 
 def line_of(call: str, members: Mapping[str, str]) -> bytes:
