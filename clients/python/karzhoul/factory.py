@@ -155,8 +155,7 @@ class EntityManagerFactory(AbstractContextManager["EntityManagerFactory"]):
     def tell(self, line: bytes) -> None:
         """Does the call of a line, which answers null; within a pipeline it is kept."""
         with self._lock:
-            if self.program.fault:
-                raise self.program.fault
+            self.program.raise_fault()
             self._told.append(line)
             if not self._pipelines:
                 self._settle()
@@ -279,7 +278,7 @@ class EntityManager(AbstractContextManager["EntityManager"]):
 
     def find(self, entity: Union[str, Type[E]], key: Any) -> Optional[E]:
         """The object of this key, or None; a key of several parts is a tuple."""
-        return self.find_many(entity, [key])[0]
+        return self._by_key("find", entity, (key,))[0]  # type: ignore[no-any-return]
 
     def find_many(self, entity: Union[str, Type[E]], keys: Iterable[Any]) -> List[Optional[E]]:
         """The object of each key, or None, asked without waiting for each."""
@@ -287,7 +286,7 @@ class EntityManager(AbstractContextManager["EntityManager"]):
 
     def get_reference(self, entity: Union[str, Type[E]], key: Any) -> E:
         """The object of this key; `EntityNotFound` where there is none."""
-        return self._by_key("getReference", entity, [key])[0]  # type: ignore[no-any-return]
+        return self._by_key("getReference", entity, (key,))[0]  # type: ignore[no-any-return]
 
     def _by_key(self, call: str, entity: Union[str, Type[E]], keys: Iterable[Any]) -> List[Any]:
         name = entity if isinstance(entity, str) else entity.__name__

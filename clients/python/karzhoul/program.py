@@ -64,6 +64,7 @@ class Program:
         for line in lines:
             if len(together) + len(line) >= select.PIPE_BUF:
                 self._write(together)
+                self._read_all()
                 together = b""
             together += line + b"\n"
         self._write(together)
@@ -96,8 +97,7 @@ class Program:
         self.close()
 
     def _write(self, lines: bytes) -> None:
-        self._read_all()
-        self._raise_fault()
+        self.raise_fault()
         self._is_moving = True
         self._unanswered += lines.count(b"\n")
         try:
@@ -109,7 +109,7 @@ class Program:
 
     def _read_all(self) -> None:
         while self._unanswered > 0:
-            self._raise_fault()
+            self.raise_fault()
             self._reading.poll()  # An interrupt of this loses nothing.
             self._is_moving = True
             chunk = os.read(self._out, 1 << 16)
@@ -120,7 +120,8 @@ class Program:
             self._unanswered -= len(replies)
             self._is_moving = False
 
-    def _raise_fault(self) -> None:
+    def raise_fault(self) -> None:
+        """Raises why the program answers no more, where it doesn't."""
         if not self.fault and (self._is_moving or self._unanswered < 0):
             why = "a call was interrupted while bytes were on their way" if self._is_moving else "the program told more than it was asked"
             self.fault = ProgramEnded(_stopped(self._process, 0), why)
