@@ -12,25 +12,11 @@
 
 from . import refusals
 from .entities import Collection, EmbeddedId, Entity, Event
-from .factory import EntityManagerFactory, open
+from .factory import EntityManager, EntityManagerFactory, EntityTransaction, open
 from .lines import FlushModeType, LifecycleEvent, LockModeType
-from .manager import EntityManager, EntityTransaction
 from .refusals import *
 
 __version__ = "0.1.0"
 
-__all__ = [
-    "Collection",
-    "EmbeddedId",
-    "Entity",
-    "EntityManager",
-    "EntityManagerFactory",
-    "EntityTransaction",
-    "Event",
-    "FlushModeType",
-    "LifecycleEvent",
-    "LockModeType",
-    "open",
-    "refusals",
-]
-__all__ += refusals.__all__
+__all__ = ["Collection", "EmbeddedId", "Entity", "EntityManager", "EntityManagerFactory", "EntityTransaction", "Event", "FlushModeType"]
+__all__ += ["LifecycleEvent", "LockModeType", "open", "refusals", *refusals.__all__]

@@ -11,6 +11,7 @@ from . import factory, show
 from .linter import lint
 from .program import Program, find_program
 from .refusals import KarzhoulError, ProgramNotFound, Refused
+from .unit import entities_of
 
 WRONG, REFUSED, FAILED = 1, 3, 4
 
@@ -90,7 +91,7 @@ def run_show(said: argparse.Namespace) -> int:
     if not Path(said.db).is_file():
         raise FileNotFoundError(f"there is no file {said.db}")
     with factory.open(said.mapping, said.db, program=said.program) as app:
-        shown = show.tables(app, show.keys_of(said.key, app.entities), said.most)
+        shown = show.tables(app, show.keys_of(said.key, entities_of(app.mapping)), said.most)
     if said.html:
         Path(said.html).write_text(show.html_page(shown, Path(said.db).name), encoding="utf-8")
         print(f"{said.html}: {sum(len(table.rows) for table in shown)} objects of {len(shown)} entities")

@@ -6,20 +6,16 @@ import os
 import select
 import shutil
 import signal
-import subprocess
 import sys
 import tempfile
 import weakref
-from collections import deque
-from pathlib import Path
-from typing import IO, Deque, Iterator, List, Optional, Sequence, Tuple, Union
+from contextlib import suppress
+from subprocess import PIPE, Popen, TimeoutExpired
+from typing import IO, Iterable, List, Optional, Sequence, Union
 
 from .refusals import KarzhoulError, ProgramEnded, ProgramNotFound, refusal_of
 
-VARIABLE = "KARZHOUL_PROGRAM"
-_SLICE = 1 << 16
 _PATIENCE = 2.0
-_INTERRUPTED = "a call was interrupted while bytes were on their way"
 
 Words = Union[str, "os.PathLike[str]"]
 
@@ -27,233 +23,132 @@ Words = Union[str, "os.PathLike[str]"]
 def find_program(given: Optional[Words] = None) -> str:
     """The program to start: the one that is given, else that of the variable KARZHOUL_PROGRAM, else `jpa` at the top of the
     repository that this package lies in, else `jpa` on the PATH."""
-    named = given if given is not None else os.environ.get(VARIABLE)
-    if named is not None:
-        found = shutil.which(os.fspath(named))
-        if found is None:
-            raise ProgramNotFound(f"{os.fspath(named)!r} is no program that can be started")
-        return os.path.abspath(found)
-    for top in list(Path(__file__).resolve().parents)[3:4]:
-        if (top / "crates" / "jpa").is_dir() and os.access(top / "jpa", os.X_OK):
-            return str(top / "jpa")
-    on_path = shutil.which("jpa")
-    if on_path is None:
-        raise ProgramNotFound(f"there is no program 'jpa' on the PATH: name it by program=.. or by the variable {VARIABLE}")
-    return on_path
-
-
-class Sent:
-    """Lines that were handed in together, and those of their replies that were read."""
-
-    __slots__ = ("lines", "replies")
-
-    def __init__(self, lines: List[bytes]) -> None:
-        self.lines = lines
-        self.replies: List[bytes] = []
+    top = os.path.realpath(os.path.join(__file__, "../../../.."))
+    own = os.path.join(top, "jpa") if os.path.isdir(os.path.join(top, "crates", "jpa")) else "jpa"
+    named = os.fspath(given or os.environ.get("KARZHOUL_PROGRAM") or own)
+    found = shutil.which(named)
+    if found is None:
+        raise ProgramNotFound(f"{named!r} is no program that can be started: name one by program=.. or by KARZHOUL_PROGRAM")
+    return os.path.abspath(found)
 
 
 class Program:
     """A program that was started with these words. Not for use by two threads at a time.
 
-    What is written never waits for what is read: replies are read while lines are written, so that no number of lines handed in at
-    a time can fill both pipes. What the program tells on standard error goes to a file, and is told where it ends.
+    Lines are written a few short ones or one at a time, when all that were written before are answered: so a write never waits for a
+    program that itself waits for its replies to be read. What the program tells on standard error goes to a file, and is told where
+    it ends.
     """
 
-    def __init__(self, words: Sequence[str]) -> None:
-        self._told: IO[bytes] = tempfile.TemporaryFile()
-        try:
-            # In a group of its own, so that Ctrl-C at a terminal interrupts a call and doesn't end the program.
-            self._process = subprocess.Popen(
-                list(words), bufsize=0, stdin=subprocess.PIPE, stdout=subprocess.PIPE, stderr=self._told, start_new_session=True
-            )
-        except OSError as fault:
-            self._told.close()
-            raise ProgramNotFound(f"{words[0]} can't be started: {fault.strerror}") from fault
+    def __init__(self, words: Sequence[Words]) -> None:
+        self._name, self._errors = words[0], tempfile.TemporaryFile()
+        # In a group of its own, so that Ctrl-C at a terminal interrupts a call and doesn't end the program.
+        self._process = Popen(words, bufsize=0, stdin=PIPE, stdout=PIPE, stderr=self._errors, start_new_session=True)
         assert self._process.stdin is not None and self._process.stdout is not None
-        self._in = self._process.stdin.fileno()
-        self._out = self._process.stdout.fileno()
-        os.set_blocking(self._in, False)
-        self._outgoing = bytearray()
-        self._incoming = b""
-        self._unanswered: Deque[Sent] = deque()
+        self._in, self._out = self._process.stdin.fileno(), self._process.stdout.fileno()
+        self._end = weakref.finalize(self, _end, self._process, self._process.stdin, self._process.stdout, self._errors)
+        self._reading = select.poll()
+        self._reading.register(self._out, select.POLLIN)
+        self.pid = self._process.pid
+        # Why the program answers no more; None while it does.
         self.fault: Optional[KarzhoulError] = None
-        """Why the program answers no more; None while it does."""
+        self._unanswered, self._incoming = 0, b""
+        self._replies: List[bytes] = []
+        # Whether bytes are on their way; where a call finds them so, an interrupt may have lost some of them.
         self._is_moving = False
-        """Whether lines or bytes are on their way; where a call finds them so, an interrupt may have lost some of them."""
-        self._reading, self._moving = select.poll(), select.poll()
-        for poll in (self._reading, self._moving):
-            poll.register(self._out, select.POLLIN)
-        self._moving.register(self._in, select.POLLOUT)
-        self._end = weakref.finalize(self, _end, self._process, self._told, os.getpid())
 
-    @property
-    def pid(self) -> int:
-        """The process's number."""
-        return self._process.pid
-
-    def send(self, line: bytes) -> Sent:
-        """Hands in a line, as `send_all` does."""
-        return self.send_all([line])
-
-    def send_all(self, lines: List[bytes]) -> Sent:
-        """Hands in lines, one at least. As many as the pipe takes are written now, so that the program is at work on them already."""
-        if self.fault:
-            raise self.fault
-        if self._is_moving:
-            self._break(_INTERRUPTED)
-        self._is_moving = True
-        sent = Sent(lines)
-        self._unanswered.append(sent)
-        self._outgoing += b"\n".join(lines) + b"\n"
-        self._write()
-        self._is_moving = False
-        while len(self._outgoing) >= _SLICE:
-            self._exchange()
-        return sent
-
-    def wait(self, sent: Sent) -> bytes:
-        """The line of the reply to a line that was handed in alone."""
-        return self.wait_for_all(sent)[0]
-
-    def wait_for_all(self, sent: Sent) -> List[bytes]:
-        """The lines of the replies. The program's end is a `ProgramEnded`, or the refusal that it ended with."""
-        while len(sent.replies) < len(sent.lines):
-            if self.fault:
-                raise self.fault
-            self._exchange()
-        return sent.replies
-
-    def answered(self, sent: Sent) -> Iterator[Tuple[List[bytes], List[bytes]]]:
-        """Lines with those of their replies, some at a time as they come, so that these are dealt with while the program makes others."""
-        done = 0
-        while done < len(sent.lines):
-            known = len(sent.replies)
-            if done < known:
-                yield sent.lines[done:known], sent.replies[done:known]
-                done = known
-            elif self.fault:
-                raise self.fault
-            else:
-                self._exchange()
+    def replies(self, lines: Iterable[bytes]) -> List[bytes]:
+        """Writes lines, and gives their replies. The program's end is a `ProgramEnded`, or the refusal that it ended with."""
+        self._read_all()  # What a call that was interrupted left.
+        self._replies, together = [], b""
+        for line in lines:
+            if len(together) + len(line) >= select.PIPE_BUF:
+                self._write(together)
+                self._read_all()
+                together = b""
+            together += line + b"\n"
+        self._write(together)
+        self._read_all()
+        return self._replies
 
     def start(self) -> None:
         """Waits for the program to answer at all, by an empty line, which is no call. What it tells meanwhile, as where it is being
         built, goes to standard error."""
-        sent, shown = self.send(b""), 0
-        while not sent.replies and self.fault is None:
-            if self._reading.poll(_PATIENCE * 1000):
-                self._exchange()
-            else:
-                shown = self._show(shown)
-        if b'"BadLine"' not in self.wait(sent):
-            raise ProgramNotFound(f"{self._process.args[0]!r} is no program that answers calls")  # type: ignore[index]
+        self._write(b"\n")
+        shown = 0
+        while not self._reading.poll(1000 * _PATIENCE):
+            if told := self._told()[shown:]:
+                print(f"karzhoul: waiting for {self._name}: {told.strip()}", file=sys.stderr)
+                shown += len(told)
+        self._read_all()
+        if b'"BadLine"' not in self._replies[0]:
+            raise ProgramNotFound(f"{self._name!r} is no program that answers calls")
 
     def close(self) -> None:
-        """Writes what was handed in, ends the program's input and waits for its end."""
-        try:
-            while (self._outgoing or self._unanswered) and not self.fault:
-                self._exchange()
-        except ProgramEnded:
-            pass  # Then it has ended, as is wanted.
-        finally:
-            self.fault = self.fault or ProgramEnded(None)
-            self._end()
+        """Waits for the replies to what was written, ends the program's input and waits for its end."""
+        with suppress(KarzhoulError):  # Then it has ended, as is wanted.
+            self._read_all()
+        self.fault = self.fault or ProgramEnded(None)
+        self._end()
 
     def kill(self) -> None:
         """Ends the program at once, with what it runs itself, as where it is being built."""
-        _kill(self._process)
+        _stopped(self._process, 0)
         self.close()
 
-    def _show(self, shown: int) -> int:
-        told = self._tell()
-        if len(told) > shown:
-            print(f"karzhoul: waiting for {self._process.args[0]}: {told[shown:].strip()}", file=sys.stderr)  # type: ignore[index]
-        return len(told)
-
-    def _tell(self) -> str:
-        size = os.fstat(self._told.fileno()).st_size
-        return os.pread(self._told.fileno(), size, 0).decode(errors="replace")
-
-    def _exchange(self) -> None:
-        """Moves some bytes: writes as far as the pipe takes them, and reads where there is something or nothing is left to write."""
-        if self._is_moving:
-            self._break(_INTERRUPTED)
-        if self._outgoing:
-            self._is_moving = True
-            self._write()
-            self._is_moving = False
-        if not self._outgoing:
-            self._reading.poll()
-        elif all(pipe != self._out for pipe, _ in self._moving.poll()):
-            return
+    def _write(self, lines: bytes) -> None:
+        self.raise_fault()
         self._is_moving = True
-        self._read()
+        self._unanswered += lines.count(b"\n")
+        try:
+            while lines:
+                lines = lines[os.write(self._in, lines) :]
+        except BrokenPipeError:
+            pass  # What it told before its end is still read.
         self._is_moving = False
 
-    def _write(self) -> None:
-        try:
-            written = os.write(self._in, self._outgoing)
-            if written == len(self._outgoing):
-                self._outgoing.clear()
-            else:
-                del self._outgoing[:written]
-        except BlockingIOError:
-            pass
-        except BrokenPipeError:
-            # What it wrote before its end is still read.
-            self._outgoing.clear()
+    def _read_all(self) -> None:
+        while self._unanswered > 0:
+            self.raise_fault()
+            self._reading.poll()  # An interrupt of this loses nothing.
+            self._is_moving = True
+            chunk = os.read(self._out, 1 << 16)
+            if not chunk:
+                self.fault = self._why_it_ended()
+            *replies, self._incoming = (self._incoming + chunk).split(b"\n")
+            self._replies += replies
+            self._unanswered -= len(replies)
+            self._is_moving = False
 
-    def _read(self) -> None:
-        chunk = os.read(self._out, _SLICE)
-        if not chunk:
-            self.fault = self._ended()
-            return
-        replies: List[bytes] = (self._incoming + chunk).split(b"\n")
-        self._incoming = replies.pop()
-        while replies:
-            if not self._unanswered:
-                self._break("the program told more than it was asked")
-            sent = self._unanswered[0]
-            missing = len(sent.lines) - len(sent.replies)
-            sent.replies += replies[:missing]
-            if missing <= len(replies):
-                self._unanswered.popleft()
-            del replies[:missing]
+    def raise_fault(self) -> None:
+        """Raises why the program answers no more, where it doesn't."""
+        if not self.fault and (self._is_moving or self._unanswered < 0):
+            why = "a call was interrupted while bytes were on their way" if self._is_moving else "the program told more than it was asked"
+            self.fault = ProgramEnded(_stopped(self._process, 0), why)
+        if self.fault:
+            raise self.fault
 
-    def _break(self, why: str) -> None:
-        _kill(self._process)
-        self.fault = ProgramEnded(self._process.wait(), why)
-        raise self.fault
-
-    def _ended(self) -> KarzhoulError:
+    def _why_it_ended(self) -> KarzhoulError:
         """Why the program ended: the refusal that it told where it never came to answer, as of its mapping."""
-        try:
-            status = self._process.wait(_PATIENCE)
-        except subprocess.TimeoutExpired:
-            _kill(self._process)
-            status = self._process.wait()
-        told = self._tell()
+        status, told = _stopped(self._process, _PATIENCE), self._told()
         last = told.rstrip().rpartition("\n")[2]
-        if status in (2, 3) and last.startswith("jpa: "):
-            return refusal_of(last[len("jpa: ") :])
-        return ProgramEnded(status, told)
+        return refusal_of(last[len("jpa: ") :]) if status in (2, 3) and last.startswith("jpa: ") else ProgramEnded(status, told)
+
+    def _told(self) -> str:
+        return os.pread(self._errors.fileno(), os.fstat(self._errors.fileno()).st_size, 0).decode(errors="replace")
 
 
-def _end(process: "subprocess.Popen[bytes]", told: IO[bytes], owner: int) -> None:
-    """Ends the process where it was started here, and not in a parent of this process. Called once, at the interpreter's exit at
-    the latest."""
-    for pipe in (process.stdin, process.stdout):
-        if pipe is not None:
-            pipe.close()
-    if os.getpid() == owner:
-        try:
-            process.wait(timeout=10)
-        except subprocess.TimeoutExpired:
-            _kill(process)
-            process.wait()
-    told.close()
-
-
-def _kill(process: "subprocess.Popen[bytes]") -> None:
-    if process.poll() is None:
+def _stopped(process: Popen[bytes], patience: float) -> int:
+    """The status of a process, which is ended with what it runs itself if it hasn't ended after so many seconds."""
+    try:
+        return process.wait(patience)
+    except TimeoutExpired:
         os.killpg(process.pid, signal.SIGKILL)
+        return process.wait()
+
+
+def _end(process: Popen[bytes], *files: IO[bytes]) -> None:
+    """Ends the process, which is no child of a forked process and lives on there. Called once, at the interpreter's exit at the latest."""
+    for file in files:
+        file.close()
+    _stopped(process, 10)

@@ -8,15 +8,44 @@ import sys
 from pathlib import Path
 from typing import Any, Callable, Dict, Iterable, List, Optional, Sequence, Tuple
 
-from .entities import Entity, Event, number_of
+from .entities import Entity, Event
 from .factory import EntityManagerFactory
-from .lines import CALLS, FlushModeType, LockModeType, Takes, spelled, text_spelled
+from .lines import FlushModeType, LockModeType, spelled, text_spelled
 from .refusals import KarzhoulError, ProgramEnded, Refused
 from .show import value_text
-from .unit import MemberKind
+from .unit import MemberKind, entities_of
 
 HISTORY = Path.home() / ".karzhoul_history"
 COMMANDS = ("help", "entities", "manager", "quit")
+CALLS: Dict[str, Sequence[str]] = {
+    "createEntityManager": (),
+    "close": ("em",),
+    "begin": ("em",),
+    "commit": ("em",),
+    "rollback": ("em",),
+    "setRollbackOnly": ("em",),
+    "clear": ("em",),
+    "flush": ("em",),
+    "setFlushMode": ("em", "mode"),
+    "new": ("entity",),
+    "get": ("object", "name"),
+    "set": ("object", "name", "value"),
+    "add": ("object", "name", "member"),
+    "takeOut": ("object", "name", "member"),
+    "find": ("em", "entity", "key"),
+    "getReference": ("em", "entity", "key"),
+    "persist": ("em", "object"),
+    "remove": ("em", "object"),
+    "refresh": ("em", "object"),
+    "detach": ("em", "object"),
+    "merge": ("em", "object"),
+    "contains": ("em", "object"),
+    "lock": ("em", "object", "mode"),
+    "query": ("em", "text", "params", "first", "max"),
+    "querySingle": ("em", "text", "params", "first", "max"),
+    "executeUpdate": ("em", "text", "params"),
+}
+"""The calls with their members."""
 SPEAKING = {"createEntityManager", "new", "get", "takeOut", "find", "getReference", "merge", "contains"}
 SPEAKING |= {"query", "querySingle", "executeUpdate"}
 """The calls that answer more than null."""
@@ -39,6 +68,7 @@ class Shell:
 
     def __init__(self, app: EntityManagerFactory, write: Callable[[str], object] = print) -> None:
         self._app, self._write = app, write
+        self._described = entities_of(app.mapping)
         self._manager = app.create_entity_manager().number
         self._held: List[Entity] = []
         self._ends = False
@@ -50,7 +80,7 @@ class Shell:
         """Reads and does lines until there are no more, or the program has ended."""
         is_terminal = sys.stdin.isatty()
         if is_terminal:
-            self._write(f"{', '.join(self._app.entities)}. 'help' tells how.")
+            self._write(f"{', '.join(self._described)}. 'help' tells how.")
             self._with_history()
         while not self._ends:
             try:
@@ -113,8 +143,7 @@ class Shell:
 
     def _call(self, call: str, words: List[str]) -> None:
         members = members_of(call, words, self._manager)
-        kind = self._app.entities.get(json.loads(members["entity"])) if "entity" in members else None
-        answer = self._app.ask(call, self._app.entity(kind.name) if kind else None, **members)
+        answer = self._app.ask(call, json.loads(members.get("entity", '""')), **members)
         if call == "createEntityManager":
             self._manager = answer
         self._answer(answer, call in SPEAKING)
@@ -132,7 +161,7 @@ class Shell:
         self._write(f"  {event.kind.value} {readable(event.object)}{ran}")
 
     def _entities(self) -> None:
-        for entity in self._app.entities.values():
+        for entity in self._described.values():
             members = ", ".join(f"{member.name}: {member.type}{_mark(member.kind)}" for member in entity.members)
             self._write(f"{entity.name}: {members}")
 
@@ -145,22 +174,22 @@ class Shell:
         return [f"{word} " for word in sorted(offered) if word.startswith(text)]
 
     def _words_after(self, call: str, words: Sequence[str]) -> Iterable[str]:
-        names = [name for name in CALLS.get(call, {}) if name != "em"]
+        names = [name for name in CALLS.get(call, ()) if name != "em"]
         asked = names[len(words)] if len(words) < len(names) else ""
         if call == "help" and not words:
             return CALLS
         if asked == "entity":
-            return self._app.entities
+            return self._described
         if asked in ("object", "member"):
-            return [f"#{number_of(held)}" for held in dict.fromkeys(self._held)]
+            return [f"#{held.__number__}" for held in dict.fromkeys(self._held)]
         if asked == "name":
             return self._members(words[0])
         modes = LockModeType if call == "lock" else FlushModeType
         return [mode.value for mode in modes] if asked == "mode" else ()
 
     def _members(self, word: str) -> Iterable[str]:
-        held = [type(each).__entity__ for each in self._held if f"#{number_of(each)}" == word]
-        known = [entity for entity in held if entity is not None] or list(self._app.entities.values())
+        held = [type(each).__name__ for each in self._held if f"#{each.__number__}" == word]
+        known = [self._described[name] for name in held if name in self._described] or list(self._described.values())
         return {member.name for entity in known for member in entity.members}
 
 
@@ -186,8 +215,8 @@ def _mark(kind: MemberKind) -> str:
 def readable(answer: Any) -> str:
     """An answer as a reader sees it."""
     if isinstance(answer, Entity):
-        known = type(answer).__entity__
-        return f"#{number_of(answer)}" + (f" {known.name}" if known else "")
+        name = type(answer).__name__
+        return f"#{answer.__number__}" + ("" if name == "AnyEntity" else f" {name}")
     if isinstance(answer, bool):
         return "yes" if answer else "no"
     if isinstance(answer, list):
@@ -209,10 +238,10 @@ def members_of(call: str, words: Sequence[str], em: int) -> Dict[str, str]:
     """The members of a call as JSON, from the words after it."""
     members: Dict[str, str] = {}
     left = list(words)
-    for name, takes in CALLS[call].items():
+    for name in CALLS[call]:
         if name == "em":
             members["em"] = str(em)
-        elif takes is Takes.KEY:
+        elif name == "key":
             members[name] = f"[{','.join(map(_value, left))}]"
             left = []
         elif name in ("params", "first", "max"):
@@ -220,7 +249,7 @@ def members_of(call: str, words: Sequence[str], em: int) -> Dict[str, str]:
         elif not left:
             raise Misread(f"{name} is missing: {usage(call)}")
         else:
-            members[name] = _member(takes, left.pop(0))
+            members[name] = _member(name, left.pop(0))
     if left:
         raise Misread(f"{left[0]!r} is too much: {usage(call)}")
     return members
@@ -233,14 +262,14 @@ def _optional(members: Dict[str, str], name: str, words: List[str]) -> List[str]
         pairs: List[Tuple[str, str, str]] = [word.partition("=") for word in mine]
         members[name] = "{" + ",".join(f"{text_spelled(parameter)}:{_value(value)}" for parameter, _, value in pairs) + "}"
     elif mine:
-        members[name] = _member(Takes.INTEGER, mine[-1])
+        members[name] = _member(name, mine[-1])
     return [word for word in words if not word.startswith(front)]
 
 
-def _member(takes: Takes, word: str) -> str:
-    if takes is Takes.VALUE:
+def _member(name: str, word: str) -> str:
+    if name == "value":
         return _value(word)
-    if takes is Takes.INTEGER:
+    if name in ("object", "member", "first", "max"):
         if not re.fullmatch(r"#?-?\d+", word):
             raise Misread(f"{word!r} is no number, and no object as #1")
         return str(int(word.lstrip("#")))

@@ -9,11 +9,10 @@ from dataclasses import dataclass
 from typing import Any, Dict, Iterable, List, Mapping, Optional, Sequence, Tuple
 
 from .diagram import diagram
-from .entities import Entity, number_of
-from .factory import EntityManagerFactory
-from .manager import EntityManager
+from .entities import Entity
+from .factory import EntityManager, EntityManagerFactory
 from .refusals import NotServed, Refused
-from .unit import EntityDescription
+from .unit import EntityDescription, entities_of
 
 Keys = Mapping[str, Sequence[Any]]
 Identity = Tuple[str, Tuple[Any, ...]]
@@ -52,12 +51,13 @@ def tables(app: EntityManagerFactory, keys: Keys, most: int = MOST_KEYS) -> List
     """The stored objects of each entity, in the mapping's order: those that a query finds, or, where the program serves no queries, those
     of generated keys, of which at most so many are looked for, and those of the keys that are given."""
     reader = _Reader(app, keys, most)
-    return [reader.table(entity) for entity in app.entities.values()]
+    return [reader.table(entity) for entity in reader.entities.values()]
 
 
 class _Reader:
     def __init__(self, app: EntityManagerFactory, keys: Keys, most: int) -> None:
         self._app, self._keys, self._most = app, keys, most
+        self.entities = entities_of(app.mapping)
         self._em = app.create_entity_manager()
 
     def table(self, entity: EntityDescription) -> Table:
@@ -99,10 +99,10 @@ class _Reader:
         if isinstance(value, list):
             return [self._linked(each) for each in value]
         if isinstance(value, Entity):
-            known = type(value).__entity__
-            name = known.name if known else "object"
-            key = tuple(self._app.get(value, part.name) for part in known.key) if known else (int(number_of(value)),)
-            return Link((name, key))
+            known = self.entities.get(type(value).__name__)
+            if known is None:
+                return Link(("object", (value.__number__,)))
+            return Link((known.name, tuple(self._app.get(value, part.name) for part in known.key)))
         return value
 
 

@@ -1,4 +1,4 @@
-"""What the client knows of a mapping: the entities, and the members of each along its chain of classes."""
+"""What the tools know of a mapping: the entities, and the members of each along its chain of classes."""
 
 from __future__ import annotations
 

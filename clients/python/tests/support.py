@@ -16,7 +16,6 @@ import karzhoul
 HERE = Path(__file__).resolve().parent
 TOP = HERE.parents[2]
 DATA = TOP / "crates" / "jpa_examples" / "data"
-RUNS = TOP / "tests" / "runs"
 FLAT = TOP / "tests" / "flat.json"
 STUB = HERE / "stub.py"
 

@@ -2,6 +2,7 @@
 
 from __future__ import annotations
 
+import copy
 import tempfile
 import unittest
 from pathlib import Path
@@ -84,6 +85,11 @@ class Objects(ProgramTest):
         with karzhoul.open(PERSONS, program=PROGRAM) as other:
             with self.assertRaises(ValueError):
                 self.em.persist(other.new("Person"))
+
+    def test_a_copy_of_an_object_is_the_object(self) -> None:
+        order = self.Order(number=1)
+        self.assertIs(copy.copy(order), order)
+        self.assertEqual(copy.deepcopy([order]), [order])
 
     def test_many_at_a_time(self) -> None:
         made = self.app.new_many("Order", ({"number": n, "amount": n * n} for n in range(1, 101)))

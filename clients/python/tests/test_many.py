@@ -6,7 +6,6 @@ import unittest
 from typing import Iterable, List
 
 import karzhoul
-from karzhoul.lines import objects_in
 
 from .support import PERSONS, played
 
@@ -109,14 +108,6 @@ class Answers(unittest.TestCase):
             with self.subTest(reply), played(MANAGER + find(1, reply), PERSONS) as app:
                 with self.assertRaises(ValueError):
                     app.create_entity_manager().find("Order", 1)
-
-    def test_only_whole_replies_with_an_object_are_taken_for_such(self) -> None:
-        good = [b'{"events":[],"ok":{"object":%d}}' % number for number in (1, 23, 4567890123)]
-        self.assertEqual(objects_in(good), ["1", "23", "4567890123"])
-        for bad in (b"", b" ", b'{"events":[],"ok":null}', b'{"events":[],"ok":{"object":1}} ', b'{"events":[],"ok":{"object":1_0}}',
-                    b'{"events":[],"ok":{"object":-1}}', b'{"events":[],"ok":{"object":\xd9\xa1}}', b'{"events":[],"ok":{"object":1}}\xff'):
-            for lines in ([bad], [bad, *good], [*good, bad]):
-                self.assertEqual(objects_in(lines), [], lines)
 
 
 if __name__ == "__main__":

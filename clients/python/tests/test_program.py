@@ -101,17 +101,16 @@ class Ends(unittest.TestCase):
         line = '{"call":"set","object":1,"name":"n","value":1}'
         transcript = f'> {line}\n< {{"events":[],"ok":null}}\n' * 3 + f"> {line}\n! 4\n"
         with played(transcript, PERSONS) as app:
-            sent = [app.program.send(line.encode()) for _ in range(5)]
-            self.assertEqual([app.program.wait(each) for each in sent[:3]], [b'{"events":[],"ok":null}'] * 3)
+            self.assertEqual(app.program.replies([line.encode()] * 3), [b'{"events":[],"ok":null}'] * 3)
             with self.assertRaises(karzhoul.ProgramEnded) as raised:
-                app.program.wait(sent[3])
+                app.program.replies([line.encode()] * 2)
             self.assertEqual(raised.exception.status, 4)
 
     def test_an_interrupt_while_bytes_are_on_their_way_ends_the_program(self) -> None:
         line = '{"call":"createEntityManager"}'
-        for moving in ("_write", "_read"):
+        for moving in ("write", "read"):
             with self.subTest(moving), played(f'> {line}\n< {{"events":[],"ok":1}}\n', PERSONS) as app:
-                with mock.patch.object(Program, moving, side_effect=KeyboardInterrupt), self.assertRaises(KeyboardInterrupt):
+                with mock.patch(f"karzhoul.program.os.{moving}", side_effect=KeyboardInterrupt), self.assertRaises(KeyboardInterrupt):
                     app.create_entity_manager()
                 with self.assertRaises(karzhoul.ProgramEnded) as raised:
                     app.create_entity_manager()
@@ -254,8 +253,8 @@ class OfTheProgram(ProgramTest):
     def test_more_than_both_pipes_hold(self) -> None:
         running = Program([str(PROGRAM), "--mapping", str(FLAT)])
         running.start()
-        sent = [running.send(b'{"call":"x"}') for _ in range(50_000)]
-        self.assertIn(b"BadLine", running.wait(sent[-1]))
+        replies = running.replies([b'{"call":"x"}'] * 50_000)
+        self.assertEqual([b"BadLine" in reply for reply in replies], [True] * 50_000)
         running.close()
 
 

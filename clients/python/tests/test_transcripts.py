@@ -1,6 +1,6 @@
 """Worked examples of all calls, played by a stub: the client sends exactly their lines, and gives what their replies say.
 
-The files data/*.txt have the lines of an example with the replies to them. So calls are tried that not every program serves yet.
+The files data/*.txt have the lines of an example with the replies to them.
 """
 
 from __future__ import annotations
@@ -12,9 +12,9 @@ from typing import Any, Callable, Dict, Type
 
 import karzhoul
 from karzhoul import FlushModeType, LockModeType
-from karzhoul.lines import CALLS, is_call
+from karzhoul.shell import CALLS
 
-from .support import HERE, RUNS, examples, played
+from .support import HERE, examples, played
 
 Factory = karzhoul.EntityManagerFactory
 
@@ -218,44 +218,6 @@ class Lines(unittest.TestCase):
         played_calls = set(re.findall(r'"call":"(\w+)"', files + here))
         self.assertEqual(set(CALLS) - played_calls - {"rollback"}, set())
         self.assertIn(".rollback()", here)
-
-    def test_lines_of_examples_are_calls(self) -> None:
-        for path in (HERE / "data").glob("*.txt"):
-            for line in path.read_text(encoding="utf-8").splitlines():
-                if line.startswith("> "):
-                    self.assertTrue(is_call(line[2:].encode()), line)
-
-    def test_worked_lines(self) -> None:
-        for run in ("lines-that-mean-no-call", "lines-that-are-no-calls", "members-in-another-order"):
-            lines, replies = ((RUNS / run / f"{name}.jsonl").read_bytes().split(b"\n")[:-1] for name in ("calls", "replies"))
-            for line, reply in zip(lines, replies):
-                with self.subTest(line):
-                    self.assertEqual(is_call(line), b'"BadLine"' not in reply)
-
-    def test_members_of_calls(self) -> None:
-        good = (
-            '{"call":"query","em":1,"text":"x"}',
-            '{"call":"query","em":1,"text":"x","params":{"a":{"object":1},"1":null},"first":-1,"max":0}',
-            '{"call":"lock","em":1,"object":1,"mode":"OPTIMISTIC_FORCE_INCREMENT"}',
-            '{"call":"find","em":1,"entity":"x","key":[{"object":1},{"hex":"0aFF"},null]}',
-            '{"call":"x","em":1,"call":"begin"}',
-        )
-        bad = (
-            '{"call":"query","em":1,"text":"x","params":null}',
-            '{"call":"query","em":1,"text":"x","first":null}',
-            '{"call":"lock","em":1,"object":1,"mode":"NONE"}',
-            '{"call":"setFlushMode","em":1,"mode":"auto"}',
-            '{"call":"find","em":1,"entity":"x","key":[{"hex":"0"}]}',
-            '{"call":"begin","em":9223372036854775808}',
-            '{"call":"begin","em":true}',
-            '{"call":"new","entity":"\\ud800"}',
-            "\ufeff{}",
-        )
-        for line in good:
-            self.assertTrue(is_call(line.encode()), line)
-        for line in bad:
-            self.assertFalse(is_call(line.encode()), line)
-        self.assertFalse(is_call(b'{"call":"new","entity":"\xff"}'))
 
 
 if __name__ == "__main__":
