@@ -80,9 +80,9 @@ class EntityManagerFactory(AbstractContextManager["EntityManagerFactory"]):
         with self._lock, closing(self.program):
             self._settle()
 
-    def entity(self, name: Union[str, Type[E]]) -> Type[E]:
+    def entity(self, name: Union[str, Type[Entity]]) -> Type[Entity]:
         """The class of an entity: calling it makes a new object, as `Person(name="Ada")`."""
-        return self._classes[name] if isinstance(name, str) else name  # type: ignore[return-value]
+        return self._classes[name] if isinstance(name, str) else name
 
     def create_entity_manager(self) -> EntityManager:
         """A manager with an empty context."""
@@ -97,7 +97,7 @@ class EntityManagerFactory(AbstractContextManager["EntityManagerFactory"]):
 
     def new(self, entity: Union[str, Type[E]], /, **values: Any) -> E:
         """A new object with these values."""
-        return self.entity(entity)(**values)
+        return self.entity(entity)(**values)  # type: ignore[return-value]
 
     def new_many(self, entity: Union[str, Type[E]], rows: Iterable[Mapping[str, Any]]) -> List[E]:
         """A new object for each row of values, sent without waiting for each."""
