@@ -164,7 +164,7 @@ def _attributes(declared: Mapping[str, Any], entity: Mapping[str, Any]) -> List[
     """The attributes that an entity and its superclasses declare."""
     made = _attributes(declared, declared[entity["extends"]]) if "extends" in entity else []
     key = [part["name"] for part in entity.get("key", ())]
-    made += [Attribute(entity["embedded"], view=partial(EmbeddedId, key))] if "embedded" in entity else map(Attribute, key)
+    made += [Attribute(entity["embedded"], view=partial(EmbeddedId, key))] if "embedded" in entity else [Attribute(part) for part in key]
     made += [Attribute(entity["version"]["name"])] if "version" in entity else []
     made += [Attribute(attribute["name"]) for attribute in entity.get("attributes", ())]
     for relation in entity.get("relations", ()):

@@ -8,6 +8,7 @@ import tempfile
 import threading
 from collections import deque
 from contextlib import AbstractContextManager, closing, contextmanager, suppress
+from operator import methodcaller
 from pathlib import Path
 from typing import Any, Callable, Deque, Dict, FrozenSet, Iterable, Iterator, List, Mapping, Optional, Sequence, Tuple, Type, Union
 from weakref import ref
@@ -23,8 +24,8 @@ Limit = Optional[int]
 Result = Optional[Type[Entity]]
 
 _decode = json.JSONDecoder().raw_decode
-# The end of each reply that answers null, and of no other one: of a refusal's its events stand last.
-_DONE = b',"ok":null}'
+# Whether a reply answers null: no other one has this end, since of a refusal's its events stand last.
+_is_null = methodcaller("endswith", b',"ok":null}')
 _OBJECT = re.compile(rb'\{"events":\[\],"ok":\{"object":([1-9][0-9]*)\}\}')
 
 
@@ -80,9 +81,9 @@ class EntityManagerFactory(AbstractContextManager["EntityManagerFactory"]):
         with self._lock, closing(self.program):
             self._settle()
 
-    def entity(self, name: Union[str, Type[E]]) -> Type[E]:
+    def entity(self, name: Union[str, Type[Entity]]) -> Type[Entity]:
         """The class of an entity: calling it makes a new object, as `Person(name="Ada")`."""
-        return self._classes[name] if isinstance(name, str) else name  # type: ignore[return-value]
+        return self._classes[name] if isinstance(name, str) else name
 
     def create_entity_manager(self) -> EntityManager:
         """A manager with an empty context."""
@@ -97,7 +98,7 @@ class EntityManagerFactory(AbstractContextManager["EntityManagerFactory"]):
 
     def new(self, entity: Union[str, Type[E]], /, **values: Any) -> E:
         """A new object with these values."""
-        return self.entity(entity)(**values)
+        return self.entity(entity)(**values)  # type: ignore[return-value]
 
     def new_many(self, entity: Union[str, Type[E]], rows: Iterable[Mapping[str, Any]]) -> List[E]:
         """A new object for each row of values, sent without waiting for each."""
@@ -190,7 +191,7 @@ class EntityManagerFactory(AbstractContextManager["EntityManagerFactory"]):
     def _answers(self, lines: Sequence[bytes], entity: str = "", bad_line: Type[BadLine] = NotServed) -> List[Any]:
         """The answers to lines. Their events are told first, and then the first refusal is raised."""
         replies = self.program.replies(lines)
-        if not self._callbacks and all([reply.endswith(_DONE) for reply in replies]):
+        if not self._callbacks and all(map(_is_null, replies)):
             return [None] * len(replies)
         kind = self._classes.get(entity)
         answers = [self._answer(line, reply, kind, bad_line) for line, reply in zip(lines, replies)]

@@ -45,7 +45,7 @@ def spelled(value: Any) -> str:
         return text_spelled(value)
     if isinstance(value, (bytes, bytearray, memoryview)):
         return f'{{"hex":"{bytes(value).hex()}"}}'
-    if isinstance(value, bool) or not isinstance(value, (int, type(None))):
+    if value is not None and (isinstance(value, bool) or not isinstance(value, int)):
         raise TypeError(f"a value is None, an int, a str, bytes or an object of an entity, and no {type(value).__name__}")
     if value is not None and not -(2**63) <= value < 2**63:
         raise OverflowError(f"{value} is no integer of 64 bits")
