@@ -10,13 +10,12 @@ use Rattle.jpa_functions.specs.Known.{names_are_known}
 use Rattle.jpa_functions.specs.declared.make.Listener.{Listener}
 use Rattle.jpa_functions.specs.declared.make.Converter.{Converter}
 use Rattle.jpa_program.specs.Opening.{HoldsCells}
-use Rattle.jpa.specs.declared.Unit.{Unit}
-use Rattle.jpa.specs.Served.{unit_from, HoldsUnit, IsServable, GivesServable}
+use Rattle.jpa.specs.Served.{ProgramUnit, unit_from, HoldsUnit, IsServable, GivesServable}
 
 module _ {S : Type 0} (g : Ghosts S) where
   -- what holds of the provider's unit holds of the one that it was opened with
   pub holds_unit :
-      (unit : Unit) (model : PersistenceUnit) (registry : Registered Listener Converter) (conn last : Held S) (set : StoredSet) (numbers : List ℕ)
+      (unit : ProgramUnit) (model : PersistenceUnit) (registry : Registered Listener Converter) (conn last : Held S) (set : StoredSet) (numbers : List ℕ)
       → model ≡ unit.metamodel → registry ≡ unit.registry → last ≡ conn → HoldsCells g (world_of meaning model registry) conn set numbers → HoldsUnit g unit last
   holds_unit unit model registry conn last set numbers is_model is_registry same stands =
       let holds : HoldsCells g (world_of meaning model registry) last set numbers = subst (λ k. HoldsCells g (world_of meaning model registry) k set numbers) (sym same) stands in
@@ -24,7 +23,7 @@ module _ {S : Type 0} (g : Ghosts S) where
       (set, numbers, subst (λ r. HoldsCells g (world_of meaning unit.metamodel r) last set numbers) is_registry of_model)
 
 -- an answer that no refusal of the unit allows comes of a unit that can be served
-pub is_servable : {A E : Type 0} (unit : Unit) (answer : Result A E) (function : E) (a : A) → answer ≡ Ok a
+pub is_servable : {A E : Type 0} (unit : ProgramUnit) (answer : Result A E) (function : E) (a : A) → answer ≡ Ok a
     → (names_are_known unit.registry unit.metamodel ≡ false → answer ≡ Err function) → IsServable unit
 is_servable unit answer function a is unknown = known (names_are_known unit.registry unit.metamodel) (λ no. sym is ∙ unknown no)
   where
@@ -33,6 +32,6 @@ is_servable unit answer function a is unknown = known (names_are_known unit.regi
     known false never = let bad = never refl in cc
 
 -- what serves the unit that bytes give ends well only where they give one that can be served
-pub gives_servable : {A E : Type 0} (mapping : Option (List ℕ)) (unit : Unit) (answer : Result A E) → Ok unit ≡ unit_from mapping → OnOk answer (IsServable unit) → OnOk answer (GivesServable mapping)
+pub gives_servable : {A E : Type 0} (mapping : Option (List ℕ)) (unit : ProgramUnit) (answer : Result A E) → Ok unit ≡ unit_from mapping → OnOk answer (IsServable unit) → OnOk answer (GivesServable mapping)
 gives_servable mapping unit (Ok a) is serves = (unit, sym is, serves)
 gives_servable mapping unit (Err e) is serves = serves

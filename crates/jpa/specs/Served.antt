@@ -4,31 +4,38 @@ use Rattle.sqlite_trees.specs.declared.store.Store.{Ghosts}
 use Rattle.sqlite.specs.Held.{Held}
 use Rattle.jpa_value.specs.declared.refusal.Cause.{Cause}
 use Rattle.jpa_value.specs.declared.refusal.MappingFault.{MappingFault}
-use Rattle.jpa_behaviour.specs.Registered.{world_of}
+use Rattle.jpa_behaviour.specs.Served.{world_of_unit}
+use Rattle.jpa_behaviour.specs.declared.served_unit.ServedUnit.{ServedUnit}
 use Rattle.jpa_stored.specs.Sets.{StoredSet}
 use Rattle.jpa_json.specs.Outcome.{and_then}
 use Rattle.jpa_mapping.specs.MappingOf.{mapping_of}
+use Rattle.jpa_functions.specs.declared.behaviour.ProgramFunctions.{ProgramFunctions}
+use Rattle.jpa_functions.specs.declared.make.Listener.{Listener}
+use Rattle.jpa_functions.specs.declared.make.Converter.{Converter}
 use Rattle.jpa_functions.specs.Functions.{meaning}
 use Rattle.jpa_functions.specs.FunctionsIn.{functions_in}
 use Rattle.jpa_functions.specs.Known.{names_are_known}
 use Rattle.jpa_functions.specs.Sorts.{registered}
 use Rattle.jpa_program.specs.Opening.{HoldsCells}
 use Rattle.jpa_program.specs.Persons.{persons}
-use Rattle.jpa.specs.declared.Unit.{Unit}
+
+-- a persistence unit with the program's own functions
+abbrev pub ProgramUnit : Type 0
+ProgramUnit = ServedUnit ProgramFunctions Listener Converter
 
 -- the unit that the bytes of a mapping describe, or the first that is wrong: with its entities, then with its functions
-abbrev pub unit_in : List ℕ → Result Unit Cause
+abbrev pub unit_in : List ℕ → Result ProgramUnit Cause
 unit_in bytes =
     and_then (mapping_of bytes) (λ metamodel.
     and_then (functions_in bytes) (λ functions.
     and_then (registered functions) (λ registry. Ok (record { metamodel = metamodel; registry = registry }))))
 
 -- the unit that is served without a mapping: the program's own persons with their orders, and no function
-abbrev pub own_unit : Unit
+abbrev pub own_unit : ProgramUnit
 own_unit = record { metamodel = persons; registry = record { listeners = []; converters = [] } }
 
 -- the unit of a mapping's bytes, or the first that is wrong with them, and of no bytes the program's own
-abbrev pub unit_from : Option (List ℕ) → Result Unit Cause
+abbrev pub unit_from : Option (List ℕ) → Result ProgramUnit Cause
 unit_from (Some bytes) = unit_in bytes
 unit_from None = Ok own_unit
 
@@ -37,14 +44,14 @@ abbrev pub IsMappingCause : Cause → Type 0
 IsMappingCause cause = (cause ≡ Cause.OutOfMemory) ⊎ ((fault : MappingFault) × (cause ≡ Cause.Mapping fault))
 
 -- each function that the unit names is registered
-abbrev pub IsServable : Unit → Type 0
+abbrev pub IsServable : ProgramUnit → Type 0
 IsServable unit = names_are_known unit.registry unit.metamodel ≡ true
 
 -- the unit of these bytes, or of none, can be served
 abbrev pub GivesServable : Option (List ℕ) → Type 0
-GivesServable mapping = (unit : Unit) × (unit_from mapping ≡ Ok unit) × IsServable unit
+GivesServable mapping = (unit : ProgramUnit) × (unit_from mapping ≡ Ok unit) × IsServable unit
 
 module _ {S : Type 0} (g : Ghosts S) where
   -- the cells of the unit's tables are those of a set of its objects and of next numbers, and no others
-  abbrev pub HoldsUnit : Unit → Held S → Type 0
-  HoldsUnit unit conn = (set : StoredSet) × (numbers : List ℕ) × HoldsCells g (world_of meaning unit.metamodel unit.registry) conn set numbers
+  abbrev pub HoldsUnit : ProgramUnit → Held S → Type 0
+  HoldsUnit unit conn = (set : StoredSet) × (numbers : List ℕ) × HoldsCells g (world_of_unit meaning unit) conn set numbers

@@ -10,10 +10,9 @@ ghost use Rattle.jpa_cells_meaning.specs.Store.{IsOrderedIfFound};
 ghost use Rattle.jpa_functions.specs.Known as known;
 ghost use Rattle.jpa.specs.Served as spec;
 
-use jpa_behaviour::Registry;
+use jpa_behaviour::{Registry, ServedUnit};
 use jpa_functions::{ProgramFunctions, read_functions, registry_of};
 use jpa_mapping::read_mapping;
-use jpa_model::Metamodel;
 use jpa_program::{first_unit, open, run};
 use jpa_settings::{Settings, Stop, read_settings, status};
 use jpa_value::{Cause, MappingFault, Refusal, Text, refusal_text};
@@ -22,13 +21,6 @@ use std::alloc::Global;
 use std::io::ErrorKind;
 use std::process::ExitCode;
 use std::{env, fs, io};
-
-/// A persistence unit and its stored functions.
-#[derive(Drop)]
-struct Unit {
-    metamodel: Metamodel,
-    registry: Registry<ProgramFunctions>,
-}
 
 /// The words of the command line, of which the first is the program's own name.
 fn words(rt: &HostRuntime) -> io::Result<Vec<String>> {
@@ -81,32 +73,32 @@ fn mapping_bytes(rt: &HostRuntime, settings: &Settings) -> Result<Option<Vec<u8>
 }
 
 /// The unit that a mapping's bytes describe: its entities are read before its functions.
-fn described(alloc: Global, bytes: &[u8]) -> Result<Unit, Cause>
+fn described(alloc: Global, bytes: &[u8]) -> Result<ServedUnit<ProgramFunctions>, Cause>
     ensures unit { IsUnlessMemory result (spec.unit_in bytes.now) }
     ensures refused { IfErr result spec.IsMappingCause }
 {
     let metamodel = read_mapping(alloc, bytes)?;
     let functions = read_functions(alloc, bytes)?;
     let registry = registry_of(alloc, functions)?;
-    Ok(Unit {
+    Ok(ServedUnit {
         metamodel,
         registry,
     })
 }
 
 /// The unit that is served without a mapping: the program's own persons with their orders, and no function.
-fn own_unit(alloc: Global) -> Result<Unit, Cause>
+fn own_unit(alloc: Global) -> Result<ServedUnit<ProgramFunctions>, Cause>
     ensures unit { IsUnlessMemory result (Ok spec.own_unit) }
     ensures refused { IfErr result spec.IsMappingCause }
 {
-    Ok(Unit {
+    Ok(ServedUnit {
         metamodel: first_unit(alloc)?,
         registry: Registry::new(alloc),
     })
 }
 
 /// The unit of a mapping's bytes: the one that they describe, and of no bytes the program's own.
-fn unit_from(alloc: Global, mapping: Option<&[u8]>) -> Result<Unit, Cause>
+fn unit_from(alloc: Global, mapping: Option<&[u8]>) -> Result<ServedUnit<ProgramFunctions>, Cause>
     ensures unit { IsUnlessMemory result (spec.unit_from (option_copied mapping.entry)) }
     ensures refused { IfErr result spec.IsMappingCause }
 {
@@ -120,7 +112,7 @@ fn unit_from(alloc: Global, mapping: Option<&[u8]>) -> Result<Unit, Cause>
 fn serve<S: Alter + Drop>(
     rt: &HostRuntime,
     conn: Connection<S>,
-    unit: Unit,
+    unit: ServedUnit<ProgramFunctions>,
 ) -> Result<(Stop, Connection<S>), Cause>
     requires { IsOrderedIfFound S.Store conn }
     ensures unknown { known.names_are_known unit.registry unit.metamodel ≡ false
@@ -128,11 +120,7 @@ fn serve<S: Alter + Drop>(
     ensures served { OnOk result (spec.IsServable unit) }
     ensures cells { IfOk result (λ served. spec.HoldsUnit S.Store unit served.1) }
 {
-    let Unit {
-        metamodel,
-        registry,
-    } = unit;
-    let mut provider = match open(rt.alloc(), conn, metamodel, registry) {
+    let mut provider = match open(rt.alloc(), conn, unit) {
         Ok(provider) => provider,
         Err((cause, _)) => return Err(cause),
     };
@@ -148,7 +136,7 @@ fn serve<S: Alter + Drop>(
     Ok((stop, provider.into_rows().store.into_connection()))
 }
 
-fn serve_in_memory(rt: &HostRuntime, unit: Unit) -> Result<Stop, Cause>
+fn serve_in_memory(rt: &HostRuntime, unit: ServedUnit<ProgramFunctions>) -> Result<Stop, Cause>
     ensures { OnOk result (spec.IsServable unit) }
 {
     let conn = Connection::open_in_memory(rt.alloc())?;
@@ -166,7 +154,11 @@ fn cause_of(error: Error) -> Cause {
 
 /// Serves over a store's file, which is made where there is none. What was committed stands in the file and in the log beside
 /// it; where the closing can't bring the log into the file, both stay.
-fn serve_file(rt: &HostRuntime, path: &Text, unit: Unit) -> Result<Stop, Cause>
+fn serve_file(
+    rt: &HostRuntime,
+    path: &Text,
+    unit: ServedUnit<ProgramFunctions>,
+) -> Result<Stop, Cause>
     ensures { OnOk result (spec.IsServable unit) }
 {
     let conn = match Connection::open_from(rt, path.as_str(), false, Unknown) {

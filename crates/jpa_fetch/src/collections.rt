@@ -2,7 +2,7 @@
 ghost use Rattle.std.specs.Prelude.{◌≡◌, ◌<◌, ◌==◌, All, length, IfOk, IfSome, OnOk};
 ghost use Rattle.std.specs.List.{list_any, position};
 ghost use Rattle.jpa_model.specs.Chains.{relation_at, relations_of};
-ghost use Rattle.jpa_behaviour.specs.Registered.{world_of};
+ghost use Rattle.jpa_behaviour.specs.Served.{world_of_unit};
 ghost use Rattle.jpa_heap.specs.declared.Handed.{Handed};
 ghost use Rattle.jpa_heap.specs.Assign.{fits_link};
 ghost use Rattle.jpa_heap.specs.Objects.{object_at};
@@ -15,7 +15,7 @@ ghost use Rattle.jpa_fetch.specs.Members as members;
 use crate::changing::set_relation;
 use crate::getting::member_named;
 use crate::reading::fetch;
-use jpa_behaviour::{Behaviour, Registry};
+use jpa_behaviour::{Behaviour, ServedUnit};
 use jpa_context::UnitOfWork;
 use jpa_heap::{Collection, Held};
 use jpa_model::{Member, Metamodel};
@@ -66,26 +66,25 @@ fn fits(
 /// A collection of an object, once it is read, with what it holds; the other object is to be one of its kind. Refused as `add` is.
 fn read_for<B: Behaviour>(
     alloc: Global,
-    metamodel: &Metamodel,
-    registry: &Registry<B>,
+    unit: &ServedUnit<B>,
     work: &mut UnitOfWork,
     object: usize,
     member: usize,
     collection: Option<usize>,
 ) -> Result<(usize, Seq<usize>), Cause>
-    requires ready { IsReady metamodel.now (now work.old) }
+    requires ready { IsReady unit.now.metamodel (now work.old) }
     requires object { object < length work.old.objects.now }
     requires member { member < length work.old.objects.now }
     requires collection { IfSome collection (λ r. r
-        < length (relations_of metamodel.now (object_at work.old.objects.now object).class)) }
-    ensures meets { let world = world_of B.meaning metamodel.now registry.now in
+        < length (relations_of unit.now.metamodel (object_at work.old.objects.now object).class)) }
+    ensures meets { let world = world_of_unit B.meaning unit.now in
         Meets result (now work.new)
         (members.read_for world object member collection (now work.old)) }
     ensures relation { IfOk result (λ read. read.0
-        < length (relations_of metamodel.now (object_at work.new.objects.now object).class)) }
+        < length (relations_of unit.now.metamodel (object_at work.new.objects.now object).class)) }
     ensures places { IfOk result
         (λ read. All (λ k. k < length work.new.objects.now) read.1) }
-    ensures ready { OnOk result (IsReady metamodel.now (now work.new)) }
+    ensures ready { OnOk result (IsReady unit.now.metamodel (now work.new)) }
     ensures grown { OnOk result (HasGrown (now work.old) (now work.new)) }
     ensures view { work.new.view ≡ work.old.view }
     ensures since { since work.new ≡ since work.old }
@@ -93,41 +92,44 @@ fn read_for<B: Behaviour>(
     let Some(relation) = collection else {
         return Err(Cause::IllegalArgument(Argument::Name));
     };
-    if !fits(metamodel, work, object, relation, member) {
+    if !fits(&unit.metamodel, work, object, relation, member) {
         return Err(Cause::IllegalArgument(Argument::Type));
     }
-    let places = fetch(alloc, metamodel, registry, work, object, relation)?;
+    let places = fetch(alloc, unit, work, object, relation)?;
     Ok((relation, places))
 }
 
 /// The collection of an object by its name, as `read_for`.
 fn read_named<B: Behaviour>(
     alloc: Global,
-    metamodel: &Metamodel,
-    registry: &Registry<B>,
+    unit: &ServedUnit<B>,
     work: &mut UnitOfWork,
     object: usize,
     name: &str,
     member: usize,
 ) -> Result<(usize, Seq<usize>), Cause>
-    requires ready { IsReady metamodel.now (now work.old) }
+    requires ready { IsReady unit.now.metamodel (now work.old) }
     requires object { object < length work.old.objects.now }
     requires member { member < length work.old.objects.now }
-    ensures meets { let world = world_of B.meaning metamodel.now registry.now in
+    ensures meets { let world = world_of_unit B.meaning unit.now in
         Meets result (now work.new)
         (members.read_named world object name.now member (now work.old)) }
     ensures relation { IfOk result (λ read. read.0
-        < length (relations_of metamodel.now (object_at work.new.objects.now object).class)) }
+        < length (relations_of unit.now.metamodel (object_at work.new.objects.now object).class)) }
     ensures places { IfOk result
         (λ read. All (λ k. k < length work.new.objects.now) read.1) }
-    ensures ready { OnOk result (IsReady metamodel.now (now work.new)) }
+    ensures ready { OnOk result (IsReady unit.now.metamodel (now work.new)) }
     ensures grown { OnOk result (HasGrown (now work.old) (now work.new)) }
     ensures view { work.new.view ≡ work.old.view }
     ensures since { since work.new ≡ since work.old }
 {
-    let named = member_named(metamodel, work, object, name);
-    let collection = collection_in(metamodel, work.objects.as_slice()[object].class, named);
-    read_for(alloc, metamodel, registry, work, object, member, collection)
+    let named = member_named(&unit.metamodel, work, object, name);
+    let collection = collection_in(
+        &unit.metamodel,
+        work.objects.as_slice()[object].class,
+        named,
+    );
+    read_for(alloc, unit, work, object, member, collection)
 }
 
 /// The first place at which an object stands in a list. Takes no memory.
@@ -158,52 +160,48 @@ fn drop_first(places: &mut Vec<usize>, object: usize) -> bool
 /// changed is undone by `UnitOfWork::undo`.
 pub fn add<B: Behaviour>(
     alloc: Global,
-    metamodel: &Metamodel,
-    registry: &Registry<B>,
+    unit: &ServedUnit<B>,
     work: &mut UnitOfWork,
     object: usize,
     name: &str,
     member: usize,
 ) -> Result<(), Cause>
-    requires ready { IsReady metamodel.now (now work.old) }
+    requires ready { IsReady unit.now.metamodel (now work.old) }
     requires object { object < length work.old.objects.now }
     requires member { member < length work.old.objects.now }
-    ensures meets { let world = world_of B.meaning metamodel.now registry.now in
+    ensures meets { let world = world_of_unit B.meaning unit.now in
         Meets result (now work.new) (members.add world object name.now member (now work.old)) }
     ensures view { work.new.view ≡ work.old.view }
     ensures since { since work.new ≡ since work.old }
 {
-    let (relation, mut places) = read_named(
-        alloc, metamodel, registry, work, object, name, member,
-    )?;
+    let (relation, mut places) = read_named(alloc, unit, work, object, name, member)?;
     places.push(member)?;
     let held = Held::Many(Collection::Fetched(places));
-    set_relation(metamodel, work, object, relation, held)
+    set_relation(&unit.metamodel, work, object, relation, held)
 }
 
 /// The first place at which an object stands in a collection of another goes; whether there was one. Refused as `add` is.
 pub fn take_out<B: Behaviour>(
     alloc: Global,
-    metamodel: &Metamodel,
-    registry: &Registry<B>,
+    unit: &ServedUnit<B>,
     work: &mut UnitOfWork,
     object: usize,
     name: &str,
     member: usize,
 ) -> Result<bool, Cause>
-    requires ready { IsReady metamodel.now (now work.old) }
+    requires ready { IsReady unit.now.metamodel (now work.old) }
     requires object { object < length work.old.objects.now }
     requires member { member < length work.old.objects.now }
-    ensures meets { let world = world_of B.meaning metamodel.now registry.now in
+    ensures meets { let world = world_of_unit B.meaning unit.now in
         Meets result (now work.new)
         (members.take_out world object name.now member (now work.old)) }
     ensures view { work.new.view ≡ work.old.view }
     ensures since { since work.new ≡ since work.old }
 {
-    let (relation, places) = read_named(alloc, metamodel, registry, work, object, name, member)?;
+    let (relation, places) = read_named(alloc, unit, work, object, name, member)?;
     let mut places = places.into_vec();
     let stood = drop_first(&mut places, member);
     let held = Held::Many(Collection::Fetched(Seq::of(places)));
-    set_relation(metamodel, work, object, relation, held)?;
+    set_relation(&unit.metamodel, work, object, relation, held)?;
     Ok(stood)
 }

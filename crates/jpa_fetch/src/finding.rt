@@ -2,7 +2,7 @@
 ghost use Rattle.std.specs.Prelude.{◌≡◌, ◌<◌, length, IfOk, IfErr, IfSome, OnOk, Some};
 ghost use Rattle.jpa_value.specs.declared.refusal.Cause.{Cause};
 ghost use Rattle.jpa_model.specs.Chains as chains;
-ghost use Rattle.jpa_behaviour.specs.Registered.{world_of};
+ghost use Rattle.jpa_behaviour.specs.Served.{world_of_unit};
 ghost use Rattle.jpa_context.specs.Steps.{Meets};
 ghost use Rattle.jpa_context.specs.Undo.{now, since, IsPlaced};
 ghost use Rattle.jpa_context.specs.Work as works;
@@ -10,7 +10,7 @@ ghost use Rattle.jpa_fetch.specs.Grown.{HasGrown, IsReady};
 ghost use Rattle.jpa_fetch.specs.Load as spec;
 
 use crate::loading::load;
-use jpa_behaviour::{Behaviour, Registry};
+use jpa_behaviour::{Behaviour, ServedUnit};
 use jpa_cascade::{instance, state_of};
 use jpa_context::{EntityState, UnitOfWork};
 use jpa_model::Metamodel;
@@ -33,25 +33,24 @@ fn row_of(work: &UnitOfWork, id: &Identity) -> Result<Option<Stored>, Cause>
 /// `load` refuses.
 pub fn reach<B: Behaviour>(
     alloc: Global,
-    metamodel: &Metamodel,
-    registry: &Registry<B>,
+    unit: &ServedUnit<B>,
     work: &mut UnitOfWork,
     id: &Identity,
 ) -> Result<usize, Cause>
-    requires ready { IsReady metamodel.now (now work.old) }
-    ensures meets { let world = world_of B.meaning metamodel.now registry.now in
+    requires ready { IsReady unit.now.metamodel (now work.old) }
+    ensures meets { let world = world_of_unit B.meaning unit.now in
         Meets result (now work.new) (spec.reach world Cause.EntityNotFound id.now (now work.old)) }
     ensures within { IfOk result (λ n. n < length (now work.new).objects) }
-    ensures ready { OnOk result (IsReady metamodel.now (now work.new)) }
+    ensures ready { OnOk result (IsReady unit.now.metamodel (now work.new)) }
     ensures grown { OnOk result (HasGrown (now work.old) (now work.new)) }
     ensures view { work.new.view ≡ work.old.view }
     ensures since { since work.new ≡ since work.old }
 {
-    if let Some(place) = instance(metamodel, work, id) {
+    if let Some(place) = instance(&unit.metamodel, work, id) {
         return Ok(place);
     }
     match row_of(work, id)? {
-        Some(row) => load(alloc, metamodel, registry, work, id, row),
+        Some(row) => load(alloc, unit, work, id, row),
         None => Err(Cause::EntityNotFound),
     }
 }
@@ -81,30 +80,29 @@ fn found_instance(
 /// The row under an identity, loaded, unless it is of another class.
 fn found_row<B: Behaviour>(
     alloc: Global,
-    metamodel: &Metamodel,
-    registry: &Registry<B>,
+    unit: &ServedUnit<B>,
     work: &mut UnitOfWork,
     class: usize,
     id: &Identity,
     row: Stored,
 ) -> Result<Option<usize>, Cause>
-    requires ready { IsReady metamodel.now (now work.old) }
-    requires class { class < length metamodel.now.entities }
+    requires ready { IsReady unit.now.metamodel (now work.old) }
+    requires class { class < length unit.now.metamodel.entities }
     requires row { works.row (now work.old) id.now ≡ Some row }
-    ensures meets { let world = world_of B.meaning metamodel.now registry.now in
+    ensures meets { let world = world_of_unit B.meaning unit.now in
         Meets result (now work.new) (spec.found_row world class id.now row
-        (chains.is_kind_of metamodel.now row.class class) (now work.old)) }
+        (chains.is_kind_of unit.now.metamodel row.class class) (now work.old)) }
     ensures within { IfOk result
         (λ found. IfSome found (λ n. n < length (now work.new).objects)) }
-    ensures ready { OnOk result (IsReady metamodel.now (now work.new)) }
+    ensures ready { OnOk result (IsReady unit.now.metamodel (now work.new)) }
     ensures grown { OnOk result (HasGrown (now work.old) (now work.new)) }
     ensures view { work.new.view ≡ work.old.view }
     ensures since { since work.new ≡ since work.old }
 {
-    if !metamodel.is_kind_of(row.class, class) {
+    if !unit.metamodel.is_kind_of(row.class, class) {
         return Ok(None);
     }
-    Ok(Some(load(alloc, metamodel, registry, work, id, row)?))
+    Ok(Some(load(alloc, unit, work, id, row)?))
 }
 
 /// The place of the object under a key of an entity: the persistence context's instance, else the stored object, loaded into
@@ -116,32 +114,31 @@ fn found_row<B: Behaviour>(
 /// `OutOfMemory` where a growth was refused. What a refused call changed is undone by `UnitOfWork::undo`.
 pub fn find<B: Behaviour>(
     alloc: Global,
-    metamodel: &Metamodel,
-    registry: &Registry<B>,
+    unit: &ServedUnit<B>,
     work: &mut UnitOfWork,
     class: usize,
     key: Key,
 ) -> Result<Option<usize>, Cause>
-    requires ready { IsReady metamodel.now (now work.old) }
-    requires class { class < length metamodel.now.entities }
-    ensures meets { let world = world_of B.meaning metamodel.now registry.now in
+    requires ready { IsReady unit.now.metamodel (now work.old) }
+    requires class { class < length unit.now.metamodel.entities }
+    ensures meets { let world = world_of_unit B.meaning unit.now in
         Meets result (now work.new) (spec.find world class key (now work.old)) }
     ensures within { IfOk result
         (λ found. IfSome found (λ n. n < length (now work.new).objects)) }
-    ensures ready { OnOk result (IsReady metamodel.now (now work.new)) }
+    ensures ready { OnOk result (IsReady unit.now.metamodel (now work.new)) }
     ensures grown { OnOk result (HasGrown (now work.old) (now work.new)) }
     ensures view { work.new.view ≡ work.old.view }
     ensures since { since work.new ≡ since work.old }
 {
     let id = Identity {
-        table: metamodel.root_of(class).table,
+        table: unit.metamodel.root_of(class).table,
         key,
     };
-    if let Some(place) = instance(metamodel, work, &id) {
-        return Ok(found_instance(metamodel, work, class, place));
+    if let Some(place) = instance(&unit.metamodel, work, &id) {
+        return Ok(found_instance(&unit.metamodel, work, class, place));
     }
     match row_of(work, &id)? {
-        Some(row) => found_row(alloc, metamodel, registry, work, class, &id, row),
+        Some(row) => found_row(alloc, unit, work, class, &id, row),
         None => Ok(None),
     }
 }

@@ -3,7 +3,7 @@ ghost use Rattle.std.specs.Prelude.{◌≡◌, ◌<◌, length, slice_index_or, 
 ghost use Rattle.jpa_value.specs.declared.refusal.Cause.{Cause};
 ghost use Rattle.jpa_value.specs.declared.value.Value.{Value};
 ghost use Rattle.jpa_model.specs.Chains.{member_of, relations_of};
-ghost use Rattle.jpa_behaviour.specs.Registered.{world_of};
+ghost use Rattle.jpa_behaviour.specs.Served.{world_of_unit};
 ghost use Rattle.jpa_heap.specs.Objects.{object_at};
 ghost use Rattle.jpa_heap.specs.Shape.{IsPlaced as IsMemberOf};
 ghost use Rattle.jpa_context.specs.Steps.{Meets};
@@ -12,7 +12,7 @@ ghost use Rattle.jpa_fetch.specs.Grown.{IsReady};
 ghost use Rattle.jpa_fetch.specs.Members as members;
 
 use crate::reading::{fetch, resolve};
-use jpa_behaviour::{Behaviour, Registry};
+use jpa_behaviour::{Behaviour, ServedUnit};
 use jpa_context::UnitOfWork;
 use jpa_heap::LiveObject;
 use jpa_model::{Member, Metamodel};
@@ -85,18 +85,17 @@ fn got_link(link: Option<usize>) -> Got
 /// What an object holds in a relation. Refused as `get` is.
 fn get_relation<B: Behaviour>(
     alloc: Global,
-    metamodel: &Metamodel,
-    registry: &Registry<B>,
+    unit: &ServedUnit<B>,
     work: &mut UnitOfWork,
     object: usize,
     relation: usize,
     to_one: bool,
 ) -> Result<Got, Cause>
-    requires ready { IsReady metamodel.now (now work.old) }
+    requires ready { IsReady unit.now.metamodel (now work.old) }
     requires object { object < length work.old.objects.now }
     requires relation { relation
-        < length (relations_of metamodel.now (object_at work.old.objects.now object).class) }
-    ensures meets { let world = world_of B.meaning metamodel.now registry.now in
+        < length (relations_of unit.now.metamodel (object_at work.old.objects.now object).class) }
+    ensures meets { let world = world_of_unit B.meaning unit.now in
         Meets result (now work.new)
         (members.get_relation world object relation to_one (now work.old)) }
     ensures within { IfOk result (members.IsGotWithin (length (now work.new).objects)) }
@@ -104,10 +103,10 @@ fn get_relation<B: Behaviour>(
     ensures since { since work.new ≡ since work.old }
 {
     if to_one {
-        let link = resolve(alloc, metamodel, registry, work, object, relation)?;
+        let link = resolve(alloc, unit, work, object, relation)?;
         Ok(got_link(link))
     } else {
-        let places = fetch(alloc, metamodel, registry, work, object, relation)?;
+        let places = fetch(alloc, unit, work, object, relation)?;
         Ok(Got::Many(places))
     }
 }
@@ -115,17 +114,16 @@ fn get_relation<B: Behaviour>(
 /// What an object holds in a member of its class. Refused as `get` is.
 fn get_member<B: Behaviour>(
     alloc: Global,
-    metamodel: &Metamodel,
-    registry: &Registry<B>,
+    unit: &ServedUnit<B>,
     work: &mut UnitOfWork,
     object: usize,
     member: Option<Member>,
 ) -> Result<Got, Cause>
-    requires ready { IsReady metamodel.now (now work.old) }
+    requires ready { IsReady unit.now.metamodel (now work.old) }
     requires object { object < length work.old.objects.now }
-    requires member { IsMemberOf metamodel.now
+    requires member { IsMemberOf unit.now.metamodel
         (object_at work.old.objects.now object).class member }
-    ensures meets { let world = world_of B.meaning metamodel.now registry.now in
+    ensures meets { let world = world_of_unit B.meaning unit.now in
         Meets result (now work.new) (members.get_member world object member (now work.old)) }
     ensures within { IfOk result (members.IsGotWithin (length (now work.new).objects)) }
     ensures view { work.new.view ≡ work.old.view }
@@ -135,8 +133,12 @@ fn get_member<B: Behaviour>(
     match member {
         None => Err(Cause::IllegalArgument(Argument::Name)),
         Some(Member::Relation(relation)) => {
-            let to_one = metamodel.relation_at(live.class, relation).side.is_to_one();
-            get_relation(alloc, metamodel, registry, work, object, relation, to_one)
+            let to_one = unit
+                .metamodel
+                .relation_at(live.class, relation)
+                .side
+                .is_to_one();
+            get_relation(alloc, unit, work, object, relation, to_one)
         }
         Some(scalar) => Ok(Got::Scalar(value_of(live, scalar)?)),
     }
@@ -151,20 +153,19 @@ fn get_member<B: Behaviour>(
 /// refuses; `OutOfMemory` where a growth was refused. What a refused call changed is undone by `UnitOfWork::undo`.
 pub fn get<B: Behaviour>(
     alloc: Global,
-    metamodel: &Metamodel,
-    registry: &Registry<B>,
+    unit: &ServedUnit<B>,
     work: &mut UnitOfWork,
     object: usize,
     name: &str,
 ) -> Result<Got, Cause>
-    requires ready { IsReady metamodel.now (now work.old) }
+    requires ready { IsReady unit.now.metamodel (now work.old) }
     requires object { object < length work.old.objects.now }
-    ensures meets { let world = world_of B.meaning metamodel.now registry.now in
+    ensures meets { let world = world_of_unit B.meaning unit.now in
         Meets result (now work.new) (members.get world object name.now (now work.old)) }
     ensures within { IfOk result (members.IsGotWithin (length (now work.new).objects)) }
     ensures view { work.new.view ≡ work.old.view }
     ensures since { since work.new ≡ since work.old }
 {
-    let member = member_named(metamodel, work, object, name);
-    get_member(alloc, metamodel, registry, work, object, member)
+    let member = member_named(&unit.metamodel, work, object, name);
+    get_member(alloc, unit, work, object, member)
 }

@@ -2,7 +2,7 @@
 ghost use Rattle.std.specs.Prelude.{◌≡◌, ◌<◌, length, map, IfOk, IfErr, OnOk, Some};
 ghost use Rattle.jpa_value.specs.declared.refusal.Cause.{Cause};
 ghost use Rattle.jpa_model.specs.Chains.{is_to_one, relation_at, relations_of};
-ghost use Rattle.jpa_behaviour.specs.Registered.{world_of};
+ghost use Rattle.jpa_behaviour.specs.Served.{world_of_unit};
 ghost use Rattle.jpa_stored.specs.Sets as sets;
 ghost use Rattle.jpa_open.specs.Opened as opened;
 ghost use Rattle.jpa_context.specs.Steps.{Meets};
@@ -11,7 +11,7 @@ ghost use Rattle.jpa_context.specs.Work as works;
 ghost use Rattle.jpa_fetch.specs.Grown.{HasGrown};
 ghost use Rattle.jpa_fetch.specs.Load as spec;
 
-use jpa_behaviour::{Behaviour, Registry};
+use jpa_behaviour::{Behaviour, ServedUnit};
 use jpa_cascade::members;
 use jpa_context::{Base, Entry, Lock, UnitOfWork};
 use jpa_heap::{Collection, Held, Life, Link, LiveObject};
@@ -127,18 +127,17 @@ pub fn object_of_row(
 /// 1,000,000 live objects already, what a listener or callback refuses, and `OutOfMemory`.
 pub fn load<B: Behaviour>(
     alloc: Global,
-    metamodel: &Metamodel,
-    registry: &Registry<B>,
+    unit: &ServedUnit<B>,
     work: &mut UnitOfWork,
     id: &Identity,
     row: Stored,
 ) -> Result<usize, Cause>
-    requires placed { IsPlaced metamodel.now (now work.old) }
+    requires placed { IsPlaced unit.now.metamodel (now work.old) }
     requires row { works.row (now work.old) id.now ≡ Some row }
-    ensures meets { let world = world_of B.meaning metamodel.now registry.now in
+    ensures meets { let world = world_of_unit B.meaning unit.now in
         Meets result (now work.new) (spec.load world id.now row (now work.old)) }
     ensures within { IfOk result (λ n. n < length (now work.new).objects) }
-    ensures placed { OnOk result (IsPlaced metamodel.now (now work.new)) }
+    ensures placed { OnOk result (IsPlaced unit.now.metamodel (now work.new)) }
     ensures grown { OnOk result (HasGrown (now work.old) (now work.new)) }
     ensures view { work.new.view ≡ work.old.view }
     ensures since { since work.new ≡ since work.old }
@@ -148,7 +147,7 @@ pub fn load<B: Behaviour>(
         return Err(Cause::Limit);
     }
     let key = id.key.try_copy()?;
-    let (object, base) = object_of_row(alloc, metamodel, work.manager, &work.view, id, row)?;
+    let (object, base) = object_of_row(alloc, &unit.metamodel, work.manager, &work.view, id, row)?;
     work.objects.push(object)?;
     work.context.push(Entry {
         object: place,
@@ -157,6 +156,6 @@ pub fn load<B: Behaviour>(
         base: Some(base),
     })?;
     let event = LifecycleEvent::PostLoad;
-    callback(alloc, metamodel, registry, work, event, place)?;
+    callback(alloc, unit, work, event, place)?;
     Ok(place)
 }

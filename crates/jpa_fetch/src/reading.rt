@@ -2,7 +2,7 @@
 ghost use Rattle.std.specs.Prelude.{◌≡◌, ◌<◌, All, List, length, IfOk, IfSome, OnOk};
 ghost use Rattle.jpa_value.specs.declared.refusal.Cause.{Cause};
 ghost use Rattle.jpa_model.specs.Chains.{relations_of};
-ghost use Rattle.jpa_behaviour.specs.Registered.{world_of};
+ghost use Rattle.jpa_behaviour.specs.Served.{world_of_unit};
 ghost use Rattle.jpa_heap.specs.declared.Collection.{Collection};
 ghost use Rattle.jpa_heap.specs.declared.Held.{Held};
 ghost use Rattle.jpa_heap.specs.declared.Link.{Link};
@@ -17,7 +17,7 @@ ghost use Rattle.jpa_fetch.specs.Members as members;
 
 use crate::changing::{set_fetched, set_relation};
 use crate::finding::reach;
-use jpa_behaviour::{Behaviour, Registry};
+use jpa_behaviour::{Behaviour, ServedUnit};
 use jpa_cascade::{members_now, state_of};
 use jpa_context::{EntityState, UnitOfWork};
 use jpa_heap::{Collection, Held, Link};
@@ -56,24 +56,23 @@ pub fn held_at<'a>(
 /// The objects of these identities, in their order. Refused as `reach` is, at the first that is refused.
 fn reach_all<B: Behaviour>(
     alloc: Global,
-    metamodel: &Metamodel,
-    registry: &Registry<B>,
+    unit: &ServedUnit<B>,
     work: &mut UnitOfWork,
     ids: &[Identity],
 ) -> Result<Seq<usize>, Cause>
-    requires ready { IsReady metamodel.now (now work.old) }
-    ensures meets { let world = world_of B.meaning metamodel.now registry.now in
+    requires ready { IsReady unit.now.metamodel (now work.old) }
+    ensures meets { let world = world_of_unit B.meaning unit.now in
         Meets result (now work.new)
         (members.collect (load.reach world Cause.EntityNotFound) ids.now (now work.old)) }
     ensures within { IfOk result (λ places. All (λ k. k < length (now work.new).objects) places) }
-    ensures ready { OnOk result (IsReady metamodel.now (now work.new)) }
+    ensures ready { OnOk result (IsReady unit.now.metamodel (now work.new)) }
     ensures grown { OnOk result (HasGrown (now work.old) (now work.new)) }
     ensures view { work.new.view ≡ work.old.view }
     ensures since { since work.new ≡ since work.old }
 {
     let mut places = Seq::new(alloc);
     for id in ids {
-        let place = reach(alloc, metamodel, registry, work, id)?;
+        let place = reach(alloc, unit, work, id)?;
         places.push(place)?;
     }
     Ok(places)
@@ -82,21 +81,20 @@ fn reach_all<B: Behaviour>(
 /// The members of a collection that was not read. Refused as `fetch` is.
 fn fetch_unread<B: Behaviour>(
     alloc: Global,
-    metamodel: &Metamodel,
-    registry: &Registry<B>,
+    unit: &ServedUnit<B>,
     work: &mut UnitOfWork,
     object: usize,
     relation: usize,
 ) -> Result<Seq<usize>, Cause>
-    requires ready { IsReady metamodel.now (now work.old) }
+    requires ready { IsReady unit.now.metamodel (now work.old) }
     requires object { object < length work.old.objects.now }
     requires relation { relation
-        < length (relations_of metamodel.now (object_at work.old.objects.now object).class) }
-    ensures meets { let world = world_of B.meaning metamodel.now registry.now in
+        < length (relations_of unit.now.metamodel (object_at work.old.objects.now object).class) }
+    ensures meets { let world = world_of_unit B.meaning unit.now in
         Meets result (now work.new) (members.fetch_held world object relation
         (Held.Many Collection.Unfetched) (now work.old)) }
     ensures within { IfOk result (λ places. All (λ k. k < length (now work.new).objects) places) }
-    ensures ready { OnOk result (IsReady metamodel.now (now work.new)) }
+    ensures ready { OnOk result (IsReady unit.now.metamodel (now work.new)) }
     ensures grown { OnOk result (HasGrown (now work.old) (now work.new)) }
     ensures view { work.new.view ≡ work.old.view }
     ensures since { since work.new ≡ since work.old }
@@ -104,11 +102,11 @@ fn fetch_unread<B: Behaviour>(
     if !is_held(work, object) {
         return Err(Cause::IllegalState(State::Unfetched));
     }
-    let ids = members_now(metamodel, work, object, relation)?;
-    let places = reach_all(alloc, metamodel, registry, work, ids.as_slice())?;
+    let ids = members_now(&unit.metamodel, work, object, relation)?;
+    let places = reach_all(alloc, unit, work, ids.as_slice())?;
     set_fetched(
         alloc,
-        metamodel,
+        &unit.metamodel,
         work,
         object,
         relation,
@@ -125,31 +123,28 @@ fn fetch_unread<B: Behaviour>(
 /// `OutOfMemory`.
 pub(crate) fn fetch<B: Behaviour>(
     alloc: Global,
-    metamodel: &Metamodel,
-    registry: &Registry<B>,
+    unit: &ServedUnit<B>,
     work: &mut UnitOfWork,
     object: usize,
     relation: usize,
 ) -> Result<Seq<usize>, Cause>
-    requires ready { IsReady metamodel.now (now work.old) }
+    requires ready { IsReady unit.now.metamodel (now work.old) }
     requires object { object < length work.old.objects.now }
     requires relation { relation
-        < length (relations_of metamodel.now (object_at work.old.objects.now object).class) }
-    ensures meets { let world = world_of B.meaning metamodel.now registry.now in
+        < length (relations_of unit.now.metamodel (object_at work.old.objects.now object).class) }
+    ensures meets { let world = world_of_unit B.meaning unit.now in
         Meets result (now work.new) (members.fetch world object relation (now work.old)) }
     ensures within { IfOk result (λ places. All (λ k. k < length (now work.new).objects) places) }
-    ensures ready { OnOk result (IsReady metamodel.now (now work.new)) }
+    ensures ready { OnOk result (IsReady unit.now.metamodel (now work.new)) }
     ensures grown { OnOk result (HasGrown (now work.old) (now work.new)) }
     ensures view { work.new.view ≡ work.old.view }
     ensures since { since work.new ≡ since work.old }
 {
-    match held_at(metamodel, work, object, relation) {
+    match held_at(&unit.metamodel, work, object, relation) {
         Held::Many(Collection::Fetched(places)) => {
             Ok(Seq::of(Vec::from_slice(alloc, places.as_slice())?))
         }
-        Held::Many(Collection::Unfetched) => {
-            fetch_unread(alloc, metamodel, registry, work, object, relation)
-        }
+        Held::Many(Collection::Unfetched) => { fetch_unread(alloc, unit, work, object, relation) }
         Held::One(_) => Ok(Seq::new(alloc)),
     }
 }
@@ -157,18 +152,17 @@ pub(crate) fn fetch<B: Behaviour>(
 /// The object of an identity that a to-one relation of an object holds unresolved. Refused as `resolve` is.
 fn resolve_unread<B: Behaviour>(
     alloc: Global,
-    metamodel: &Metamodel,
-    registry: &Registry<B>,
+    unit: &ServedUnit<B>,
     work: &mut UnitOfWork,
     object: usize,
     relation: usize,
     id: &Identity,
 ) -> Result<Option<usize>, Cause>
-    requires ready { IsReady metamodel.now (now work.old) }
+    requires ready { IsReady unit.now.metamodel (now work.old) }
     requires object { object < length work.old.objects.now }
     requires relation { relation
-        < length (relations_of metamodel.now (object_at work.old.objects.now object).class) }
-    ensures meets { let world = world_of B.meaning metamodel.now registry.now in
+        < length (relations_of unit.now.metamodel (object_at work.old.objects.now object).class) }
+    ensures meets { let world = world_of_unit B.meaning unit.now in
         Meets result (now work.new) (members.resolve_link world object relation
         (Held.One (Link.Key id.now)) (now work.old)) }
     ensures within { IfOk result
@@ -179,28 +173,27 @@ fn resolve_unread<B: Behaviour>(
     if !is_held(work, object) {
         return Err(Cause::IllegalState(State::Unfetched));
     }
-    let place = reach(alloc, metamodel, registry, work, id)?;
+    let place = reach(alloc, unit, work, id)?;
     let held = Held::One(Link::Object(place));
-    set_relation(metamodel, work, object, relation, held)?;
+    set_relation(&unit.metamodel, work, object, relation, held)?;
     Ok(Some(place))
 }
 
 /// The place of the object that a to-one relation of an object leads to, where it holds this. Refused as `resolve` is.
 fn resolve_link<B: Behaviour>(
     alloc: Global,
-    metamodel: &Metamodel,
-    registry: &Registry<B>,
+    unit: &ServedUnit<B>,
     work: &mut UnitOfWork,
     object: usize,
     relation: usize,
     link: Link,
 ) -> Result<Option<usize>, Cause>
-    requires ready { IsReady metamodel.now (now work.old) }
+    requires ready { IsReady unit.now.metamodel (now work.old) }
     requires object { object < length work.old.objects.now }
     requires relation { relation
-        < length (relations_of metamodel.now (object_at work.old.objects.now object).class) }
+        < length (relations_of unit.now.metamodel (object_at work.old.objects.now object).class) }
     requires link { All (λ k. k < length work.old.objects.now) (objects_held (Held.One link)) }
-    ensures meets { let world = world_of B.meaning metamodel.now registry.now in
+    ensures meets { let world = world_of_unit B.meaning unit.now in
         Meets result (now work.new)
         (members.resolve_link world object relation (Held.One link) (now work.old)) }
     ensures within { IfOk result
@@ -211,7 +204,7 @@ fn resolve_link<B: Behaviour>(
     match link {
         Link::None => Ok(None),
         Link::Object(place) => Ok(Some(place)),
-        Link::Key(id) => resolve_unread(alloc, metamodel, registry, work, object, relation, &id),
+        Link::Key(id) => resolve_unread(alloc, unit, work, object, relation, &id),
     }
 }
 
@@ -222,27 +215,26 @@ fn resolve_link<B: Behaviour>(
 /// `OutOfMemory`.
 pub(crate) fn resolve<B: Behaviour>(
     alloc: Global,
-    metamodel: &Metamodel,
-    registry: &Registry<B>,
+    unit: &ServedUnit<B>,
     work: &mut UnitOfWork,
     object: usize,
     relation: usize,
 ) -> Result<Option<usize>, Cause>
-    requires ready { IsReady metamodel.now (now work.old) }
+    requires ready { IsReady unit.now.metamodel (now work.old) }
     requires object { object < length work.old.objects.now }
     requires relation { relation
-        < length (relations_of metamodel.now (object_at work.old.objects.now object).class) }
-    ensures meets { let world = world_of B.meaning metamodel.now registry.now in
+        < length (relations_of unit.now.metamodel (object_at work.old.objects.now object).class) }
+    ensures meets { let world = world_of_unit B.meaning unit.now in
         Meets result (now work.new) (members.resolve world object relation (now work.old)) }
     ensures within { IfOk result
         (λ found. IfSome found (λ n. n < length (now work.new).objects)) }
     ensures view { work.new.view ≡ work.old.view }
     ensures since { since work.new ≡ since work.old }
 {
-    match held_at(metamodel, work, object, relation) {
+    match held_at(&unit.metamodel, work, object, relation) {
         Held::One(link) => {
             let link = link.try_copy()?;
-            resolve_link(alloc, metamodel, registry, work, object, relation, link)
+            resolve_link(alloc, unit, work, object, relation, link)
         }
         Held::Many(_) => Ok(None),
     }

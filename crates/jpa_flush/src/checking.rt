@@ -1,6 +1,7 @@
 //! What is checked of an object before it is written.
 ghost use Rattle.std.specs.Prelude.{◌≡◌, ◌<◌, length, is_some, true, IfOk, IfErr};
 ghost use Rattle.jpa_behaviour.specs.Registered.{world_of, column_in};
+ghost use Rattle.jpa_behaviour.specs.Served.{world_of_unit};
 ghost use Rattle.jpa_context.specs.Undo.{now};
 ghost use Rattle.jpa_context.specs.Work as works;
 ghost use Rattle.jpa_heap.specs.Shape.{HasShape};
@@ -9,10 +10,10 @@ ghost use Rattle.jpa_value.specs.declared.refusal.Cause.{Cause};
 ghost use Rattle.jpa_flush.specs.Flush as flushes;
 ghost use Rattle.jpa_flush.specs.Plan as plans;
 
-use jpa_behaviour::{Behaviour, Registry};
+use jpa_behaviour::{Behaviour, Registry, ServedUnit};
 use jpa_context::UnitOfWork;
 use jpa_heap::LiveObject;
-use jpa_model::{Attribute, Metamodel};
+use jpa_model::Attribute;
 use jpa_value::{Cause, Identity, Value};
 
 /// Whether an object stands in the set under the identity.
@@ -120,20 +121,16 @@ fn converts<B: Behaviour>(
 }
 
 /// Whether no converter of an object throws (chapter 3.8). `OutOfMemory` where a growth was refused.
-pub fn all_convert<B: Behaviour>(
-    metamodel: &Metamodel,
-    registry: &Registry<B>,
-    object: &LiveObject,
-) -> Result<bool, Cause>
-    requires { HasShape metamodel.now object.now }
-    ensures ok { let world = world_of B.meaning metamodel.now registry.now in
+pub fn all_convert<B: Behaviour>(unit: &ServedUnit<B>, object: &LiveObject) -> Result<bool, Cause>
+    requires { HasShape unit.now.metamodel object.now }
+    ensures ok { let world = world_of_unit B.meaning unit.now in
         IfOk result (λ convert. convert ≡ flushes.all_convert world object.now) }
     ensures err { IfErr result (λ cause. cause ≡ Cause.OutOfMemory) }
 {
     let values = object.values.as_slice();
-    let attributes = metamodel.attributes_of(object.class);
+    let attributes = unit.metamodel.attributes_of(object.class);
     for (i, value) in values.iter().enumerate() {
-        if !converts(registry, &attributes[i], value)? {
+        if !converts(&unit.registry, &attributes[i], value)? {
             return Ok(false);
         }
     }

@@ -1,7 +1,7 @@
 //! The flush of a manager's context.
 ghost use Rattle.std.specs.Prelude.{◌≡◌, T, true};
 ghost use Rattle.std.specs.FinMap.Entries.{is_sorted};
-ghost use Rattle.jpa_behaviour.specs.Registered.{world_of};
+ghost use Rattle.jpa_behaviour.specs.Served.{world_of_unit};
 ghost use Rattle.jpa_context.specs.Steps.{Meets};
 ghost use Rattle.jpa_context.specs.Undo.{now, since};
 ghost use Rattle.jpa_fetch.specs.Grown.{IsReady};
@@ -21,9 +21,8 @@ use crate::remembering::remember;
 use crate::settling::settle;
 use crate::telling::{tell_updates, tell_written};
 use crate::writing::write_all;
-use jpa_behaviour::{Behaviour, Registry};
+use jpa_behaviour::{Behaviour, ServedUnit};
 use jpa_context::UnitOfWork;
-use jpa_model::Metamodel;
 use jpa_value::Cause;
 use std::alloc::Global;
 
@@ -33,25 +32,24 @@ use std::alloc::Global;
 /// what was changed is undone where the new set is refused.
 fn write_changes<B: Behaviour>(
     alloc: Global,
-    metamodel: &Metamodel,
-    registry: &Registry<B>,
+    unit: &ServedUnit<B>,
     work: &mut UnitOfWork,
 ) -> Result<(), Cause>
-    requires ready { IsReady metamodel.now (now work.old) }
+    requires ready { IsReady unit.now.metamodel (now work.old) }
     requires shown { work.old.view.is_shown ≡ true }
-    requires sound { IsSound metamodel.now (now work.old).view }
+    requires sound { IsSound unit.now.metamodel (now work.old).view }
     requires rising { T (is_sorted identity_cmp (now work.old).view) }
-    requires distinct { has_distinct_entries metamodel.now (now work.old) ≡ true }
-    ensures meets { let world = world_of B.meaning metamodel.now registry.now in
+    requires distinct { has_distinct_entries unit.now.metamodel (now work.old) ≡ true }
+    ensures meets { let world = world_of_unit B.meaning unit.now in
         Meets result (now work.new) (plans.writing world (now work.old)) }
     ensures since { since work.new ≡ since work.old }
 {
-    let plan = plan(alloc, metamodel, registry, work)?;
+    let plan = plan(alloc, unit, work)?;
     settle(alloc, work, plan.as_slice())?;
-    remember(alloc, metamodel, work)?;
+    remember(alloc, &unit.metamodel, work)?;
     write_all(work, plan.as_slice())?;
-    judge_written(alloc, metamodel, work, plan.as_slice())?;
-    tell_written(alloc, metamodel, registry, work, plan.as_slice())
+    judge_written(alloc, &unit.metamodel, work, plan.as_slice())?;
+    tell_written(alloc, unit, work, plan.as_slice())
 }
 
 /// Writes what the objects of a manager's context differ in from the set that it sees, and takes out the rows of removed ones
@@ -70,23 +68,22 @@ fn write_changes<B: Behaviour>(
 /// at what leads to what it takes out.
 pub fn flush<B: Behaviour>(
     alloc: Global,
-    metamodel: &Metamodel,
-    registry: &Registry<B>,
+    unit: &ServedUnit<B>,
     work: &mut UnitOfWork,
 ) -> Result<(), Cause>
-    requires orderly { IsOrderly metamodel.now }
-    requires ready { IsReady metamodel.now (now work.old) }
+    requires orderly { IsOrderly unit.now.metamodel }
+    requires ready { IsReady unit.now.metamodel (now work.old) }
     requires shown { work.old.view.is_shown ≡ true }
-    requires sound { IsSound metamodel.now (now work.old).view }
+    requires sound { IsSound unit.now.metamodel (now work.old).view }
     requires rising { T (is_sorted identity_cmp (now work.old).view) }
-    requires distinct { has_distinct_entries metamodel.now (now work.old) ≡ true }
+    requires distinct { has_distinct_entries unit.now.metamodel (now work.old) ≡ true }
     ensures meets { Meets result (now work.new)
-        (flushes.flush (world_of B.meaning metamodel.now registry.now) (now work.old)) }
+        (flushes.flush (world_of_unit B.meaning unit.now) (now work.old)) }
     ensures since { since work.new ≡ since work.old }
 {
-    persist_reachable(alloc, metamodel, registry, work)?;
-    remove_orphans(alloc, metamodel, registry, work)?;
-    check_links(metamodel, work)?;
-    tell_updates(alloc, metamodel, registry, work)?;
-    write_changes(alloc, metamodel, registry, work)
+    persist_reachable(alloc, unit, work)?;
+    remove_orphans(alloc, unit, work)?;
+    check_links(&unit.metamodel, work)?;
+    tell_updates(alloc, unit, work)?;
+    write_changes(alloc, unit, work)
 }

@@ -4,7 +4,7 @@ ghost use Rattle.std.specs.List.{list_any};
 ghost use Rattle.jpa_value.specs.declared.refusal.Cause.{Cause};
 ghost use Rattle.jpa_value.specs.Value.{same_identity};
 ghost use Rattle.jpa_stored.specs.Sets.{is_rising};
-ghost use Rattle.jpa_behaviour.specs.Registered.{world_of};
+ghost use Rattle.jpa_behaviour.specs.Served.{world_of_unit};
 ghost use Rattle.jpa_heap.specs.Objects.{held_at};
 ghost use Rattle.jpa_context.specs.Steps.{Meets, each};
 ghost use Rattle.jpa_context.specs.Undo.{now, since};
@@ -15,7 +15,7 @@ ghost use Rattle.jpa_flush.specs.Flush as flushes;
 
 use crate::differing::known;
 use crate::held::held_now;
-use jpa_behaviour::{Behaviour, Registry};
+use jpa_behaviour::{Behaviour, ServedUnit};
 use jpa_cascade::{instance, state_of};
 use jpa_context::{Base, EntityState, Entry, UnitOfWork, place_laws};
 use jpa_fetch::load;
@@ -142,21 +142,20 @@ fn orphans_of(
 /// Removes the instance of an orphan, if it is managed. Refused as `remove` is.
 fn remove_instance<B: Behaviour>(
     alloc: Global,
-    metamodel: &Metamodel,
-    registry: &Registry<B>,
+    unit: &ServedUnit<B>,
     work: &mut UnitOfWork,
     object: usize,
 ) -> Result<(), Cause>
-    requires ready { IsReady metamodel.now (now work.old) }
+    requires ready { IsReady unit.now.metamodel (now work.old) }
     requires object { object < length work.old.objects.now }
-    ensures meets { let world = world_of B.meaning metamodel.now registry.now in
+    ensures meets { let world = world_of_unit B.meaning unit.now in
         Meets result (now work.new) (flushes.remove_instance world object
         (works.state_of (now work.old) object) (now work.old)) }
     ensures view { work.new.view ≡ work.old.view }
     ensures since { since work.new ≡ since work.old }
 {
     match state_of(work, object) {
-        EntityState::Managed => remove(alloc, metamodel, registry, work, object),
+        EntityState::Managed => remove(alloc, unit, work, object),
         EntityState::New | EntityState::Removed | EntityState::Detached => Ok(()),
     }
 }
@@ -165,48 +164,46 @@ fn remove_instance<B: Behaviour>(
 /// `load` and `remove` are.
 fn remove_orphan<B: Behaviour>(
     alloc: Global,
-    metamodel: &Metamodel,
-    registry: &Registry<B>,
+    unit: &ServedUnit<B>,
     work: &mut UnitOfWork,
     id: &Identity,
 ) -> Result<(), Cause>
-    requires ready { IsReady metamodel.now (now work.old) }
-    ensures meets { let world = world_of B.meaning metamodel.now registry.now in
+    requires ready { IsReady unit.now.metamodel (now work.old) }
+    ensures meets { let world = world_of_unit B.meaning unit.now in
         Meets result (now work.new) (flushes.remove_orphan world id.now (now work.old)) }
     ensures view { work.new.view ≡ work.old.view }
     ensures since { since work.new ≡ since work.old }
 {
-    if let Some(object) = instance(metamodel, work, id) {
-        return remove_instance(alloc, metamodel, registry, work, object);
+    if let Some(object) = instance(&unit.metamodel, work, id) {
+        return remove_instance(alloc, unit, work, object);
     }
     let Some(row) = work.view.get(id) else {
         return Ok(());
     };
     let row = row.try_copy()?;
-    let object = load(alloc, metamodel, registry, work, id, row)?;
-    remove(alloc, metamodel, registry, work, object)
+    let object = load(alloc, unit, work, id, row)?;
+    remove(alloc, unit, work, object)
 }
 
 /// Removes the orphans of an object. Refused as `remove_orphan` is.
 fn remove_orphans_of<B: Behaviour>(
     alloc: Global,
-    metamodel: &Metamodel,
-    registry: &Registry<B>,
+    unit: &ServedUnit<B>,
     work: &mut UnitOfWork,
     object: usize,
 ) -> Result<(), Cause>
-    requires ready { IsReady metamodel.now (now work.old) }
+    requires ready { IsReady unit.now.metamodel (now work.old) }
     requires object { object < length work.old.objects.now }
     ensures meets { let w = now work.old in
-        let world = world_of B.meaning metamodel.now registry.now in
+        let world = world_of_unit B.meaning unit.now in
         Meets result (now work.new) (each (flushes.remove_orphan world)
-        (flushes.orphans_of metamodel.now w object (works.state_of w object)) w) }
+        (flushes.orphans_of unit.now.metamodel w object (works.state_of w object)) w) }
     ensures view { work.new.view ≡ work.old.view }
     ensures since { since work.new ≡ since work.old }
 {
-    let orphans = orphans_of(alloc, metamodel, work, object)?;
+    let orphans = orphans_of(alloc, &unit.metamodel, work, object)?;
     for id in orphans.as_slice() {
-        remove_orphan(alloc, metamodel, registry, work, id)?;
+        remove_orphan(alloc, unit, work, id)?;
     }
     Ok(())
 }
@@ -220,23 +217,22 @@ fn remove_orphans_of<B: Behaviour>(
 /// orphans, it looks at each entry once and takes no memory.
 pub(crate) fn remove_orphans<B: Behaviour>(
     alloc: Global,
-    metamodel: &Metamodel,
-    registry: &Registry<B>,
+    unit: &ServedUnit<B>,
     work: &mut UnitOfWork,
 ) -> Result<(), Cause>
-    requires ready { IsReady metamodel.now (now work.old) }
-    ensures meets { let world = world_of B.meaning metamodel.now registry.now in
+    requires ready { IsReady unit.now.metamodel (now work.old) }
+    ensures meets { let world = world_of_unit B.meaning unit.now in
         Meets result (now work.new) (flushes.remove_orphans world (now work.old)) }
-    ensures ready { OnOk result (IsReady metamodel.now (now work.new)) }
-    ensures named { has_distinct_entries metamodel.now (now work.old) ≡ true →
-        OnOk result (has_distinct_entries metamodel.now (now work.new) ≡ true) }
+    ensures ready { OnOk result (IsReady unit.now.metamodel (now work.new)) }
+    ensures named { has_distinct_entries unit.now.metamodel (now work.old) ≡ true →
+        OnOk result (has_distinct_entries unit.now.metamodel (now work.new) ≡ true) }
     ensures view { work.new.view ≡ work.old.view }
     ensures since { since work.new ≡ since work.old }
 {
     // the entries of the start stay at their places
     for i in 0..work.context.len() {
         let object = work.context.as_slice()[i].object;
-        remove_orphans_of(alloc, metamodel, registry, work, object)?;
+        remove_orphans_of(alloc, unit, work, object)?;
     }
     Ok(())
 }

@@ -1,6 +1,6 @@
 //! What the flush writes.
 ghost use Rattle.std.specs.Prelude.{◌≡◌, ◌<◌, All, length, IfOk, IfErr};
-ghost use Rattle.jpa_behaviour.specs.Registered.{world_of};
+ghost use Rattle.jpa_behaviour.specs.Served.{world_of_unit};
 ghost use Rattle.jpa_context.specs.Steps.{Ends};
 ghost use Rattle.jpa_context.specs.Undo.{now};
 ghost use Rattle.jpa_fetch.specs.Grown.{IsReady};
@@ -11,7 +11,7 @@ ghost use Rattle.jpa_flush.specs.Plan as plans;
 use crate::checking::{all_convert, can_rise, class_there, is_current, is_stored, raised};
 use crate::steps::{Step, step_of};
 use crate::storing::stored_of;
-use jpa_behaviour::{Behaviour, Registry};
+use jpa_behaviour::{Behaviour, ServedUnit};
 use jpa_context::UnitOfWork;
 use jpa_heap::identity_of;
 use jpa_model::Metamodel;
@@ -34,33 +34,32 @@ pub struct Planned {
 /// An object that the set has not.
 fn insertion<B: Behaviour>(
     alloc: Global,
-    metamodel: &Metamodel,
-    registry: &Registry<B>,
+    unit: &ServedUnit<B>,
     work: &UnitOfWork,
     object: usize,
 ) -> Result<Planned, Cause>
-    requires ready { IsReady metamodel.now (now work.now) }
+    requires ready { IsReady unit.now.metamodel (now work.now) }
     requires object { object < length work.now.objects.now }
     ensures planned { IfOk result
-        (λ planned. planned ≡ plans.insertion metamodel.now (now work.now) object) }
-    ensures ends { let world = world_of B.meaning metamodel.now registry.now in
+        (λ planned. planned ≡ plans.insertion unit.now.metamodel (now work.now) object) }
+    ensures ends { let world = world_of_unit B.meaning unit.now in
         Ends result (now work.now) (plans.check_insertion world object (now work.now)) }
 {
     let live = &work.objects.as_slice()[object];
-    let id = identity_of(metamodel, live)?;
+    let id = identity_of(&unit.metamodel, live)?;
     if is_stored(work, &id) {
         return Err(Cause::EntityExists);
     }
-    if !all_convert(metamodel, registry, live)? {
+    if !all_convert(unit, live)? {
         return Err(Cause::Persistence(Persist::Converter));
     }
-    let version = if metamodel.is_versioned(live.class) {
+    let version = if unit.metamodel.is_versioned(live.class) {
         Some(0)
     } else {
         None
     };
     let class_before = class_there(work, &id);
-    let stored = stored_of(alloc, metamodel, work, object, version)?;
+    let stored = stored_of(alloc, &unit.metamodel, work, object, version)?;
     Ok(Planned {
         object,
         id,
@@ -73,32 +72,31 @@ fn insertion<B: Behaviour>(
 /// An object that replaces its row, which has this version.
 fn replacement<B: Behaviour>(
     alloc: Global,
-    metamodel: &Metamodel,
-    registry: &Registry<B>,
+    unit: &ServedUnit<B>,
     work: &UnitOfWork,
     object: usize,
     version: Option<i64>,
 ) -> Result<Planned, Cause>
-    requires ready { IsReady metamodel.now (now work.now) }
+    requires ready { IsReady unit.now.metamodel (now work.now) }
     requires object { object < length work.now.objects.now }
     ensures planned { IfOk result
-        (λ planned. planned ≡ plans.replacement metamodel.now (now work.now) object version) }
-    ensures ends { let world = world_of B.meaning metamodel.now registry.now in
+        (λ planned. planned ≡ plans.replacement unit.now.metamodel (now work.now) object version) }
+    ensures ends { let world = world_of_unit B.meaning unit.now in
         Ends result (now work.now) (plans.check_replacement world object version (now work.now)) }
 {
     let live = &work.objects.as_slice()[object];
-    let id = identity_of(metamodel, live)?;
+    let id = identity_of(&unit.metamodel, live)?;
     if !is_current(work, &id, version) {
         return Err(Cause::OptimisticLock);
     }
     if !can_rise(version) {
         return Err(Cause::Persistence(Persist::Version));
     }
-    if !all_convert(metamodel, registry, live)? {
+    if !all_convert(unit, live)? {
         return Err(Cause::Persistence(Persist::Converter));
     }
     let class_before = class_there(work, &id);
-    let stored = stored_of(alloc, metamodel, work, object, raised(version))?;
+    let stored = stored_of(alloc, &unit.metamodel, work, object, raised(version))?;
     Ok(Planned {
         object,
         id,
@@ -139,46 +137,42 @@ fn removal(
 /// What is written of an object in this step, if anything.
 fn plan_one<B: Behaviour>(
     alloc: Global,
-    metamodel: &Metamodel,
-    registry: &Registry<B>,
+    unit: &ServedUnit<B>,
     work: &UnitOfWork,
     object: usize,
     step: Step,
 ) -> Result<Option<Planned>, Cause>
-    requires ready { IsReady metamodel.now (now work.now) }
+    requires ready { IsReady unit.now.metamodel (now work.now) }
     requires object { object < length work.now.objects.now }
     ensures planned { IfOk result
-        (λ planned. planned ≡ plans.planned metamodel.now (now work.now) object step) }
-    ensures ends { let world = world_of B.meaning metamodel.now registry.now in
+        (λ planned. planned ≡ plans.planned unit.now.metamodel (now work.now) object step) }
+    ensures ends { let world = world_of_unit B.meaning unit.now in
         Ends result (now work.now) (plans.check world object step (now work.now)) }
 {
     match step {
         Step::Keep => Ok(None),
-        Step::Insert => Ok(Some(insertion(alloc, metamodel, registry, work, object)?)),
-        Step::Replace(version) => {
-            Ok(Some(replacement(alloc, metamodel, registry, work, object, version)?))
-        }
-        Step::Drop(version) => Ok(Some(removal(metamodel, work, object, version)?)),
+        Step::Insert => Ok(Some(insertion(alloc, unit, work, object)?)),
+        Step::Replace(version) => { Ok(Some(replacement(alloc, unit, work, object, version)?)) }
+        Step::Drop(version) => Ok(Some(removal(&unit.metamodel, work, object, version)?)),
     }
 }
 
 /// What the flush writes, in the order of the context, each object checked against the set.
 pub fn plan<B: Behaviour>(
     alloc: Global,
-    metamodel: &Metamodel,
-    registry: &Registry<B>,
+    unit: &ServedUnit<B>,
     work: &UnitOfWork,
 ) -> Result<Seq<Planned>, Cause>
-    requires ready { IsReady metamodel.now (now work.now) }
-    ensures planned { IfOk result (λ plan. plan ≡ plans.plan_of metamodel.now (now work.now)) }
+    requires ready { IsReady unit.now.metamodel (now work.now) }
+    ensures planned { IfOk result (λ plan. plan ≡ plans.plan_of unit.now.metamodel (now work.now)) }
     ensures objects { IfOk result (λ plan. All (λ p. p.object < length work.now.objects.now) plan) }
-    ensures ends { let world = world_of B.meaning metamodel.now registry.now in
+    ensures ends { let world = world_of_unit B.meaning unit.now in
         Ends result (now work.now) (flushes.check_actions world (now work.now)) }
 {
     let mut plan = Seq::new(alloc);
     for entry in work.context.as_slice() {
-        let step = step_of(metamodel, work, entry)?;
-        if let Some(planned) = plan_one(alloc, metamodel, registry, work, entry.object, step)? {
+        let step = step_of(&unit.metamodel, work, entry)?;
+        if let Some(planned) = plan_one(alloc, unit, work, entry.object, step)? {
             plan.push(planned)?;
         }
     }

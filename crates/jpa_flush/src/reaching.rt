@@ -1,6 +1,6 @@
 //! Persist along cascades, as a flush begins.
 ghost use Rattle.std.specs.Prelude.{◌≡◌, ◌<◌, ◌≤◌, true, All, length, OnOk};
-ghost use Rattle.jpa_behaviour.specs.Registered.{world_of};
+ghost use Rattle.jpa_behaviour.specs.Served.{world_of_unit};
 ghost use Rattle.jpa_context.specs.Steps.{Meets, each};
 ghost use Rattle.jpa_context.specs.Undo.{now, since};
 ghost use Rattle.jpa_context.specs.Work.{state_of};
@@ -10,10 +10,9 @@ ghost use Rattle.jpa_ops.specs.Names.{has_distinct_entries};
 ghost use Rattle.jpa_ops.specs.States as states;
 ghost use Rattle.jpa_flush.specs.Flush as flushes;
 
-use jpa_behaviour::{Behaviour, Registry};
+use jpa_behaviour::{Behaviour, ServedUnit};
 use jpa_cascade::{Operation, live_targets, state_of};
 use jpa_context::{EntityState, UnitOfWork};
-use jpa_model::Metamodel;
 use jpa_ops::persist;
 use jpa_value::Cause;
 use std::alloc::Global;
@@ -21,24 +20,23 @@ use std::alloc::Global;
 /// Persists each of these objects, in order. Refused as the first `persist` that is.
 fn persist_each<B: Behaviour>(
     alloc: Global,
-    metamodel: &Metamodel,
-    registry: &Registry<B>,
+    unit: &ServedUnit<B>,
     work: &mut UnitOfWork,
     objects: &[usize],
 ) -> Result<(), Cause>
-    requires orderly { IsOrderly metamodel.now }
-    requires ready { IsReady metamodel.now (now work.old) }
+    requires orderly { IsOrderly unit.now.metamodel }
+    requires ready { IsReady unit.now.metamodel (now work.old) }
     requires within { All (λ k. k < length work.old.objects.now) objects.now }
-    ensures meets { let world = world_of B.meaning metamodel.now registry.now in
+    ensures meets { let world = world_of_unit B.meaning unit.now in
         Meets result (now work.new) (each (states.persist world) objects.now (now work.old)) }
-    ensures ready { OnOk result (IsReady metamodel.now (now work.new)) }
-    ensures named { has_distinct_entries metamodel.now (now work.old) ≡ true →
-        OnOk result (has_distinct_entries metamodel.now (now work.new) ≡ true) }
+    ensures ready { OnOk result (IsReady unit.now.metamodel (now work.new)) }
+    ensures named { has_distinct_entries unit.now.metamodel (now work.old) ≡ true →
+        OnOk result (has_distinct_entries unit.now.metamodel (now work.new) ≡ true) }
     ensures view { work.new.view ≡ work.old.view }
     ensures since { since work.new ≡ since work.old }
 {
     for object in objects {
-        persist(alloc, metamodel, registry, work, *object)?;
+        persist(alloc, unit, work, *object)?;
     }
     Ok(())
 }
@@ -46,27 +44,26 @@ fn persist_each<B: Behaviour>(
 /// Persists the objects that a managed one leads to, along relations that cascade persist. Refused as `persist_each`.
 fn persist_targets<B: Behaviour>(
     alloc: Global,
-    metamodel: &Metamodel,
-    registry: &Registry<B>,
+    unit: &ServedUnit<B>,
     work: &mut UnitOfWork,
     object: usize,
 ) -> Result<(), Cause>
-    requires orderly { IsOrderly metamodel.now }
-    requires ready { IsReady metamodel.now (now work.old) }
+    requires orderly { IsOrderly unit.now.metamodel }
+    requires ready { IsReady unit.now.metamodel (now work.old) }
     requires object { object < length work.old.objects.now }
-    ensures meets { let world = world_of B.meaning metamodel.now registry.now in
+    ensures meets { let world = world_of_unit B.meaning unit.now in
         Meets result (now work.new) (flushes.persist_targets world object
         (state_of (now work.old) object) (now work.old)) }
-    ensures ready { OnOk result (IsReady metamodel.now (now work.new)) }
-    ensures named { has_distinct_entries metamodel.now (now work.old) ≡ true →
-        OnOk result (has_distinct_entries metamodel.now (now work.new) ≡ true) }
+    ensures ready { OnOk result (IsReady unit.now.metamodel (now work.new)) }
+    ensures named { has_distinct_entries unit.now.metamodel (now work.old) ≡ true →
+        OnOk result (has_distinct_entries unit.now.metamodel (now work.new) ≡ true) }
     ensures view { work.new.view ≡ work.old.view }
     ensures since { since work.new ≡ since work.old }
 {
     match state_of(work, object) {
         EntityState::Managed => {
-            let targets = live_targets(alloc, metamodel, work, Operation::Persist, object)?;
-            persist_each(alloc, metamodel, registry, work, targets.as_slice())
+            let targets = live_targets(alloc, &unit.metamodel, work, Operation::Persist, object)?;
+            persist_each(alloc, unit, work, targets.as_slice())
         }
         EntityState::New | EntityState::Removed | EntityState::Detached => Ok(()),
     }
@@ -79,17 +76,16 @@ fn persist_targets<B: Behaviour>(
 /// It looks at each entry once, and walks the whole cascade of each object that a managed one leads to.
 pub(crate) fn persist_reachable<B: Behaviour>(
     alloc: Global,
-    metamodel: &Metamodel,
-    registry: &Registry<B>,
+    unit: &ServedUnit<B>,
     work: &mut UnitOfWork,
 ) -> Result<(), Cause>
-    requires orderly { IsOrderly metamodel.now }
-    requires ready { IsReady metamodel.now (now work.old) }
-    ensures meets { let world = world_of B.meaning metamodel.now registry.now in
+    requires orderly { IsOrderly unit.now.metamodel }
+    requires ready { IsReady unit.now.metamodel (now work.old) }
+    ensures meets { let world = world_of_unit B.meaning unit.now in
         Meets result (now work.new) (flushes.persist_reachable world (now work.old)) }
-    ensures ready { OnOk result (IsReady metamodel.now (now work.new)) }
-    ensures named { has_distinct_entries metamodel.now (now work.old) ≡ true →
-        OnOk result (has_distinct_entries metamodel.now (now work.new) ≡ true) }
+    ensures ready { OnOk result (IsReady unit.now.metamodel (now work.new)) }
+    ensures named { has_distinct_entries unit.now.metamodel (now work.old) ≡ true →
+        OnOk result (has_distinct_entries unit.now.metamodel (now work.new) ≡ true) }
     ensures view { work.new.view ≡ work.old.view }
     ensures since { since work.new ≡ since work.old }
 {
@@ -99,7 +95,7 @@ pub(crate) fn persist_reachable<B: Behaviour>(
             return Ok(());
         }
         let object = work.context.as_slice()[i].object;
-        persist_targets(alloc, metamodel, registry, work, object)?;
+        persist_targets(alloc, unit, work, object)?;
     }
     Ok(())
 }

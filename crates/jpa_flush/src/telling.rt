@@ -1,6 +1,6 @@
 //! The events of a flush.
 ghost use Rattle.std.specs.Prelude.{◌≡◌, ◌<◌, All, length};
-ghost use Rattle.jpa_behaviour.specs.Registered.{world_of};
+ghost use Rattle.jpa_behaviour.specs.Served.{world_of_unit};
 ghost use Rattle.jpa_context.specs.Steps.{Meets};
 ghost use Rattle.jpa_context.specs.Undo.{now, since};
 ghost use Rattle.jpa_context.specs.Work as works;
@@ -11,25 +11,23 @@ ghost use Rattle.jpa_flush.specs.Plan as plans;
 
 use crate::planning::Planned;
 use crate::steps::{Step, step_of};
-use jpa_behaviour::{Behaviour, Registry};
+use jpa_behaviour::{Behaviour, ServedUnit};
 use jpa_context::UnitOfWork;
 use jpa_lifecycle::callback;
-use jpa_model::Metamodel;
 use jpa_value::{Cause, LifecycleEvent};
 use std::alloc::Global;
 
 /// PreUpdate, where the object replaces its row.
 fn tell_update<B: Behaviour>(
     alloc: Global,
-    metamodel: &Metamodel,
-    registry: &Registry<B>,
+    unit: &ServedUnit<B>,
     work: &mut UnitOfWork,
     object: usize,
     step: Step,
 ) -> Result<(), Cause>
     requires object { object < length work.old.objects.now }
-    requires shape { HasShape metamodel.now (works.object (now work.old) object) }
-    ensures meets { let world = world_of B.meaning metamodel.now registry.now in
+    requires shape { HasShape unit.now.metamodel (works.object (now work.old) object) }
+    ensures meets { let world = world_of_unit B.meaning unit.now in
         Meets result (now work.new) (plans.update world object step (now work.old)) }
     ensures since { since work.new ≡ since work.old }
 {
@@ -37,7 +35,7 @@ fn tell_update<B: Behaviour>(
         Step::Keep | Step::Insert | Step::Drop(_) => Ok(()),
         Step::Replace(_) => {
             let event = LifecycleEvent::PreUpdate;
-            callback(alloc, metamodel, registry, work, event, object)
+            callback(alloc, unit, work, event, object)
         }
     }
 }
@@ -46,20 +44,19 @@ fn tell_update<B: Behaviour>(
 /// as the first listener or callback that refuses; `OutOfMemory` where a growth was refused.
 pub fn tell_updates<B: Behaviour>(
     alloc: Global,
-    metamodel: &Metamodel,
-    registry: &Registry<B>,
+    unit: &ServedUnit<B>,
     work: &mut UnitOfWork,
 ) -> Result<(), Cause>
-    requires ready { IsReady metamodel.now (now work.old) }
-    ensures meets { let world = world_of B.meaning metamodel.now registry.now in
+    requires ready { IsReady unit.now.metamodel (now work.old) }
+    ensures meets { let world = world_of_unit B.meaning unit.now in
         Meets result (now work.new) (flushes.pre_update world (now work.old)) }
     ensures since { since work.new ≡ since work.old }
 {
     for i in 0..work.context.len() {
         let entry = &work.context.as_slice()[i];
         let object = entry.object;
-        let step = step_of(metamodel, work, entry)?;
-        tell_update(alloc, metamodel, registry, work, object, step)?;
+        let step = step_of(&unit.metamodel, work, entry)?;
+        tell_update(alloc, unit, work, object, step)?;
     }
     Ok(())
 }
@@ -68,20 +65,19 @@ pub fn tell_updates<B: Behaviour>(
 /// refuses; `OutOfMemory` where a growth was refused.
 pub fn tell_written<B: Behaviour>(
     alloc: Global,
-    metamodel: &Metamodel,
-    registry: &Registry<B>,
+    unit: &ServedUnit<B>,
     work: &mut UnitOfWork,
     plan: &[Planned],
 ) -> Result<(), Cause>
-    requires shaped { All (HasShape metamodel.now) work.old.objects.now }
+    requires shaped { All (HasShape unit.now.metamodel) work.old.objects.now }
     requires objects { All (λ p. p.object < length work.old.objects.now) plan.now }
-    ensures meets { let world = world_of B.meaning metamodel.now registry.now in
+    ensures meets { let world = world_of_unit B.meaning unit.now in
         Meets result (now work.new) (plans.told_by world plan.now (now work.old)) }
     ensures since { since work.new ≡ since work.old }
 {
     for planned in plan {
         let event = planned.event;
-        callback(alloc, metamodel, registry, work, event, planned.object)?;
+        callback(alloc, unit, work, event, planned.object)?;
     }
     Ok(())
 }

@@ -1,6 +1,7 @@
 //! Listeners and callbacks that run one after another.
 ghost use Rattle.std.specs.Prelude.{◌≡◌, IfOk, IfErr, OnOk};
-ghost use Rattle.jpa_behaviour.specs.Registered.{heard_in, world_of};
+ghost use Rattle.jpa_behaviour.specs.Registered.{heard_in};
+ghost use Rattle.jpa_behaviour.specs.Served.{world_of_unit};
 ghost use Rattle.jpa_heap.specs.Shape.{HasShape};
 ghost use Rattle.jpa_heap.specs.declared.LiveObject.{LiveObject};
 ghost use Rattle.jpa_value.specs.declared.refusal.Cause.{Cause};
@@ -9,9 +10,8 @@ ghost use Rattle.jpa_lifecycle.specs.declared.firing.Fired.{Fired};
 
 use crate::assigning::assigned;
 use crate::seeing::image_of;
-use jpa_behaviour::{Behaviour, Heard, Image, Registry};
+use jpa_behaviour::{Behaviour, Heard, Image, Registry, ServedUnit};
 use jpa_heap::LiveObject;
-use jpa_model::Metamodel;
 use jpa_value::{Cause, LifecycleEvent, Persist, Seq, Text};
 use std::alloc::Global;
 
@@ -45,26 +45,29 @@ fn answer<B: Behaviour>(
 /// is then as it was.
 fn run_one<B: Behaviour>(
     alloc: Global,
-    metamodel: &Metamodel,
-    registry: &Registry<B>,
+    unit: &ServedUnit<B>,
     event: LifecycleEvent,
     name: &str,
     object: &mut LiveObject,
 ) -> Result<Option<Cause>, Cause>
-    requires { HasShape metamodel.now object.old }
-    ensures turn { IfOk result (λ refusal. (next : LiveObject → Fired) → callbacks.after_answer next metamodel.now name.now object.old (heard_in B.meaning registry.now name.now (callbacks.image_of metamodel.now event object.old)) ≡ callbacks.after_turn next name.now object.new refusal) }
-    ensures shape { OnOk result (HasShape metamodel.now object.new) }
+    requires { HasShape unit.now.metamodel object.old }
+    ensures turn { IfOk result (λ refusal. (next : LiveObject → Fired) →
+        callbacks.after_answer next unit.now.metamodel name.now object.old
+        (heard_in B.meaning unit.now.registry name.now
+        (callbacks.image_of unit.now.metamodel event object.old))
+        ≡ callbacks.after_turn next name.now object.new refusal) }
+    ensures shape { OnOk result (HasShape unit.now.metamodel object.new) }
     ensures err { IfErr result (λ cause. cause ≡ Cause.OutOfMemory) }
 {
-    let image = image_of(alloc, metamodel, event, object)?;
-    let assignments = match answer(alloc, registry, name, &image)? {
+    let image = image_of(alloc, &unit.metamodel, event, object)?;
+    let assignments = match answer(alloc, &unit.registry, name, &image)? {
         Heard::Throw(text) => return Ok(Some(Cause::Listener(text))),
         Heard::Assign(assignments) => assignments,
     };
     if assignments.is_empty() {
         return Ok(None);
     }
-    match assigned(metamodel, object, assignments.as_slice())? {
+    match assigned(&unit.metamodel, object, assignments.as_slice())? {
         None => Ok(Some(Cause::Persistence(Persist::Callback))),
         Some(made) => {
             *object = made;
@@ -78,27 +81,20 @@ fn run_one<B: Behaviour>(
 /// `Listener` with its text, such an assignment `Persistence(callback)`. Fails for want of memory alone, with `OutOfMemory`.
 pub fn fire<B: Behaviour>(
     alloc: Global,
-    metamodel: &Metamodel,
-    registry: &Registry<B>,
+    unit: &ServedUnit<B>,
     event: LifecycleEvent,
     names: Seq<Text>,
     object: LiveObject,
 ) -> Result<Fired, Cause>
-    requires { HasShape metamodel.now object }
-    ensures fired { IfOk result (λ fired. fired ≡ callbacks.fired_by (world_of B.meaning metamodel.now registry.now) event names object) }
+    requires { HasShape unit.now.metamodel object }
+    ensures fired { IfOk result (λ fired. fired ≡ callbacks.fired_by
+        (world_of_unit B.meaning unit.now) event names object) }
     ensures err { IfErr result (λ cause. cause ≡ Cause.OutOfMemory) }
 {
     let mut object = object;
     let mut ran = names.into_vec();
     for i in 0..ran.len() {
-        let refusal = run_one(
-            alloc,
-            metamodel,
-            registry,
-            event,
-            ran[i].as_str(),
-            &mut object,
-        )?;
+        let refusal = run_one(alloc, unit, event, ran[i].as_str(), &mut object)?;
         if refusal.is_some() {
             ran.truncate(i + 1);
             return Ok(Fired {

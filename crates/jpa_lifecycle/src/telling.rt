@@ -1,6 +1,6 @@
 //! Events that are told.
 ghost use Rattle.std.specs.Prelude.{◌≡◌, ◌<◌, suc, length, IfErr, OnOk};
-ghost use Rattle.jpa_behaviour.specs.Registered.{world_of};
+ghost use Rattle.jpa_behaviour.specs.Served.{world_of_unit};
 ghost use Rattle.jpa_context.specs.Steps.{Meets};
 ghost use Rattle.jpa_context.specs.Undo.{now, since};
 ghost use Rattle.jpa_context.specs.Work as works;
@@ -10,9 +10,8 @@ ghost use Rattle.jpa_value.specs.declared.refusal.Cause.{Cause};
 
 use crate::firing::{Fired, fire};
 use crate::hearing::order;
-use jpa_behaviour::{Behaviour, Registry};
+use jpa_behaviour::{Behaviour, ServedUnit};
 use jpa_context::UnitOfWork;
-use jpa_model::Metamodel;
 use jpa_protocol::Told;
 use jpa_value::{Cause, LifecycleEvent, Seq, Text, TryCopy};
 use std::alloc::Global;
@@ -72,24 +71,25 @@ fn conclude(
 /// too. `OutOfMemory` where a growth was refused. What a refused call changed is undone by `UnitOfWork::undo`.
 pub fn callback<B: Behaviour>(
     alloc: Global,
-    metamodel: &Metamodel,
-    registry: &Registry<B>,
+    unit: &ServedUnit<B>,
     work: &mut UnitOfWork,
     event: LifecycleEvent,
     object: usize,
 ) -> Result<(), Cause>
     requires object { object < length work.old.objects.now }
-    requires shape { HasShape metamodel.now (works.object (now work.old) object) }
-    ensures meets { Meets result (now work.new) (callbacks.callback (world_of B.meaning metamodel.now registry.now) event object (now work.old)) }
-    ensures others { work.new ≡ record work.old { objects = work.new.objects; events = work.new.events } }
+    requires shape { HasShape unit.now.metamodel (works.object (now work.old) object) }
+    ensures meets { Meets result (now work.new) (callbacks.callback
+        (world_of_unit B.meaning unit.now) event object (now work.old)) }
+    ensures others { work.new
+        ≡ record work.old { objects = work.new.objects; events = work.new.events } }
     ensures since { since work.new ≡ since work.old }
 {
     let live = &work.objects.as_slice()[object];
-    let names = order(alloc, metamodel, live.class, event)?;
+    let names = order(alloc, &unit.metamodel, live.class, event)?;
     if names.is_empty() {
         return tell(work, event, object, names);
     }
     let live = live.try_copy()?;
-    let fired = fire(alloc, metamodel, registry, event, names, live)?;
+    let fired = fire(alloc, unit, event, names, live)?;
     conclude(work, event, object, fired)
 }

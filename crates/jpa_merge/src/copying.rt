@@ -1,7 +1,7 @@
 //! The second pass of a merge: images take what their nodes hold.
 ghost use Rattle.std.specs.Prelude.{◌≡◌, IfErr, OnOk};
 ghost use Rattle.jpa_value.specs.declared.refusal.Cause.{Cause};
-ghost use Rattle.jpa_behaviour.specs.Registered.{world_of};
+ghost use Rattle.jpa_behaviour.specs.Served.{world_of_unit};
 ghost use Rattle.jpa_context.specs.Steps.{Meets, each};
 ghost use Rattle.jpa_context.specs.Undo.{now, since};
 ghost use Rattle.jpa_context.specs.Work as works;
@@ -11,7 +11,7 @@ ghost use Rattle.jpa_merge.specs.Merge as merges;
 
 use crate::images::{Images, NodeImage};
 use crate::relations::copy_relation;
-use jpa_behaviour::{Behaviour, Registry};
+use jpa_behaviour::{Behaviour, ServedUnit};
 use jpa_context::UnitOfWork;
 use jpa_model::{Metamodel, Relation};
 use jpa_value::{Cause, TryCopy};
@@ -68,27 +68,28 @@ fn takes(image: NodeImage, relation: &Relation) -> bool
 /// An image takes what its node holds in its relations, as far as it was read. Refused as `merge` is.
 fn copy_relations<B: Behaviour>(
     alloc: Global,
-    metamodel: &Metamodel,
-    registry: &Registry<B>,
+    unit: &ServedUnit<B>,
     work: &mut UnitOfWork,
     images: &Images,
     image: NodeImage,
 ) -> Result<(), Cause>
-    requires ready { IsReady metamodel.now (now work.old) }
+    requires ready { IsReady unit.now.metamodel (now work.old) }
     requires imaged { AreImaged (now work.old) images.now }
     requires image { IsImaged (now work.old) image }
-    ensures meets { let world = world_of B.meaning metamodel.now registry.now in
+    ensures meets { let world = world_of_unit B.meaning unit.now in
         Meets result (now work.new)
         (merges.copy_relations world images.now image (now work.old)) }
-    ensures ready { OnOk result (IsReady metamodel.now (now work.new)) }
+    ensures ready { OnOk result (IsReady unit.now.metamodel (now work.new)) }
     ensures grown { OnOk result (HasGrown (now work.old) (now work.new)) }
     ensures view { work.new.view ≡ work.old.view }
     ensures since { since work.new ≡ since work.old }
 {
-    let relations = metamodel.relations_of(work.objects.as_slice()[image.node].class);
+    let relations = unit
+        .metamodel
+        .relations_of(work.objects.as_slice()[image.node].class);
     for relation in 0..relations.len() {
         if takes(image, &relations[relation]) {
-            copy_relation(alloc, metamodel, registry, work, images, image, relation)?;
+            copy_relation(alloc, unit, work, images, image, relation)?;
         }
     }
     Ok(())
@@ -98,19 +99,18 @@ fn copy_relations<B: Behaviour>(
 /// what `replaced` refuses.
 fn copy_to_other<B: Behaviour>(
     alloc: Global,
-    metamodel: &Metamodel,
-    registry: &Registry<B>,
+    unit: &ServedUnit<B>,
     work: &mut UnitOfWork,
     images: &Images,
     image: NodeImage,
 ) -> Result<(), Cause>
-    requires ready { IsReady metamodel.now (now work.old) }
+    requires ready { IsReady unit.now.metamodel (now work.old) }
     requires imaged { AreImaged (now work.old) images.now }
     requires image { IsImaged (now work.old) image }
-    ensures meets { let world = world_of B.meaning metamodel.now registry.now in
+    ensures meets { let world = world_of_unit B.meaning unit.now in
         Meets result (now work.new)
         (merges.copy_to_other world images.now image (now work.old)) }
-    ensures ready { OnOk result (IsReady metamodel.now (now work.new)) }
+    ensures ready { OnOk result (IsReady unit.now.metamodel (now work.new)) }
     ensures grown { OnOk result (HasGrown (now work.old) (now work.new)) }
     ensures view { work.new.view ≡ work.old.view }
     ensures since { since work.new ≡ since work.old }
@@ -118,56 +118,54 @@ fn copy_to_other<B: Behaviour>(
     if !is_current(work, image) {
         return Err(Cause::OptimisticLock);
     }
-    copy_values(metamodel, work, image)?;
-    copy_relations(alloc, metamodel, registry, work, images, image)
+    copy_values(&unit.metamodel, work, image)?;
+    copy_relations(alloc, unit, work, images, image)
 }
 
 /// A node is copied into its image; where it is its own, its targets are replaced. Refused as `merge` is.
 fn copy_node<B: Behaviour>(
     alloc: Global,
-    metamodel: &Metamodel,
-    registry: &Registry<B>,
+    unit: &ServedUnit<B>,
     work: &mut UnitOfWork,
     images: &Images,
     image: NodeImage,
 ) -> Result<(), Cause>
-    requires ready { IsReady metamodel.now (now work.old) }
+    requires ready { IsReady unit.now.metamodel (now work.old) }
     requires imaged { AreImaged (now work.old) images.now }
     requires image { IsImaged (now work.old) image }
-    ensures meets { let world = world_of B.meaning metamodel.now registry.now in
+    ensures meets { let world = world_of_unit B.meaning unit.now in
         Meets result (now work.new) (merges.copy_node world images.now image (now work.old)) }
-    ensures ready { OnOk result (IsReady metamodel.now (now work.new)) }
+    ensures ready { OnOk result (IsReady unit.now.metamodel (now work.new)) }
     ensures grown { OnOk result (HasGrown (now work.old) (now work.new)) }
     ensures view { work.new.view ≡ work.old.view }
     ensures since { since work.new ≡ since work.old }
 {
     if image.node == image.image {
-        copy_relations(alloc, metamodel, registry, work, images, image)
+        copy_relations(alloc, unit, work, images, image)
     } else {
-        copy_to_other(alloc, metamodel, registry, work, images, image)
+        copy_to_other(alloc, unit, work, images, image)
     }
 }
 
 /// Each node is copied into its image, in the order of the waves. Refused as `merge` is, at the first that is refused.
 pub(crate) fn copy_nodes<B: Behaviour>(
     alloc: Global,
-    metamodel: &Metamodel,
-    registry: &Registry<B>,
+    unit: &ServedUnit<B>,
     work: &mut UnitOfWork,
     images: &Images,
 ) -> Result<(), Cause>
-    requires ready { IsReady metamodel.now (now work.old) }
+    requires ready { IsReady unit.now.metamodel (now work.old) }
     requires imaged { AreImaged (now work.old) images.now }
-    ensures meets { let world = world_of B.meaning metamodel.now registry.now in
+    ensures meets { let world = world_of_unit B.meaning unit.now in
         Meets result (now work.new)
         (each (merges.copy_node world images.now) images.now (now work.old)) }
-    ensures ready { OnOk result (IsReady metamodel.now (now work.new)) }
+    ensures ready { OnOk result (IsReady unit.now.metamodel (now work.new)) }
     ensures grown { OnOk result (HasGrown (now work.old) (now work.new)) }
     ensures view { work.new.view ≡ work.old.view }
     ensures since { since work.new ≡ since work.old }
 {
     for image in images.as_slice() {
-        copy_node(alloc, metamodel, registry, work, images, *image)?;
+        copy_node(alloc, unit, work, images, *image)?;
     }
     Ok(())
 }

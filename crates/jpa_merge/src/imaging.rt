@@ -2,7 +2,7 @@
 ghost use Rattle.std.specs.Prelude.{◌≡◌, ◌<◌, All, length, suc, IfOk, IfErr, OnOk, Some};
 ghost use Rattle.jpa_value.specs.declared.refusal.Cause.{Cause};
 ghost use Rattle.jpa_behaviour.specs.Behaviour.{World};
-ghost use Rattle.jpa_behaviour.specs.Registered.{world_of};
+ghost use Rattle.jpa_behaviour.specs.Served.{world_of_unit};
 ghost use Rattle.jpa_context.specs.Steps.{Meets};
 ghost use Rattle.jpa_context.specs.Undo.{now, since};
 ghost use Rattle.jpa_context.specs.Work as works;
@@ -16,7 +16,7 @@ ghost use Rattle.jpa_merge.specs.Imaged.{AreImaged, IsImaged};
 ghost use Rattle.jpa_merge.specs.Merge as merges;
 
 use crate::images::NodeImage;
-use jpa_behaviour::{Behaviour, Registry};
+use jpa_behaviour::{Behaviour, ServedUnit};
 use jpa_cascade::{Node, instance, state_of};
 use jpa_context::{EntityState, UnitOfWork};
 use jpa_fetch::load;
@@ -140,155 +140,149 @@ fn image_of_instance(work: &UnitOfWork, node: usize, image: usize) -> Result<Nod
 /// class.
 fn image_of_row<B: Behaviour>(
     alloc: Global,
-    metamodel: &Metamodel,
-    registry: &Registry<B>,
+    unit: &ServedUnit<B>,
     work: &mut UnitOfWork,
     node: usize,
     id: &Identity,
     row: Stored,
 ) -> Result<NodeImage, Cause>
-    requires ready { IsReady metamodel.now (now work.old) }
+    requires ready { IsReady unit.now.metamodel (now work.old) }
     requires node { node < length work.old.objects.now }
     requires row { works.row (now work.old) id.now ≡ Some row }
-    ensures meets { let world = world_of B.meaning metamodel.now registry.now in
+    ensures meets { let world = world_of_unit B.meaning unit.now in
         Meets result (now work.new) (merges.image_of_row world node id.now row (now work.old)) }
     ensures imaged { IfOk result (IsImaged (now work.new)) }
-    ensures ready { OnOk result (IsReady metamodel.now (now work.new)) }
+    ensures ready { OnOk result (IsReady unit.now.metamodel (now work.new)) }
     ensures grown { OnOk result (HasGrown (now work.old) (now work.new)) }
     ensures view { work.new.view ≡ work.old.view }
     ensures since { since work.new ≡ since work.old }
 {
-    let image = load(alloc, metamodel, registry, work, id, row)?;
+    let image = load(alloc, unit, work, id, row)?;
     of_class_of(work, node, image)
 }
 
 /// The image of a node with an identity: the context's instance, else its row, loaded, else a new object. Refused as `merge` is.
 fn image_named<B: Behaviour>(
     alloc: Global,
-    metamodel: &Metamodel,
-    registry: &Registry<B>,
+    unit: &ServedUnit<B>,
     work: &mut UnitOfWork,
     node: usize,
     id: &Identity,
 ) -> Result<NodeImage, Cause>
-    requires orderly { IsOrderly metamodel.now }
-    requires ready { IsReady metamodel.now (now work.old) }
+    requires orderly { IsOrderly unit.now.metamodel }
+    requires ready { IsReady unit.now.metamodel (now work.old) }
     requires node { node < length work.old.objects.now }
-    ensures meets { let world = world_of B.meaning metamodel.now registry.now in
+    ensures meets { let world = world_of_unit B.meaning unit.now in
         Meets result (now work.new)
         (merges.image_named world node (Some id.now) (now work.old)) }
     ensures imaged { IfOk result (IsImaged (now work.new)) }
-    ensures ready { OnOk result (IsReady metamodel.now (now work.new)) }
+    ensures ready { OnOk result (IsReady unit.now.metamodel (now work.new)) }
     ensures grown { OnOk result (HasGrown (now work.old) (now work.new)) }
     ensures view { work.new.view ≡ work.old.view }
     ensures since { since work.new ≡ since work.old }
 {
-    if let Some(image) = instance(metamodel, work, id) {
+    if let Some(image) = instance(&unit.metamodel, work, id) {
         return image_of_instance(work, node, image);
     }
     let Some(row) = work.view.get(id) else {
-        return fresh_image(alloc, metamodel, work, node);
+        return fresh_image(alloc, &unit.metamodel, work, node);
     };
     let row = row.try_copy()?;
-    image_of_row(alloc, metamodel, registry, work, node, id, row)
+    image_of_row(alloc, unit, work, node, id, row)
 }
 
 /// The image of a node that the manager does not hold. Refused as `merge` is.
 fn image_elsewhere<B: Behaviour>(
     alloc: Global,
-    metamodel: &Metamodel,
-    registry: &Registry<B>,
+    unit: &ServedUnit<B>,
     work: &mut UnitOfWork,
     node: usize,
 ) -> Result<NodeImage, Cause>
-    requires orderly { IsOrderly metamodel.now }
-    requires ready { IsReady metamodel.now (now work.old) }
+    requires orderly { IsOrderly unit.now.metamodel }
+    requires ready { IsReady unit.now.metamodel (now work.old) }
     requires node { node < length work.old.objects.now }
-    ensures meets { let world = world_of B.meaning metamodel.now registry.now in
+    ensures meets { let world = world_of_unit B.meaning unit.now in
         Meets result (now work.new) (merges.image_elsewhere world node (now work.old)) }
     ensures imaged { IfOk result (IsImaged (now work.new)) }
-    ensures ready { OnOk result (IsReady metamodel.now (now work.new)) }
+    ensures ready { OnOk result (IsReady unit.now.metamodel (now work.new)) }
     ensures grown { OnOk result (HasGrown (now work.old) (now work.new)) }
     ensures view { work.new.view ≡ work.old.view }
     ensures since { since work.new ≡ since work.old }
 {
-    match identity_of(metamodel, &work.objects.as_slice()[node])? {
-        Some(id) => image_named(alloc, metamodel, registry, work, node, &id),
-        None => fresh_image(alloc, metamodel, work, node),
+    match identity_of(&unit.metamodel, &work.objects.as_slice()[node])? {
+        Some(id) => image_named(alloc, unit, work, node, &id),
+        None => fresh_image(alloc, &unit.metamodel, work, node),
     }
 }
 
 /// The image of a node that stands so for the manager: a managed one is its own. Refused as `merge` is.
 fn image_in<B: Behaviour>(
     alloc: Global,
-    metamodel: &Metamodel,
-    registry: &Registry<B>,
+    unit: &ServedUnit<B>,
     work: &mut UnitOfWork,
     node: usize,
     state: EntityState,
 ) -> Result<NodeImage, Cause>
-    requires orderly { IsOrderly metamodel.now }
-    requires ready { IsReady metamodel.now (now work.old) }
+    requires orderly { IsOrderly unit.now.metamodel }
+    requires ready { IsReady unit.now.metamodel (now work.old) }
     requires node { node < length work.old.objects.now }
-    ensures meets { let world = world_of B.meaning metamodel.now registry.now in
+    ensures meets { let world = world_of_unit B.meaning unit.now in
         Meets result (now work.new) (merges.image_in world node state (now work.old)) }
     ensures imaged { IfOk result (IsImaged (now work.new)) }
-    ensures ready { OnOk result (IsReady metamodel.now (now work.new)) }
+    ensures ready { OnOk result (IsReady unit.now.metamodel (now work.new)) }
     ensures grown { OnOk result (HasGrown (now work.old) (now work.new)) }
     ensures view { work.new.view ≡ work.old.view }
     ensures since { since work.new ≡ since work.old }
 {
     match state {
-        EntityState::New => image_elsewhere(alloc, metamodel, registry, work, node),
+        EntityState::New => image_elsewhere(alloc, unit, work, node),
         EntityState::Managed => Ok(NodeImage {
             node,
             image: node,
             fresh: false,
         }),
         EntityState::Removed => Err(Cause::IllegalArgument(Argument::State)),
-        EntityState::Detached => image_elsewhere(alloc, metamodel, registry, work, node),
+        EntityState::Detached => image_elsewhere(alloc, unit, work, node),
     }
 }
 
 /// The image of a node, as it stands by then. Refused as `merge` is.
 fn image_of_node<B: Behaviour>(
     alloc: Global,
-    metamodel: &Metamodel,
-    registry: &Registry<B>,
+    unit: &ServedUnit<B>,
     work: &mut UnitOfWork,
     node: usize,
 ) -> Result<NodeImage, Cause>
-    requires orderly { IsOrderly metamodel.now }
-    requires ready { IsReady metamodel.now (now work.old) }
+    requires orderly { IsOrderly unit.now.metamodel }
+    requires ready { IsReady unit.now.metamodel (now work.old) }
     requires node { node < length work.old.objects.now }
-    ensures meets { let world = world_of B.meaning metamodel.now registry.now in
+    ensures meets { let world = world_of_unit B.meaning unit.now in
         Meets result (now work.new) (merges.image_of_node world node (now work.old)) }
     ensures imaged { IfOk result (IsImaged (now work.new)) }
-    ensures ready { OnOk result (IsReady metamodel.now (now work.new)) }
+    ensures ready { OnOk result (IsReady unit.now.metamodel (now work.new)) }
     ensures grown { OnOk result (HasGrown (now work.old) (now work.new)) }
     ensures view { work.new.view ≡ work.old.view }
     ensures since { since work.new ≡ since work.old }
 {
     let state = state_of(work, node);
-    image_in(alloc, metamodel, registry, work, node, state)
+    image_in(alloc, unit, work, node, state)
 }
 
 /// The images of the objects among the nodes of a cascade, in their order. Refused as `merge` is.
 pub(crate) fn images_of<B: Behaviour>(
     alloc: Global,
-    metamodel: &Metamodel,
-    registry: &Registry<B>,
+    unit: &ServedUnit<B>,
     work: &mut UnitOfWork,
     nodes: &[Node],
 ) -> Result<Seq<NodeImage>, Cause>
-    requires orderly { IsOrderly metamodel.now }
-    requires ready { IsReady metamodel.now (now work.old) }
+    requires orderly { IsOrderly unit.now.metamodel }
+    requires ready { IsReady unit.now.metamodel (now work.old) }
     requires there { All (IsThere (now work.old)) nodes.now }
-    ensures meets { let world = world_of B.meaning metamodel.now registry.now in
+    ensures meets { let world = world_of_unit B.meaning unit.now in
         Meets result (now work.new)
         (collect (merges.image_of_node world) (live_nodes nodes.now) (now work.old)) }
     ensures imaged { IfOk result (AreImaged (now work.new)) }
-    ensures ready { OnOk result (IsReady metamodel.now (now work.new)) }
+    ensures ready { OnOk result (IsReady unit.now.metamodel (now work.new)) }
     ensures grown { OnOk result (HasGrown (now work.old) (now work.new)) }
     ensures view { work.new.view ≡ work.old.view }
     ensures since { since work.new ≡ since work.old }
@@ -296,7 +290,7 @@ pub(crate) fn images_of<B: Behaviour>(
     let mut images = Seq::new(alloc);
     for node in nodes {
         if let Node::Live(object) = node {
-            let image = image_of_node(alloc, metamodel, registry, work, *object)?;
+            let image = image_of_node(alloc, unit, work, *object)?;
             images.push(image)?;
         }
     }

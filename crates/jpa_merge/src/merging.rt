@@ -1,6 +1,6 @@
 //! Merging an object.
 ghost use Rattle.std.specs.Prelude.{◌≡◌, ◌<◌, All, length, IfOk, OnOk};
-ghost use Rattle.jpa_behaviour.specs.Registered.{world_of};
+ghost use Rattle.jpa_behaviour.specs.Served.{world_of_unit};
 ghost use Rattle.jpa_context.specs.Steps.{Meets, each};
 ghost use Rattle.jpa_context.specs.Undo.{now, since};
 ghost use Rattle.jpa_fetch.specs.Grown.{HasGrown, IsReady};
@@ -11,11 +11,10 @@ ghost use Rattle.jpa_merge.specs.Merge as merges;
 use crate::copying::copy_nodes;
 use crate::images::{Images, NodeImage};
 use crate::imaging::images_of;
-use jpa_behaviour::{Behaviour, Registry};
+use jpa_behaviour::{Behaviour, ServedUnit};
 use jpa_cascade::{Operation, waves};
 use jpa_context::UnitOfWork;
 use jpa_lifecycle::callback;
-use jpa_model::Metamodel;
 use jpa_value::{Cause, LifecycleEvent};
 use std::alloc::Global;
 
@@ -23,16 +22,15 @@ use std::alloc::Global;
 /// `OutOfMemory`.
 fn pre_persist_fresh<B: Behaviour>(
     alloc: Global,
-    metamodel: &Metamodel,
-    registry: &Registry<B>,
+    unit: &ServedUnit<B>,
     work: &mut UnitOfWork,
     image: NodeImage,
 ) -> Result<(), Cause>
-    requires ready { IsReady metamodel.now (now work.old) }
+    requires ready { IsReady unit.now.metamodel (now work.old) }
     requires image { IsImaged (now work.old) image }
-    ensures meets { let world = world_of B.meaning metamodel.now registry.now in
+    ensures meets { let world = world_of_unit B.meaning unit.now in
         Meets result (now work.new) (merges.pre_persist_fresh world image (now work.old)) }
-    ensures ready { OnOk result (IsReady metamodel.now (now work.new)) }
+    ensures ready { OnOk result (IsReady unit.now.metamodel (now work.new)) }
     ensures grown { OnOk result (HasGrown (now work.old) (now work.new)) }
     ensures view { work.new.view ≡ work.old.view }
     ensures since { since work.new ≡ since work.old }
@@ -41,29 +39,28 @@ fn pre_persist_fresh<B: Behaviour>(
         return Ok(());
     }
     let event = LifecycleEvent::PrePersist;
-    callback(alloc, metamodel, registry, work, event, image.image)
+    callback(alloc, unit, work, event, image.image)
 }
 
 /// PrePersist happens to each image that the merge made, in the order of the waves. Refused as `pre_persist_fresh`.
 fn pre_persist_each<B: Behaviour>(
     alloc: Global,
-    metamodel: &Metamodel,
-    registry: &Registry<B>,
+    unit: &ServedUnit<B>,
     work: &mut UnitOfWork,
     images: &[NodeImage],
 ) -> Result<(), Cause>
-    requires ready { IsReady metamodel.now (now work.old) }
+    requires ready { IsReady unit.now.metamodel (now work.old) }
     requires imaged { AreImaged (now work.old) images.now }
-    ensures meets { let world = world_of B.meaning metamodel.now registry.now in
+    ensures meets { let world = world_of_unit B.meaning unit.now in
         Meets result (now work.new)
         (each (merges.pre_persist_fresh world) images.now (now work.old)) }
-    ensures ready { OnOk result (IsReady metamodel.now (now work.new)) }
+    ensures ready { OnOk result (IsReady unit.now.metamodel (now work.new)) }
     ensures grown { OnOk result (HasGrown (now work.old) (now work.new)) }
     ensures view { work.new.view ≡ work.old.view }
     ensures since { since work.new ≡ since work.old }
 {
     for image in images {
-        pre_persist_fresh(alloc, metamodel, registry, work, *image)?;
+        pre_persist_fresh(alloc, unit, work, *image)?;
     }
     Ok(())
 }
@@ -87,26 +84,25 @@ fn first_image(start: usize, images: &[NodeImage]) -> usize
 /// loading and persisting refuse; `OutOfMemory`. What a refused call changed is undone by `UnitOfWork::undo`.
 pub fn merge<B: Behaviour>(
     alloc: Global,
-    metamodel: &Metamodel,
-    registry: &Registry<B>,
+    unit: &ServedUnit<B>,
     work: &mut UnitOfWork,
     object: usize,
 ) -> Result<usize, Cause>
-    requires orderly { IsOrderly metamodel.now }
-    requires ready { IsReady metamodel.now (now work.old) }
+    requires orderly { IsOrderly unit.now.metamodel }
+    requires ready { IsReady unit.now.metamodel (now work.old) }
     requires object { object < length work.old.objects.now }
-    ensures meets { let world = world_of B.meaning metamodel.now registry.now in
+    ensures meets { let world = world_of_unit B.meaning unit.now in
         Meets result (now work.new) (merges.merge world object (now work.old)) }
     ensures within { IfOk result (λ n. n < length (now work.new).objects) }
-    ensures ready { OnOk result (IsReady metamodel.now (now work.new)) }
+    ensures ready { OnOk result (IsReady unit.now.metamodel (now work.new)) }
     ensures grown { OnOk result (HasGrown (now work.old) (now work.new)) }
     ensures view { work.new.view ≡ work.old.view }
     ensures since { since work.new ≡ since work.old }
 {
-    let nodes = waves(alloc, metamodel, work, Operation::Merge, object)?;
-    let list = images_of(alloc, metamodel, registry, work, nodes.as_slice())?;
+    let nodes = waves(alloc, &unit.metamodel, work, Operation::Merge, object)?;
+    let list = images_of(alloc, unit, work, nodes.as_slice())?;
     let images = Images::of(alloc, list.into_vec())?;
-    copy_nodes(alloc, metamodel, registry, work, &images)?;
-    pre_persist_each(alloc, metamodel, registry, work, images.as_slice())?;
+    copy_nodes(alloc, unit, work, &images)?;
+    pre_persist_each(alloc, unit, work, images.as_slice())?;
     Ok(first_image(object, images.as_slice()))
 }

@@ -3,7 +3,7 @@ ghost use Rattle.std.specs.Prelude.{◌≡◌, ◌<◌, All, length, IfErr, OnOk
 ghost use Rattle.jpa_value.specs.declared.refusal.Cause.{Cause};
 ghost use Rattle.jpa_model.specs.Chains.{relations_of};
 ghost use Rattle.jpa_behaviour.specs.Behaviour.{World};
-ghost use Rattle.jpa_behaviour.specs.Registered.{world_of};
+ghost use Rattle.jpa_behaviour.specs.Served.{world_of_unit};
 ghost use Rattle.jpa_heap.specs.Objects.{object_at};
 ghost use Rattle.jpa_context.specs.Steps.{Meets};
 ghost use Rattle.jpa_context.specs.Undo.{now, since};
@@ -14,7 +14,7 @@ ghost use Rattle.jpa_merge.specs.Merge as merges;
 
 use crate::images::{Images, NodeImage};
 use crate::replacing::{replace_all, replaced};
-use jpa_behaviour::{Behaviour, Registry};
+use jpa_behaviour::{Behaviour, ServedUnit};
 use jpa_cascade::members_now;
 use jpa_context::UnitOfWork;
 use jpa_fetch::{held_at, set_fetched, set_relation};
@@ -81,100 +81,101 @@ fn settle_members(
 /// A to-one relation of an image leads to what stands for a target. Refused as `replaced` is.
 fn copy_target<B: Behaviour>(
     alloc: Global,
-    metamodel: &Metamodel,
-    registry: &Registry<B>,
+    unit: &ServedUnit<B>,
     work: &mut UnitOfWork,
     images: &Images,
     image: usize,
     relation: usize,
     target: usize,
 ) -> Result<(), Cause>
-    requires ready { IsReady metamodel.now (now work.old) }
+    requires ready { IsReady unit.now.metamodel (now work.old) }
     requires imaged { AreImaged (now work.old) images.now }
     requires image { image < length work.old.objects.now }
     requires relation { relation
-        < length (relations_of metamodel.now (object_at work.old.objects.now image).class) }
+        < length (relations_of unit.now.metamodel (object_at work.old.objects.now image).class) }
     requires target { target < length work.old.objects.now }
-    ensures meets { let world = world_of B.meaning metamodel.now registry.now in
+    ensures meets { let world = world_of_unit B.meaning unit.now in
         Meets result (now work.new)
         (merges.copy_target world images.now image relation target (now work.old)) }
-    ensures ready { OnOk result (IsReady metamodel.now (now work.new)) }
+    ensures ready { OnOk result (IsReady unit.now.metamodel (now work.new)) }
     ensures grown { OnOk result (HasGrown (now work.old) (now work.new)) }
     ensures view { work.new.view ≡ work.old.view }
     ensures since { since work.new ≡ since work.old }
 {
-    let object = replaced(alloc, metamodel, registry, work, images, target)?;
+    let object = replaced(alloc, unit, work, images, target)?;
     let held = Held::One(Link::Object(object));
-    set_held(metamodel, work, image, relation, held)
+    set_held(&unit.metamodel, work, image, relation, held)
 }
 
 /// A collection of an image holds what stands for these members. Refused as `replaced` is, at the first that is refused.
 fn copy_members<B: Behaviour>(
     alloc: Global,
-    metamodel: &Metamodel,
-    registry: &Registry<B>,
+    unit: &ServedUnit<B>,
     work: &mut UnitOfWork,
     images: &Images,
     image: usize,
     relation: usize,
     members: &[usize],
 ) -> Result<(), Cause>
-    requires ready { IsReady metamodel.now (now work.old) }
+    requires ready { IsReady unit.now.metamodel (now work.old) }
     requires imaged { AreImaged (now work.old) images.now }
     requires image { image < length work.old.objects.now }
     requires relation { relation
-        < length (relations_of metamodel.now (object_at work.old.objects.now image).class) }
+        < length (relations_of unit.now.metamodel (object_at work.old.objects.now image).class) }
     requires within { All (λ k. k < length work.old.objects.now) members.now }
-    ensures meets { let world = world_of B.meaning metamodel.now registry.now in
+    ensures meets { let world = world_of_unit B.meaning unit.now in
         Meets result (now work.new)
         (merges.copy_members world images.now image relation members.now (now work.old)) }
-    ensures ready { OnOk result (IsReady metamodel.now (now work.new)) }
+    ensures ready { OnOk result (IsReady unit.now.metamodel (now work.new)) }
     ensures grown { OnOk result (HasGrown (now work.old) (now work.new)) }
     ensures view { work.new.view ≡ work.old.view }
     ensures since { since work.new ≡ since work.old }
 {
-    let targets = replace_all(alloc, metamodel, registry, work, images, members)?;
-    settle_members(alloc, metamodel, work, image, relation, targets)
+    let targets = replace_all(alloc, unit, work, images, members)?;
+    settle_members(alloc, &unit.metamodel, work, image, relation, targets)
 }
 
 /// An image takes what is held in a relation, as far as it was read, with what stands for its targets. Refused as `replaced` is.
 fn copy_held<B: Behaviour>(
     alloc: Global,
-    metamodel: &Metamodel,
-    registry: &Registry<B>,
+    unit: &ServedUnit<B>,
     work: &mut UnitOfWork,
     images: &Images,
     image: usize,
     relation: usize,
     held: &Held,
 ) -> Result<(), Cause>
-    requires ready { IsReady metamodel.now (now work.old) }
+    requires ready { IsReady unit.now.metamodel (now work.old) }
     requires imaged { AreImaged (now work.old) images.now }
     requires image { image < length work.old.objects.now }
     requires relation { relation
-        < length (relations_of metamodel.now (object_at work.old.objects.now image).class) }
+        < length (relations_of unit.now.metamodel (object_at work.old.objects.now image).class) }
     requires within { All (λ k. k < length work.old.objects.now) (objects_held held.now) }
-    ensures meets { let world = world_of B.meaning metamodel.now registry.now in
+    ensures meets { let world = world_of_unit B.meaning unit.now in
         Meets result (now work.new)
         (merges.copy_held world images.now image relation held.now (now work.old)) }
-    ensures ready { OnOk result (IsReady metamodel.now (now work.new)) }
+    ensures ready { OnOk result (IsReady unit.now.metamodel (now work.new)) }
     ensures grown { OnOk result (HasGrown (now work.old) (now work.new)) }
     ensures view { work.new.view ≡ work.old.view }
     ensures since { since work.new ≡ since work.old }
 {
     match held {
         Held::One(Link::None) => {
-            set_held(metamodel, work, image, relation, Held::One(Link::None))
+            set_held(
+                &unit.metamodel,
+                work,
+                image,
+                relation,
+                Held::One(Link::None),
+            )
         }
         Held::One(Link::Object(target)) => copy_target(
-            alloc, metamodel, registry, work, images, image, relation, *target,
+            alloc, unit, work, images, image, relation, *target,
         ),
         Held::One(Link::Key(_)) => Ok(()),
         Held::Many(Collection::Fetched(members)) => {
             let members = members.as_slice();
-            copy_members(
-                alloc, metamodel, registry, work, images, image, relation, members,
-            )
+            copy_members(alloc, unit, work, images, image, relation, members)
         }
         Held::Many(Collection::Unfetched) => Ok(()),
     }
@@ -183,35 +184,26 @@ fn copy_held<B: Behaviour>(
 /// An image takes what its node holds in a relation, as `copy_held`.
 pub(crate) fn copy_relation<B: Behaviour>(
     alloc: Global,
-    metamodel: &Metamodel,
-    registry: &Registry<B>,
+    unit: &ServedUnit<B>,
     work: &mut UnitOfWork,
     images: &Images,
     image: NodeImage,
     relation: usize,
 ) -> Result<(), Cause>
-    requires ready { IsReady metamodel.now (now work.old) }
+    requires ready { IsReady unit.now.metamodel (now work.old) }
     requires imaged { AreImaged (now work.old) images.now }
     requires image { IsImaged (now work.old) image }
     requires relation { relation
-        < length (relations_of metamodel.now (object_at work.old.objects.now image.node).class) }
-    ensures meets { let world = world_of B.meaning metamodel.now registry.now in
+        < length (relations_of unit.now.metamodel
+        (object_at work.old.objects.now image.node).class) }
+    ensures meets { let world = world_of_unit B.meaning unit.now in
         Meets result (now work.new)
         (merges.copy_at world images.now image relation (now work.old)) }
-    ensures ready { OnOk result (IsReady metamodel.now (now work.new)) }
+    ensures ready { OnOk result (IsReady unit.now.metamodel (now work.new)) }
     ensures grown { OnOk result (HasGrown (now work.old) (now work.new)) }
     ensures view { work.new.view ≡ work.old.view }
     ensures since { since work.new ≡ since work.old }
 {
-    let held = held_at(metamodel, work, image.node, relation).try_copy()?;
-    copy_held(
-        alloc,
-        metamodel,
-        registry,
-        work,
-        images,
-        image.image,
-        relation,
-        &held,
-    )
+    let held = held_at(&unit.metamodel, work, image.node, relation).try_copy()?;
+    copy_held(alloc, unit, work, images, image.image, relation, &held)
 }

@@ -2,7 +2,7 @@
 ghost use Rattle.std.specs.Prelude.{◌≡◌, ◌<◌, All, length, IfOk, OnOk, None};
 ghost use Rattle.jpa_value.specs.declared.refusal.Cause.{Cause};
 ghost use Rattle.jpa_value.specs.declared.refusal.State.{State};
-ghost use Rattle.jpa_behaviour.specs.Registered.{world_of};
+ghost use Rattle.jpa_behaviour.specs.Served.{world_of_unit};
 ghost use Rattle.jpa_context.specs.Steps.{Meets};
 ghost use Rattle.jpa_context.specs.Undo.{now, since};
 ghost use Rattle.jpa_fetch.specs.Grown.{HasGrown, IsReady};
@@ -12,12 +12,11 @@ ghost use Rattle.jpa_merge.specs.Imaged.{AreImaged};
 ghost use Rattle.jpa_merge.specs.Merge as merges;
 
 use crate::images::Images;
-use jpa_behaviour::{Behaviour, Registry};
+use jpa_behaviour::{Behaviour, ServedUnit};
 use jpa_cascade::instance;
 use jpa_context::UnitOfWork;
 use jpa_fetch::{is_held, load};
 use jpa_heap::identity_of;
-use jpa_model::Metamodel;
 use jpa_value::{Cause, Identity, Seq, State, TryCopy};
 use std::alloc::Global;
 
@@ -25,45 +24,43 @@ use std::alloc::Global;
 /// refuses.
 fn reach_target<B: Behaviour>(
     alloc: Global,
-    metamodel: &Metamodel,
-    registry: &Registry<B>,
+    unit: &ServedUnit<B>,
     work: &mut UnitOfWork,
     id: &Identity,
 ) -> Result<usize, Cause>
-    requires ready { IsReady metamodel.now (now work.old) }
-    ensures meets { let world = world_of B.meaning metamodel.now registry.now in
+    requires ready { IsReady unit.now.metamodel (now work.old) }
+    ensures meets { let world = world_of_unit B.meaning unit.now in
         Meets result (now work.new)
         (reach world (Cause.IllegalState State.Reference) id.now (now work.old)) }
     ensures within { IfOk result (λ n. n < length (now work.new).objects) }
-    ensures ready { OnOk result (IsReady metamodel.now (now work.new)) }
+    ensures ready { OnOk result (IsReady unit.now.metamodel (now work.new)) }
     ensures grown { OnOk result (HasGrown (now work.old) (now work.new)) }
     ensures view { work.new.view ≡ work.old.view }
     ensures since { since work.new ≡ since work.old }
 {
-    if let Some(object) = instance(metamodel, work, id) {
+    if let Some(object) = instance(&unit.metamodel, work, id) {
         return Ok(object);
     }
     let Some(row) = work.view.get(id) else {
         return Err(Cause::IllegalState(State::Reference));
     };
     let row = row.try_copy()?;
-    load(alloc, metamodel, registry, work, id, row)
+    load(alloc, unit, work, id, row)
 }
 
 /// What stands for a target that is no node: itself where the manager holds it. Refused as `replaced` is.
 fn replaced_outside<B: Behaviour>(
     alloc: Global,
-    metamodel: &Metamodel,
-    registry: &Registry<B>,
+    unit: &ServedUnit<B>,
     work: &mut UnitOfWork,
     target: usize,
 ) -> Result<usize, Cause>
-    requires ready { IsReady metamodel.now (now work.old) }
+    requires ready { IsReady unit.now.metamodel (now work.old) }
     requires target { target < length work.old.objects.now }
-    ensures meets { let world = world_of B.meaning metamodel.now registry.now in
+    ensures meets { let world = world_of_unit B.meaning unit.now in
         Meets result (now work.new) (merges.replaced_outside world target (now work.old)) }
     ensures within { IfOk result (λ n. n < length (now work.new).objects) }
-    ensures ready { OnOk result (IsReady metamodel.now (now work.new)) }
+    ensures ready { OnOk result (IsReady unit.now.metamodel (now work.new)) }
     ensures grown { OnOk result (HasGrown (now work.old) (now work.new)) }
     ensures view { work.new.view ≡ work.old.view }
     ensures since { since work.new ≡ since work.old }
@@ -71,8 +68,8 @@ fn replaced_outside<B: Behaviour>(
     if is_held(work, target) {
         return Ok(target);
     }
-    match identity_of(metamodel, &work.objects.as_slice()[target])? {
-        Some(id) => reach_target(alloc, metamodel, registry, work, &id),
+    match identity_of(&unit.metamodel, &work.objects.as_slice()[target])? {
+        Some(id) => reach_target(alloc, unit, work, &id),
         None => Err(Cause::IllegalState(State::Reference)),
     }
 }
@@ -81,53 +78,51 @@ fn replaced_outside<B: Behaviour>(
 /// or its row, loaded. `IllegalState(reference)` without any of them; what `load` refuses.
 pub(crate) fn replaced<B: Behaviour>(
     alloc: Global,
-    metamodel: &Metamodel,
-    registry: &Registry<B>,
+    unit: &ServedUnit<B>,
     work: &mut UnitOfWork,
     images: &Images,
     target: usize,
 ) -> Result<usize, Cause>
-    requires ready { IsReady metamodel.now (now work.old) }
+    requires ready { IsReady unit.now.metamodel (now work.old) }
     requires imaged { AreImaged (now work.old) images.now }
     requires target { target < length work.old.objects.now }
-    ensures meets { let world = world_of B.meaning metamodel.now registry.now in
+    ensures meets { let world = world_of_unit B.meaning unit.now in
         Meets result (now work.new) (merges.replaced world images.now target (now work.old)) }
     ensures within { IfOk result (λ n. n < length (now work.new).objects) }
-    ensures ready { OnOk result (IsReady metamodel.now (now work.new)) }
+    ensures ready { OnOk result (IsReady unit.now.metamodel (now work.new)) }
     ensures grown { OnOk result (HasGrown (now work.old) (now work.new)) }
     ensures view { work.new.view ≡ work.old.view }
     ensures since { since work.new ≡ since work.old }
 {
     match images.get(target) {
         Some(image) => Ok(image),
-        None => replaced_outside(alloc, metamodel, registry, work, target),
+        None => replaced_outside(alloc, unit, work, target),
     }
 }
 
 /// What stands for each of these targets, in their order. Refused as `replaced` is, at the first that is refused.
 pub(crate) fn replace_all<B: Behaviour>(
     alloc: Global,
-    metamodel: &Metamodel,
-    registry: &Registry<B>,
+    unit: &ServedUnit<B>,
     work: &mut UnitOfWork,
     images: &Images,
     targets: &[usize],
 ) -> Result<Seq<usize>, Cause>
-    requires ready { IsReady metamodel.now (now work.old) }
+    requires ready { IsReady unit.now.metamodel (now work.old) }
     requires imaged { AreImaged (now work.old) images.now }
     requires targets { All (λ k. k < length work.old.objects.now) targets.now }
-    ensures meets { let world = world_of B.meaning metamodel.now registry.now in
+    ensures meets { let world = world_of_unit B.meaning unit.now in
         Meets result (now work.new)
         (collect (merges.replaced world images.now) targets.now (now work.old)) }
     ensures within { IfOk result (λ places. All (λ k. k < length (now work.new).objects) places) }
-    ensures ready { OnOk result (IsReady metamodel.now (now work.new)) }
+    ensures ready { OnOk result (IsReady unit.now.metamodel (now work.new)) }
     ensures grown { OnOk result (HasGrown (now work.old) (now work.new)) }
     ensures view { work.new.view ≡ work.old.view }
     ensures since { since work.new ≡ since work.old }
 {
     let mut places = Seq::new(alloc);
     for target in targets {
-        let place = replaced(alloc, metamodel, registry, work, images, *target)?;
+        let place = replaced(alloc, unit, work, images, *target)?;
         places.push(place)?;
     }
     Ok(places)

@@ -5,7 +5,7 @@ ghost use Rattle.jpa_value.specs.Value.{is_null};
 ghost use Rattle.jpa_value.specs.declared.refusal.Cause.{Cause};
 ghost use Rattle.jpa_model.specs.Chains.{root_of};
 ghost use Rattle.jpa_behaviour.specs.Behaviour.{World};
-ghost use Rattle.jpa_behaviour.specs.Registered.{world_of};
+ghost use Rattle.jpa_behaviour.specs.Served.{world_of_unit};
 ghost use Rattle.jpa_heap.specs.Shape.{HasShape};
 ghost use Rattle.jpa_heap.specs.declared.Life.{Life};
 ghost use Rattle.jpa_context.specs.Steps.{Meets, Done};
@@ -19,7 +19,7 @@ ghost use Rattle.jpa_ops.specs.Names.{has_distinct_entries};
 ghost use Rattle.jpa_ops.specs.States as states;
 
 use crate::context::{has_base, has_instance, set_life};
-use jpa_behaviour::{Behaviour, Registry};
+use jpa_behaviour::{Behaviour, ServedUnit};
 use jpa_cascade::{Node, Operation, state_of, waves};
 use jpa_context::{EntityState, Entry, Lock, UnitOfWork};
 use jpa_heap::{Life, LiveObject, is_whole};
@@ -163,43 +163,34 @@ pub fn become_managed(
 /// A new object becomes managed, and PrePersist happens to it (chapter 3.5.2). Refused as `persist` is.
 fn persist_new<B: Behaviour>(
     alloc: Global,
-    metamodel: &Metamodel,
-    registry: &Registry<B>,
+    unit: &ServedUnit<B>,
     work: &mut UnitOfWork,
     object: usize,
 ) -> Result<(), Cause>
-    requires orderly { IsOrderly metamodel.now }
-    requires ready { IsReady metamodel.now (now work.old) }
+    requires orderly { IsOrderly unit.now.metamodel }
+    requires ready { IsReady unit.now.metamodel (now work.old) }
     requires object { object < length work.old.objects.now }
-    ensures meets { let world = world_of B.meaning metamodel.now registry.now in
+    ensures meets { let world = world_of_unit B.meaning unit.now in
         Meets result (now work.new)
         (states.persist_one world object EntityState.New (now work.old)) }
     ensures view { work.new.view ≡ work.old.view }
     ensures since { since work.new ≡ since work.old }
 {
-    become_managed(alloc, metamodel, work, object)?;
-    callback(
-        alloc,
-        metamodel,
-        registry,
-        work,
-        LifecycleEvent::PrePersist,
-        object,
-    )
+    become_managed(alloc, &unit.metamodel, work, object)?;
+    callback(alloc, unit, work, LifecycleEvent::PrePersist, object)
 }
 
 /// A removed object is managed again, and PrePersist happens to it unless it is stored. Refused as a listener or
 /// callback refuses, and with `OutOfMemory`.
 fn persist_removed<B: Behaviour>(
     alloc: Global,
-    metamodel: &Metamodel,
-    registry: &Registry<B>,
+    unit: &ServedUnit<B>,
     work: &mut UnitOfWork,
     object: usize,
 ) -> Result<(), Cause>
-    requires placed { IsPlaced metamodel.now (now work.old) }
+    requires placed { IsPlaced unit.now.metamodel (now work.old) }
     requires object { object < length work.old.objects.now }
-    ensures meets { let world = world_of B.meaning metamodel.now registry.now in
+    ensures meets { let world = world_of_unit B.meaning unit.now in
         Meets result (now work.new)
         (states.persist_one world object EntityState.Removed (now work.old)) }
     ensures view { work.new.view ≡ work.old.view }
@@ -209,37 +200,29 @@ fn persist_removed<B: Behaviour>(
     if has_base(work, object) {
         return Ok(());
     }
-    callback(
-        alloc,
-        metamodel,
-        registry,
-        work,
-        LifecycleEvent::PrePersist,
-        object,
-    )
+    callback(alloc, unit, work, LifecycleEvent::PrePersist, object)
 }
 
 /// An object that stands so for its manager is managed afterwards. Refused as `persist` is.
 fn persist_one<B: Behaviour>(
     alloc: Global,
-    metamodel: &Metamodel,
-    registry: &Registry<B>,
+    unit: &ServedUnit<B>,
     work: &mut UnitOfWork,
     object: usize,
     state: EntityState,
 ) -> Result<(), Cause>
-    requires orderly { IsOrderly metamodel.now }
-    requires ready { IsReady metamodel.now (now work.old) }
+    requires orderly { IsOrderly unit.now.metamodel }
+    requires ready { IsReady unit.now.metamodel (now work.old) }
     requires object { object < length work.old.objects.now }
-    ensures meets { let world = world_of B.meaning metamodel.now registry.now in
+    ensures meets { let world = world_of_unit B.meaning unit.now in
         Meets result (now work.new) (states.persist_one world object state (now work.old)) }
     ensures view { work.new.view ≡ work.old.view }
     ensures since { since work.new ≡ since work.old }
 {
     match state {
-        EntityState::New => persist_new(alloc, metamodel, registry, work, object),
+        EntityState::New => persist_new(alloc, unit, work, object),
         EntityState::Managed => Ok(()),
-        EntityState::Removed => persist_removed(alloc, metamodel, registry, work, object),
+        EntityState::Removed => persist_removed(alloc, unit, work, object),
         EntityState::Detached => Err(Cause::EntityExists),
     }
 }
@@ -247,15 +230,14 @@ fn persist_one<B: Behaviour>(
 /// A node of the cascade is persisted: an object; a row without an instance is stored already. Refused as `persist` is.
 fn persist_node<B: Behaviour>(
     alloc: Global,
-    metamodel: &Metamodel,
-    registry: &Registry<B>,
+    unit: &ServedUnit<B>,
     work: &mut UnitOfWork,
     node: &Node,
 ) -> Result<(), Cause>
-    requires orderly { IsOrderly metamodel.now }
-    requires ready { IsReady metamodel.now (now work.old) }
+    requires orderly { IsOrderly unit.now.metamodel }
+    requires ready { IsReady unit.now.metamodel (now work.old) }
     requires there { IsThere (now work.old) node.now }
-    ensures meets { let world = world_of B.meaning metamodel.now registry.now in
+    ensures meets { let world = world_of_unit B.meaning unit.now in
         Meets result (now work.new) (states.persist_node world node.now (now work.old)) }
     ensures view { work.new.view ≡ work.old.view }
     ensures since { since work.new ≡ since work.old }
@@ -263,7 +245,7 @@ fn persist_node<B: Behaviour>(
     match node {
         Node::Live(object) => {
             let state = state_of(work, *object);
-            persist_one(alloc, metamodel, registry, work, *object, state)
+            persist_one(alloc, unit, work, *object, state)
         }
         Node::Bare(_) => Ok(()),
     }
@@ -280,26 +262,25 @@ fn persist_node<B: Behaviour>(
 /// `OutOfMemory` where a growth was refused. What a refused call changed is undone by `UnitOfWork::undo`.
 pub fn persist<B: Behaviour>(
     alloc: Global,
-    metamodel: &Metamodel,
-    registry: &Registry<B>,
+    unit: &ServedUnit<B>,
     work: &mut UnitOfWork,
     object: usize,
 ) -> Result<(), Cause>
-    requires orderly { IsOrderly metamodel.now }
-    requires ready { IsReady metamodel.now (now work.old) }
+    requires orderly { IsOrderly unit.now.metamodel }
+    requires ready { IsReady unit.now.metamodel (now work.old) }
     requires object { object < length work.old.objects.now }
-    ensures meets { let world = world_of B.meaning metamodel.now registry.now in
+    ensures meets { let world = world_of_unit B.meaning unit.now in
         Meets result (now work.new) (states.persist world object (now work.old)) }
-    ensures ready { OnOk result (IsReady metamodel.now (now work.new)) }
+    ensures ready { OnOk result (IsReady unit.now.metamodel (now work.new)) }
     ensures grown { OnOk result (HasGrown (now work.old) (now work.new)) }
-    ensures named { has_distinct_entries metamodel.now (now work.old) ≡ true →
-        OnOk result (has_distinct_entries metamodel.now (now work.new) ≡ true) }
+    ensures named { has_distinct_entries unit.now.metamodel (now work.old) ≡ true →
+        OnOk result (has_distinct_entries unit.now.metamodel (now work.new) ≡ true) }
     ensures view { work.new.view ≡ work.old.view }
     ensures since { since work.new ≡ since work.old }
 {
-    let nodes = waves(alloc, metamodel, work, Operation::Persist, object)?;
+    let nodes = waves(alloc, &unit.metamodel, work, Operation::Persist, object)?;
     for node in nodes.as_slice() {
-        persist_node(alloc, metamodel, registry, work, node)?;
+        persist_node(alloc, unit, work, node)?;
     }
     Ok(())
 }

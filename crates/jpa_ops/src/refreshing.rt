@@ -2,7 +2,7 @@
 ghost use Rattle.std.specs.Prelude.{◌≡◌, ◌<◌, length, IfOk, IfErr, OnOk, Some};
 ghost use Rattle.jpa_value.specs.declared.refusal.Cause.{Cause};
 ghost use Rattle.jpa_behaviour.specs.Behaviour.{World};
-ghost use Rattle.jpa_behaviour.specs.Registered.{world_of};
+ghost use Rattle.jpa_behaviour.specs.Served.{world_of_unit};
 ghost use Rattle.jpa_context.specs.Steps.{IsRefusedAs, Meets};
 ghost use Rattle.jpa_context.specs.Undo.{now, since, IsPlaced};
 ghost use Rattle.jpa_context.specs.Work as works;
@@ -11,7 +11,7 @@ ghost use Rattle.jpa_cascade.specs.There.{IsThere};
 ghost use Rattle.jpa_fetch.specs.Grown.{AreDistinct, HasGrown, IsReady};
 ghost use Rattle.jpa_ops.specs.States as states;
 
-use jpa_behaviour::{Behaviour, Registry};
+use jpa_behaviour::{Behaviour, ServedUnit};
 use jpa_cascade::{Node, Operation, state_of, waves};
 use jpa_context::{Base, EntityState, Entry, UnitOfWork};
 use jpa_fetch::object_of_row;
@@ -91,54 +91,45 @@ fn row_of(work: &UnitOfWork, object: usize, id: &Identity) -> Result<Stored, Cau
 /// A managed object is loaded again, and PostLoad happens to it (chapter 3.5.2). Refused as `refresh` is.
 fn refresh_managed<B: Behaviour>(
     alloc: Global,
-    metamodel: &Metamodel,
-    registry: &Registry<B>,
+    unit: &ServedUnit<B>,
     work: &mut UnitOfWork,
     object: usize,
 ) -> Result<(), Cause>
-    requires placed { IsPlaced metamodel.now (now work.old) }
+    requires placed { IsPlaced unit.now.metamodel (now work.old) }
     requires object { object < length work.old.objects.now }
     requires distinct { AreDistinct work.old.context.now }
-    ensures meets { let world = world_of B.meaning metamodel.now registry.now in
+    ensures meets { let world = world_of_unit B.meaning unit.now in
         Meets result (now work.new) (states.refresh_managed world object (now work.old)) }
     ensures view { work.new.view ≡ work.old.view }
     ensures since { since work.new ≡ since work.old }
 {
-    let Some(id) = identity_of(metamodel, &work.objects.as_slice()[object])? else {
+    let Some(id) = identity_of(&unit.metamodel, &work.objects.as_slice()[object])? else {
         return Err(Cause::EntityNotFound);
     };
     let row = row_of(work, object, &id)?;
-    reload(alloc, metamodel, work, object, &id, row)?;
-    callback(
-        alloc,
-        metamodel,
-        registry,
-        work,
-        LifecycleEvent::PostLoad,
-        object,
-    )
+    reload(alloc, &unit.metamodel, work, object, &id, row)?;
+    callback(alloc, unit, work, LifecycleEvent::PostLoad, object)
 }
 
 /// An object that stands so for its manager is loaded again. Refused as `refresh` is.
 fn refresh_one<B: Behaviour>(
     alloc: Global,
-    metamodel: &Metamodel,
-    registry: &Registry<B>,
+    unit: &ServedUnit<B>,
     work: &mut UnitOfWork,
     object: usize,
     state: EntityState,
 ) -> Result<(), Cause>
-    requires placed { IsPlaced metamodel.now (now work.old) }
+    requires placed { IsPlaced unit.now.metamodel (now work.old) }
     requires object { object < length work.old.objects.now }
     requires distinct { AreDistinct work.old.context.now }
-    ensures meets { let world = world_of B.meaning metamodel.now registry.now in
+    ensures meets { let world = world_of_unit B.meaning unit.now in
         Meets result (now work.new) (states.refresh_one world object state (now work.old)) }
     ensures view { work.new.view ≡ work.old.view }
     ensures since { since work.new ≡ since work.old }
 {
     match state {
         EntityState::New => Err(Cause::IllegalArgument(Argument::State)),
-        EntityState::Managed => refresh_managed(alloc, metamodel, registry, work, object),
+        EntityState::Managed => refresh_managed(alloc, unit, work, object),
         EntityState::Removed => Err(Cause::IllegalArgument(Argument::State)),
         EntityState::Detached => Err(Cause::IllegalArgument(Argument::State)),
     }
@@ -147,15 +138,14 @@ fn refresh_one<B: Behaviour>(
 /// A node of the cascade is refreshed: an object; a row without an instance is as it is. Refused as `refresh` is.
 fn refresh_node<B: Behaviour>(
     alloc: Global,
-    metamodel: &Metamodel,
-    registry: &Registry<B>,
+    unit: &ServedUnit<B>,
     work: &mut UnitOfWork,
     node: &Node,
 ) -> Result<(), Cause>
-    requires placed { IsPlaced metamodel.now (now work.old) }
+    requires placed { IsPlaced unit.now.metamodel (now work.old) }
     requires distinct { AreDistinct work.old.context.now }
     requires there { IsThere (now work.old) node.now }
-    ensures meets { let world = world_of B.meaning metamodel.now registry.now in
+    ensures meets { let world = world_of_unit B.meaning unit.now in
         Meets result (now work.new) (states.refresh_node world node.now (now work.old)) }
     ensures view { work.new.view ≡ work.old.view }
     ensures since { since work.new ≡ since work.old }
@@ -163,7 +153,7 @@ fn refresh_node<B: Behaviour>(
     match node {
         Node::Live(object) => {
             let state = state_of(work, *object);
-            refresh_one(alloc, metamodel, registry, work, *object, state)
+            refresh_one(alloc, unit, work, *object, state)
         }
         Node::Bare(_) => Ok(()),
     }
@@ -180,23 +170,22 @@ fn refresh_node<B: Behaviour>(
 /// call changed is undone by `UnitOfWork::undo`.
 pub fn refresh<B: Behaviour>(
     alloc: Global,
-    metamodel: &Metamodel,
-    registry: &Registry<B>,
+    unit: &ServedUnit<B>,
     work: &mut UnitOfWork,
     object: usize,
 ) -> Result<(), Cause>
-    requires ready { IsReady metamodel.now (now work.old) }
+    requires ready { IsReady unit.now.metamodel (now work.old) }
     requires object { object < length work.old.objects.now }
-    ensures meets { let world = world_of B.meaning metamodel.now registry.now in
+    ensures meets { let world = world_of_unit B.meaning unit.now in
         Meets result (now work.new) (states.refresh world object (now work.old)) }
-    ensures ready { OnOk result (IsReady metamodel.now (now work.new)) }
+    ensures ready { OnOk result (IsReady unit.now.metamodel (now work.new)) }
     ensures grown { OnOk result (HasGrown (now work.old) (now work.new)) }
     ensures view { work.new.view ≡ work.old.view }
     ensures since { since work.new ≡ since work.old }
 {
-    let nodes = waves(alloc, metamodel, work, Operation::Refresh, object)?;
+    let nodes = waves(alloc, &unit.metamodel, work, Operation::Refresh, object)?;
     for node in nodes.as_slice() {
-        refresh_node(alloc, metamodel, registry, work, node)?;
+        refresh_node(alloc, unit, work, node)?;
     }
     Ok(())
 }

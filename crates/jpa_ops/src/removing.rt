@@ -1,6 +1,6 @@
 //! Removing an object.
 ghost use Rattle.std.specs.Prelude.{◌≡◌, ◌<◌, length, OnOk};
-ghost use Rattle.jpa_behaviour.specs.Registered.{world_of};
+ghost use Rattle.jpa_behaviour.specs.Served.{world_of_unit};
 ghost use Rattle.jpa_context.specs.Steps.{Meets};
 ghost use Rattle.jpa_context.specs.Undo.{now, since, IsPlaced};
 ghost use Rattle.jpa_context.specs.Work as works;
@@ -10,13 +10,12 @@ ghost use Rattle.jpa_fetch.specs.Grown.{HasGrown, IsReady};
 ghost use Rattle.jpa_ops.specs.States as states;
 
 use crate::context::set_life;
-use jpa_behaviour::{Behaviour, Registry};
+use jpa_behaviour::{Behaviour, ServedUnit};
 use jpa_cascade::{Node, Operation, instance, state_of, waves};
 use jpa_context::{EntityState, UnitOfWork};
 use jpa_fetch::load;
 use jpa_heap::Life;
 use jpa_lifecycle::callback;
-use jpa_model::Metamodel;
 use jpa_value::{Argument, Cause, Identity, LifecycleEvent, TryCopy};
 use std::alloc::Global;
 
@@ -24,49 +23,40 @@ use std::alloc::Global;
 /// and with `OutOfMemory`.
 fn remove_managed<B: Behaviour>(
     alloc: Global,
-    metamodel: &Metamodel,
-    registry: &Registry<B>,
+    unit: &ServedUnit<B>,
     work: &mut UnitOfWork,
     object: usize,
 ) -> Result<(), Cause>
-    requires placed { IsPlaced metamodel.now (now work.old) }
+    requires placed { IsPlaced unit.now.metamodel (now work.old) }
     requires object { object < length work.old.objects.now }
-    ensures meets { let world = world_of B.meaning metamodel.now registry.now in
+    ensures meets { let world = world_of_unit B.meaning unit.now in
         Meets result (now work.new)
         (states.remove_one world object EntityState.Managed (now work.old)) }
     ensures view { work.new.view ≡ work.old.view }
     ensures since { since work.new ≡ since work.old }
 {
     set_life(work, object, Life::Removed(work.manager))?;
-    callback(
-        alloc,
-        metamodel,
-        registry,
-        work,
-        LifecycleEvent::PreRemove,
-        object,
-    )
+    callback(alloc, unit, work, LifecycleEvent::PreRemove, object)
 }
 
 /// An object that stands so for its manager is removed. Refused as `remove` is.
 fn remove_one<B: Behaviour>(
     alloc: Global,
-    metamodel: &Metamodel,
-    registry: &Registry<B>,
+    unit: &ServedUnit<B>,
     work: &mut UnitOfWork,
     object: usize,
     state: EntityState,
 ) -> Result<(), Cause>
-    requires placed { IsPlaced metamodel.now (now work.old) }
+    requires placed { IsPlaced unit.now.metamodel (now work.old) }
     requires object { object < length work.old.objects.now }
-    ensures meets { let world = world_of B.meaning metamodel.now registry.now in
+    ensures meets { let world = world_of_unit B.meaning unit.now in
         Meets result (now work.new) (states.remove_one world object state (now work.old)) }
     ensures view { work.new.view ≡ work.old.view }
     ensures since { since work.new ≡ since work.old }
 {
     match state {
         EntityState::New => Ok(()),
-        EntityState::Managed => remove_managed(alloc, metamodel, registry, work, object),
+        EntityState::Managed => remove_managed(alloc, unit, work, object),
         EntityState::Removed => Ok(()),
         EntityState::Detached => Err(Cause::IllegalArgument(Argument::State)),
     }
@@ -75,73 +65,70 @@ fn remove_one<B: Behaviour>(
 /// An object is removed, as it stands by then. Refused as `remove` is.
 fn remove_live<B: Behaviour>(
     alloc: Global,
-    metamodel: &Metamodel,
-    registry: &Registry<B>,
+    unit: &ServedUnit<B>,
     work: &mut UnitOfWork,
     object: usize,
 ) -> Result<(), Cause>
-    requires ready { IsReady metamodel.now (now work.old) }
+    requires ready { IsReady unit.now.metamodel (now work.old) }
     requires object { object < length work.old.objects.now }
-    ensures meets { let world = world_of B.meaning metamodel.now registry.now in
+    ensures meets { let world = world_of_unit B.meaning unit.now in
         Meets result (now work.new) (states.remove_live world object (now work.old)) }
-    ensures ready { OnOk result (IsReady metamodel.now (now work.new)) }
+    ensures ready { OnOk result (IsReady unit.now.metamodel (now work.new)) }
     ensures grown { OnOk result (HasGrown (now work.old) (now work.new)) }
     ensures view { work.new.view ≡ work.old.view }
     ensures since { since work.new ≡ since work.old }
 {
     let state = state_of(work, object);
-    remove_one(alloc, metamodel, registry, work, object, state)
+    remove_one(alloc, unit, work, object, state)
 }
 
 /// What an identity means by then is removed: its instance; without one its row, which is loaded first. Refused as `remove` is.
 fn remove_under<B: Behaviour>(
     alloc: Global,
-    metamodel: &Metamodel,
-    registry: &Registry<B>,
+    unit: &ServedUnit<B>,
     work: &mut UnitOfWork,
     id: &Identity,
 ) -> Result<(), Cause>
-    requires ready { IsReady metamodel.now (now work.old) }
-    ensures meets { let world = world_of B.meaning metamodel.now registry.now in
+    requires ready { IsReady unit.now.metamodel (now work.old) }
+    ensures meets { let world = world_of_unit B.meaning unit.now in
         let w = now work.old in
         Meets result (now work.new) (states.remove_under world id.now
-        (works.instance metamodel.now w id.now) (works.row w id.now) w) }
-    ensures ready { OnOk result (IsReady metamodel.now (now work.new)) }
+        (works.instance unit.now.metamodel w id.now) (works.row w id.now) w) }
+    ensures ready { OnOk result (IsReady unit.now.metamodel (now work.new)) }
     ensures grown { OnOk result (HasGrown (now work.old) (now work.new)) }
     ensures view { work.new.view ≡ work.old.view }
     ensures since { since work.new ≡ since work.old }
 {
-    if let Some(object) = instance(metamodel, work, id) {
-        return remove_live(alloc, metamodel, registry, work, object);
+    if let Some(object) = instance(&unit.metamodel, work, id) {
+        return remove_live(alloc, unit, work, object);
     }
     let Some(row) = work.view.get(id) else {
         return Ok(());
     };
     let row = row.try_copy()?;
-    let object = load(alloc, metamodel, registry, work, id, row)?;
-    remove_live(alloc, metamodel, registry, work, object)
+    let object = load(alloc, unit, work, id, row)?;
+    remove_live(alloc, unit, work, object)
 }
 
 /// A node of the cascade is removed. Refused as `remove` is.
 fn remove_node<B: Behaviour>(
     alloc: Global,
-    metamodel: &Metamodel,
-    registry: &Registry<B>,
+    unit: &ServedUnit<B>,
     work: &mut UnitOfWork,
     node: &Node,
 ) -> Result<(), Cause>
-    requires ready { IsReady metamodel.now (now work.old) }
+    requires ready { IsReady unit.now.metamodel (now work.old) }
     requires there { IsThere (now work.old) node.now }
-    ensures meets { let world = world_of B.meaning metamodel.now registry.now in
+    ensures meets { let world = world_of_unit B.meaning unit.now in
         Meets result (now work.new) (states.remove_node world node.now (now work.old)) }
-    ensures ready { OnOk result (IsReady metamodel.now (now work.new)) }
+    ensures ready { OnOk result (IsReady unit.now.metamodel (now work.new)) }
     ensures grown { OnOk result (HasGrown (now work.old) (now work.new)) }
     ensures view { work.new.view ≡ work.old.view }
     ensures since { since work.new ≡ since work.old }
 {
     match node {
-        Node::Live(object) => remove_live(alloc, metamodel, registry, work, *object),
-        Node::Bare(id) => remove_under(alloc, metamodel, registry, work, id),
+        Node::Live(object) => remove_live(alloc, unit, work, *object),
+        Node::Bare(id) => remove_under(alloc, unit, work, id),
     }
 }
 
@@ -155,23 +142,22 @@ fn remove_node<B: Behaviour>(
 /// refused call changed is undone by `UnitOfWork::undo`.
 pub fn remove<B: Behaviour>(
     alloc: Global,
-    metamodel: &Metamodel,
-    registry: &Registry<B>,
+    unit: &ServedUnit<B>,
     work: &mut UnitOfWork,
     object: usize,
 ) -> Result<(), Cause>
-    requires ready { IsReady metamodel.now (now work.old) }
+    requires ready { IsReady unit.now.metamodel (now work.old) }
     requires object { object < length work.old.objects.now }
-    ensures meets { let world = world_of B.meaning metamodel.now registry.now in
+    ensures meets { let world = world_of_unit B.meaning unit.now in
         Meets result (now work.new) (states.remove world object (now work.old)) }
-    ensures ready { OnOk result (IsReady metamodel.now (now work.new)) }
+    ensures ready { OnOk result (IsReady unit.now.metamodel (now work.new)) }
     ensures grown { OnOk result (HasGrown (now work.old) (now work.new)) }
     ensures view { work.new.view ≡ work.old.view }
     ensures since { since work.new ≡ since work.old }
 {
-    let nodes = waves(alloc, metamodel, work, Operation::Remove, object)?;
+    let nodes = waves(alloc, &unit.metamodel, work, Operation::Remove, object)?;
     for node in nodes.as_slice() {
-        remove_node(alloc, metamodel, registry, work, node)?;
+        remove_node(alloc, unit, work, node)?;
     }
     Ok(())
 }

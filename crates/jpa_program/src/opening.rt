@@ -2,7 +2,7 @@
 ghost use Rattle.std.specs.Prelude.{◌≡◌, true, false, length, Ok, Err, IfOk, IfErr};
 ghost use Rattle.jpa_value.specs.declared.refusal.Cause.{Cause};
 ghost use Rattle.jpa_value.specs.declared.refusal.MappingFault.{MappingFault};
-ghost use Rattle.jpa_behaviour.specs.Registered.{world_of};
+ghost use Rattle.jpa_behaviour.specs.Served.{world_of_unit};
 ghost use Rattle.jpa_rows.specs.Cells.{CanBeHeld};
 ghost use Rattle.jpa_rows.specs.Tables.{schema_of};
 ghost use Rattle.jpa_object_rows.specs.Sets.{rows_of};
@@ -13,7 +13,7 @@ ghost use Rattle.jpa_machine.specs.Machine.{opened};
 ghost use Rattle.jpa_program.specs.Opening.{OpensReading, KeepsOrMakes, EnduresMaking, HoldsCells, IsOpenCause};
 ghost use Rattle.jpa_program.specs.Run.{HoldsCommitted};
 
-use jpa_behaviour::{Behaviour, Registry};
+use jpa_behaviour::{Behaviour, ServedUnit};
 use jpa_cells::CellStore;
 use jpa_functions::names_are_known;
 use jpa_judgment::{Committed, read_store};
@@ -63,35 +63,34 @@ fn rows_over<S: Alter + Drop>(
 pub fn open_rows<S: Alter + Drop, B: Behaviour>(
     alloc: Global,
     conn: Connection<S>,
-    metamodel: &Metamodel,
-    registry: &Registry<B>,
+    unit: &ServedUnit<B>,
 ) -> Result<(RowSpace<S>, Committed), (Cause, Connection<S>)>
     requires ordered { IsOrderedIfFound S.Store conn }
-    ensures schema { IfOk result (λ o. o.0.schema ≡ schema_of metamodel.now) }
-    ensures held { IfOk result (λ o. CanBeHeld (world_of B.meaning metamodel.now registry.now) o.1.set o.1.numbers) }
-    ensures holds { IfOk result (λ o. IsClean S.Store o.0.store.conn → HoldsRows S.Store (schema_of metamodel.now) o.0.store.conn (rows_of (world_of B.meaning metamodel.now registry.now) o.1.set o.1.numbers)) }
-    ensures stand { IfOk result (λ o. HoldsCells S.Store (world_of B.meaning metamodel.now registry.now) o.0.store.conn o.1.set o.1.numbers) }
+    ensures schema { IfOk result (λ o. o.0.schema ≡ schema_of unit.now.metamodel) }
+    ensures held { IfOk result (λ o. CanBeHeld (world_of_unit B.meaning unit.now) o.1.set o.1.numbers) }
+    ensures holds { IfOk result (λ o. IsClean S.Store o.0.store.conn → HoldsRows S.Store (schema_of unit.now.metamodel) o.0.store.conn (rows_of (world_of_unit B.meaning unit.now) o.1.set o.1.numbers)) }
+    ensures stand { IfOk result (λ o. HoldsCells S.Store (world_of_unit B.meaning unit.now) o.0.store.conn o.1.set o.1.numbers) }
     ensures live { IfOk result (λ o. IsClean S.Store o.0.store.conn → IsOpen S.Store o.0.store.conn) }
     ensures opens { IfOk result (λ o. KeepsOrMakes S.Store conn o.0.store.conn) }
     ensures crash { IfOk result (λ o. EnduresMaking S.Store conn o.0.store.conn) }
-    ensures counted { IfOk result (λ o. OpensReading S.Store conn o.0.store (length (schema_of metamodel.now).tables)) }
-    ensures unknown { known.names_are_known registry.now metamodel.now ≡ false
+    ensures counted { IfOk result (λ o. OpensReading S.Store conn o.0.store (length (schema_of unit.now.metamodel).tables)) }
+    ensures unknown { known.names_are_known unit.now.registry unit.now.metamodel ≡ false
         → result ≡ Err (Cause.Mapping MappingFault.Function, conn) }
-    ensures refused { IfErr result (λ e. known.names_are_known registry.now metamodel.now ≡ true
-        → IsOpenCause S.Store (world_of B.meaning metamodel.now registry.now) e.1 e.0) }
+    ensures refused { IfErr result (λ e. known.names_are_known unit.now.registry unit.now.metamodel ≡ true
+        → IsOpenCause S.Store (world_of_unit B.meaning unit.now) e.1 e.0) }
     ensures cause { IfErr result (λ e. e.0 ≡ Cause.StoreFault → IsClean S.Store e.1 → conn.in_transaction ≡ false → HoldsTable S.Store conn → HasFault S.Store conn e.1) }
     ensures kept { IfErr result (λ e. KeepsOrMakes S.Store conn e.1) }
     ensures crash_err { IfErr result (λ e. EnduresMaking S.Store conn e.1) }
     ensures again { IfErr result (λ e. IsOrderedIfFound S.Store e.1) }
 {
-    if !names_are_known(metamodel, registry) {
+    if !names_are_known(&unit.metamodel, &unit.registry) {
         return Err((Cause::Mapping(MappingFault::Function), conn));
     }
-    let mut space = match rows_over(alloc, conn, metamodel) {
+    let mut space = match rows_over(alloc, conn, &unit.metamodel) {
         Ok(space) => space,
         Err(refused) => return Err(refused),
     };
-    match read_store(alloc, metamodel, registry, &mut space) {
+    match read_store(alloc, &unit.metamodel, &unit.registry, &mut space) {
         Ok(committed) => Ok((space, committed)),
         Err(cause) => Err((cause, space.store.into_connection())),
     }
@@ -108,34 +107,33 @@ pub fn open_rows<S: Alter + Drop, B: Behaviour>(
 pub fn open<S: Alter + Drop, B: Behaviour>(
     alloc: Global,
     conn: Connection<S>,
-    metamodel: Metamodel,
-    registry: Registry<B>,
+    unit: ServedUnit<B>,
 ) -> Result<Provider<RowSpace<S>, B>, (Cause, Connection<S>)>
     requires ordered { IsOrderedIfFound S.Store conn }
-    ensures model { IfOk result (λ provider. provider.model ≡ metamodel) }
-    ensures registry { IfOk result (λ provider. provider.registry ≡ registry) }
+    ensures model { IfOk result (λ provider. provider.model ≡ unit.metamodel) }
+    ensures registry { IfOk result (λ provider. provider.registry ≡ unit.registry) }
     ensures machine { IfOk result (λ provider. provider.machine ≡ opened (provider.machine).committed (provider.machine).stored_numbers) }
-    ensures held { IfOk result (λ provider. CanBeHeld (world_of B.meaning metamodel registry) (provider.machine).committed (provider.machine).stored_numbers) }
+    ensures held { IfOk result (λ provider. CanBeHeld (world_of_unit B.meaning unit) (provider.machine).committed (provider.machine).stored_numbers) }
     ensures cells { IfOk result (HoldsCommitted S.Store B.meaning) }
     ensures live { IfOk result (λ provider. IsClean S.Store (provider.rows).store.conn → IsOpen S.Store (provider.rows).store.conn) }
     ensures opens { IfOk result (λ provider. KeepsOrMakes S.Store conn (provider.rows).store.conn) }
     ensures crash { IfOk result (λ provider. EnduresMaking S.Store conn (provider.rows).store.conn) }
-    ensures counted { IfOk result (λ provider. OpensReading S.Store conn (provider.rows).store (length (schema_of metamodel).tables)) }
-    ensures unknown { known.names_are_known registry metamodel ≡ false
+    ensures counted { IfOk result (λ provider. OpensReading S.Store conn (provider.rows).store (length (schema_of unit.metamodel).tables)) }
+    ensures unknown { known.names_are_known unit.registry unit.metamodel ≡ false
         → result ≡ Err (Cause.Mapping MappingFault.Function, conn) }
-    ensures refused { IfErr result (λ e. known.names_are_known registry metamodel ≡ true
-        → IsOpenCause S.Store (world_of B.meaning metamodel registry) e.1 e.0) }
+    ensures refused { IfErr result (λ e. known.names_are_known unit.registry unit.metamodel ≡ true
+        → IsOpenCause S.Store (world_of_unit B.meaning unit) e.1 e.0) }
     ensures cause { IfErr result (λ e. e.0 ≡ Cause.StoreFault → IsClean S.Store e.1 → conn.in_transaction ≡ false → HoldsTable S.Store conn → HasFault S.Store conn e.1) }
     ensures kept { IfErr result (λ e. KeepsOrMakes S.Store conn e.1) }
     ensures crash_err { IfErr result (λ e. EnduresMaking S.Store conn e.1) }
     ensures again { IfErr result (λ e. IsOrderedIfFound S.Store e.1) }
 {
-    let (space, committed) = match open_rows(alloc, conn, &metamodel, &registry) {
+    let (space, committed) = match open_rows(alloc, conn, &unit) {
         Ok(opened) => opened,
         Err(refused) => return Err(refused),
     };
     let Committed { set, numbers } = committed;
-    match Provider::new(alloc, metamodel, registry, space, set, numbers) {
+    match Provider::new(alloc, unit, space, set, numbers) {
         Ok(provider) => Ok(provider),
         Err((cause, space)) => Err((cause, space.store.into_connection())),
     }

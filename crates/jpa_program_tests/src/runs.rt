@@ -3,7 +3,7 @@
 ghost use Rattle.std.specs.Prelude.{◌≡◌};
 ghost use Rattle.jpa_cells_meaning.specs.Store.{IsOrderedIfFound};
 
-use jpa_behaviour::Registry;
+use jpa_behaviour::{Registry, ServedUnit};
 use jpa_cells::{CellRow, CellStore};
 use jpa_functions::ProgramFunctions;
 use jpa_lines::RunFault;
@@ -52,9 +52,12 @@ const FIRST_CELLS: [&str; 4] = [
 
 /// A provider of persons with their orders over a store in memory.
 fn opened(alloc: Global) -> Result<Provider<RowSpace<MemStore>, ProgramFunctions>, Fail> {
-    let metamodel = first_unit(alloc)?;
+    let unit = ServedUnit {
+        metamodel: first_unit(alloc)?,
+        registry: Registry::new(alloc),
+    };
     let conn = Connection::open_in_memory(alloc)?;
-    match open(alloc, conn, metamodel, Registry::new(alloc)) {
+    match open(alloc, conn, unit) {
         Ok(provider) => Ok(provider),
         Err((cause, _)) => Err(Fail::from(cause)),
     }

@@ -1,6 +1,6 @@
 //! Questions to a manager, which change nothing (Jakarta Persistence 3.1, chapter 3.2.8).
 ghost use Rattle.std.specs.Prelude.{◌≡◌, false};
-ghost use Rattle.jpa_behaviour.specs.Registered.{world_of};
+ghost use Rattle.jpa_behaviour.specs.Served.{world_of_unit};
 ghost use Rattle.jpa_context.specs.Work.{is_managed, state_from};
 ghost use Rattle.jpa_protocol.specs.declared.call.Call.{Call};
 ghost use Rattle.jpa_machine.specs.Faults.{tells_fault};
@@ -10,9 +10,8 @@ use crate::at_work::manager_named;
 use crate::handing::place_of;
 use crate::replies::{accepted, because};
 use crate::session::Session;
-use jpa_behaviour::{Behaviour, Registry};
+use jpa_behaviour::{Behaviour, ServedUnit};
 use jpa_heap::Life;
-use jpa_model::Metamodel;
 use jpa_protocol::{Answer, Reply};
 use jpa_value::Cause;
 use std::alloc::Global;
@@ -31,13 +30,12 @@ fn is_managed_by(life: Life, manager: usize) -> bool
 #[tactic(auto, using(crate::proofs::Asked::contains_alone, crate::proofs::Asked::contains_unknown, crate::proofs::Asked::contains_told))]
 pub(crate) fn contains_call<B: Behaviour>(
     alloc: Global,
-    _metamodel: &Metamodel,
-    _registry: &Registry<B>,
+    _unit: &ServedUnit<B>,
     session: &Session,
     em: i64,
     object: i64,
 ) -> Reply
-    ensures step { Serves (world_of B.meaning _metamodel.now _registry.now) session.now
+    ensures step { Serves (world_of_unit B.meaning _unit.now) session.now
         (Call.Contains em object) result session.now }
     ensures untold { tells_fault result ≡ false }
 {

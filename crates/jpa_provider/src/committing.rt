@@ -1,7 +1,7 @@
 //! The call commit (Jakarta Persistence 3.1, chapters 7.5 and 3.4).
 ghost use Rattle.std.specs.Prelude.{◌≡◌, ◌<◌, ◌⊎◌, [], All, T, ℤ, false, true, length, nat_le, IfOk, OnOk, IsErr, Some};
 ghost use Rattle.std.specs.FinMap.Entries.{is_sorted};
-ghost use Rattle.jpa_behaviour.specs.Registered.{world_of};
+ghost use Rattle.jpa_behaviour.specs.Served.{world_of_unit};
 ghost use Rattle.jpa_context.specs.Steps.{Done, Meets};
 ghost use Rattle.jpa_context.specs.Undo.{now, since};
 ghost use Rattle.jpa_context.specs.Work.{Work, is_removed, state_from};
@@ -28,11 +28,10 @@ use crate::at_work::{manager_named, restore, take_work};
 use crate::ending::{detach_objects, release};
 use crate::replies::because;
 use crate::session::{Session, Status, exchange, set_status, status_of};
-use jpa_behaviour::{Behaviour, Registry};
+use jpa_behaviour::{Behaviour, ServedUnit};
 use jpa_context::UnitOfWork;
 use jpa_flush::{flush, reads_hold};
 use jpa_heap::Life;
-use jpa_model::Metamodel;
 use jpa_object_store::write;
 use jpa_protocol::{Answer, Reply};
 use jpa_rows::RowSource;
@@ -138,17 +137,16 @@ fn end_commit(alloc: Global, session: &mut Session, manager: usize, next: Seq<u6
 #[tactic(auto, using(crate::proofs::Told::as_told))]
 fn store_commit<R: RowSource, B: Behaviour>(
     alloc: Global,
-    metamodel: &Metamodel,
-    registry: &Registry<B>,
+    unit: &ServedUnit<B>,
     session: &mut Session,
     rows: &mut R,
     manager: usize,
 ) -> Reply
     requires within { manager < length session.old.managers.items }
-    requires schema { R.schema rows.old ≡ schema_of metamodel.now }
-    requires committed { CanBeHeld (world_of B.meaning metamodel.now registry.now)
+    requires schema { R.schema rows.old ≡ schema_of unit.now.metamodel }
+    requires committed { CanBeHeld (world_of_unit B.meaning unit.now)
         (session.old.work.view).committed session.old.stored }
-    requires seen { CanBeHeld (world_of B.meaning metamodel.now registry.now)
+    requires seen { CanBeHeld (world_of_unit B.meaning unit.now)
         (session.old.work.view).seen session.old.work.numbers.now }
     requires shown { (session.old.work.view).is_shown ≡ true }
     requires rising { each_fits nat_le session.old.stored session.old.work.numbers.now ≡ true }
@@ -158,18 +156,18 @@ fn store_commit<R: RowSource, B: Behaviour>(
         → serving.Stores M manager (now session.old.work) result (machine_of session.new) }
     ensures settled { (M : Machine) → IsCommitting M manager session.old → IsSettled session.new }
     ensures holds { (M : Machine) → IsCommitting M manager session.old
-        → let world = world_of B.meaning metamodel.now registry.now in
+        → let world = world_of_unit B.meaning unit.now in
         R.holds rows.old (rows_kept world M)
         → R.holds rows.new (rows_kept world (machine_of session.new)) }
     ensures was_clean { R.clean rows.new → R.clean rows.old }
     ensures schema { R.schema rows.new ≡ R.schema rows.old }
-    ensures crash { let world = world_of B.meaning metamodel.now registry.now in
+    ensures crash { let world = world_of_unit B.meaning unit.now in
         R.holds rows.old (rows_before world session.old)
         → R.endures rows.old rows.new (λ left. left ≡ rows_seen world session.old) }
-    ensures counted { let world = world_of B.meaning metamodel.now registry.now in
+    ensures counted { let world = world_of_unit B.meaning unit.now in
         OnOk result.answer (RunsDifference (rows_before world session.old)
         (rows_seen world session.old) (R.writes rows.old) (R.writes rows.new)) }
-    ensures bounded { let world = world_of B.meaning metamodel.now registry.now in
+    ensures bounded { let world = world_of_unit B.meaning unit.now in
         IsErr result.answer → (rows.new ≡ rows.old) ⊎ RunsAtMost (rows_before world session.old)
         (rows_seen world session.old) (R.writes rows.old) (R.writes rows.new) }
     ensures unread { R.reads rows.new ≡ R.reads rows.old }
@@ -185,8 +183,8 @@ fn store_commit<R: RowSource, B: Behaviour>(
     };
     let stored = write(
         alloc,
-        metamodel,
-        registry,
+        &unit.metamodel,
+        &unit.registry,
         rows,
         &session.work.view,
         session.stored.as_slice(),
@@ -219,24 +217,23 @@ fn at_hand(alloc: Global, work: &UnitOfWork) -> Result<(Seq<u64>, Seq<usize>), A
 /// `OptimisticLock` (chapter 3.4.4.1). Refused as the flush is.
 fn commit_work<B: Behaviour>(
     alloc: Global,
-    metamodel: &Metamodel,
-    registry: &Registry<B>,
+    unit: &ServedUnit<B>,
     work: &mut UnitOfWork,
 ) -> Result<(), Cause>
-    requires orderly { IsOrderly metamodel.now }
-    requires ready { IsReady metamodel.now (now work.old) }
+    requires orderly { IsOrderly unit.now.metamodel }
+    requires ready { IsReady unit.now.metamodel (now work.old) }
     requires shown { work.old.view.is_shown ≡ true }
-    requires sound { IsSound metamodel.now (now work.old).view }
+    requires sound { IsSound unit.now.metamodel (now work.old).view }
     requires rising { T (is_sorted identity_cmp (now work.old).view) }
-    requires distinct { has_distinct_entries metamodel.now (now work.old) ≡ true }
-    requires goes { let world = world_of B.meaning metamodel.now registry.now in
-        (w : Work) → flush world (now work.old) ≡ Done tt w → IsReady metamodel.now w }
+    requires distinct { has_distinct_entries unit.now.metamodel (now work.old) ≡ true }
+    requires goes { let world = world_of_unit B.meaning unit.now in
+        (w : Work) → flush world (now work.old) ≡ Done tt w → IsReady unit.now.metamodel w }
     ensures meets { Meets result (now work.new)
-        (transactions.commit_work (world_of B.meaning metamodel.now registry.now) (now work.old)) }
+        (transactions.commit_work (world_of_unit B.meaning unit.now) (now work.old)) }
     ensures since { since work.new ≡ since work.old }
 {
-    flush(alloc, metamodel, registry, work)?;
-    if !reads_hold(metamodel, work)? {
+    flush(alloc, unit, work)?;
+    if !reads_hold(&unit.metamodel, work)? {
         return Err(Cause::OptimisticLock);
     }
     Ok(())
@@ -246,36 +243,35 @@ fn commit_work<B: Behaviour>(
 #[tactic(auto, using(crate::proofs::Told::none_more, crate::proofs::Told::of_operation))]
 fn commit_active<R: RowSource, B: Behaviour>(
     alloc: Global,
-    metamodel: &Metamodel,
-    registry: &Registry<B>,
+    unit: &ServedUnit<B>,
     session: &mut Session,
     rows: &mut R,
     manager: usize,
 ) -> Reply
     requires within { manager < length session.old.managers.items }
     requires active { (manager_in session.old.managers.items manager).status ≡ Status.Active }
-    requires serving { IsServing (world_of B.meaning metamodel.now registry.now) session.old }
-    requires schema { R.schema rows.old ≡ schema_of metamodel.now }
-    requires holds { let world = world_of B.meaning metamodel.now registry.now in
+    requires serving { IsServing (world_of_unit B.meaning unit.now) session.old }
+    requires schema { R.schema rows.old ≡ schema_of unit.now.metamodel }
+    requires holds { let world = world_of_unit B.meaning unit.now in
         R.clean rows.old → R.holds rows.old (rows_kept world (machine_of session.old)) }
-    ensures step { let world = world_of B.meaning metamodel.now registry.now in
+    ensures step { let world = world_of_unit B.meaning unit.now in
         (em : ℤ) → named session.old em ≡ Some manager
         → Serves world session.old (Call.Commit em) result session.new }
     ensures settled { IsSettled session.new }
-    ensures holds { let world = world_of B.meaning metamodel.now registry.now in
+    ensures holds { let world = world_of_unit B.meaning unit.now in
         R.clean rows.new → R.holds rows.new (rows_kept world (machine_of session.new)) }
     ensures was_clean { R.clean rows.new → R.clean rows.old }
     ensures schema { R.schema rows.new ≡ R.schema rows.old }
-    ensures crash { let world = world_of B.meaning metamodel.now registry.now in
+    ensures crash { let world = world_of_unit B.meaning unit.now in
         (em : ℤ) → named session.old em ≡ Some manager → R.clean rows.new
         → R.endures rows.old rows.new (λ left.
         left ≡ rows_made world (machine_of session.old) (Call.Commit em)) }
-    ensures counted { let world = world_of B.meaning metamodel.now registry.now in
+    ensures counted { let world = world_of_unit B.meaning unit.now in
         (em : ℤ) → named session.old em ≡ Some manager → OnOk result.answer
         (RunsDifference (rows_kept world (machine_of session.old))
         (rows_made world (machine_of session.old) (Call.Commit em))
         (R.writes rows.old) (R.writes rows.new)) }
-    ensures bounded { let world = world_of B.meaning metamodel.now registry.now in
+    ensures bounded { let world = world_of_unit B.meaning unit.now in
         (em : ℤ) → named session.old em ≡ Some manager → IsErr result.answer
         → (rows.new ≡ rows.old) ⊎ RunsAtMost (rows_kept world (machine_of session.old))
         (rows_made world (machine_of session.old) (Call.Commit em))
@@ -285,9 +281,9 @@ fn commit_active<R: RowSource, B: Behaviour>(
     ensures refused { IsErr result.answer → IsGivenUp result ⊎ (rows.new ≡ rows.old) }
 {
     take_work(session, manager);
-    match commit_work(alloc, metamodel, registry, &mut session.work) {
+    match commit_work(alloc, unit, &mut session.work) {
         Err(cause) => refuse_commit(alloc, session, manager, cause),
-        Ok(()) => store_commit(alloc, metamodel, registry, session, rows, manager),
+        Ok(()) => store_commit(alloc, unit, session, rows, manager),
     }
 }
 
@@ -295,31 +291,30 @@ fn commit_active<R: RowSource, B: Behaviour>(
 #[tactic(auto, using(crate::proofs::Told::none_more))]
 pub(crate) fn commit_call<R: RowSource, B: Behaviour>(
     alloc: Global,
-    metamodel: &Metamodel,
-    registry: &Registry<B>,
+    unit: &ServedUnit<B>,
     session: &mut Session,
     rows: &mut R,
     em: i64,
 ) -> Reply
-    requires serving { IsServing (world_of B.meaning metamodel.now registry.now) session.old }
-    requires schema { R.schema rows.old ≡ schema_of metamodel.now }
-    requires holds { let world = world_of B.meaning metamodel.now registry.now in
+    requires serving { IsServing (world_of_unit B.meaning unit.now) session.old }
+    requires schema { R.schema rows.old ≡ schema_of unit.now.metamodel }
+    requires holds { let world = world_of_unit B.meaning unit.now in
         R.clean rows.old → R.holds rows.old (rows_kept world (machine_of session.old)) }
-    ensures step { let world = world_of B.meaning metamodel.now registry.now in
+    ensures step { let world = world_of_unit B.meaning unit.now in
         Serves world session.old (Call.Commit em) result session.new }
     ensures settled { IsSettled session.new }
-    ensures holds { let world = world_of B.meaning metamodel.now registry.now in
+    ensures holds { let world = world_of_unit B.meaning unit.now in
         R.clean rows.new → R.holds rows.new (rows_kept world (machine_of session.new)) }
     ensures was_clean { R.clean rows.new → R.clean rows.old }
     ensures schema { R.schema rows.new ≡ R.schema rows.old }
-    ensures crash { let world = world_of B.meaning metamodel.now registry.now in
+    ensures crash { let world = world_of_unit B.meaning unit.now in
         R.clean rows.new → R.endures rows.old rows.new (λ left.
         left ≡ rows_made world (machine_of session.old) (Call.Commit em)) }
-    ensures counted { let world = world_of B.meaning metamodel.now registry.now in
+    ensures counted { let world = world_of_unit B.meaning unit.now in
         OnOk result.answer (RunsDifference (rows_kept world (machine_of session.old))
         (rows_made world (machine_of session.old) (Call.Commit em))
         (R.writes rows.old) (R.writes rows.new)) }
-    ensures bounded { let world = world_of B.meaning metamodel.now registry.now in
+    ensures bounded { let world = world_of_unit B.meaning unit.now in
         IsErr result.answer → (rows.new ≡ rows.old)
         ⊎ RunsAtMost (rows_kept world (machine_of session.old))
         (rows_made world (machine_of session.old) (Call.Commit em))
@@ -332,7 +327,7 @@ pub(crate) fn commit_call<R: RowSource, B: Behaviour>(
         return because(alloc, Cause::NoSuchManager);
     };
     match status_of(&session.managers, manager) {
-        Status::Active => commit_active(alloc, metamodel, registry, session, rows, manager),
+        Status::Active => commit_active(alloc, unit, session, rows, manager),
         Status::RollbackOnly => {
             release(alloc, session, manager);
             Reply {

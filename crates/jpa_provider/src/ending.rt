@@ -1,6 +1,6 @@
 //! The ends of transactions but for commit (Jakarta Persistence 3.1, chapter 7.5).
 ghost use Rattle.std.specs.Prelude.{◌≡◌, ◌<◌, [], ℕ, All, false, true, length, slice_set};
-ghost use Rattle.jpa_behaviour.specs.Registered.{world_of};
+ghost use Rattle.jpa_behaviour.specs.Served.{world_of_unit};
 ghost use Rattle.jpa_ops.specs.States.{detach_each};
 ghost use Rattle.jpa_protocol.specs.declared.call.Call.{Call};
 ghost use Rattle.jpa_machine.specs.Faults.{tells_fault};
@@ -11,10 +11,9 @@ ghost use Rattle.jpa_provider.specs.Serving.{machine_of, manager_in, detached_al
 use crate::at_work::{manager_named, mark};
 use crate::replies::{accepted, because};
 use crate::session::{Session, Status, context_of, exchange, set_status, status_of};
-use jpa_behaviour::{Behaviour, Registry};
+use jpa_behaviour::{Behaviour, ServedUnit};
 use jpa_context::{Entry, PersistenceContext};
 use jpa_heap::{Life, LiveObject};
-use jpa_model::Metamodel;
 use jpa_protocol::{Answer, Reply};
 use jpa_undo::UndoList;
 use jpa_value::{Cause, Seq, State};
@@ -93,15 +92,14 @@ fn clear(alloc: Global, session: &mut Session, manager: usize)
 #[tactic(auto, using(crate::proofs::Asked::clear_alone, crate::proofs::Asked::clear_clears))]
 pub(crate) fn clear_call<B: Behaviour>(
     alloc: Global,
-    _metamodel: &Metamodel,
-    _registry: &Registry<B>,
+    _unit: &ServedUnit<B>,
     session: &mut Session,
     em: i64,
 ) -> Reply
     requires settled { IsSettled session.old }
     requires entries { (k : ℕ) → All (λ e. e.object < length session.old.work.objects.now)
         (manager_in session.old.managers.items k).context.now }
-    ensures step { let world = world_of B.meaning _metamodel.now _registry.now in
+    ensures step { let world = world_of_unit B.meaning _unit.now in
         Serves world session.old (Call.Clear em) result session.new }
     ensures untold { tells_fault result ≡ false }
     ensures settled { IsSettled session.new }
@@ -118,15 +116,14 @@ pub(crate) fn clear_call<B: Behaviour>(
 #[tactic(auto, using(crate::proofs::Closing::close_alone, crate::proofs::Closing::close_active, crate::proofs::Closing::close_closes))]
 pub(crate) fn close_call<B: Behaviour>(
     alloc: Global,
-    _metamodel: &Metamodel,
-    _registry: &Registry<B>,
+    _unit: &ServedUnit<B>,
     session: &mut Session,
     em: i64,
 ) -> Reply
     requires settled { IsSettled session.old }
     requires entries { (k : ℕ) → All (λ e. e.object < length session.old.work.objects.now)
         (manager_in session.old.managers.items k).context.now }
-    ensures step { Serves (world_of B.meaning _metamodel.now _registry.now) session.old
+    ensures step { Serves (world_of_unit B.meaning _unit.now) session.old
         (Call.Close em) result session.new }
     ensures untold { tells_fault result ≡ false }
     ensures settled { IsSettled session.new }
@@ -176,8 +173,7 @@ pub(crate) fn release(alloc: Global, session: &mut Session, manager: usize)
 #[tactic(auto, using(crate::proofs::Opened::rollback_alone, crate::proofs::Opened::rollback_inactive, crate::proofs::Opened::rollback_rolls))]
 pub(crate) fn rollback_call<B: Behaviour>(
     alloc: Global,
-    _metamodel: &Metamodel,
-    _registry: &Registry<B>,
+    _unit: &ServedUnit<B>,
     session: &mut Session,
     em: i64,
 ) -> Reply
@@ -185,7 +181,7 @@ pub(crate) fn rollback_call<B: Behaviour>(
     requires one { HasOneTransaction (machine_of session.old) }
     requires entries { (k : ℕ) → All (λ e. e.object < length session.old.work.objects.now)
         (manager_in session.old.managers.items k).context.now }
-    ensures step { let world = world_of B.meaning _metamodel.now _registry.now in
+    ensures step { let world = world_of_unit B.meaning _unit.now in
         Serves world session.old (Call.Rollback em) result session.new }
     ensures untold { tells_fault result ≡ false }
     ensures settled { IsSettled session.new }
@@ -204,13 +200,12 @@ pub(crate) fn rollback_call<B: Behaviour>(
 #[tactic(auto, using(crate::proofs::Opened::mark_alone, crate::proofs::Opened::mark_inactive, crate::proofs::Opened::mark_marks))]
 pub(crate) fn set_rollback_only_call<B: Behaviour>(
     alloc: Global,
-    _metamodel: &Metamodel,
-    _registry: &Registry<B>,
+    _unit: &ServedUnit<B>,
     session: &mut Session,
     em: i64,
 ) -> Reply
     requires settled { IsSettled session.old }
-    ensures step { let world = world_of B.meaning _metamodel.now _registry.now in
+    ensures step { let world = world_of_unit B.meaning _unit.now in
         Serves world session.old (Call.SetRollbackOnly em) result session.new }
     ensures untold { tells_fault result ≡ false }
     ensures settled { IsSettled session.new }

@@ -1,7 +1,7 @@
 //! The call flush (Jakarta Persistence 3.1, chapter 3.2.4).
 ghost use Rattle.std.specs.Prelude.{◌≡◌, T, false, true};
 ghost use Rattle.std.specs.FinMap.Entries.{is_sorted};
-ghost use Rattle.jpa_behaviour.specs.Registered.{world_of};
+ghost use Rattle.jpa_behaviour.specs.Served.{world_of_unit};
 ghost use Rattle.jpa_context.specs.Steps.{Meets};
 ghost use Rattle.jpa_context.specs.Undo.{now, since};
 ghost use Rattle.jpa_fetch.specs.Grown.{IsReady};
@@ -17,10 +17,9 @@ ghost use Rattle.jpa_provider.specs.Serving.{IsServing, IsSettled, Serves};
 use crate::at_work::{conclude, manager_named, take_work};
 use crate::replies::{Rule, because};
 use crate::session::{Session, status_of};
-use jpa_behaviour::{Behaviour, Registry};
+use jpa_behaviour::{Behaviour, ServedUnit};
 use jpa_context::UnitOfWork;
 use jpa_flush::flush;
-use jpa_model::Metamodel;
 use jpa_protocol::{Answer, Reply};
 use jpa_value::Cause;
 use std::alloc::Global;
@@ -28,21 +27,20 @@ use std::alloc::Global;
 /// The flush of a manager at work, and its answer. Refused as the flush is.
 fn flush_work<B: Behaviour>(
     alloc: Global,
-    metamodel: &Metamodel,
-    registry: &Registry<B>,
+    unit: &ServedUnit<B>,
     work: &mut UnitOfWork,
 ) -> Result<Answer, Cause>
-    requires orderly { IsOrderly metamodel.now }
-    requires ready { IsReady metamodel.now (now work.old) }
+    requires orderly { IsOrderly unit.now.metamodel }
+    requires ready { IsReady unit.now.metamodel (now work.old) }
     requires shown { work.old.view.is_shown ≡ true }
-    requires sound { IsSound metamodel.now (now work.old).view }
+    requires sound { IsSound unit.now.metamodel (now work.old).view }
     requires rising { T (is_sorted identity_cmp (now work.old).view) }
-    requires distinct { has_distinct_entries metamodel.now (now work.old) ≡ true }
+    requires distinct { has_distinct_entries unit.now.metamodel (now work.old) ≡ true }
     ensures meets { Meets result (now work.new)
-        (routes.flush_call (world_of B.meaning metamodel.now registry.now) (now work.old)) }
+        (routes.flush_call (world_of_unit B.meaning unit.now) (now work.old)) }
     ensures since { since work.new ≡ since work.old }
 {
-    flush(alloc, metamodel, registry, work)?;
+    flush(alloc, unit, work)?;
     Ok(Answer::Null)
 }
 
@@ -51,13 +49,12 @@ fn flush_work<B: Behaviour>(
 #[tactic(auto, using(crate::proofs::Routed::flush_alone))]
 pub(crate) fn flush_call<B: Behaviour>(
     alloc: Global,
-    metamodel: &Metamodel,
-    registry: &Registry<B>,
+    unit: &ServedUnit<B>,
     session: &mut Session,
     em: i64,
 ) -> Reply
-    requires serving { IsServing (world_of B.meaning metamodel.now registry.now) session.old }
-    ensures step { Serves (world_of B.meaning metamodel.now registry.now) session.old
+    requires serving { IsServing (world_of_unit B.meaning unit.now) session.old }
+    ensures step { Serves (world_of_unit B.meaning unit.now) session.old
         (Call.Flush em) result session.new }
     ensures untold { tells_fault result ≡ false }
     ensures settled { IsSettled session.new }
@@ -69,6 +66,6 @@ pub(crate) fn flush_call<B: Behaviour>(
         return because(alloc, Cause::TransactionRequired);
     }
     take_work(session, manager);
-    let answered = flush_work(alloc, metamodel, registry, &mut session.work);
+    let answered = flush_work(alloc, unit, &mut session.work);
     conclude(alloc, session, manager, answered, Rule::OfManager)
 }

@@ -1,6 +1,6 @@
 //! The call setFlushMode (Jakarta Persistence 3.1, chapter 3.10.8).
 ghost use Rattle.std.specs.Prelude.{◌≡◌, ◌<◌, false, length};
-ghost use Rattle.jpa_behaviour.specs.Registered.{world_of};
+ghost use Rattle.jpa_behaviour.specs.Served.{world_of_unit};
 ghost use Rattle.jpa_protocol.specs.declared.call.Call.{Call};
 ghost use Rattle.jpa_machine.specs.Faults.{tells_fault};
 ghost use Rattle.jpa_machine.specs.Machine.{with_mode};
@@ -9,8 +9,7 @@ ghost use Rattle.jpa_provider.specs.Serving.{machine_of, IsSettled, Serves};
 use crate::at_work::manager_named;
 use crate::replies::{accepted, because};
 use crate::session::{Session, set_mode};
-use jpa_behaviour::{Behaviour, Registry};
-use jpa_model::Metamodel;
+use jpa_behaviour::{Behaviour, ServedUnit};
 use jpa_protocol::{Answer, FlushMode, Reply};
 use jpa_value::Cause;
 use std::alloc::Global;
@@ -28,14 +27,13 @@ fn change_mode(session: &mut Session, manager: usize, mode: FlushMode)
 #[tactic(auto, using(crate::proofs::Asked::mode_alone, crate::proofs::Asked::mode_set))]
 pub(crate) fn set_flush_mode_call<B: Behaviour>(
     alloc: Global,
-    _metamodel: &Metamodel,
-    _registry: &Registry<B>,
+    _unit: &ServedUnit<B>,
     session: &mut Session,
     em: i64,
     mode: FlushMode,
 ) -> Reply
     requires settled { IsSettled session.old }
-    ensures step { Serves (world_of B.meaning _metamodel.now _registry.now) session.old
+    ensures step { Serves (world_of_unit B.meaning _unit.now) session.old
         (Call.SetFlushMode em mode) result session.new }
     ensures untold { tells_fault result ≡ false }
     ensures settled { IsSettled session.new }

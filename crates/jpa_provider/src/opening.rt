@@ -1,6 +1,6 @@
 //! Calls that make managers and objects, and begin transactions (Jakarta Persistence 3.1, chapters 3.1.1 and 7.5).
 ghost use Rattle.std.specs.Prelude.{◌≡◌, false};
-ghost use Rattle.jpa_behaviour.specs.Registered.{world_of};
+ghost use Rattle.jpa_behaviour.specs.Served.{world_of_unit};
 ghost use Rattle.jpa_protocol.specs.declared.call.Call.{Call};
 ghost use Rattle.jpa_machine.specs.Faults.{tells_fault};
 ghost use Rattle.jpa_provider.specs.Serving.{IsSettled, Serves};
@@ -8,10 +8,9 @@ ghost use Rattle.jpa_provider.specs.Serving.{IsSettled, Serves};
 use crate::at_work::manager_named;
 use crate::replies::{accepted, because};
 use crate::session::{EntityManager, Session, Status, set_status, status_of};
-use jpa_behaviour::{Behaviour, Registry};
+use jpa_behaviour::{Behaviour, ServedUnit};
 use jpa_context::PersistenceContext;
 use jpa_heap::new_object;
-use jpa_model::Metamodel;
 use jpa_protocol::{Answer, FlushMode, Reply};
 use jpa_value::{Argument, Cause, MOST_OBJECTS, MOST_OPEN_MANAGERS, State};
 use std::alloc::Global;
@@ -23,12 +22,11 @@ const MOST_MANAGERS: usize = 1_000_000;
 #[tactic(auto, using(crate::proofs::Opened::not_created, crate::proofs::Opened::create_gives_up, crate::proofs::Opened::created))]
 pub(crate) fn create_call<B: Behaviour>(
     alloc: Global,
-    _metamodel: &Metamodel,
-    _registry: &Registry<B>,
+    _unit: &ServedUnit<B>,
     session: &mut Session,
 ) -> Reply
     requires settled { IsSettled session.old }
-    ensures step { Serves (world_of B.meaning _metamodel.now _registry.now) session.old
+    ensures step { Serves (world_of_unit B.meaning _unit.now) session.old
         Call.CreateEntityManager result session.new }
     ensures untold { tells_fault result ≡ false }
     ensures settled { IsSettled session.new }
@@ -53,13 +51,12 @@ pub(crate) fn create_call<B: Behaviour>(
 #[tactic(auto, using(crate::proofs::Opened::begin_alone, crate::proofs::Opened::begin_refused, crate::proofs::Opened::begin_busy, crate::proofs::Opened::begin_begins))]
 pub(crate) fn begin_call<B: Behaviour>(
     alloc: Global,
-    _metamodel: &Metamodel,
-    _registry: &Registry<B>,
+    _unit: &ServedUnit<B>,
     session: &mut Session,
     em: i64,
 ) -> Reply
     requires settled { IsSettled session.old }
-    ensures step { Serves (world_of B.meaning _metamodel.now _registry.now) session.old
+    ensures step { Serves (world_of_unit B.meaning _unit.now) session.old
         (Call.Begin em) result session.new }
     ensures untold { tells_fault result ≡ false }
     ensures settled { IsSettled session.new }
@@ -81,13 +78,12 @@ pub(crate) fn begin_call<B: Behaviour>(
 /// The call new: an object of an entity.
 pub(crate) fn new_call<B: Behaviour>(
     alloc: Global,
-    metamodel: &Metamodel,
-    _registry: &Registry<B>,
+    unit: &ServedUnit<B>,
     session: &mut Session,
     entity: &str,
 ) -> Reply
     requires settled { IsSettled session.old }
-    ensures step { let world = world_of B.meaning metamodel.now _registry.now in
+    ensures step { let world = world_of_unit B.meaning unit.now in
         Serves world session.old (Call.NewObject entity.now) result session.new }
     ensures untold { tells_fault result ≡ false }
     ensures settled { IsSettled session.new }
@@ -96,10 +92,10 @@ pub(crate) fn new_call<B: Behaviour>(
     if count >= MOST_OBJECTS {
         return because(alloc, Cause::Limit);
     }
-    let Some(class) = metamodel.class_of(entity) else {
+    let Some(class) = unit.metamodel.class_of(entity) else {
         return because(alloc, Cause::IllegalArgument(Argument::Entity));
     };
-    let object = match new_object(alloc, metamodel, class) {
+    let object = match new_object(alloc, &unit.metamodel, class) {
         Ok(object) => object,
         Err(cause) => return because(alloc, cause),
     };

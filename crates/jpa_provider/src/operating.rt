@@ -2,7 +2,7 @@
 //! 2.2 and 3.1.1).
 ghost use Rattle.std.specs.Prelude.{◌≡◌, ◌<◌, suc, All, IfOk, IfErr, OnErr, length, map};
 ghost use Rattle.jpa_value.specs.declared.refusal.Cause.{Cause};
-ghost use Rattle.jpa_behaviour.specs.Registered.{world_of};
+ghost use Rattle.jpa_behaviour.specs.Served.{world_of_unit};
 ghost use Rattle.jpa_context.specs.Steps.{Meets};
 ghost use Rattle.jpa_context.specs.Work.{Work};
 ghost use Rattle.jpa_context.specs.Undo.{now, since};
@@ -17,12 +17,11 @@ ghost use Rattle.jpa_provider.specs.Operations as operations;
 ghost use Rattle.jpa_provider.specs.declared.operating.Operation.{Operation};
 
 use crate::handing::{are_short, handed, place_of, whole_key};
-use jpa_behaviour::{Behaviour, Registry};
+use jpa_behaviour::{Behaviour, ServedUnit};
 use jpa_context::{Lock, UnitOfWork};
 use jpa_fetch::{Got, add, find, get, take_out};
 use jpa_heap::assign;
 use jpa_merge::merge;
-use jpa_model::Metamodel;
 use jpa_ops::{detach, lock, persist, refresh, remove};
 use jpa_protocol::{Answer, Given, LockMode};
 use jpa_value::{Argument, Cause, Seq, Text, Value};
@@ -133,14 +132,13 @@ fn answered(alloc: Global, count: usize, got: Got) -> Result<Answer, Cause>
 /// What a member of an object, by its number, holds.
 fn get_numbered<B: Behaviour>(
     alloc: Global,
-    metamodel: &Metamodel,
-    registry: &Registry<B>,
+    unit: &ServedUnit<B>,
     work: &mut UnitOfWork,
     object: i64,
     name: &str,
 ) -> Result<Answer, Cause>
-    requires ready { IsReady metamodel.now (now work.old) }
-    ensures meets { let world = world_of B.meaning metamodel.now registry.now in
+    requires ready { IsReady unit.now.metamodel (now work.old) }
+    ensures meets { let world = world_of_unit B.meaning unit.now in
         Meets result (now work.new) (operations.operation_of
         (Operation.Get object name.now) world (now work.old)) }
     ensures view { work.new.view ≡ work.old.view }
@@ -149,22 +147,21 @@ fn get_numbered<B: Behaviour>(
     let Some(place) = place_of(work.objects.len(), object) else {
         return Err(Cause::NoSuchObject);
     };
-    let got = get(alloc, metamodel, registry, work, place, name)?;
+    let got = get(alloc, unit, work, place, name)?;
     answered(alloc, work.objects.len(), got)
 }
 
 /// An object stands last in a collection of another, both by their numbers.
 fn add_numbered<B: Behaviour>(
     alloc: Global,
-    metamodel: &Metamodel,
-    registry: &Registry<B>,
+    unit: &ServedUnit<B>,
     work: &mut UnitOfWork,
     object: i64,
     name: &str,
     member: i64,
 ) -> Result<Answer, Cause>
-    requires ready { IsReady metamodel.now (now work.old) }
-    ensures meets { let world = world_of B.meaning metamodel.now registry.now in
+    requires ready { IsReady unit.now.metamodel (now work.old) }
+    ensures meets { let world = world_of_unit B.meaning unit.now in
         Meets result (now work.new) (operations.operation_of
         (Operation.Add object name.now member) world (now work.old)) }
     ensures view { work.new.view ≡ work.old.view }
@@ -176,22 +173,21 @@ fn add_numbered<B: Behaviour>(
     let Some(added) = place_of(work.objects.len(), member) else {
         return Err(Cause::NoSuchObject);
     };
-    add(alloc, metamodel, registry, work, place, name, added)?;
+    add(alloc, unit, work, place, name, added)?;
     Ok(Answer::Null)
 }
 
 /// The first occurrence of an object is taken out of a collection of another, both by their numbers; whether it stood there.
 fn take_out_numbered<B: Behaviour>(
     alloc: Global,
-    metamodel: &Metamodel,
-    registry: &Registry<B>,
+    unit: &ServedUnit<B>,
     work: &mut UnitOfWork,
     object: i64,
     name: &str,
     member: i64,
 ) -> Result<Answer, Cause>
-    requires ready { IsReady metamodel.now (now work.old) }
-    ensures meets { let world = world_of B.meaning metamodel.now registry.now in
+    requires ready { IsReady unit.now.metamodel (now work.old) }
+    ensures meets { let world = world_of_unit B.meaning unit.now in
         Meets result (now work.new) (operations.operation_of
         (Operation.TakeOut object name.now member) world (now work.old)) }
     ensures view { work.new.view ≡ work.old.view }
@@ -203,21 +199,20 @@ fn take_out_numbered<B: Behaviour>(
     let Some(taken) = place_of(work.objects.len(), member) else {
         return Err(Cause::NoSuchObject);
     };
-    let stood = take_out(alloc, metamodel, registry, work, place, name, taken)?;
+    let stood = take_out(alloc, unit, work, place, name, taken)?;
     Ok(Answer::Truth(stood))
 }
 
 /// A member of an object, by its number, takes what is handed in.
 fn set_numbered<B: Behaviour>(
-    metamodel: &Metamodel,
-    _registry: &Registry<B>,
+    unit: &ServedUnit<B>,
     work: &mut UnitOfWork,
     object: i64,
     name: &str,
     value: Given,
 ) -> Result<Answer, Cause>
-    requires shaped { All (HasShape metamodel.now) work.old.objects.now }
-    ensures meets { let world = world_of B.meaning metamodel.now _registry.now in
+    requires shaped { All (HasShape unit.now.metamodel) work.old.objects.now }
+    ensures meets { let world = world_of_unit B.meaning unit.now in
         let operation = Operation.Set object name.now value in
         Meets result (now work.new) (operations.operation_of operation world (now work.old)) }
     ensures view { work.new.view ≡ work.old.view }
@@ -228,7 +223,13 @@ fn set_numbered<B: Behaviour>(
         return Err(Cause::NoSuchObject);
     };
     let handed = handed(count, value)?;
-    let changed = assign(metamodel, work.objects.as_slice(), place, name, handed)?;
+    let changed = assign(
+        &unit.metamodel,
+        work.objects.as_slice(),
+        place,
+        name,
+        handed,
+    )?;
     work.objects.set(place, changed)?;
     Ok(Answer::Null)
 }
@@ -236,14 +237,13 @@ fn set_numbered<B: Behaviour>(
 /// Makes an object managed, by its number.
 fn persist_numbered<B: Behaviour>(
     alloc: Global,
-    metamodel: &Metamodel,
-    registry: &Registry<B>,
+    unit: &ServedUnit<B>,
     work: &mut UnitOfWork,
     object: i64,
 ) -> Result<Answer, Cause>
-    requires orderly { IsOrderly metamodel.now }
-    requires ready { IsReady metamodel.now (now work.old) }
-    ensures meets { let world = world_of B.meaning metamodel.now registry.now in
+    requires orderly { IsOrderly unit.now.metamodel }
+    requires ready { IsReady unit.now.metamodel (now work.old) }
+    ensures meets { let world = world_of_unit B.meaning unit.now in
         Meets result (now work.new) (operations.operation_of (Operation.Persist object) world
         (now work.old)) }
     ensures view { work.new.view ≡ work.old.view }
@@ -252,20 +252,19 @@ fn persist_numbered<B: Behaviour>(
     let Some(place) = place_of(work.objects.len(), object) else {
         return Err(Cause::NoSuchObject);
     };
-    persist(alloc, metamodel, registry, work, place)?;
+    persist(alloc, unit, work, place)?;
     Ok(Answer::Null)
 }
 
 /// Removes an object, by its number.
 fn remove_numbered<B: Behaviour>(
     alloc: Global,
-    metamodel: &Metamodel,
-    registry: &Registry<B>,
+    unit: &ServedUnit<B>,
     work: &mut UnitOfWork,
     object: i64,
 ) -> Result<Answer, Cause>
-    requires ready { IsReady metamodel.now (now work.old) }
-    ensures meets { let world = world_of B.meaning metamodel.now registry.now in
+    requires ready { IsReady unit.now.metamodel (now work.old) }
+    ensures meets { let world = world_of_unit B.meaning unit.now in
         Meets result (now work.new) (operations.operation_of (Operation.Remove object) world
         (now work.old)) }
     ensures view { work.new.view ≡ work.old.view }
@@ -274,20 +273,19 @@ fn remove_numbered<B: Behaviour>(
     let Some(place) = place_of(work.objects.len(), object) else {
         return Err(Cause::NoSuchObject);
     };
-    remove(alloc, metamodel, registry, work, place)?;
+    remove(alloc, unit, work, place)?;
     Ok(Answer::Null)
 }
 
 /// Gives an object, by its number, the state that is stored.
 fn refresh_numbered<B: Behaviour>(
     alloc: Global,
-    metamodel: &Metamodel,
-    registry: &Registry<B>,
+    unit: &ServedUnit<B>,
     work: &mut UnitOfWork,
     object: i64,
 ) -> Result<Answer, Cause>
-    requires ready { IsReady metamodel.now (now work.old) }
-    ensures meets { let world = world_of B.meaning metamodel.now registry.now in
+    requires ready { IsReady unit.now.metamodel (now work.old) }
+    ensures meets { let world = world_of_unit B.meaning unit.now in
         Meets result (now work.new) (operations.operation_of (Operation.Refresh object) world
         (now work.old)) }
     ensures view { work.new.view ≡ work.old.view }
@@ -296,20 +294,19 @@ fn refresh_numbered<B: Behaviour>(
     let Some(place) = place_of(work.objects.len(), object) else {
         return Err(Cause::NoSuchObject);
     };
-    refresh(alloc, metamodel, registry, work, place)?;
+    refresh(alloc, unit, work, place)?;
     Ok(Answer::Null)
 }
 
 /// Detaches an object, by its number.
 fn detach_numbered<B: Behaviour>(
     alloc: Global,
-    metamodel: &Metamodel,
-    _registry: &Registry<B>,
+    unit: &ServedUnit<B>,
     work: &mut UnitOfWork,
     object: i64,
 ) -> Result<Answer, Cause>
-    requires ready { IsReady metamodel.now (now work.old) }
-    ensures meets { let world = world_of B.meaning metamodel.now _registry.now in
+    requires ready { IsReady unit.now.metamodel (now work.old) }
+    ensures meets { let world = world_of_unit B.meaning unit.now in
         Meets result (now work.new) (operations.operation_of (Operation.Detach object) world
         (now work.old)) }
     ensures view { work.new.view ≡ work.old.view }
@@ -318,21 +315,20 @@ fn detach_numbered<B: Behaviour>(
     let Some(place) = place_of(work.objects.len(), object) else {
         return Err(Cause::NoSuchObject);
     };
-    detach(alloc, metamodel, work, place)?;
+    detach(alloc, &unit.metamodel, work, place)?;
     Ok(Answer::Null)
 }
 
 /// Merges an object, by its number; answers its image.
 fn merge_numbered<B: Behaviour>(
     alloc: Global,
-    metamodel: &Metamodel,
-    registry: &Registry<B>,
+    unit: &ServedUnit<B>,
     work: &mut UnitOfWork,
     object: i64,
 ) -> Result<Answer, Cause>
-    requires orderly { IsOrderly metamodel.now }
-    requires ready { IsReady metamodel.now (now work.old) }
-    ensures meets { let world = world_of B.meaning metamodel.now registry.now in
+    requires orderly { IsOrderly unit.now.metamodel }
+    requires ready { IsReady unit.now.metamodel (now work.old) }
+    ensures meets { let world = world_of_unit B.meaning unit.now in
         Meets result (now work.new) (operations.operation_of (Operation.Merge object) world
         (now work.old)) }
     ensures view { work.new.view ≡ work.old.view }
@@ -341,7 +337,7 @@ fn merge_numbered<B: Behaviour>(
     let Some(place) = place_of(work.objects.len(), object) else {
         return Err(Cause::NoSuchObject);
     };
-    let image = merge(alloc, metamodel, registry, work, place)?;
+    let image = merge(alloc, unit, work, place)?;
     // An object's number, one more than its place, is at most the count.
     let _count = work.objects.len();
     Ok(Answer::Object(image as u64 + 1))
@@ -359,14 +355,13 @@ fn lock_of(mode: LockMode) -> Lock
 
 /// Locks an object, by its number.
 fn lock_numbered<B: Behaviour>(
-    metamodel: &Metamodel,
-    _registry: &Registry<B>,
+    unit: &ServedUnit<B>,
     work: &mut UnitOfWork,
     object: i64,
     mode: LockMode,
 ) -> Result<Answer, Cause>
-    requires ready { IsReady metamodel.now (now work.old) }
-    ensures meets { let world = world_of B.meaning metamodel.now _registry.now in
+    requires ready { IsReady unit.now.metamodel (now work.old) }
+    ensures meets { let world = world_of_unit B.meaning unit.now in
         Meets result (now work.new) (operations.operation_of (Operation.Lock object mode) world
         (now work.old)) }
     ensures view { work.new.view ≡ work.old.view }
@@ -375,7 +370,7 @@ fn lock_numbered<B: Behaviour>(
     let Some(place) = place_of(work.objects.len(), object) else {
         return Err(Cause::NoSuchObject);
     };
-    lock(metamodel, work, place, lock_of(mode))?;
+    lock(&unit.metamodel, work, place, lock_of(mode))?;
     Ok(Answer::Null)
 }
 
@@ -392,14 +387,13 @@ fn there_must_be(found: Answer) -> Result<Answer, Cause>
 /// Finds an object by the name of its entity and the parts of its key, by slices.
 fn find_slices<B: Behaviour>(
     alloc: Global,
-    metamodel: &Metamodel,
-    registry: &Registry<B>,
+    unit: &ServedUnit<B>,
     work: &mut UnitOfWork,
     entity: &str,
     key: &[Given],
 ) -> Result<Answer, Cause>
-    requires ready { IsReady metamodel.now (now work.old) }
-    ensures meets { let world = world_of B.meaning metamodel.now registry.now in
+    requires ready { IsReady unit.now.metamodel (now work.old) }
+    ensures meets { let world = world_of_unit B.meaning unit.now in
         let operation = Operation.Find entity.now key.now in
         Meets result (now work.new) (operations.operation_of operation world (now work.old)) }
     ensures view { work.new.view ≡ work.old.view }
@@ -408,13 +402,13 @@ fn find_slices<B: Behaviour>(
     if !are_short(key) {
         return Err(Cause::Limit);
     }
-    let Some(class) = metamodel.class_of(entity) else {
+    let Some(class) = unit.metamodel.class_of(entity) else {
         return Err(Cause::IllegalArgument(Argument::Entity));
     };
-    let Some(values) = whole_key(alloc, metamodel.root_of(class).key.as_slice(), key)? else {
+    let Some(values) = whole_key(alloc, unit.metamodel.root_of(class).key.as_slice(), key)? else {
         return Err(Cause::IllegalArgument(Argument::Key));
     };
-    let Some(place) = find(alloc, metamodel, registry, work, class, values)? else {
+    let Some(place) = find(alloc, unit, work, class, values)? else {
         return Ok(Answer::Null);
     };
     // An object's number, one more than its place, is at most the count.
@@ -425,47 +419,38 @@ fn find_slices<B: Behaviour>(
 /// Finds an object by the name of its entity and the parts of its key.
 fn find_by_key<B: Behaviour>(
     alloc: Global,
-    metamodel: &Metamodel,
-    registry: &Registry<B>,
+    unit: &ServedUnit<B>,
     work: &mut UnitOfWork,
     entity: &Text,
     key: &Seq<Given>,
 ) -> Result<Answer, Cause>
-    requires ready { IsReady metamodel.now (now work.old) }
-    ensures meets { let world = world_of B.meaning metamodel.now registry.now in
+    requires ready { IsReady unit.now.metamodel (now work.old) }
+    ensures meets { let world = world_of_unit B.meaning unit.now in
         let operation = Operation.Find entity.now key.now in
         Meets result (now work.new) (operations.operation_of operation world (now work.old)) }
     ensures view { work.new.view ≡ work.old.view }
     ensures since { since work.new ≡ since work.old }
 {
-    find_slices(
-        alloc,
-        metamodel,
-        registry,
-        work,
-        entity.as_str(),
-        key.as_slice(),
-    )
+    find_slices(alloc, unit, work, entity.as_str(), key.as_slice())
 }
 
 /// Finds an object by the name of its entity and the parts of its key; where there is none,
 /// `EntityNotFound`.
 fn get_reference_by_key<B: Behaviour>(
     alloc: Global,
-    metamodel: &Metamodel,
-    registry: &Registry<B>,
+    unit: &ServedUnit<B>,
     work: &mut UnitOfWork,
     entity: &Text,
     key: &Seq<Given>,
 ) -> Result<Answer, Cause>
-    requires ready { IsReady metamodel.now (now work.old) }
-    ensures meets { let world = world_of B.meaning metamodel.now registry.now in
+    requires ready { IsReady unit.now.metamodel (now work.old) }
+    ensures meets { let world = world_of_unit B.meaning unit.now in
         let operation = Operation.GetReference entity.now key.now in
         Meets result (now work.new) (operations.operation_of operation world (now work.old)) }
     ensures view { work.new.view ≡ work.old.view }
     ensures since { since work.new ≡ since work.old }
 {
-    let found = find_by_key(alloc, metamodel, registry, work, entity, key)?;
+    let found = find_by_key(alloc, unit, work, entity, key)?;
     there_must_be(found)
 }
 
@@ -473,72 +458,45 @@ fn get_reference_by_key<B: Behaviour>(
 /// is undone by `UnitOfWork::undo`.
 pub(crate) fn operate<B: Behaviour>(
     alloc: Global,
-    metamodel: &Metamodel,
-    registry: &Registry<B>,
+    unit: &ServedUnit<B>,
     work: &mut UnitOfWork,
     operation: Operation,
 ) -> Result<Answer, Cause>
-    requires orderly { IsOrderly metamodel.now }
-    requires ready { IsReady metamodel.now (now work.old) }
-    ensures meets { let world = world_of B.meaning metamodel.now registry.now in
+    requires orderly { IsOrderly unit.now.metamodel }
+    requires ready { IsReady unit.now.metamodel (now work.old) }
+    ensures meets { let world = world_of_unit B.meaning unit.now in
         Meets result (now work.new) (operations.operation_of operation world (now work.old)) }
     ensures view { work.new.view ≡ work.old.view }
     ensures since { OnErr result (since work.new ≡ since work.old) }
 {
     match operation {
         Operation::Get { object, name } => {
-            get_numbered(alloc, metamodel, registry, work, object, name.as_str())
+            get_numbered(alloc, unit, work, object, name.as_str())
         }
         Operation::Set {
             object,
             name,
             value,
-        } => set_numbered(metamodel, registry, work, object, name.as_str(), value),
+        } => set_numbered(unit, work, object, name.as_str(), value),
         Operation::Add {
             object,
             name,
             member,
-        } => add_numbered(
-            alloc,
-            metamodel,
-            registry,
-            work,
-            object,
-            name.as_str(),
-            member,
-        ),
+        } => add_numbered(alloc, unit, work, object, name.as_str(), member),
         Operation::TakeOut {
             object,
             name,
             member,
-        } => take_out_numbered(
-            alloc,
-            metamodel,
-            registry,
-            work,
-            object,
-            name.as_str(),
-            member,
-        ),
-        Operation::Persist { object } => {
-            persist_numbered(alloc, metamodel, registry, work, object)
-        }
-        Operation::Remove { object } => {
-            remove_numbered(alloc, metamodel, registry, work, object)
-        }
-        Operation::Refresh { object } => {
-            refresh_numbered(alloc, metamodel, registry, work, object)
-        }
-        Operation::Detach { object } => {
-            detach_numbered(alloc, metamodel, registry, work, object)
-        }
-        Operation::Merge { object } => { merge_numbered(alloc, metamodel, registry, work, object) }
-        Operation::Lock { object, mode } => lock_numbered(metamodel, registry, work, object, mode),
-        Operation::Find { entity, key } => {
-            find_by_key(alloc, metamodel, registry, work, &entity, &key)
-        }
+        } => take_out_numbered(alloc, unit, work, object, name.as_str(), member),
+        Operation::Persist { object } => { persist_numbered(alloc, unit, work, object) }
+        Operation::Remove { object } => { remove_numbered(alloc, unit, work, object) }
+        Operation::Refresh { object } => { refresh_numbered(alloc, unit, work, object) }
+        Operation::Detach { object } => { detach_numbered(alloc, unit, work, object) }
+        Operation::Merge { object } => { merge_numbered(alloc, unit, work, object) }
+        Operation::Lock { object, mode } => lock_numbered(unit, work, object, mode),
+        Operation::Find { entity, key } => { find_by_key(alloc, unit, work, &entity, &key) }
         Operation::GetReference { entity, key } => {
-            get_reference_by_key(alloc, metamodel, registry, work, &entity, &key)
+            get_reference_by_key(alloc, unit, work, &entity, &key)
         }
     }
 }

@@ -1,7 +1,7 @@
 //! The provider.
 ghost use Rattle.std.specs.Prelude.{◌≡◌, ◌⊎◌, ℕ, nat_le, IsErr, IfOk, IfErr, OnOk, true, false};
 ghost use Rattle.jpa_value.specs.declared.refusal.Cause.{Cause};
-ghost use Rattle.jpa_behaviour.specs.Registered.{world_of};
+ghost use Rattle.jpa_behaviour.specs.Served.{world_of_unit};
 ghost use Rattle.jpa_model.specs.Chains.{entity_at};
 ghost use Rattle.jpa_model.specs.Kept.{IsDescribed};
 ghost use Rattle.jpa_object_rows.specs.Objects.{is_discriminator};
@@ -34,10 +34,9 @@ use crate::operating::Operation;
 use crate::querying::{Told, Wanted, query_call, update_call};
 use crate::session::Session;
 use crate::working::{held, lock_call, worked};
-use jpa_behaviour::{Behaviour, Registry};
+use jpa_behaviour::{Behaviour, ServedUnit};
 use jpa_context::{PersistenceContext, UnitOfWork};
 use jpa_mapper::discriminator_law;
-use jpa_model::Metamodel;
 use jpa_open::OpenSet;
 use jpa_protocol::{Call, PersistenceProvider, Reply};
 use jpa_rows::RowSource;
@@ -53,15 +52,14 @@ use std::marker::Model;
 /// rows are those of the committed set and of the next numbers that were stored with it.
 pub struct Provider<R: RowSource, B: Behaviour> {
     alloc: Global,
-    metamodel: Metamodel,
-    registry: Registry<B>,
+    unit: ServedUnit<B>,
     session: Session,
     rows: R,
 }
 
 impl<R: RowSource, B: Behaviour> Model for Provider<R, B> {
     ghost use Rattle.std.specs.Prelude.{◌≡◌};
-    ghost use Rattle.jpa_behaviour.specs.Registered.{world_of};
+    ghost use Rattle.jpa_behaviour.specs.Served.{world_of_unit};
     ghost use Rattle.jpa_object_rows.specs.Sets.{rows_of};
     ghost use Rattle.jpa_rows.specs.Tables.{schema_of};
     ghost use Rattle.jpa_provider.specs.Provided.{Provided};
@@ -69,12 +67,12 @@ impl<R: RowSource, B: Behaviour> Model for Provider<R, B> {
 
     ghost Value = { Provided R B.Listener B.Converter };
 
-    ghost view = { λ p. record { model = p.metamodel; registry = p.registry; machine = machine_of p.session; rows = p.rows } };
+    ghost view = { λ p. record { model = p.unit.metamodel; registry = p.unit.registry; machine = machine_of p.session; rows = p.rows } };
 
     ghost invariant = { λ p. record {
-      serving : IsServing (world_of B.meaning p.metamodel p.registry) p.session;
-      schema : R.schema p.rows ≡ schema_of p.metamodel;
-      holds : R.clean p.rows → R.holds p.rows (rows_of (world_of B.meaning p.metamodel p.registry) (machine_of p.session).committed (machine_of p.session).stored_numbers);
+      serving : IsServing (world_of_unit B.meaning p.unit) p.session;
+      schema : R.schema p.rows ≡ schema_of p.unit.metamodel;
+      holds : R.clean p.rows → R.holds p.rows (rows_of (world_of_unit B.meaning p.unit) (machine_of p.session).committed (machine_of p.session).stored_numbers);
     } };
 }
 
@@ -83,24 +81,23 @@ impl<R: RowSource + Drop, B: Behaviour> Provider<R, B> {
     /// no manager was made. For want of memory, which is `OutOfMemory` and the only refusal, it hands the store back.
     pub fn new(
         alloc: Global,
-        metamodel: Metamodel,
-        registry: Registry<B>,
+        unit: ServedUnit<B>,
         rows: R,
         committed: StoredSet,
         numbers: Seq<u64>,
     ) -> Result<Provider<R, B>, (Cause, R)>
-        requires schema { R.schema rows ≡ schema_of metamodel }
-        requires held { CanBeHeld (world_of B.meaning metamodel registry) committed numbers }
+        requires schema { R.schema rows ≡ schema_of unit.metamodel }
+        requires held { CanBeHeld (world_of_unit B.meaning unit) committed numbers }
         requires holds { R.clean rows
-            → R.holds rows (rows_of (world_of B.meaning metamodel registry) committed numbers) }
-        ensures model { IfOk result (λ provider. provider.model ≡ metamodel) }
-        ensures registry { IfOk result (λ provider. provider.registry ≡ registry) }
+            → R.holds rows (rows_of (world_of_unit B.meaning unit) committed numbers) }
+        ensures model { IfOk result (λ provider. provider.model ≡ unit.metamodel) }
+        ensures registry { IfOk result (λ provider. provider.registry ≡ unit.registry) }
         ensures machine { IfOk result (λ provider. provider.machine ≡ opened committed numbers) }
         ensures rows { IfOk result (λ provider. provider.rows ≡ rows) }
         ensures refused { IfErr result (λ e. (e.0 ≡ Cause.OutOfMemory) × (e.1 ≡ rows)) }
     {
-        registry.laws();
-        metamodel.unit();
+        unit.registry.laws();
+        unit.metamodel.unit();
         let next = match noted(alloc, numbers.as_slice()) {
             Ok(next) => next,
             Err(_) => return Err((Cause::OutOfMemory, rows)),
@@ -112,8 +109,7 @@ impl<R: RowSource + Drop, B: Behaviour> Provider<R, B> {
         let session = opened(alloc, view, next, numbers);
         Ok(Provider {
             alloc,
-            metamodel,
-            registry,
+            unit,
             session,
             rows,
         })
@@ -125,8 +121,7 @@ impl<R: RowSource + Drop, B: Behaviour> Provider<R, B> {
     {
         let Provider {
             alloc: _,
-            metamodel: _,
-            registry: _,
+            unit: _,
             session: _,
             rows,
         } = self;
@@ -150,8 +145,8 @@ impl<R: RowSource, B: Behaviour> Provider<R, B> {
         ensures discriminators { let m = self.now.model in
             (class : ℕ) → is_class m class ≡ true → is_discriminator (entity_at m class) ≡ true }
     {
-        self.metamodel.unit();
-        discriminator_law(&self.metamodel);
+        self.unit.metamodel.unit();
+        discriminator_law(&self.unit.metamodel);
     }
 }
 
@@ -194,34 +189,33 @@ fn opened(alloc: Global, view: OpenSet, next: UndoList<u64>, numbers: Seq<u64>) 
 #[tactic(auto, using(crate::proofs::Told::none_more))]
 fn served<R: RowSource, B: Behaviour>(
     alloc: Global,
-    metamodel: &Metamodel,
-    registry: &Registry<B>,
+    unit: &ServedUnit<B>,
     session: &mut Session,
     rows: &mut R,
     call: Call,
 ) -> Reply
-    requires serving { IsServing (world_of B.meaning metamodel.now registry.now) session.old }
-    requires schema { R.schema rows.old ≡ schema_of metamodel.now }
-    requires holds { let world = world_of B.meaning metamodel.now registry.now in
+    requires serving { IsServing (world_of_unit B.meaning unit.now) session.old }
+    requires schema { R.schema rows.old ≡ schema_of unit.now.metamodel }
+    requires holds { let world = world_of_unit B.meaning unit.now in
         R.clean rows.old → R.holds rows.old (rows_kept world (machine_of session.old)) }
-    ensures step { let world = world_of B.meaning metamodel.now registry.now in
+    ensures step { let world = world_of_unit B.meaning unit.now in
         Serves world session.old call result session.new }
     ensures settled { IsSettled session.new }
-    ensures holds { let world = world_of B.meaning metamodel.now registry.now in
+    ensures holds { let world = world_of_unit B.meaning unit.now in
         is_commit call ≡ true → R.clean rows.new
         → R.holds rows.new (rows_kept world (machine_of session.new)) }
     ensures others { is_commit call ≡ false → rows.new ≡ rows.old }
     ensures was_clean { R.clean rows.new → R.clean rows.old }
-    ensures crash { let world = world_of B.meaning metamodel.now registry.now in
+    ensures crash { let world = world_of_unit B.meaning unit.now in
         let made = rows_made world (machine_of session.old) call in
         is_commit call ≡ true → R.clean rows.new
         → R.endures rows.old rows.new (λ left. left ≡ made) }
-    ensures counted { let world = world_of B.meaning metamodel.now registry.now in
+    ensures counted { let world = world_of_unit B.meaning unit.now in
         let M = machine_of session.old in
         is_commit call ≡ true → OnOk result.answer
         (RunsDifference (rows_kept world M) (rows_made world M call)
         (R.writes rows.old) (R.writes rows.new)) }
-    ensures bounded { let world = world_of B.meaning metamodel.now registry.now in
+    ensures bounded { let world = world_of_unit B.meaning unit.now in
         let M = machine_of session.old in
         is_commit call ≡ true → IsErr result.answer → (rows.new ≡ rows.old)
         ⊎ RunsAtMost (rows_kept world M) (rows_made world M call)
@@ -230,16 +224,14 @@ fn served<R: RowSource, B: Behaviour>(
     ensures told { R.faults rows.new ≡ faults_after_reply result (R.faults rows.old) }
     ensures refused { is_commit call ≡ true → IsErr result.answer
         → IsGivenUp result ⊎ (rows.new ≡ rows.old) }
-    ensures made { let world = world_of B.meaning metamodel.now registry.now in
+    ensures made { let world = world_of_unit B.meaning unit.now in
         is_bulk call ≡ true
         → OnOk result.answer (MakesRepresentable world (machine_of session.old) call) }
-    ensures schema { R.schema rows.new ≡ schema_of metamodel.now }
+    ensures schema { R.schema rows.new ≡ schema_of unit.now.metamodel }
 {
     match call {
-        Call::CreateEntityManager => create_call(alloc, metamodel, registry, session),
-        Call::NewObject { entity } => {
-            new_call(alloc, metamodel, registry, session, entity.as_str())
-        }
+        Call::CreateEntityManager => create_call(alloc, unit, session),
+        Call::NewObject { entity } => { new_call(alloc, unit, session, entity.as_str()) }
         Call::SetValue {
             object,
             name,
@@ -250,11 +242,11 @@ fn served<R: RowSource, B: Behaviour>(
                 name,
                 value,
             };
-            held(alloc, metamodel, registry, session, object, operation)
+            held(alloc, unit, session, object, operation)
         }
         Call::Get { object, name } => {
             let operation = Operation::Get { object, name };
-            held(alloc, metamodel, registry, session, object, operation)
+            held(alloc, unit, session, object, operation)
         }
         Call::Add {
             object,
@@ -266,7 +258,7 @@ fn served<R: RowSource, B: Behaviour>(
                 name,
                 member,
             };
-            held(alloc, metamodel, registry, session, object, operation)
+            held(alloc, unit, session, object, operation)
         }
         Call::TakeOut {
             object,
@@ -278,53 +270,45 @@ fn served<R: RowSource, B: Behaviour>(
                 name,
                 member,
             };
-            held(alloc, metamodel, registry, session, object, operation)
+            held(alloc, unit, session, object, operation)
         }
-        Call::Begin { em } => begin_call(alloc, metamodel, registry, session, em),
+        Call::Begin { em } => begin_call(alloc, unit, session, em),
         Call::Persist { em, object } => {
             let operation = Operation::Persist { object };
-            worked(alloc, metamodel, registry, session, em, operation)
+            worked(alloc, unit, session, em, operation)
         }
         Call::Remove { em, object } => {
             let operation = Operation::Remove { object };
-            worked(alloc, metamodel, registry, session, em, operation)
+            worked(alloc, unit, session, em, operation)
         }
         Call::Refresh { em, object } => {
             let operation = Operation::Refresh { object };
-            worked(alloc, metamodel, registry, session, em, operation)
+            worked(alloc, unit, session, em, operation)
         }
         Call::Detach { em, object } => {
             let operation = Operation::Detach { object };
-            worked(alloc, metamodel, registry, session, em, operation)
+            worked(alloc, unit, session, em, operation)
         }
         Call::Merge { em, object } => {
             let operation = Operation::Merge { object };
-            worked(alloc, metamodel, registry, session, em, operation)
+            worked(alloc, unit, session, em, operation)
         }
-        Call::Lock { em, object, mode } => {
-            lock_call(alloc, metamodel, registry, session, em, object, mode)
-        }
-        Call::Flush { em } => flush_call(alloc, metamodel, registry, session, em),
-        Call::Commit { em } => commit_call(alloc, metamodel, registry, session, rows, em),
-        Call::Rollback { em } => rollback_call(alloc, metamodel, registry, session, em),
-        Call::SetRollbackOnly { em } => {
-            set_rollback_only_call(alloc, metamodel, registry, session, em)
-        }
+        Call::Lock { em, object, mode } => { lock_call(alloc, unit, session, em, object, mode) }
+        Call::Flush { em } => flush_call(alloc, unit, session, em),
+        Call::Commit { em } => commit_call(alloc, unit, session, rows, em),
+        Call::Rollback { em } => rollback_call(alloc, unit, session, em),
+        Call::SetRollbackOnly { em } => { set_rollback_only_call(alloc, unit, session, em) }
         Call::Find { em, entity, key } => {
             let operation = Operation::Find { entity, key };
-            worked(alloc, metamodel, registry, session, em, operation)
+            worked(alloc, unit, session, em, operation)
         }
         Call::GetReference { em, entity, key } => {
             let operation = Operation::GetReference { entity, key };
-            worked(alloc, metamodel, registry, session, em, operation)
+            worked(alloc, unit, session, em, operation)
         }
-        Call::Contains { em, object } => {
-            contains_call(alloc, metamodel, registry, session, em, object)
-        }
-        Call::Clear { em } => clear_call(alloc, metamodel, registry, session, em),
-        Call::SetFlushMode { em, mode } => {
-            set_flush_mode_call(alloc, metamodel, registry, session, em, mode)
-        }
+        Call::Contains { em, object } => { contains_call(alloc, unit, session, em, object) }
+        Call::Clear { em } => clear_call(alloc, unit, session, em),
+        Call::SetFlushMode { em, mode } => { set_flush_mode_call(alloc, unit, session, em, mode) }
         Call::Query {
             em,
             text,
@@ -338,7 +322,7 @@ fn served<R: RowSource, B: Behaviour>(
                 first,
                 max,
             };
-            query_call(alloc, metamodel, registry, session, em, wanted, Told::All)
+            query_call(alloc, unit, session, em, wanted, Told::All)
         }
         Call::QuerySingle {
             em,
@@ -353,15 +337,7 @@ fn served<R: RowSource, B: Behaviour>(
                 first,
                 max,
             };
-            query_call(
-                alloc,
-                metamodel,
-                registry,
-                session,
-                em,
-                wanted,
-                Told::Single,
-            )
+            query_call(alloc, unit, session, em, wanted, Told::Single)
         }
         Call::ExecuteUpdate {
             em,
@@ -369,41 +345,40 @@ fn served<R: RowSource, B: Behaviour>(
             parameters,
         } => {
             let (text, parameters) = (text.as_str(), parameters.as_slice());
-            update_call(alloc, metamodel, registry, session, em, text, parameters)
+            update_call(alloc, unit, session, em, text, parameters)
         }
-        Call::Close { em } => close_call(alloc, metamodel, registry, session, em),
+        Call::Close { em } => close_call(alloc, unit, session, em),
     }
 }
 
 /// Serves a call.
 fn serve<R: RowSource, B: Behaviour>(
     alloc: Global,
-    metamodel: &Metamodel,
-    registry: &Registry<B>,
+    unit: &ServedUnit<B>,
     session: &mut Session,
     rows: &mut R,
     call: Call,
 ) -> Reply
-    requires serving { IsServing (world_of B.meaning metamodel.now registry.now) session.old }
-    requires schema { R.schema rows.old ≡ schema_of metamodel.now }
-    requires holds { let world = world_of B.meaning metamodel.now registry.now in
+    requires serving { IsServing (world_of_unit B.meaning unit.now) session.old }
+    requires schema { R.schema rows.old ≡ schema_of unit.now.metamodel }
+    requires holds { let world = world_of_unit B.meaning unit.now in
         R.clean rows.old → R.holds rows.old (rows_kept world (machine_of session.old)) }
-    ensures serving { IsServing (world_of B.meaning metamodel.now registry.now) session.new }
-    ensures step { let world = world_of B.meaning metamodel.now registry.now in
+    ensures serving { IsServing (world_of_unit B.meaning unit.now) session.new }
+    ensures step { let world = world_of_unit B.meaning unit.now in
         Serves world session.old call result session.new }
-    ensures holds { let world = world_of B.meaning metamodel.now registry.now in
+    ensures holds { let world = world_of_unit B.meaning unit.now in
         R.clean rows.new → R.holds rows.new (rows_kept world (machine_of session.new)) }
     ensures was_clean { R.clean rows.new → R.clean rows.old }
-    ensures crash { let world = world_of B.meaning metamodel.now registry.now in
+    ensures crash { let world = world_of_unit B.meaning unit.now in
         let made = rows_made world (machine_of session.old) call in
         R.clean rows.new → R.endures rows.old rows.new (λ left. left ≡ made) }
     ensures others { is_commit call ≡ false → rows.new ≡ rows.old }
-    ensures counted { let world = world_of B.meaning metamodel.now registry.now in
+    ensures counted { let world = world_of_unit B.meaning unit.now in
         let M = machine_of session.old in
         is_commit call ≡ true → OnOk result.answer
         (RunsDifference (rows_kept world M) (rows_made world M call)
         (R.writes rows.old) (R.writes rows.new)) }
-    ensures bounded { let world = world_of B.meaning metamodel.now registry.now in
+    ensures bounded { let world = world_of_unit B.meaning unit.now in
         let M = machine_of session.old in
         is_commit call ≡ true → IsErr result.answer → (rows.new ≡ rows.old)
         ⊎ RunsAtMost (rows_kept world M) (rows_made world M call)
@@ -421,10 +396,10 @@ fn serve<R: RowSource, B: Behaviour>(
         let N = machine_of session.new in
         each_fits nat_le M.numbers N.numbers ≡ true }
     ensures refused { IsErr result.answer → IsGivenUp result ⊎ (rows.new ≡ rows.old) }
-    ensures schema { R.schema rows.new ≡ schema_of metamodel.now }
+    ensures schema { R.schema rows.new ≡ schema_of unit.now.metamodel }
 {
     hands_representable(&call);
-    served(alloc, metamodel, registry, session, rows, call)
+    served(alloc, unit, session, rows, call)
 }
 
 impl<R: RowSource, B: Behaviour> PersistenceProvider for Provider<R, B> {
@@ -437,8 +412,7 @@ impl<R: RowSource, B: Behaviour> PersistenceProvider for Provider<R, B> {
     fn call(&mut self, call: Call) -> Reply {
         serve(
             self.alloc,
-            &self.metamodel,
-            &self.registry,
+            &self.unit,
             &mut self.session,
             &mut self.rows,
             call,

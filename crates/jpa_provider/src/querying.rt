@@ -1,7 +1,7 @@
 //! The calls query, querySingle and executeUpdate (Jakarta Persistence 3.1, chapters 3.10 and 4.10).
 ghost use Rattle.std.specs.Prelude.{◌≡◌, T, false, length, true, IfErr, IfOk, IfSome, OnOk};
 ghost use Rattle.std.specs.FinMap.Entries.{is_sorted};
-ghost use Rattle.jpa_behaviour.specs.Registered.{world_of};
+ghost use Rattle.jpa_behaviour.specs.Served.{world_of_unit};
 ghost use Rattle.jpa_context.specs.Steps.{Done, Meets};
 ghost use Rattle.jpa_context.specs.Work.{Work};
 ghost use Rattle.jpa_rows.specs.Cells.{all_representable};
@@ -29,10 +29,9 @@ use crate::at_work::{conclude, manager_named, take_work};
 use crate::handing::{is_short_given, place_of};
 use crate::replies::{Rule, because};
 use crate::session::{Session, Status, mode_of, status_of};
-use jpa_behaviour::{Behaviour, Registry};
+use jpa_behaviour::{Behaviour, ServedUnit};
 use jpa_context::UnitOfWork;
 use jpa_heap::Handed;
-use jpa_model::Metamodel;
 use jpa_protocol::{Answer, FlushMode, Given, Parameter, Reply};
 use jpa_queries::{Asked, Binding, query, query_single};
 use jpa_updates::execute_update;
@@ -141,33 +140,32 @@ fn asked_of(alloc: Global, work: &UnitOfWork, wanted: Wanted) -> Result<Asked, C
 /// A query of a manager at work, and its answer. Refused as `query` and `query_single` are.
 fn query_work<B: Behaviour>(
     alloc: Global,
-    metamodel: &Metamodel,
-    registry: &Registry<B>,
+    unit: &ServedUnit<B>,
     work: &mut UnitOfWork,
     flushes: bool,
     wanted: Wanted,
     told: Told,
 ) -> Result<Answer, Cause>
-    requires orderly { IsOrderly metamodel.now }
-    requires ready { IsReady metamodel.now (now work.old) }
+    requires orderly { IsOrderly unit.now.metamodel }
+    requires ready { IsReady unit.now.metamodel (now work.old) }
     requires shown { flushes ≡ true → work.old.view.is_shown ≡ true }
-    requires sound { IsSound metamodel.now (now work.old).view }
+    requires sound { IsSound unit.now.metamodel (now work.old).view }
     requires rising { T (is_sorted identity_cmp (now work.old).view) }
-    requires distinct { has_distinct_entries metamodel.now (now work.old) ≡ true }
-    requires then_ready { StaysReady flushes (world_of B.meaning metamodel.now registry.now)
+    requires distinct { has_distinct_entries unit.now.metamodel (now work.old) ≡ true }
+    requires then_ready { StaysReady flushes (world_of_unit B.meaning unit.now)
         (now work.old) }
-    ensures meets { let world = world_of B.meaning metamodel.now registry.now in
+    ensures meets { let world = world_of_unit B.meaning unit.now in
         Meets result (now work.new) (operations.query_told told wanted flushes world (now work.old)) }
     ensures since { since work.new ≡ since work.old }
 {
     let asked = asked_of(alloc, work, wanted)?;
     match told {
         Told::All => {
-            let rows = query(alloc, metamodel, registry, work, flushes, &asked)?;
+            let rows = query(alloc, unit, work, flushes, &asked)?;
             Ok(Answer::Rows(rows))
         }
         Told::Single => {
-            let row = query_single(alloc, metamodel, registry, work, flushes, &asked)?;
+            let row = query_single(alloc, unit, work, flushes, &asked)?;
             Ok(Answer::Row(row))
         }
     }
@@ -186,15 +184,14 @@ fn flushes_first(status: Status, mode: FlushMode) -> bool
 /// A call whose route is a query of a manager.
 pub(crate) fn query_call<B: Behaviour>(
     alloc: Global,
-    metamodel: &Metamodel,
-    registry: &Registry<B>,
+    unit: &ServedUnit<B>,
     session: &mut Session,
     em: i64,
     wanted: Wanted,
     told: Told,
 ) -> Reply
-    requires serving { IsServing (world_of B.meaning metamodel.now registry.now) session.old }
-    ensures step { let world = world_of B.meaning metamodel.now registry.now in
+    requires serving { IsServing (world_of_unit B.meaning unit.now) session.old }
+    ensures step { let world = world_of_unit B.meaning unit.now in
         (call : Call) → route call ≡ ToQuery em (operations.query_told told wanted)
         → Serves world session.old call result session.new }
     ensures untold { tells_fault result ≡ false }
@@ -209,44 +206,41 @@ pub(crate) fn query_call<B: Behaviour>(
     );
     take_work(session, manager);
     let work = &mut session.work;
-    let answered = query_work(alloc, metamodel, registry, work, flushes, wanted, told);
+    let answered = query_work(alloc, unit, work, flushes, wanted, told);
     conclude(alloc, session, manager, answered, Rule::OfManager)
 }
 
 /// An UPDATE or DELETE of a manager at work, and its answer. Refused as `bound` and `execute_update` are.
 fn update_work<B: Behaviour>(
     alloc: Global,
-    metamodel: &Metamodel,
-    registry: &Registry<B>,
+    unit: &ServedUnit<B>,
     work: &mut UnitOfWork,
     is_active: bool,
     flushes: bool,
     text: &str,
     parameters: &[Parameter],
 ) -> Result<Answer, Cause>
-    requires orderly { IsOrderly metamodel.now }
-    requires ready { IsReady metamodel.now (now work.old) }
+    requires orderly { IsOrderly unit.now.metamodel }
+    requires ready { IsReady unit.now.metamodel (now work.old) }
     requires shown { is_active ≡ true → work.old.view.is_shown ≡ true }
     requires flushing { flushes ≡ true → is_active ≡ true }
-    requires sound { IsSound metamodel.now (now work.old).view }
+    requires sound { IsSound unit.now.metamodel (now work.old).view }
     requires rising { T (is_sorted identity_cmp (now work.old).view) }
-    requires distinct { has_distinct_entries metamodel.now (now work.old) ≡ true }
-    requires then_sound { StaysSound flushes (world_of B.meaning metamodel.now registry.now)
+    requires distinct { has_distinct_entries unit.now.metamodel (now work.old) ≡ true }
+    requires then_sound { StaysSound flushes (world_of_unit B.meaning unit.now)
         (now work.old) }
-    ensures meets { let world = world_of B.meaning metamodel.now registry.now in
+    ensures meets { let world = world_of_unit B.meaning unit.now in
         Meets result (now work.new)
         (querying.update_call text.now parameters.now is_active flushes world (now work.old)) }
     ensures representable { OnOk result ((v : Work)
-        → flush_if flushes (world_of B.meaning metamodel.now registry.now) (now work.old)
+        → flush_if flushes (world_of_unit B.meaning unit.now) (now work.old)
         ≡ Done tt v → all_representable v.view ≡ true
         → all_representable (now work.new).view ≡ true) }
     ensures since { since work.new ≡ since work.old }
 {
     let bindings = bound(alloc, work, parameters)?;
     let bindings = bindings.as_slice();
-    let count = execute_update(
-        alloc, metamodel, registry, work, is_active, flushes, text, bindings,
-    )?;
+    let count = execute_update(alloc, unit, work, is_active, flushes, text, bindings)?;
     Ok(Answer::Number(count as u64))
 }
 
@@ -254,19 +248,18 @@ fn update_work<B: Behaviour>(
 /// refused of what the call hands in.
 pub(crate) fn update_call<B: Behaviour>(
     alloc: Global,
-    metamodel: &Metamodel,
-    registry: &Registry<B>,
+    unit: &ServedUnit<B>,
     session: &mut Session,
     em: i64,
     text: &str,
     parameters: &[Parameter],
 ) -> Reply
-    requires serving { IsServing (world_of B.meaning metamodel.now registry.now) session.old }
-    ensures step { Serves (world_of B.meaning metamodel.now registry.now) session.old
+    requires serving { IsServing (world_of_unit B.meaning unit.now) session.old }
+    ensures step { Serves (world_of_unit B.meaning unit.now) session.old
         (Call.ExecuteUpdate em text.now parameters.now) result session.new }
     ensures untold { tells_fault result ≡ false }
     ensures settled { IsSettled session.new }
-    ensures made { let world = world_of B.meaning metamodel.now registry.now in
+    ensures made { let world = world_of_unit B.meaning unit.now in
         OnOk result.answer (MakesRepresentable world (machine_of session.old)
         (Call.ExecuteUpdate em text.now parameters.now)) }
 {
@@ -279,8 +272,7 @@ pub(crate) fn update_call<B: Behaviour>(
     let work = &mut session.work;
     let answered = update_work(
         alloc,
-        metamodel,
-        registry,
+        unit,
         work,
         status.is_begun(),
         flushes,

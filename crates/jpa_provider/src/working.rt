@@ -3,7 +3,7 @@
 //! (Jakarta Persistence 3.1, chapters 2.2 and 3.1.1).
 ghost use Rattle.std.specs.Prelude.{◌≡◌, ◌<◌, ℕ, length, false};
 ghost use Rattle.jpa_behaviour.specs.Behaviour.{World};
-ghost use Rattle.jpa_behaviour.specs.Registered.{world_of};
+ghost use Rattle.jpa_behaviour.specs.Served.{world_of_unit};
 ghost use Rattle.jpa_context.specs.Steps.{Op};
 ghost use Rattle.jpa_protocol.specs.declared.call.Call.{Call};
 ghost use Rattle.jpa_protocol.specs.declared.reply.Answer.{Answer};
@@ -22,10 +22,9 @@ use crate::handing::place_of;
 use crate::operating::{Operation, operate};
 use crate::replies::{Rule, because, told_of};
 use crate::session::{Session, status_of};
-use jpa_behaviour::{Behaviour, Registry};
+use jpa_behaviour::{Behaviour, ServedUnit};
 use jpa_context::PersistenceContext;
 use jpa_heap::Life;
-use jpa_model::Metamodel;
 use jpa_protocol::{LockMode, Reply};
 use jpa_value::{Cause, Refusal, Seq};
 use std::alloc::Global;
@@ -35,24 +34,23 @@ use std::mem;
 /// refused.
 fn at_work<B: Behaviour>(
     alloc: Global,
-    metamodel: &Metamodel,
-    registry: &Registry<B>,
+    unit: &ServedUnit<B>,
     session: &mut Session,
     manager: usize,
     operation: Operation,
     rule: Rule,
 ) -> Reply
     requires within { manager < length session.old.managers.items }
-    requires serving { IsServing (world_of B.meaning metamodel.now registry.now) session.old }
+    requires serving { IsServing (world_of_unit B.meaning unit.now) session.old }
     ensures ends { let M = machine_of session.old in
-        let world = world_of B.meaning metamodel.now registry.now in
+        let world = world_of_unit B.meaning unit.now in
         let outcome = operation_of operation world (work_of M manager) in
         EndsSo rule M manager outcome result (machine_of session.new) }
     ensures untold { tells_fault result ≡ false }
     ensures settled { IsSettled session.new }
 {
     take_work(session, manager);
-    let answered = operate(alloc, metamodel, registry, &mut session.work, operation);
+    let answered = operate(alloc, unit, &mut session.work, operation);
     conclude(alloc, session, manager, answered, rule)
 }
 
@@ -60,14 +58,13 @@ fn at_work<B: Behaviour>(
 /// committed, in an empty context.
 fn unheld<B: Behaviour>(
     alloc: Global,
-    metamodel: &Metamodel,
-    registry: &Registry<B>,
+    unit: &ServedUnit<B>,
     session: &mut Session,
     operation: Operation,
 ) -> Reply
-    requires serving { IsServing (world_of B.meaning metamodel.now registry.now) session.old }
+    requires serving { IsServing (world_of_unit B.meaning unit.now) session.old }
     ensures ends { let M = machine_of session.old in
-        let world = world_of B.meaning metamodel.now registry.now in
+        let world = world_of_unit B.meaning unit.now in
         let nobody = length session.old.managers.items in
         let outcome = operation_of operation world (work_of M nobody) in
         EndsSo Rule.OfObject M nobody outcome result (machine_of session.new) }
@@ -77,7 +74,7 @@ fn unheld<B: Behaviour>(
     session.work.manager = session.managers.len();
     session.work.context = PersistenceContext::new(alloc);
     session.work.view.show(false);
-    let answered = operate(alloc, metamodel, registry, &mut session.work, operation);
+    let answered = operate(alloc, unit, &mut session.work, operation);
     let events = mem::replace(&mut session.work.events, Seq::new(alloc));
     match answered {
         Ok(answer) => {
@@ -113,15 +110,14 @@ fn required_of(count: usize, object: i64) -> Cause
 #[tactic(auto, using(crate::proofs::Routed::lock_alone))]
 pub(crate) fn lock_call<B: Behaviour>(
     alloc: Global,
-    metamodel: &Metamodel,
-    registry: &Registry<B>,
+    unit: &ServedUnit<B>,
     session: &mut Session,
     em: i64,
     object: i64,
     mode: LockMode,
 ) -> Reply
-    requires serving { IsServing (world_of B.meaning metamodel.now registry.now) session.old }
-    ensures step { Serves (world_of B.meaning metamodel.now registry.now) session.old
+    requires serving { IsServing (world_of_unit B.meaning unit.now) session.old }
+    ensures step { Serves (world_of_unit B.meaning unit.now) session.old
         (Call.Lock em object mode) result session.new }
     ensures untold { tells_fault result ≡ false }
     ensures settled { IsSettled session.new }
@@ -134,8 +130,7 @@ pub(crate) fn lock_call<B: Behaviour>(
     }
     at_work(
         alloc,
-        metamodel,
-        registry,
+        unit,
         session,
         manager,
         Operation::Lock { object, mode },
@@ -156,14 +151,13 @@ fn manager_holding(life: Life) -> Option<usize>
 /// A call whose route is an operation of a manager.
 pub(crate) fn worked<B: Behaviour>(
     alloc: Global,
-    metamodel: &Metamodel,
-    registry: &Registry<B>,
+    unit: &ServedUnit<B>,
     session: &mut Session,
     em: i64,
     operation: Operation,
 ) -> Reply
-    requires serving { IsServing (world_of B.meaning metamodel.now registry.now) session.old }
-    ensures step { let world = world_of B.meaning metamodel.now registry.now in
+    requires serving { IsServing (world_of_unit B.meaning unit.now) session.old }
+    ensures step { let world = world_of_unit B.meaning unit.now in
         (call : Call) → route call ≡ OfManager em (operation_of operation)
         → Serves world session.old call result session.new }
     ensures untold { tells_fault result ≡ false }
@@ -172,28 +166,19 @@ pub(crate) fn worked<B: Behaviour>(
     let Some(manager) = manager_named(session, em) else {
         return because(alloc, Cause::NoSuchManager);
     };
-    at_work(
-        alloc,
-        metamodel,
-        registry,
-        session,
-        manager,
-        operation,
-        Rule::OfManager,
-    )
+    at_work(alloc, unit, session, manager, operation, Rule::OfManager)
 }
 
 /// A call whose route is an operation on an object, by its number, of the manager that holds it.
 pub(crate) fn held<B: Behaviour>(
     alloc: Global,
-    metamodel: &Metamodel,
-    registry: &Registry<B>,
+    unit: &ServedUnit<B>,
     session: &mut Session,
     object: i64,
     operation: Operation,
 ) -> Reply
-    requires serving { IsServing (world_of B.meaning metamodel.now registry.now) session.old }
-    ensures step { let world = world_of B.meaning metamodel.now registry.now in
+    requires serving { IsServing (world_of_unit B.meaning unit.now) session.old }
+    ensures step { let world = world_of_unit B.meaning unit.now in
         (call : Call) → (op : World → ℕ → Op Answer) → route call ≡ OfObject object op
         → operation_of operation ≡ on_numbered object op
         → Serves world session.old call result session.new }
@@ -205,15 +190,7 @@ pub(crate) fn held<B: Behaviour>(
     };
     let life = session.work.objects.as_slice()[place].life;
     match manager_holding(life) {
-        Some(manager) => at_work(
-            alloc,
-            metamodel,
-            registry,
-            session,
-            manager,
-            operation,
-            Rule::OfObject,
-        ),
-        None => unheld(alloc, metamodel, registry, session, operation),
+        Some(manager) => at_work(alloc, unit, session, manager, operation, Rule::OfObject),
+        None => unheld(alloc, unit, session, operation),
     }
 }

@@ -1,7 +1,7 @@
 //! query and querySingle.
 ghost use Rattle.std.specs.Prelude.{◌≡◌, T, true, OnOk};
 ghost use Rattle.std.specs.FinMap.Entries.{is_sorted};
-ghost use Rattle.jpa_behaviour.specs.Registered.{world_of};
+ghost use Rattle.jpa_behaviour.specs.Served.{world_of_unit};
 ghost use Rattle.jpa_context.specs.Steps.{Meets};
 ghost use Rattle.jpa_context.specs.Undo.{now, since};
 ghost use Rattle.jpa_fetch.specs.Grown.{IsReady};
@@ -16,7 +16,7 @@ use crate::asked::{Asked, Statement};
 use crate::cut::{cut, is_count};
 use crate::results::{row_of, rows_of};
 use crate::statement::{read_of, statement_of};
-use jpa_behaviour::{Behaviour, Registry};
+use jpa_behaviour::{Behaviour, ServedUnit};
 use jpa_context::UnitOfWork;
 use jpa_flush::flush;
 use jpa_model::Metamodel;
@@ -57,23 +57,22 @@ fn judged(
 /// The flush before a query, where there is one. Refused as `flush` is.
 fn flush_if<B: Behaviour>(
     alloc: Global,
-    metamodel: &Metamodel,
-    registry: &Registry<B>,
+    unit: &ServedUnit<B>,
     work: &mut UnitOfWork,
     flushes: bool,
 ) -> Result<(), Cause>
-    requires orderly { IsOrderly metamodel.now }
-    requires ready { IsReady metamodel.now (now work.old) }
+    requires orderly { IsOrderly unit.now.metamodel }
+    requires ready { IsReady unit.now.metamodel (now work.old) }
     requires shown { flushes ≡ true → work.old.view.is_shown ≡ true }
-    requires sound { IsSound metamodel.now (now work.old).view }
+    requires sound { IsSound unit.now.metamodel (now work.old).view }
     requires rising { T (is_sorted identity_cmp (now work.old).view) }
-    requires distinct { has_distinct_entries metamodel.now (now work.old) ≡ true }
-    ensures meets { let world = world_of B.meaning metamodel.now registry.now in
+    requires distinct { has_distinct_entries unit.now.metamodel (now work.old) ≡ true }
+    ensures meets { let world = world_of_unit B.meaning unit.now in
         Meets result (now work.new) (queries.flush_if flushes world (now work.old)) }
     ensures since { since work.new ≡ since work.old }
 {
     if flushes {
-        flush(alloc, metamodel, registry, work)
+        flush(alloc, unit, work)
     } else {
         Ok(())
     }
@@ -104,31 +103,30 @@ fn rows_found(
 /// The rows that are asked, with identities for entities. Refused as `query` is, before anything is loaded.
 fn rows_asked<B: Behaviour>(
     alloc: Global,
-    metamodel: &Metamodel,
-    registry: &Registry<B>,
+    unit: &ServedUnit<B>,
     work: &mut UnitOfWork,
     flushes: bool,
     asked: &Asked,
 ) -> Result<Seq<Seq<Datum>>, Cause>
-    requires orderly { IsOrderly metamodel.now }
-    requires ready { IsReady metamodel.now (now work.old) }
+    requires orderly { IsOrderly unit.now.metamodel }
+    requires ready { IsReady unit.now.metamodel (now work.old) }
     requires shown { flushes ≡ true → work.old.view.is_shown ≡ true }
-    requires sound { IsSound metamodel.now (now work.old).view }
+    requires sound { IsSound unit.now.metamodel (now work.old).view }
     requires rising { T (is_sorted identity_cmp (now work.old).view) }
-    requires distinct { has_distinct_entries metamodel.now (now work.old) ≡ true }
-    requires then_ready { StaysReady flushes (world_of B.meaning metamodel.now registry.now)
+    requires distinct { has_distinct_entries unit.now.metamodel (now work.old) ≡ true }
+    requires then_ready { StaysReady flushes (world_of_unit B.meaning unit.now)
         (now work.old) }
     requires bound { AreInHeap work.old.objects.now asked.now.bindings }
-    ensures meets { let world = world_of B.meaning metamodel.now registry.now in
+    ensures meets { let world = world_of_unit B.meaning unit.now in
         Meets result (now work.new) (queries.rows_asked world flushes asked.now (now work.old)) }
-    ensures ready { OnOk result (IsReady metamodel.now (now work.new)) }
+    ensures ready { OnOk result (IsReady unit.now.metamodel (now work.new)) }
     ensures since { since work.new ≡ since work.old }
 {
-    let (select, arguments) = judged(alloc, metamodel, work, asked)?;
-    flush_if(alloc, metamodel, registry, work, flushes)?;
+    let (select, arguments) = judged(alloc, &unit.metamodel, work, asked)?;
+    flush_if(alloc, unit, work, flushes)?;
     rows_found(
         alloc,
-        metamodel,
+        &unit.metamodel,
         work,
         &select,
         arguments.as_slice(),
@@ -141,19 +139,18 @@ fn rows_asked<B: Behaviour>(
 /// as `row_of` is.
 fn single_row<B: Behaviour>(
     alloc: Global,
-    metamodel: &Metamodel,
-    registry: &Registry<B>,
+    unit: &ServedUnit<B>,
     work: &mut UnitOfWork,
     rows: &[Seq<Datum>],
 ) -> Result<Seq<Item>, Cause>
-    requires ready { IsReady metamodel.now (now work.old) }
-    ensures meets { let world = world_of B.meaning metamodel.now registry.now in
+    requires ready { IsReady unit.now.metamodel (now work.old) }
+    ensures meets { let world = world_of_unit B.meaning unit.now in
         Meets result (now work.new) (queries.single_row world rows.now (now work.old)) }
     ensures since { since work.new ≡ since work.old }
 {
     match rows {
         [] => Err(Cause::NoResult),
-        [row] => row_of(alloc, metamodel, registry, work, row.as_slice()),
+        [row] => row_of(alloc, unit, work, row.as_slice()),
         [_, _, ..] => Err(Cause::NonUniqueResult),
     }
 }
@@ -172,27 +169,26 @@ fn single_row<B: Behaviour>(
 /// What a refused call changed is undone by `UnitOfWork::undo`.
 pub fn query<B: Behaviour>(
     alloc: Global,
-    metamodel: &Metamodel,
-    registry: &Registry<B>,
+    unit: &ServedUnit<B>,
     work: &mut UnitOfWork,
     flushes: bool,
     asked: &Asked,
 ) -> Result<Seq<Seq<Item>>, Cause>
-    requires orderly { IsOrderly metamodel.now }
-    requires ready { IsReady metamodel.now (now work.old) }
+    requires orderly { IsOrderly unit.now.metamodel }
+    requires ready { IsReady unit.now.metamodel (now work.old) }
     requires shown { flushes ≡ true → work.old.view.is_shown ≡ true }
-    requires sound { IsSound metamodel.now (now work.old).view }
+    requires sound { IsSound unit.now.metamodel (now work.old).view }
     requires rising { T (is_sorted identity_cmp (now work.old).view) }
-    requires distinct { has_distinct_entries metamodel.now (now work.old) ≡ true }
-    requires then_ready { StaysReady flushes (world_of B.meaning metamodel.now registry.now)
+    requires distinct { has_distinct_entries unit.now.metamodel (now work.old) ≡ true }
+    requires then_ready { StaysReady flushes (world_of_unit B.meaning unit.now)
         (now work.old) }
     requires bound { AreInHeap work.old.objects.now asked.now.bindings }
-    ensures meets { let world = world_of B.meaning metamodel.now registry.now in
+    ensures meets { let world = world_of_unit B.meaning unit.now in
         Meets result (now work.new) (queries.query world flushes asked.now (now work.old)) }
     ensures since { since work.new ≡ since work.old }
 {
-    let rows = rows_asked(alloc, metamodel, registry, work, flushes, asked)?;
-    rows_of(alloc, metamodel, registry, work, rows.as_slice())
+    let rows = rows_asked(alloc, unit, work, flushes, asked)?;
+    rows_of(alloc, unit, work, rows.as_slice())
 }
 
 /// The one row of a SELECT, as `query` finds them and cuts them off. `NoResult` where there is none,
@@ -200,25 +196,24 @@ pub fn query<B: Behaviour>(
 /// as `query` is.
 pub fn query_single<B: Behaviour>(
     alloc: Global,
-    metamodel: &Metamodel,
-    registry: &Registry<B>,
+    unit: &ServedUnit<B>,
     work: &mut UnitOfWork,
     flushes: bool,
     asked: &Asked,
 ) -> Result<Seq<Item>, Cause>
-    requires orderly { IsOrderly metamodel.now }
-    requires ready { IsReady metamodel.now (now work.old) }
+    requires orderly { IsOrderly unit.now.metamodel }
+    requires ready { IsReady unit.now.metamodel (now work.old) }
     requires shown { flushes ≡ true → work.old.view.is_shown ≡ true }
-    requires sound { IsSound metamodel.now (now work.old).view }
+    requires sound { IsSound unit.now.metamodel (now work.old).view }
     requires rising { T (is_sorted identity_cmp (now work.old).view) }
-    requires distinct { has_distinct_entries metamodel.now (now work.old) ≡ true }
-    requires then_ready { StaysReady flushes (world_of B.meaning metamodel.now registry.now)
+    requires distinct { has_distinct_entries unit.now.metamodel (now work.old) ≡ true }
+    requires then_ready { StaysReady flushes (world_of_unit B.meaning unit.now)
         (now work.old) }
     requires bound { AreInHeap work.old.objects.now asked.now.bindings }
-    ensures meets { let world = world_of B.meaning metamodel.now registry.now in
+    ensures meets { let world = world_of_unit B.meaning unit.now in
         Meets result (now work.new) (queries.query_single world flushes asked.now (now work.old)) }
     ensures since { since work.new ≡ since work.old }
 {
-    let rows = rows_asked(alloc, metamodel, registry, work, flushes, asked)?;
-    single_row(alloc, metamodel, registry, work, rows.as_slice())
+    let rows = rows_asked(alloc, unit, work, flushes, asked)?;
+    single_row(alloc, unit, work, rows.as_slice())
 }

@@ -1,16 +1,15 @@
 //! What a query answers of its rows.
 ghost use Rattle.std.specs.Prelude.{◌≡◌, OnOk};
-ghost use Rattle.jpa_behaviour.specs.Registered.{world_of};
+ghost use Rattle.jpa_behaviour.specs.Served.{world_of_unit};
 ghost use Rattle.jpa_context.specs.Steps.{Meets};
 ghost use Rattle.jpa_context.specs.Undo.{now, since};
 ghost use Rattle.jpa_fetch.specs.Grown.{IsReady};
 ghost use Rattle.jpa_fetch.specs.Members.{collect};
 ghost use Rattle.jpa_queries.specs.Queries as queries;
 
-use jpa_behaviour::{Behaviour, Registry};
+use jpa_behaviour::{Behaviour, ServedUnit};
 use jpa_context::UnitOfWork;
 use jpa_fetch::reach;
-use jpa_model::Metamodel;
 use jpa_protocol::Item;
 use jpa_value::{Cause, Seq, TryCopy};
 use jpql_eval::Datum;
@@ -20,21 +19,20 @@ use std::alloc::Global;
 /// loaded where there is none. `EntityNotFound` where it isn't in the set either, and what `load` refuses.
 fn item_of<B: Behaviour>(
     alloc: Global,
-    metamodel: &Metamodel,
-    registry: &Registry<B>,
+    unit: &ServedUnit<B>,
     work: &mut UnitOfWork,
     datum: &Datum,
 ) -> Result<Item, Cause>
-    requires ready { IsReady metamodel.now (now work.old) }
-    ensures meets { let world = world_of B.meaning metamodel.now registry.now in
+    requires ready { IsReady unit.now.metamodel (now work.old) }
+    ensures meets { let world = world_of_unit B.meaning unit.now in
         Meets result (now work.new) (queries.item_of world datum.now (now work.old)) }
-    ensures ready { OnOk result (IsReady metamodel.now (now work.new)) }
+    ensures ready { OnOk result (IsReady unit.now.metamodel (now work.new)) }
     ensures since { since work.new ≡ since work.old }
 {
     match datum {
         Datum::Plain(value) => Ok(Item::Value(value.try_copy()?)),
         Datum::Entity(id) => {
-            let place = reach(alloc, metamodel, registry, work, id)?;
+            let place = reach(alloc, unit, work, id)?;
             // An object's number, one more than its place, is at most the count.
             let _count = work.objects.len();
             Ok(Item::Object(place as u64 + 1))
@@ -45,20 +43,19 @@ fn item_of<B: Behaviour>(
 /// The items of a row, in its order. Refused as `item_of` is, at the first that is refused.
 pub(crate) fn row_of<B: Behaviour>(
     alloc: Global,
-    metamodel: &Metamodel,
-    registry: &Registry<B>,
+    unit: &ServedUnit<B>,
     work: &mut UnitOfWork,
     row: &[Datum],
 ) -> Result<Seq<Item>, Cause>
-    requires ready { IsReady metamodel.now (now work.old) }
-    ensures meets { let world = world_of B.meaning metamodel.now registry.now in
+    requires ready { IsReady unit.now.metamodel (now work.old) }
+    ensures meets { let world = world_of_unit B.meaning unit.now in
         Meets result (now work.new) (queries.row_of world row.now (now work.old)) }
-    ensures ready { OnOk result (IsReady metamodel.now (now work.new)) }
+    ensures ready { OnOk result (IsReady unit.now.metamodel (now work.new)) }
     ensures since { since work.new ≡ since work.old }
 {
     let mut items = Seq::new(alloc);
     for datum in row {
-        let item = item_of(alloc, metamodel, registry, work, datum)?;
+        let item = item_of(alloc, unit, work, datum)?;
         items.push(item)?;
     }
     Ok(items)
@@ -67,19 +64,18 @@ pub(crate) fn row_of<B: Behaviour>(
 /// The rows, in their order. Refused as `row_of` is, at the first that is refused.
 pub(crate) fn rows_of<B: Behaviour>(
     alloc: Global,
-    metamodel: &Metamodel,
-    registry: &Registry<B>,
+    unit: &ServedUnit<B>,
     work: &mut UnitOfWork,
     rows: &[Seq<Datum>],
 ) -> Result<Seq<Seq<Item>>, Cause>
-    requires ready { IsReady metamodel.now (now work.old) }
-    ensures meets { let world = world_of B.meaning metamodel.now registry.now in
+    requires ready { IsReady unit.now.metamodel (now work.old) }
+    ensures meets { let world = world_of_unit B.meaning unit.now in
         Meets result (now work.new) (collect (queries.row_of world) rows.now (now work.old)) }
     ensures since { since work.new ≡ since work.old }
 {
     let mut found = Seq::new(alloc);
     for row in rows {
-        let items = row_of(alloc, metamodel, registry, work, row.as_slice())?;
+        let items = row_of(alloc, unit, work, row.as_slice())?;
         found.push(items)?;
     }
     Ok(found)

@@ -1,6 +1,6 @@
 //! What a statement changes of the set that a manager sees.
 ghost use Rattle.std.specs.Prelude.{◌≡◌, true, IfOk, IfErr, Ok};
-ghost use Rattle.jpa_behaviour.specs.Registered.{world_of};
+ghost use Rattle.jpa_behaviour.specs.Served.{world_of_unit};
 ghost use Rattle.jpa_open.specs.Opened as opened;
 ghost use Rattle.jpa_updates.specs.Changing.{AnswersAs, same, failure_cause};
 ghost use Rattle.jpa_rows.specs.Cells.{all_representable};
@@ -12,7 +12,7 @@ ghost use Rattle.jpql_run.specs.Keys as keys;
 ghost use Rattle.jpql_run.specs.Objects.{identities};
 
 use crate::representable::objects_are_representable;
-use jpa_behaviour::{Behaviour, Registry};
+use jpa_behaviour::{Behaviour, ServedUnit};
 use jpa_model::Metamodel;
 use jpa_open::OpenSet;
 use jpa_stored::Stored;
@@ -40,24 +40,23 @@ fn cause_of(failure: Failure) -> Cause
 /// with `Null` where a version is set to null; `OutOfMemory` where a growth was refused.
 pub(crate) fn made_by_update<'a, B: Behaviour>(
     alloc: Global,
-    metamodel: &'a Metamodel,
-    registry: &Registry<B>,
+    unit: &'a ServedUnit<B>,
     view: &'a OpenSet,
     arguments: &'a [Datum],
     class: usize,
     assignments: &'a [TypedAssignment],
     filter: &'a Option<Boxed<TypedCondition>>,
 ) -> Result<Vec<(Identity, Stored)>, Cause>
-    requires looked_up { keys.CanBeLookedUp metamodel.now (opened.now view.now) }
-    ensures made { let world = world_of B.meaning metamodel.now registry.now in
-        AnswersAs (λ v. v.items) result (bulk.or_refuse (changes.found_by_update metamodel.now
+    requires looked_up { keys.CanBeLookedUp unit.now.metamodel (opened.now view.now) }
+    ensures made { let world = world_of_unit B.meaning unit.now in
+        AnswersAs (λ v. v.items) result (bulk.or_refuse (changes.found_by_update unit.now.metamodel
         (opened.now view.now) arguments.now class assignments.now filter.now)
-        (bulk.each_assigned metamodel.now (throws_in world))) }
+        (bulk.each_assigned unit.now.metamodel (throws_in world))) }
     ensures representable { IfOk result (λ v. all_representable v.items ≡ true) }
 {
     let found = match found_by_update(
         alloc,
-        metamodel,
+        &unit.metamodel,
         view,
         arguments,
         class,
@@ -67,7 +66,7 @@ pub(crate) fn made_by_update<'a, B: Behaviour>(
         Ok(found) => found,
         Err(failure) => return Err(cause_of(failure)),
     };
-    match assign(alloc, metamodel, registry, &found) {
+    match assign(alloc, unit, &found) {
         Ok(objects) => {
             objects_are_representable(&objects);
             Ok(objects)

@@ -1,7 +1,7 @@
 //! executeUpdate.
 ghost use Rattle.std.specs.Prelude.{◌≡◌, T, true, OnOk};
 ghost use Rattle.std.specs.FinMap.Entries.{is_sorted};
-ghost use Rattle.jpa_behaviour.specs.Registered.{world_of};
+ghost use Rattle.jpa_behaviour.specs.Served.{world_of_unit};
 ghost use Rattle.jpa_context.specs.Steps.{Meets, Done};
 ghost use Rattle.jpa_context.specs.Undo.{now, since};
 ghost use Rattle.jpa_context.specs.Work.{Work};
@@ -18,7 +18,7 @@ ghost use Rattle.jpql_types.specs.declared.typed.Typed.{Typed};
 
 use crate::finding::{made_by_update, taken_by_delete};
 use crate::settling::{put_sound, take_sound};
-use jpa_behaviour::{Behaviour, Registry};
+use jpa_behaviour::{Behaviour, ServedUnit};
 use jpa_context::UnitOfWork;
 use jpa_flush::flush;
 use jpa_model::Metamodel;
@@ -69,23 +69,22 @@ fn judged(
 /// The flush before a statement, where there is one. Refused as `flush` is.
 fn flush_if<B: Behaviour>(
     alloc: Global,
-    metamodel: &Metamodel,
-    registry: &Registry<B>,
+    unit: &ServedUnit<B>,
     work: &mut UnitOfWork,
     flushes: bool,
 ) -> Result<(), Cause>
-    requires orderly { IsOrderly metamodel.now }
-    requires ready { IsReady metamodel.now (now work.old) }
+    requires orderly { IsOrderly unit.now.metamodel }
+    requires ready { IsReady unit.now.metamodel (now work.old) }
     requires shown { flushes ≡ true → work.old.view.is_shown ≡ true }
-    requires sound { IsSound metamodel.now (now work.old).view }
+    requires sound { IsSound unit.now.metamodel (now work.old).view }
     requires rising { T (is_sorted identity_cmp (now work.old).view) }
-    requires distinct { has_distinct_entries metamodel.now (now work.old) ≡ true }
-    ensures meets { let world = world_of B.meaning metamodel.now registry.now in
+    requires distinct { has_distinct_entries unit.now.metamodel (now work.old) ≡ true }
+    ensures meets { let world = world_of_unit B.meaning unit.now in
         Meets result (now work.new) (queries.flush_if flushes world (now work.old)) }
     ensures since { since work.new ≡ since work.old }
 {
     if flushes {
-        flush(alloc, metamodel, registry, work)
+        flush(alloc, unit, work)
     } else {
         Ok(())
     }
@@ -94,8 +93,7 @@ fn flush_if<B: Behaviour>(
 /// An UPDATE of a class over the set that a manager sees; how many objects it concerned.
 fn update<B: Behaviour>(
     alloc: Global,
-    metamodel: &Metamodel,
-    registry: &Registry<B>,
+    unit: &ServedUnit<B>,
     work: &mut UnitOfWork,
     arguments: &[Datum],
     class: usize,
@@ -103,9 +101,9 @@ fn update<B: Behaviour>(
     filter: &Option<Boxed<TypedCondition>>,
 ) -> Result<usize, Cause>
     requires shown { work.old.view.is_shown ≡ true }
-    requires in_order { updates.IsInOrder metamodel.now (now work.old).view }
-    ensures meets { let world = world_of B.meaning metamodel.now registry.now in
-        Meets result (now work.new) (updates.settled metamodel.now (updates.changed_by world
+    requires in_order { updates.IsInOrder unit.now.metamodel (now work.old).view }
+    ensures meets { let world = world_of_unit B.meaning unit.now in
+        Meets result (now work.new) (updates.settled unit.now.metamodel (updates.changed_by world
         (Typed.Update class assignments.now filter.now) arguments.now (now work.old).view)
         (now work.old)) }
     ensures representable { OnOk result (all_representable (now work.old).view ≡ true
@@ -114,22 +112,20 @@ fn update<B: Behaviour>(
 {
     let objects = made_by_update(
         alloc,
-        metamodel,
-        registry,
+        unit,
         &work.view,
         arguments,
         class,
         assignments,
         filter,
     )?;
-    put_sound(alloc, metamodel, work, &objects)
+    put_sound(alloc, &unit.metamodel, work, &objects)
 }
 
 /// A DELETE of a class over the set that a manager sees; how many objects it concerned.
 fn delete<B: Behaviour>(
     alloc: Global,
-    metamodel: &Metamodel,
-    registry: &Registry<B>,
+    unit: &ServedUnit<B>,
     work: &mut UnitOfWork,
     arguments: &[Datum],
     class: usize,
@@ -137,9 +133,9 @@ fn delete<B: Behaviour>(
     filter: &Option<Boxed<TypedCondition>>,
 ) -> Result<usize, Cause>
     requires shown { work.old.view.is_shown ≡ true }
-    requires in_order { updates.IsInOrder metamodel.now (now work.old).view }
-    ensures meets { let world = world_of B.meaning metamodel.now registry.now in
-        Meets result (now work.new) (updates.settled metamodel.now (updates.changed_by world
+    requires in_order { updates.IsInOrder unit.now.metamodel (now work.old).view }
+    ensures meets { let world = world_of_unit B.meaning unit.now in
+        Meets result (now work.new) (updates.settled unit.now.metamodel (updates.changed_by world
         (Typed.Delete class is_named filter.now) arguments.now (now work.old).view)
         (now work.old)) }
     ensures representable { OnOk result (all_representable (now work.old).view ≡ true
@@ -147,22 +143,27 @@ fn delete<B: Behaviour>(
     ensures since { since work.new ≡ since work.old }
 {
     let ids = taken_by_delete(
-        alloc, metamodel, &work.view, arguments, class, is_named, filter,
+        alloc,
+        &unit.metamodel,
+        &work.view,
+        arguments,
+        class,
+        is_named,
+        filter,
     )?;
-    take_sound(alloc, metamodel, work, ids.as_slice())
+    take_sound(alloc, &unit.metamodel, work, ids.as_slice())
 }
 
 /// A statement over the set that a manager sees; how many objects it concerned.
 fn run<B: Behaviour>(
     alloc: Global,
-    metamodel: &Metamodel,
-    registry: &Registry<B>,
+    unit: &ServedUnit<B>,
     work: &mut UnitOfWork,
     statement: &Statement,
 ) -> Result<usize, Cause>
     requires shown { work.old.view.is_shown ≡ true }
-    requires in_order { updates.IsInOrder metamodel.now (now work.old).view }
-    ensures meets { let world = world_of B.meaning metamodel.now registry.now in
+    requires in_order { updates.IsInOrder unit.now.metamodel (now work.old).view }
+    ensures meets { let world = world_of_unit B.meaning unit.now in
         Meets result (now work.new) (updates.run_bulk world statement.now (now work.old)) }
     ensures representable { OnOk result (all_representable (now work.old).view ≡ true
         → all_representable (now work.new).view ≡ true) }
@@ -177,8 +178,7 @@ fn run<B: Behaviour>(
             filter,
         } => update(
             alloc,
-            metamodel,
-            registry,
+            unit,
             work,
             arguments,
             *class,
@@ -189,9 +189,7 @@ fn run<B: Behaviour>(
             class,
             is_named,
             filter,
-        } => delete(
-            alloc, metamodel, registry, work, arguments, *class, *is_named, filter,
-        ),
+        } => delete(alloc, unit, work, arguments, *class, *is_named, filter),
     }
 }
 
@@ -210,34 +208,33 @@ fn run<B: Behaviour>(
 /// growth was refused. What a refused call changed is undone by `UnitOfWork::undo`.
 pub fn execute_update<B: Behaviour>(
     alloc: Global,
-    metamodel: &Metamodel,
-    registry: &Registry<B>,
+    unit: &ServedUnit<B>,
     work: &mut UnitOfWork,
     is_active: bool,
     flushes: bool,
     text: &str,
     bindings: &[Binding],
 ) -> Result<usize, Cause>
-    requires orderly { IsOrderly metamodel.now }
-    requires ready { IsReady metamodel.now (now work.old) }
+    requires orderly { IsOrderly unit.now.metamodel }
+    requires ready { IsReady unit.now.metamodel (now work.old) }
     requires shown { is_active ≡ true → work.old.view.is_shown ≡ true }
     requires flushing { flushes ≡ true → is_active ≡ true }
-    requires sound { IsSound metamodel.now (now work.old).view }
+    requires sound { IsSound unit.now.metamodel (now work.old).view }
     requires rising { T (is_sorted identity_cmp (now work.old).view) }
-    requires distinct { has_distinct_entries metamodel.now (now work.old) ≡ true }
+    requires distinct { has_distinct_entries unit.now.metamodel (now work.old) ≡ true }
     requires then_sound { updates.StaysSound flushes
-        (world_of B.meaning metamodel.now registry.now) (now work.old) }
+        (world_of_unit B.meaning unit.now) (now work.old) }
     requires bound { AreInHeap work.old.objects.now bindings.now }
-    ensures meets { let world = world_of B.meaning metamodel.now registry.now in
+    ensures meets { let world = world_of_unit B.meaning unit.now in
         Meets result (now work.new)
         (updates.execute_update world is_active flushes text.now bindings.now (now work.old)) }
     ensures representable { OnOk result ((v : Work)
-        → queries.flush_if flushes (world_of B.meaning metamodel.now registry.now) (now work.old)
+        → queries.flush_if flushes (world_of_unit B.meaning unit.now) (now work.old)
         ≡ Done tt v → all_representable v.view ≡ true
         → all_representable (now work.new).view ≡ true) }
     ensures since { since work.new ≡ since work.old }
 {
-    let statement = judged(alloc, metamodel, work, is_active, text, bindings)?;
-    flush_if(alloc, metamodel, registry, work, flushes)?;
-    run(alloc, metamodel, registry, work, &statement)
+    let statement = judged(alloc, &unit.metamodel, work, is_active, text, bindings)?;
+    flush_if(alloc, unit, work, flushes)?;
+    run(alloc, unit, work, &statement)
 }

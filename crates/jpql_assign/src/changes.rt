@@ -7,8 +7,8 @@ ghost use Rattle.jpql_plan.specs.Bulk as bulk;
 
 use crate::members::{assigned, copied};
 use crate::refused::Refused;
-use jpa_behaviour::{Behaviour, Registry};
-use jpa_model::{Member, Metamodel};
+use jpa_behaviour::{Behaviour, ServedUnit};
+use jpa_model::Member;
 use jpa_stored::Stored;
 use jpa_value::Identity;
 use jpql_bulk::Change;
@@ -18,18 +18,17 @@ use std::alloc::Global;
 /// The members of an object set, as written.
 fn all_assigned<'a, B: Behaviour>(
     alloc: Global,
-    metamodel: &Metamodel,
-    registry: &Registry<B>,
+    unit: &ServedUnit<B>,
     object: Stored,
     members: &[(Member, Seen<'a>)],
 ) -> Result<Stored, Refused>
     ensures { Assigns same result
-        (bulk.all_assigned metamodel.now (throws_in B.meaning registry.now) object
+        (bulk.all_assigned unit.now.metamodel (throws_in B.meaning unit.now.registry) object
         (members_in members.now)) }
 {
     let mut made = object;
     for (member, datum) in members {
-        made = assigned(alloc, metamodel, registry, made, *member, datum)?;
+        made = assigned(alloc, unit, made, *member, datum)?;
     }
     Ok(made)
 }
@@ -41,17 +40,16 @@ fn all_assigned<'a, B: Behaviour>(
 /// assignment by assignment. `Memory` where a growth was refused.
 pub fn assign<'a, B: Behaviour>(
     alloc: Global,
-    metamodel: &Metamodel,
-    registry: &Registry<B>,
+    unit: &ServedUnit<B>,
     changes: &[Change<'a>],
 ) -> Result<Vec<(Identity, Stored)>, Refused>
-    ensures { Assigns (λ v. v.items) result (bulk.each_assigned metamodel.now
-        (throws_in B.meaning registry.now) (map change_in changes.now)) }
+    ensures { Assigns (λ v. v.items) result (bulk.each_assigned unit.now.metamodel
+        (throws_in B.meaning unit.now.registry) (map change_in changes.now)) }
 {
     let mut made = Vec::new(alloc);
     for change in changes {
         let old = copied(change.object.stored)?;
-        let new = all_assigned(alloc, metamodel, registry, old, &change.members)?;
+        let new = all_assigned(alloc, unit, old, &change.members)?;
         made.push((copied(change.object.id)?, new))?;
     }
     Ok(made)

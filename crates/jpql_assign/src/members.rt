@@ -8,7 +8,7 @@ ghost use Rattle.jpql_plan.specs.Bulk as bulk;
 
 use crate::converters::{is_too_long, throws};
 use crate::refused::Refused;
-use jpa_behaviour::{Behaviour, Registry};
+use jpa_behaviour::{Behaviour, ServedUnit};
 use jpa_model::{Attribute, Member, Metamodel};
 use jpa_stored::Stored;
 use jpa_value::{Identity, Seq, TryCopy, Value};
@@ -62,14 +62,13 @@ fn with_item<T: Drop>(items: Seq<T>, place: usize, item: T) -> Seq<T>
 
 /// An attribute set.
 fn with_attribute<'a, B: Behaviour>(
-    metamodel: &Metamodel,
-    registry: &Registry<B>,
+    unit: &ServedUnit<B>,
     object: Stored,
     place: usize,
     datum: &Seen<'a>,
 ) -> Result<Stored, Refused>
     ensures { Assigns same result
-        (bulk.with_attribute metamodel.now (throws_in B.meaning registry.now) object place
+        (bulk.with_attribute unit.now.metamodel (throws_in B.meaning unit.now.registry) object place
         (seen datum.now)) }
 {
     let Some(value) = value_of(datum)? else {
@@ -78,8 +77,8 @@ fn with_attribute<'a, B: Behaviour>(
     if is_too_long(&value) {
         return Err(Refused::Limit);
     }
-    let attribute = attributes_of(metamodel, object.class).get(place);
-    if throws(registry, attribute, &value)? {
+    let attribute = attributes_of(&unit.metamodel, object.class).get(place);
+    if throws(&unit.registry, attribute, &value)? {
         return Err(Refused::Converter);
     }
     Ok(Stored {
@@ -139,19 +138,18 @@ fn with_link<'a>(
 /// A member set to what a value gave.
 pub(crate) fn assigned<'a, B: Behaviour>(
     alloc: Global,
-    metamodel: &Metamodel,
-    registry: &Registry<B>,
+    unit: &ServedUnit<B>,
     object: Stored,
     member: Member,
     datum: &Seen<'a>,
 ) -> Result<Stored, Refused>
-    ensures { Assigns same result (bulk.assigned metamodel.now (throws_in B.meaning registry.now)
-        object member (seen datum.now)) }
+    ensures { Assigns same result (bulk.assigned unit.now.metamodel
+        (throws_in B.meaning unit.now.registry) object member (seen datum.now)) }
 {
     match member {
         Member::KeyPart(_) => Ok(object),
         Member::Version => with_version(object, datum),
-        Member::Attribute(place) => with_attribute(metamodel, registry, object, place, datum),
+        Member::Attribute(place) => with_attribute(unit, object, place, datum),
         Member::Relation(place) => with_link(alloc, object, place, datum),
     }
 }

@@ -1,17 +1,17 @@
 use Rattle.std.proofs.lemmas.Result.{err_from_is_err_and}
-use Rattle.jpa_behaviour.specs.Registered.{world_of}
+use Rattle.jpa_behaviour.specs.Served.{world_of_unit}
 use Rattle.jpa_context.specs.Undo.{now}
 use Rattle.jpa_fetch.proofs.Loaded.{row_class, IsEntered, entered_by, load_done, load_refused, entered_shape, load_placed, load_grown, load_within}
 use Rattle.jpa_fetch.proofs.loading.load.Goals as goal
 
 pub object_of_row-requires : goal.object_of_row-requires
-object_of_row-requires g c = record { class = row_class c.args.metamodel.now (now c.args.work.now).view c.args.id.now c.args.row c.requires.placed.view c.requires.row }
+object_of_row-requires g c = record { class = row_class c.args.unit.now.metamodel (now c.args.work.now).view c.args.id.now c.args.row c.requires.placed.view c.requires.row }
 
 -- the object that stands last is a row of a shaped set
 pub callback-requires-clause-shape : goal.callback-requires-clause-shape
 callback-requires-clause-shape g c =
-    let m = c.args.metamodel.now in
-    let world = world_of g.B.Behaviour.meaning m c.args.registry.now in
+    let m = c.args.unit.now.metamodel in
+    let world = world_of_unit g.B.Behaviour.meaning c.args.unit.now in
     let w = now c.args.work.now in
     let id = c.args.id.now in
     let x = c.args.row in
@@ -25,8 +25,8 @@ callback-requires-clause-shape g c =
 -- who hears PostLoad refused
 pub returns-in_err-callback-clause-meets : goal.returns-in_err-callback-clause-meets
 returns-in_err-callback-clause-meets g c =
-    let m = c.args.metamodel.now in
-    let world = world_of g.B.Behaviour.meaning m c.args.registry.now in
+    let m = c.args.unit.now.metamodel in
+    let world = world_of_unit g.B.Behaviour.meaning c.args.unit.now in
     let w = now c.args.work.now in
     let id = c.args.id.now in
     let x = c.args.row in
@@ -42,8 +42,8 @@ returns-in_err-callback-clause-meets g c =
 -- or it was told
 pub returns-clause-meets : goal.returns-clause-meets
 returns-clause-meets g c =
-    let m = c.args.metamodel.now in
-    let world = world_of g.B.Behaviour.meaning m c.args.registry.now in
+    let m = c.args.unit.now.metamodel in
+    let world = world_of_unit g.B.Behaviour.meaning c.args.unit.now in
     let w = now c.args.work.now in
     let id = c.args.id.now in
     let x = c.args.row in
@@ -56,8 +56,8 @@ returns-clause-meets g c =
 
 pub returns-clause-within : goal.returns-clause-within
 returns-clause-within g c =
-    let m = c.args.metamodel.now in
-    let world = world_of g.B.Behaviour.meaning m c.args.registry.now in
+    let m = c.args.unit.now.metamodel in
+    let world = world_of_unit g.B.Behaviour.meaning c.args.unit.now in
     let w = now c.args.work.now in
     let id = c.args.id.now in
     let x = c.args.row in
@@ -70,8 +70,8 @@ returns-clause-within g c =
 
 pub returns-clause-placed : goal.returns-clause-placed
 returns-clause-placed g c =
-    let m = c.args.metamodel.now in
-    let world = world_of g.B.Behaviour.meaning m c.args.registry.now in
+    let m = c.args.unit.now.metamodel in
+    let world = world_of_unit g.B.Behaviour.meaning c.args.unit.now in
     let w = now c.args.work.now in
     let id = c.args.id.now in
     let x = c.args.row in
@@ -84,8 +84,8 @@ returns-clause-placed g c =
 
 pub returns-clause-grown : goal.returns-clause-grown
 returns-clause-grown g c =
-    let m = c.args.metamodel.now in
-    let world = world_of g.B.Behaviour.meaning m c.args.registry.now in
+    let m = c.args.unit.now.metamodel in
+    let world = world_of_unit g.B.Behaviour.meaning c.args.unit.now in
     let w = now c.args.work.now in
     let id = c.args.id.now in
     let x = c.args.row in

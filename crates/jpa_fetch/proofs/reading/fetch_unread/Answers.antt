@@ -1,7 +1,7 @@
 use Rattle.std.proofs.Common.{◌≡◌, ◌∙◌, ap, sym, subst, true}
 use Rattle.std.proofs.lemmas.Result.{err_from_is_err_and}
 use Rattle.jpa_value.specs.declared.refusal.Cause.{Cause}
-use Rattle.jpa_behaviour.specs.Registered.{world_of}
+use Rattle.jpa_behaviour.specs.Served.{world_of_unit}
 use Rattle.jpa_context.specs.Steps.{Done, IsRefusedAs}
 use Rattle.jpa_context.specs.Undo.{now}
 use Rattle.jpa_context.specs.Work.{state_of}
@@ -13,7 +13,7 @@ use Rattle.jpa_fetch.proofs.reading.fetch_unread.Goals as goal
 -- a member is refused
 pub returns-in_err-places-clause-meets : goal.returns-in_err-places-clause-meets
 returns-in_err-places-clause-meets g c =
-    let world = world_of g.B.Behaviour.meaning c.args.metamodel.now c.args.registry.now in
+    let world = world_of_unit g.B.Behaviour.meaning c.args.unit.now in
     let w = now c.args.work.now in
     let n = c.args.object in
     let ids = c.in_ok-ids.ids in
@@ -28,7 +28,7 @@ returns-in_err-places-clause-meets g c =
 -- or all were reached
 pub returns-clause-meets : goal.returns-clause-meets
 returns-clause-meets g c =
-    let world = world_of g.B.Behaviour.meaning c.args.metamodel.now c.args.registry.now in
+    let world = world_of_unit g.B.Behaviour.meaning c.args.unit.now in
     let w = now c.args.work.now in
     let n = c.args.object in
     let r = c.args.relation in

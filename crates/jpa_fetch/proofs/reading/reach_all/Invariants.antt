@@ -1,7 +1,7 @@
 use Rattle.std.proofs.Common.{◌≡◌, ◌<◌, drop, length}
 use Rattle.std.specs.Prelude.{All}
 use Rattle.jpa_value.specs.declared.refusal.Cause.{Cause}
-use Rattle.jpa_behaviour.specs.Registered.{world_of}
+use Rattle.jpa_behaviour.specs.Served.{world_of_unit}
 use Rattle.jpa_context.specs.Undo.{now, since}
 use Rattle.jpa_fetch.specs.Grown.{HasGrown, IsReady}
 use Rattle.jpa_fetch.specs.Load.{reach}
@@ -11,12 +11,12 @@ use Rattle.jpa_fetch.proofs.reading.reach_all.Given as goal
 
 abbrev pub invariant-loop-id : goal.invariant-loop-id
 invariant-loop-id g l =
-    let world = world_of g.B.Behaviour.meaning l.metamodel l.registry in
+    let world = world_of_unit g.B.Behaviour.meaning l.unit in
     let each = reach world Cause.EntityNotFound in
     record {
       rest : behind l.places (collect each (drop l.id-index l.ids) (now l.work)) ≡ collect each l.ids (now l.fn.work);
       within : All (λ k. k < length (now l.work).objects) l.places;
-      ready : IsReady l.metamodel (now l.work);
+      ready : IsReady l.unit.metamodel (now l.work);
       grown : HasGrown (now l.fn.work) (now l.work);
       view : l.work.view ≡ l.fn.work.view;
       since : since l.work ≡ since l.fn.work;

@@ -2,7 +2,7 @@ use Rattle.std.proofs.Common.{◌≡◌, ◌∙◌, ap, sym, subst, T}
 use Rattle.std.specs.FinMap.Entries.{is_sorted}
 use Rattle.std.proofs.lemmas.Result.{err_from_is_err_and}
 use Rattle.jpa_value.specs.Value.{identity_cmp}
-use Rattle.jpa_behaviour.specs.Registered.{world_of}
+use Rattle.jpa_behaviour.specs.Served.{world_of_unit}
 use Rattle.jpa_context.specs.Steps.{IsRefusedAs, Meets}
 use Rattle.jpa_context.specs.Undo.{now, Since}
 use Rattle.jpa_open.specs.Opened as opened
@@ -17,13 +17,13 @@ use Rattle.jpa_flush.proofs.flushing.flush.Goals as goal
 
 pub returns-in_err-persist_reachable-clause-meets : goal.returns-in_err-persist_reachable-clause-meets
 returns-in_err-persist_reachable-clause-meets g c =
-    let world = world_of g.B.Behaviour.meaning c.args.metamodel.now c.args.registry.now in
+    let world = world_of_unit g.B.Behaviour.meaning c.args.unit.now in
     let p = err_from_is_err_and c.from_residual.result c.from_residual.ensures.1 in
     rw (p.1, p.2) (refused_after c.in_err-persist_reachable.field-0.0 (now c.persist_reachable.new.work).events (persist_reachable world (now c.args.work.now)) (λ _. orphaning world) c.in_err-persist_reachable.ensures.meets)
 
 pub returns-in_err-remove_orphans-clause-meets : goal.returns-in_err-remove_orphans-clause-meets
 returns-in_err-remove_orphans-clause-meets g c =
-    let world = world_of g.B.Behaviour.meaning c.args.metamodel.now c.args.registry.now in
+    let world = world_of_unit g.B.Behaviour.meaning c.args.unit.now in
     let w = now c.persist_reachable.new.work in
     let x = now c.remove_orphans.new.work in
     let r = c.in_err-remove_orphans.field-0.0 in
@@ -34,7 +34,7 @@ returns-in_err-remove_orphans-clause-meets g c =
 
 pub returns-in_err-check_links-clause-meets : goal.returns-in_err-check_links-clause-meets
 returns-in_err-check_links-clause-meets g c =
-    let world = world_of g.B.Behaviour.meaning c.args.metamodel.now c.args.registry.now in
+    let world = world_of_unit g.B.Behaviour.meaning c.args.unit.now in
     let w = now c.persist_reachable.new.work in
     let x = now c.remove_orphans.new.work in
     let r = c.in_err-check_links.field-0.0 in
@@ -45,7 +45,7 @@ returns-in_err-check_links-clause-meets g c =
 
 pub returns-in_err-tell_updates-clause-meets : goal.returns-in_err-tell_updates-clause-meets
 returns-in_err-tell_updates-clause-meets g c =
-    let world = world_of g.B.Behaviour.meaning c.args.metamodel.now c.args.registry.now in
+    let world = world_of_unit g.B.Behaviour.meaning c.args.unit.now in
     let w = now c.persist_reachable.new.work in
     let x = now c.remove_orphans.new.work in
     let v = now c.tell_updates.new.work in
@@ -59,8 +59,8 @@ returns-in_err-tell_updates-clause-meets g c =
 -- PreUpdate gave objects other values at most
 pub write_changes-requires : goal.write_changes-requires
 write_changes-requires g c =
-    let m = c.args.metamodel.now in
-    let world = world_of g.B.Behaviour.meaning m c.args.registry.now in
+    let m = c.args.unit.now.metamodel in
+    let world = world_of_unit g.B.Behaviour.meaning c.args.unit.now in
     let x = now c.remove_orphans.new.work in
     let v = now c.tell_updates.new.work in
     let u = by_updates world x v c.in_ok-tell_updates.ensures.meets in
@@ -75,7 +75,7 @@ write_changes-requires g c =
 
 pub returns-clause-meets : goal.returns-clause-meets
 returns-clause-meets g c =
-    let world = world_of g.B.Behaviour.meaning c.args.metamodel.now c.args.registry.now in
+    let world = world_of_unit g.B.Behaviour.meaning c.args.unit.now in
     let w = now c.persist_reachable.new.work in
     let x = now c.remove_orphans.new.work in
     let v = now c.tell_updates.new.work in

@@ -1,7 +1,7 @@
 use Rattle.std.proofs.Common.{◌∙◌, ◌<◌, List, length, ap, sym, subst}
 use Rattle.std.specs.Prelude.{All}
 use Rattle.std.proofs.lemmas.Result.{err_from_is_err_and}
-use Rattle.jpa_behaviour.specs.Registered.{world_of}
+use Rattle.jpa_behaviour.specs.Served.{world_of_unit}
 use Rattle.jpa_context.specs.Steps.{Meets}
 use Rattle.jpa_context.specs.Undo.{now, Since}
 use Rattle.jpa_flush.specs.declared.planning.Planned.{Planned}
@@ -15,7 +15,7 @@ use Rattle.jpa_flush.proofs.flushing.write_changes.Goals as goal
 
 pub returns-in_err-plan-clause-meets : goal.returns-in_err-plan-clause-meets
 returns-in_err-plan-clause-meets g c =
-    let world = world_of g.B.Behaviour.meaning c.args.metamodel.now c.args.registry.now in
+    let world = world_of_unit g.B.Behaviour.meaning c.args.unit.now in
     let w = now c.args.work.now in
     let p = err_from_is_err_and c.from_residual.result c.from_residual.ensures.1 in
     rw (p.1, p.2) (refused_after c.in_err-plan.field-0.0 w.events (check_actions world w) (λ _. write_all world) c.in_err-plan.ensures.ends)
@@ -23,19 +23,19 @@ returns-in_err-plan-clause-meets g c =
 -- the plan goes along the context
 pub settle-requires-clause-order : goal.settle-requires-clause-order
 settle-requires-clause-order g c =
-    let m = c.args.metamodel.now in
+    let m = c.args.unit.now.metamodel in
     let w = now c.args.work.now in
     ap (λ ps. is_in_order ps w.context) (c.as_slice.ensures ∙ c.in_ok-plan.ensures.planned) ∙ plan_in_order m w
 
 pub remember-requires : goal.remember-requires
-remember-requires g c = record { ready = settled_ready c.args.metamodel.now (now c.args.work.now) (now c.settle.new.work) c.as_slice.result.now c.in_ok-settle.ensures.ok c.requires.ready }
+remember-requires g c = record { ready = settled_ready c.args.unit.now.metamodel (now c.args.work.now) (now c.settle.new.work) c.as_slice.result.now c.in_ok-settle.ensures.ok c.requires.ready }
 
 pub write_all-requires : goal.write_all-requires
 write_all-requires g c = record { shown = ap (λ (s : Since). s.is_shown) (c.remember.ensures.since ∙ c.settle.ensures.since) ∙ c.requires.shown }
 
 pub judge_written-requires : goal.judge_written-requires
 judge_written-requires g c =
-    let m = c.args.metamodel.now in
+    let m = c.args.unit.now.metamodel in
     let w = now c.args.work.now in
     let first = c.as_slice.ensures ∙ c.in_ok-plan.ensures.planned in
     let second = c.as_slice-2.ensures ∙ c.in_ok-plan.ensures.planned in
@@ -46,8 +46,8 @@ judge_written-requires g c =
 
 pub returns-in_err-judge_written-clause-meets : goal.returns-in_err-judge_written-clause-meets
 returns-in_err-judge_written-clause-meets g c =
-    let m = c.args.metamodel.now in
-    let world = world_of g.B.Behaviour.meaning m c.args.registry.now in
+    let m = c.args.unit.now.metamodel in
+    let world = world_of_unit g.B.Behaviour.meaning c.args.unit.now in
     let w = now c.args.work.now in
     let first = c.as_slice.ensures ∙ c.in_ok-plan.ensures.planned in
     let second = c.as_slice-2.ensures ∙ c.in_ok-plan.ensures.planned in
@@ -58,7 +58,7 @@ returns-in_err-judge_written-clause-meets g c =
 
 pub tell_written-requires : goal.tell_written-requires
 tell_written-requires g c =
-    let m = c.args.metamodel.now in
+    let m = c.args.unit.now.metamodel in
     let w = now c.args.work.now in
     let first = c.as_slice.ensures ∙ c.in_ok-plan.ensures.planned in
     let second = c.as_slice-2.ensures ∙ c.in_ok-plan.ensures.planned in
@@ -71,8 +71,8 @@ tell_written-requires g c =
 
 pub returns-clause-meets : goal.returns-clause-meets
 returns-clause-meets g c =
-    let m = c.args.metamodel.now in
-    let world = world_of g.B.Behaviour.meaning m c.args.registry.now in
+    let m = c.args.unit.now.metamodel in
+    let world = world_of_unit g.B.Behaviour.meaning c.args.unit.now in
     let w = now c.args.work.now in
     let first = c.as_slice.ensures ∙ c.in_ok-plan.ensures.planned in
     let second = c.as_slice-2.ensures ∙ c.in_ok-plan.ensures.planned in

@@ -1,6 +1,6 @@
 use Rattle.std.proofs.Common.{◌≡◌, ◌<◌, ◌∙◌, ap, subst, get_or, length, List, arith, rules}
 use Rattle.std.proofs.lemmas.Result.{err_from_is_err_and}
-use Rattle.jpa_behaviour.specs.Registered.{world_of}
+use Rattle.jpa_behaviour.specs.Served.{world_of_unit}
 use Rattle.jpa_context.specs.declared.Entry.{Entry}
 use Rattle.jpa_context.specs.Steps.{IsRefusedAs, Done}
 use Rattle.jpa_context.specs.Undo.{now}
@@ -13,7 +13,7 @@ use Rattle.jpa_flush.proofs.orphans.remove_orphans.Goals as goal
 
 pub returns-in_err-remove_orphans_of-clause-meets : goal.returns-in_err-remove_orphans_of-clause-meets
 returns-in_err-remove_orphans_of-clause-meets g c =
-    let world = world_of g.B.Behaviour.meaning c.args.metamodel.now c.args.registry.now in
+    let world = world_of_unit g.B.Behaviour.meaning c.args.unit.now in
     let u = now c.args.work.now in
     let w = now c.loop-i.work in
     let i = c.loop-i.i in
@@ -29,8 +29,8 @@ returns-in_err-remove_orphans_of-clause-meets g c =
 
 pub loop-i-preserved : goal.loop-i-preserved
 loop-i-preserved g c =
-    let m = c.args.metamodel.now in
-    let world = world_of g.B.Behaviour.meaning m c.args.registry.now in
+    let m = c.args.unit.now.metamodel in
+    let world = world_of_unit g.B.Behaviour.meaning c.args.unit.now in
     let u = now c.args.work.now in
     let w = now c.loop-i.work in
     let w' = now c.remove_orphans_of.new.work in

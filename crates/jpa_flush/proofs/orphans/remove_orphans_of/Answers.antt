@@ -1,5 +1,5 @@
 use Rattle.std.proofs.Common.{◌∙◌}
-use Rattle.jpa_behaviour.specs.Registered.{world_of}
+use Rattle.jpa_behaviour.specs.Served.{world_of_unit}
 use Rattle.jpa_context.specs.Undo.{now}
 use Rattle.jpa_ops.proofs.Front.{IsOnward}
 use Rattle.jpa_ops.proofs.Going.{done_holds}
@@ -10,8 +10,8 @@ use Rattle.jpa_flush.proofs.orphans.remove_orphans_of.Goals as goal
 
 pub loop-id-preserved : goal.loop-id-preserved
 loop-id-preserved g c =
-    let m = c.args.metamodel.now in
-    let world = world_of g.B.Behaviour.meaning m c.args.registry.now in
+    let m = c.args.unit.now.metamodel in
+    let world = world_of_unit g.B.Behaviour.meaning c.args.unit.now in
     let u = now c.args.work.now in
     let w = now c.loop-id.work in
     let w' = now c.remove_orphan.new.work in

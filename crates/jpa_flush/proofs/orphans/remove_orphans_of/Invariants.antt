@@ -1,5 +1,5 @@
 use Rattle.std.proofs.Common.{◌≡◌, drop}
-use Rattle.jpa_behaviour.specs.Registered.{world_of}
+use Rattle.jpa_behaviour.specs.Served.{world_of_unit}
 use Rattle.jpa_context.specs.Steps.{each}
 use Rattle.jpa_context.specs.Undo.{now, since}
 use Rattle.jpa_ops.proofs.Front.{IsOnward}
@@ -10,9 +10,9 @@ use Rattle.jpa_flush.proofs.orphans.remove_orphans_of.Given as goal
 -- what is left gives what all was to give
 abbrev pub invariant-loop-id : goal.invariant-loop-id
 invariant-loop-id g l =
-    let world = world_of g.B.Behaviour.meaning l.metamodel l.registry in record {
+    let world = world_of_unit g.B.Behaviour.meaning l.unit in record {
       rest : each (remove_orphan world) (drop l.id-index l.id-items) (now l.work) ≡ removed_of world l.object (now l.fn.work);
-      goes : IsOnward l.metamodel (now l.fn.work) (now l.work);
+      goes : IsOnward l.unit.metamodel (now l.fn.work) (now l.work);
       view : (l.work).view ≡ (l.fn.work).view;
       since : since l.work ≡ since l.fn.work;
     }

@@ -4,7 +4,7 @@ use Rattle.std.specs.List.{flat_map}
 use Rattle.std.specs.Option.{option_to_list}
 use Rattle.std.proofs.lemmas.List.{append-nil, take_all}
 use Rattle.std.proofs.lemmas.Result.{err_from_is_err_and}
-use Rattle.jpa_behaviour.specs.Registered.{world_of}
+use Rattle.jpa_behaviour.specs.Served.{world_of_unit}
 use Rattle.jpa_context.specs.declared.Entry.{Entry}
 use Rattle.jpa_context.specs.Undo.{now}
 use Rattle.jpa_context.specs.Steps.{Done, IsRefusedAs}
@@ -18,8 +18,8 @@ use Rattle.jpa_flush.proofs.planning.plan.Goals.{in-Some+in_ok-push, in_default}
 
 pub returns-in_err-planned-clause-ends : goal.returns-in_err-planned-clause-ends
 returns-in_err-planned-clause-ends g c =
-    let m = c.args.metamodel.now in
-    let world = world_of g.B.Behaviour.meaning m c.args.registry.now in
+    let m = c.args.unit.now.metamodel in
+    let world = world_of_unit g.B.Behaviour.meaning c.args.unit.now in
     let w = now c.args.work.now in
     let i = c.loop-entry.entry-index in
     let e = c.entry-item.result in
@@ -33,14 +33,14 @@ returns-in_err-planned-clause-ends g c =
 
 pub returns-clause-planned : goal.returns-clause-planned
 returns-clause-planned g c =
-    let m = c.args.metamodel.now in
+    let m = c.args.unit.now.metamodel in
     let w = now c.args.work.now in
     c.loop-entry.invariant.planned ∙ ap (flat_map (planned_of m w)) (take_all c.loop-entry.entry-index w.context (rw c.as_slice-entry-items.ensures at c.loop-entry-test.false)) ∙ all_planned m w
 
 pub loop-entry-preserved : goal.loop-entry-preserved
 loop-entry-preserved g c =
-    let m = c.args.metamodel.now in
-    let world = world_of g.B.Behaviour.meaning m c.args.registry.now in
+    let m = c.args.unit.now.metamodel in
+    let world = world_of_unit g.B.Behaviour.meaning c.args.unit.now in
     let w = now c.args.work.now in
     let i = c.loop-entry.entry-index in
     let e = c.entry-item.result in

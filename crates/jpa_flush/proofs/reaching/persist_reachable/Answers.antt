@@ -1,6 +1,6 @@
 use Rattle.std.proofs.Common.{◌≡◌, ◌≤◌, ◌∙◌, ◌-◌, ◌<◌, ap, sym, subst, get_or, length, List, arith, rules}
 use Rattle.std.proofs.lemmas.Result.{err_from_is_err_and}
-use Rattle.jpa_behaviour.specs.Registered.{world_of}
+use Rattle.jpa_behaviour.specs.Served.{world_of_unit}
 use Rattle.jpa_context.specs.declared.Entry.{Entry}
 use Rattle.jpa_context.specs.Steps.{IsRefusedAs, Done}
 use Rattle.jpa_context.specs.Undo.{now}
@@ -11,7 +11,7 @@ use Rattle.jpa_flush.proofs.reaching.persist_reachable.Goals as goal
 
 pub returns-then-i-len-clause-meets : goal.returns-then-i-len-clause-meets
 returns-then-i-len-clause-meets g c =
-    let world = world_of g.B.Behaviour.meaning c.args.metamodel.now c.args.registry.now in
+    let world = world_of_unit g.B.Behaviour.meaning c.args.unit.now in
     let w = now c.loop-i.work in
     let bound = length (now c.args.work.now).objects in
     let ended : length w.context ≤ c.loop-i.i = omega (arith, c.if-i-len.true, c.len.ensures) in
@@ -19,7 +19,7 @@ returns-then-i-len-clause-meets g c =
 
 pub returns-in_err-persist_targets-clause-meets : goal.returns-in_err-persist_targets-clause-meets
 returns-in_err-persist_targets-clause-meets g c =
-    let world = world_of g.B.Behaviour.meaning c.args.metamodel.now c.args.registry.now in
+    let world = world_of_unit g.B.Behaviour.meaning c.args.unit.now in
     let w = now c.loop-i.work in
     let bound = length (now c.args.work.now).objects in
     let i = c.loop-i.i in
@@ -36,7 +36,7 @@ returns-in_err-persist_targets-clause-meets g c =
 
 pub loop-i-preserved : goal.loop-i-preserved
 loop-i-preserved g c =
-    let world = world_of g.B.Behaviour.meaning c.args.metamodel.now c.args.registry.now in
+    let world = world_of_unit g.B.Behaviour.meaning c.args.unit.now in
     let w = now c.loop-i.work in
     let bound = length (now c.args.work.now).objects in
     let i = c.loop-i.i in

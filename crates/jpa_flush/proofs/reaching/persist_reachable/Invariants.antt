@@ -1,5 +1,5 @@
 use Rattle.std.proofs.Common.{◌≡◌, ◌-◌, true, length}
-use Rattle.jpa_behaviour.specs.Registered.{world_of}
+use Rattle.jpa_behaviour.specs.Served.{world_of_unit}
 use Rattle.jpa_context.specs.Undo.{now, since}
 use Rattle.jpa_fetch.specs.Grown.{IsReady}
 use Rattle.jpa_ops.specs.Names.{has_distinct_entries}
@@ -8,11 +8,11 @@ use Rattle.jpa_flush.proofs.reaching.persist_reachable.Given as goal
 
 abbrev pub invariant-loop-i : goal.invariant-loop-i
 invariant-loop-i g l =
-    let world = world_of g.B.Behaviour.meaning l.metamodel l.registry in
+    let world = world_of_unit g.B.Behaviour.meaning l.unit in
     let bound = length (now l.fn.work).objects in record {
       rest : persist_from world (bound - l.i) l.i (now l.work) ≡ persist_from world bound 0 (now l.fn.work);
-      ready : IsReady l.metamodel (now l.work);
-      named : has_distinct_entries l.metamodel (now l.fn.work) ≡ true → has_distinct_entries l.metamodel (now l.work) ≡ true;
+      ready : IsReady l.unit.metamodel (now l.work);
+      named : has_distinct_entries l.unit.metamodel (now l.fn.work) ≡ true → has_distinct_entries l.unit.metamodel (now l.work) ≡ true;
       view : (l.work).view ≡ (l.fn.work).view;
       since : since l.work ≡ since l.fn.work;
     }

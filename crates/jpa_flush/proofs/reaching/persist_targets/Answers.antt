@@ -8,4 +8,4 @@ pub persist_each-requires-clause-within : goal.persist_each-requires-clause-with
 persist_each-requires-clause-within g c =
     let w = now c.args.work.now in
     subst (All (λ (k : ℕ). k < length w.objects)) (sym (c.as_slice.ensures ∙ c.in_ok-targets-in-Managed.ensures.ok))
-    (targets_within c.args.metamodel.now w c.requires.ready.linked c.args.object c.requires.object)
+    (targets_within c.args.unit.now.metamodel w c.requires.ready.linked c.args.object c.requires.object)

@@ -1,5 +1,5 @@
 use Rattle.std.proofs.Common.{◌≡◌, ◌∙◌, ◌<◌, ap, sym, length, get_or, arith}
-use Rattle.jpa_behaviour.specs.Registered.{world_of}
+use Rattle.jpa_behaviour.specs.Served.{world_of_unit}
 use Rattle.jpa_context.specs.Steps.{Done}
 use Rattle.jpa_context.specs.Undo.{now}
 use Rattle.jpa_flush.specs.Plan.{step_of, update}
@@ -9,8 +9,8 @@ use Rattle.jpa_flush.proofs.telling.tell_updates.Goals as goal
 
 pub loop-i-preserved : goal.loop-i-preserved
 loop-i-preserved g c =
-    let m = c.args.metamodel.now in
-    let world = world_of g.B.Behaviour.meaning m c.args.registry.now in
+    let m = c.args.unit.now.metamodel in
+    let world = world_of_unit g.B.Behaviour.meaning c.args.unit.now in
     let w0 = now c.args.work.now in
     let w = now c.loop-i.work in
     let w' = now c.tell_update.new.work in

@@ -1,5 +1,5 @@
 use Rattle.std.proofs.Common.{◌∙◌}
-use Rattle.jpa_behaviour.specs.Registered.{world_of}
+use Rattle.jpa_behaviour.specs.Served.{world_of_unit}
 use Rattle.jpa_context.specs.Undo.{now}
 use Rattle.jpa_flush.specs.Plan.{tell}
 use Rattle.jpa_flush.proofs.Rounds.{next_done}
@@ -8,7 +8,7 @@ use Rattle.jpa_flush.proofs.telling.tell_written.Goals as goal
 
 pub loop-planned-preserved : goal.loop-planned-preserved
 loop-planned-preserved g c =
-    let world = world_of g.B.Behaviour.meaning c.args.metamodel.now c.args.registry.now in
+    let world = world_of_unit g.B.Behaviour.meaning c.args.unit.now in
     let w = now c.loop-planned.work in
     let w' = now c.callback.new.work in
     let p = c.planned-item.result in

@@ -1,5 +1,5 @@
 use Rattle.std.proofs.Common.{◌≡◌, drop}
-use Rattle.jpa_behaviour.specs.Registered.{world_of}
+use Rattle.jpa_behaviour.specs.Served.{world_of_unit}
 use Rattle.jpa_context.specs.Undo.{now, since}
 use Rattle.jpa_flush.specs.Plan.{told_by}
 use Rattle.jpa_flush.proofs.Updated.{IsUpdated}
@@ -7,7 +7,7 @@ use Rattle.jpa_flush.proofs.telling.tell_written.Given as goal
 
 abbrev pub invariant-loop-planned : goal.invariant-loop-planned
 invariant-loop-planned g l = record {
-  rest : told_by (world_of g.B.Behaviour.meaning l.metamodel l.registry) (drop l.planned-index l.plan) (now l.work) ≡ told_by (world_of g.B.Behaviour.meaning l.metamodel l.registry) l.plan (now l.fn.work);
+  rest : told_by (world_of_unit g.B.Behaviour.meaning l.unit) (drop l.planned-index l.plan) (now l.work) ≡ told_by (world_of_unit g.B.Behaviour.meaning l.unit) l.plan (now l.fn.work);
   same : IsUpdated (now l.fn.work) (now l.work);
   since : since l.work ≡ since l.fn.work;
 }

@@ -1,5 +1,5 @@
 use Rattle.std.proofs.Common.{◌≡◌, take, drop}
-use Rattle.jpa_behaviour.specs.Registered.{world_of}
+use Rattle.jpa_behaviour.specs.Served.{world_of_unit}
 use Rattle.jpa_heap.specs.Shape.{HasShape}
 use Rattle.jpa_lifecycle.specs.Callbacks.{fired_by}
 use Rattle.jpa_lifecycle.proofs.Turns.{behind}
@@ -8,9 +8,9 @@ use Rattle.jpa_lifecycle.proofs.firing.fire.Given as goal
 -- what is left to run, behind what ran
 abbrev pub invariant-loop-i : goal.invariant-loop-i
 invariant-loop-i g l =
-    let world = world_of g.B.Behaviour.meaning l.metamodel l.registry in
+    let world = world_of_unit g.B.Behaviour.meaning l.unit in
     record {
       names : l.ran.items ≡ l.fn.names;
       rest : behind (take l.i l.fn.names) (fired_by world l.event (drop l.i l.fn.names) l.object) ≡ fired_by world l.event l.fn.names l.fn.object;
-      shape : HasShape l.metamodel l.object;
+      shape : HasShape l.unit.metamodel l.object;
     }

@@ -1,7 +1,7 @@
 use Rattle.std.proofs.Common.{◌≡◌, drop}
 use Rattle.std.specs.List.{enumerate_from}
 use Rattle.jpa_model.specs.Chains.{relations_of}
-use Rattle.jpa_behaviour.specs.Registered.{world_of}
+use Rattle.jpa_behaviour.specs.Served.{world_of_unit}
 use Rattle.jpa_context.specs.Steps.{each}
 use Rattle.jpa_context.specs.Undo.{now, since}
 use Rattle.jpa_context.specs.Work.{object}
@@ -12,11 +12,11 @@ use Rattle.jpa_merge.proofs.copying.copy_relations.Given as goal
 abbrev pub invariant-loop-relation : goal.invariant-loop-relation
 invariant-loop-relation g l =
     let w = now l.fn.work in
-    let copy = copy_relation (world_of g.B.Behaviour.meaning l.metamodel l.registry) l.images l.image in
-    let relations = relations_of l.metamodel (object w (l.image).node).class in
+    let copy = copy_relation (world_of_unit g.B.Behaviour.meaning l.unit) l.images l.image in
+    let relations = relations_of l.unit.metamodel (object w (l.image).node).class in
     record {
       rest : each copy (enumerate_from l.relation (drop l.relation relations)) (now l.work) ≡ each copy (enumerate_from 0 relations) w;
-      ready : IsReady l.metamodel (now l.work);
+      ready : IsReady l.unit.metamodel (now l.work);
       grown : HasGrown w (now l.work);
       view : l.work.view ≡ l.fn.work.view;
       since : since l.work ≡ since l.fn.work;

@@ -1,11 +1,11 @@
 use Rattle.std.proofs.Common.{◌∙◌, sym}
-use Rattle.jpa_behaviour.specs.Registered.{world_of}
+use Rattle.jpa_behaviour.specs.Served.{world_of_unit}
 use Rattle.jpa_context.specs.Undo.{now}
 use Rattle.jpa_merge.proofs.Sought.{copies}
 use Rattle.jpa_merge.proofs.copying.copy_to_other.Goals as goal
 
 pub returns-clause-meets : goal.returns-clause-meets
 returns-clause-meets g c =
-    let world = world_of g.B.Behaviour.meaning c.args.metamodel.now c.args.registry.now in
+    let world = world_of_unit g.B.Behaviour.meaning c.args.unit.now in
     copies world c.args.images.now c.args.image (now c.args.work.now) (now c.copy_values.new.work) (now c.copy_relations.new.work) c.copy_relations.result
     (sym c.is_current.ensures ∙ c.if-not-is_current.false) c.in_ok-copy_values.ensures.ok c.copy_relations.ensures.meets

@@ -1,6 +1,6 @@
 use Rattle.std.proofs.Common.{◌≡◌, ◌∙◌, List, ap, sym, get_or, None}
 use Rattle.std.proofs.lemmas.List.{get_or_default}
-use Rattle.jpa_behaviour.specs.Registered.{world_of}
+use Rattle.jpa_behaviour.specs.Served.{world_of_unit}
 use Rattle.jpa_heap.specs.declared.LiveObject.{LiveObject}
 use Rattle.jpa_heap.specs.Objects.{identity_of, no_object}
 use Rattle.jpa_context.specs.Undo.{now}
@@ -10,8 +10,8 @@ use Rattle.jpa_merge.proofs.imaging.image_elsewhere.Goals as goal
 
 pub returns-in-None-clause-meets : goal.returns-in-None-clause-meets
 returns-in-None-clause-meets g c =
-    let m = c.args.metamodel.now in
-    let world = world_of g.B.Behaviour.meaning m c.args.registry.now in
+    let m = c.args.unit.now.metamodel in
+    let world = world_of_unit g.B.Behaviour.meaning c.args.unit.now in
     let w = now c.args.work.now in
     let n = c.args.node in
     let x = c.index-as_slice-node.result in

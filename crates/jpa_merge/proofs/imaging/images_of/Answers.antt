@@ -1,6 +1,6 @@
 use Rattle.std.proofs.Common.{◌≡◌, ◌∙◌, ◌++◌, ◌+◌, ◌∷◌, [], drop, ap, sym, subst}
 use Rattle.std.proofs.lemmas.List.Elements.{All-push}
-use Rattle.jpa_behaviour.specs.Registered.{world_of}
+use Rattle.jpa_behaviour.specs.Served.{world_of_unit}
 use Rattle.jpa_cascade.specs.Waves.{live_nodes}
 use Rattle.jpa_context.specs.declared.work.UnitOfWork.{UnitOfWork}
 use Rattle.jpa_context.specs.Undo.{now, since}
@@ -17,8 +17,8 @@ use Rattle.jpa_merge.proofs.imaging.images_of.Goals.{in-Live+in_ok-image+in_ok-p
 
 pub loop-node-preserved : goal.loop-node-preserved
 loop-node-preserved g c =
-    let m = c.args.metamodel.now in
-    let image = image_of_node (world_of g.B.Behaviour.meaning m c.args.registry.now) in
+    let m = c.args.unit.now.metamodel in
+    let image = image_of_node (world_of_unit g.B.Behaviour.meaning c.args.unit.now) in
     let w0 = now c.args.work.now in
     let w = now c.loop-node.work in
     let nodes = c.args.nodes.now in

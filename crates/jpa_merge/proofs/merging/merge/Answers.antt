@@ -15,7 +15,7 @@ use Rattle.jpa_merge.proofs.merging.merge.Goals as goal
 -- each node was there as the merge began
 pub images_of-requires-clause-there : goal.images_of-requires-clause-there
 images_of-requires-clause-there g c =
-    let m = c.args.metamodel.now in
+    let m = c.args.unit.now.metamodel in
     let w = now c.args.work.now in
     subst (λ (nodes : List Node). All (IsThere w) nodes) (sym (c.as_slice.ensures ∙ c.in_ok-nodes.ensures.waves))
     (waves_are_there m Operation.Merge w c.args.object (linked_within w.objects (c.requires.ready).linked) ((c.requires.ready).placed).entries c.requires.object)

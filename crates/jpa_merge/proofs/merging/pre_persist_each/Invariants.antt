@@ -1,5 +1,5 @@
 use Rattle.std.proofs.Common.{◌≡◌, drop}
-use Rattle.jpa_behaviour.specs.Registered.{world_of}
+use Rattle.jpa_behaviour.specs.Served.{world_of_unit}
 use Rattle.jpa_context.specs.Steps.{each}
 use Rattle.jpa_context.specs.Undo.{now, since}
 use Rattle.jpa_fetch.specs.Grown.{HasGrown, IsReady}
@@ -8,10 +8,10 @@ use Rattle.jpa_merge.proofs.merging.pre_persist_each.Given as goal
 
 abbrev pub invariant-loop-image : goal.invariant-loop-image
 invariant-loop-image g l =
-    let tell = pre_persist_fresh (world_of g.B.Behaviour.meaning l.metamodel l.registry) in
+    let tell = pre_persist_fresh (world_of_unit g.B.Behaviour.meaning l.unit) in
     record {
       rest : each tell (drop l.image-index l.images) (now l.work) ≡ each tell l.images (now l.fn.work);
-      ready : IsReady l.metamodel (now l.work);
+      ready : IsReady l.unit.metamodel (now l.work);
       grown : HasGrown (now l.fn.work) (now l.work);
       view : l.work.view ≡ l.fn.work.view;
       since : since l.work ≡ since l.fn.work;

@@ -1,7 +1,7 @@
 use Rattle.std.proofs.Common.{sym}
 use Rattle.jpa_value.specs.declared.refusal.Cause.{Cause}
 use Rattle.jpa_value.specs.declared.refusal.State.{State}
-use Rattle.jpa_behaviour.specs.Registered.{world_of}
+use Rattle.jpa_behaviour.specs.Served.{world_of_unit}
 use Rattle.jpa_context.specs.Undo.{now}
 use Rattle.jpa_merge.proofs.Sought.{reaches_row}
 use Rattle.jpa_merge.proofs.replacing.reach_target.Goals as goal
@@ -9,6 +9,6 @@ use Rattle.jpa_merge.proofs.replacing.reach_target.Goals as goal
 -- the row was loaded
 pub returns-clause-meets : goal.returns-clause-meets
 returns-clause-meets g c =
-    let world = world_of g.B.Behaviour.meaning c.args.metamodel.now c.args.registry.now in
+    let world = world_of_unit g.B.Behaviour.meaning c.args.unit.now in
     reaches_row world c.args.id.now c.in_ok-row.row c.in-Some-get.row.now (now c.args.work.now) (now c.load.new.work) (sym c.in_default.ensures.instance) (sym c.in-Some-get.ensures) c.in_ok-row.ensures.equal
     (Cause.IllegalState State.Reference) c.load.result c.load.ensures.meets

@@ -1,9 +1,9 @@
 use Rattle.std.proofs.Common.{rules}
-use Rattle.jpa_behaviour.specs.Registered.{world_of}
+use Rattle.jpa_behaviour.specs.Served.{world_of_unit}
 use Rattle.jpa_ops.proofs.persisting.persist_new.Goals as goal
 
 pub returns-in_err-become_managed-clause-meets : goal.returns-in_err-become_managed-clause-meets
-returns-in_err-become_managed-clause-meets g c = search (rules, c.become_managed.ensures.meets (world_of g.B.Behaviour.meaning c.args.metamodel.now c.args.registry.now))
+returns-in_err-become_managed-clause-meets g c = search (rules, c.become_managed.ensures.meets (world_of_unit g.B.Behaviour.meaning c.args.unit.now))
 
 pub returns-clause-meets : goal.returns-clause-meets
-returns-clause-meets g c = search (rules, c.become_managed.ensures.meets (world_of g.B.Behaviour.meaning c.args.metamodel.now c.args.registry.now))
+returns-clause-meets g c = search (rules, c.become_managed.ensures.meets (world_of_unit g.B.Behaviour.meaning c.args.unit.now))

@@ -1,5 +1,5 @@
 use Rattle.std.proofs.Common.{◌∙◌, refl, ap}
-use Rattle.jpa_behaviour.specs.Registered.{world_of}
+use Rattle.jpa_behaviour.specs.Served.{world_of_unit}
 use Rattle.jpa_open.specs.Opened as opened
 use Rattle.jpa_context.specs.Steps.{each}
 use Rattle.jpa_context.specs.Undo.{now}
@@ -12,11 +12,11 @@ use Rattle.jpa_ops.proofs.removing.remove.Goals as goal
 
 pub loop-node-init : goal.loop-node-init
 loop-node-init g c =
-    let world = world_of g.B.Behaviour.meaning c.args.metamodel.now c.args.registry.now in
+    let world = world_of_unit g.B.Behaviour.meaning c.args.unit.now in
     let w = now c.args.work.now in
     record {
       rest = ap (λ xs. each (remove_node world) xs w) (c.as_slice-node-items.ensures ∙ c.in_ok-nodes.ensures.waves);
-      goes = from_itself c.args.metamodel.now w c.requires.ready;
+      goes = from_itself c.args.unit.now.metamodel w c.requires.ready;
       view = refl;
       since = refl;
     }
@@ -24,7 +24,7 @@ loop-node-init g c =
 -- a node of the waves is there still
 pub remove_node-requires-clause-there : goal.remove_node-requires-clause-there
 remove_node-requires-clause-there g c =
-    let m = c.args.metamodel.now in
+    let m = c.args.unit.now.metamodel in
     let w0 = now c.args.work.now in
     let w = now c.loop-node.work in
     let x = c.node-item.result in
@@ -34,8 +34,8 @@ remove_node-requires-clause-there g c =
 
 pub loop-node-preserved : goal.loop-node-preserved
 loop-node-preserved g c =
-    let m = c.args.metamodel.now in
-    let world = world_of g.B.Behaviour.meaning m c.args.registry.now in
+    let m = c.args.unit.now.metamodel in
+    let world = world_of_unit g.B.Behaviour.meaning c.args.unit.now in
     let w0 = now c.args.work.now in
     let w = now c.loop-node.work in
     let w' = now c.remove_node.new.work in

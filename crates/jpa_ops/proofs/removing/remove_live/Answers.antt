@@ -1,6 +1,6 @@
 use Rattle.std.proofs.Common.{subst}
 use Rattle.std.proofs.lemmas.Result.{on_ok_weaker}
-use Rattle.jpa_behaviour.specs.Registered.{world_of}
+use Rattle.jpa_behaviour.specs.Served.{world_of_unit}
 use Rattle.jpa_context.specs.Steps.{Meets}
 use Rattle.jpa_context.specs.Undo.{now}
 use Rattle.jpa_ops.specs.States.{remove_live, remove_one}
@@ -11,8 +11,8 @@ use Rattle.jpa_ops.proofs.removing.remove_live.Goals as goal
 
 pub returns-clause-ready : goal.returns-clause-ready
 returns-clause-ready g c =
-    let m = c.args.metamodel.now in
-    let world = world_of g.B.Behaviour.meaning m c.args.registry.now in
+    let m = c.args.unit.now.metamodel in
+    let world = world_of_unit g.B.Behaviour.meaning c.args.unit.now in
     let w = now c.args.work.now in
     let n = c.args.object in
     let r = c.remove_one.result in
@@ -22,8 +22,8 @@ returns-clause-ready g c =
 
 pub returns-clause-grown : goal.returns-clause-grown
 returns-clause-grown g c =
-    let m = c.args.metamodel.now in
-    let world = world_of g.B.Behaviour.meaning m c.args.registry.now in
+    let m = c.args.unit.now.metamodel in
+    let world = world_of_unit g.B.Behaviour.meaning c.args.unit.now in
     let w = now c.args.work.now in
     let n = c.args.object in
     let r = c.remove_one.result in

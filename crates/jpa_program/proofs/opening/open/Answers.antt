@@ -9,7 +9,7 @@ use Rattle.jpa_program.proofs.opening.open.Goals as goal
 pub returns-in-Ok-new-clause-cells : goal.returns-in-Ok-new-clause-cells
 returns-in-Ok-new-clause-cells g c =
     let new = c.in-Ok-new.ensures in
-    made_holds g.S.Store g.B.Behaviour.meaning c.args.metamodel c.args.registry c.in-Ok.opened.0 c.in-Ok.opened.1.set c.in-Ok.opened.1.numbers c.in-Ok-new.provider new.model new.registry new.machine new.rows c.in-Ok.ensures.stand
+    made_holds g.S.Store g.B.Behaviour.meaning c.args.unit.metamodel c.args.unit.registry c.in-Ok.opened.0 c.in-Ok.opened.1.set c.in-Ok.opened.1.numbers c.in-Ok-new.provider new.model new.registry new.machine new.rows c.in-Ok.ensures.stand
 
 pub returns-in-Ok-new-clause-opens : goal.returns-in-Ok-new-clause-opens
 returns-in-Ok-new-clause-opens g c =
@@ -17,7 +17,7 @@ returns-in-Ok-new-clause-opens g c =
 
 pub returns-in-Ok-new-clause-counted : goal.returns-in-Ok-new-clause-counted
 returns-in-Ok-new-clause-counted g c =
-    subst (λ (space : Space g.row.S.Denot). OpensReading g.S.Store c.args.conn space.store (length (schema_of c.args.metamodel).tables)) (sym c.in-Ok-new.ensures.rows) c.in-Ok.ensures.counted
+    subst (λ (space : Space g.row.S.Denot). OpensReading g.S.Store c.args.conn space.store (length (schema_of c.args.unit.metamodel).tables)) (sym c.in-Ok-new.ensures.rows) c.in-Ok.ensures.counted
 
 pub returns-in-Err-new-clause-kept : goal.returns-in-Err-new-clause-kept
 returns-in-Err-new-clause-kept g c =

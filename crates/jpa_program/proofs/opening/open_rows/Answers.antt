@@ -1,6 +1,6 @@
 use Rattle.std.proofs.Common.{◌≡◌, ◌∙◌, ap, subst, sym, Err}
 use Rattle.sqlite.specs.Held.{Held}
-use Rattle.jpa_behaviour.specs.Registered.{world_of}
+use Rattle.jpa_behaviour.specs.Served.{world_of_unit}
 use Rattle.jpa_rowspace.specs.Space.{Space}
 use Rattle.jpa_program.specs.Opening.{KeepsOrMakes, EnduresMaking, IsOpenCause}
 use Rattle.jpa_cells_meaning.specs.Store.{IsClean, HasFault}
@@ -19,8 +19,8 @@ returns-in-Ok-read_store-clause-crash g c =
 pub returns-in-Err-read_store-clause-refused : goal.returns-in-Err-read_store-clause-refused
 returns-in-Err-read_store-clause-refused g c known =
     let same : c.into_connection.result ≡ c.read_store.new.space.store.conn = c.into_connection.ensures.same ∙ ap (λ (s : Space g.row.S.Denot). s.store.conn) c.space.view_is in
-    subst (λ (conn : Held g.row.S.Denot). IsOpenCause g.S.Store (world_of g.B.Behaviour.meaning c.args.metamodel.now c.args.registry.now) conn c.in-Err-read_store.cause) (sym same)
-    (damage_open g.S.Store (world_of g.B.Behaviour.meaning c.args.metamodel.now c.args.registry.now) c.read_store.new.space.store.conn c.in-Err-read_store.cause
+    subst (λ (conn : Held g.row.S.Denot). IsOpenCause g.S.Store (world_of_unit g.B.Behaviour.meaning c.args.unit.now) conn c.in-Err-read_store.cause) (sym same)
+    (damage_open g.S.Store (world_of_unit g.B.Behaviour.meaning c.args.unit.now) c.read_store.new.space.store.conn c.in-Err-read_store.cause
     (λ clean t bytes is. (c.in-Err-read_store.ensures.live clean t bytes (ap (λ e. Err e) is)).1) c.in-Err-read_store.ensures.refused)
 
 pub returns-in-Err-read_store-clause-cause : goal.returns-in-Err-read_store-clause-cause

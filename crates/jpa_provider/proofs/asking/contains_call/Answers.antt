@@ -2,7 +2,7 @@ use Rattle.std.proofs.Common.{◌≡◌, ◌<◌, List, length, get_or, ap, sym,
 use Rattle.std.specs.Prelude.{Some, None}
 use Rattle.std.proofs.Math.Facts.{to_z-of_z}
 use Rattle.std.proofs.lemmas.List.{get_or_default}
-use Rattle.jpa_behaviour.specs.Registered.{world_of}
+use Rattle.jpa_behaviour.specs.Served.{world_of_unit}
 use Rattle.jpa_heap.specs.declared.LiveObject.{LiveObject}
 use Rattle.jpa_heap.specs.Objects.{object_at, no_object, place_of}
 use Rattle.jpa_context.specs.Work.{is_managed, state_from}
@@ -13,7 +13,7 @@ use Rattle.jpa_provider.proofs.asking.contains_call.Goals as goal
 
 pub returns-in_default-place_of-clause-step : goal.returns-in_default-place_of-clause-step
 returns-in_default-place_of-clause-step g c =
-    let world = world_of g.B.Behaviour.meaning c.args._metamodel.now c.args._registry.now in
+    let world = world_of_unit g.B.Behaviour.meaning c.args._unit.now in
     let s = c.args.session.now in
     let em = c.args.em in
     let m = c.in-Some.manager in
@@ -25,7 +25,7 @@ returns-in_default-place_of-clause-step g c =
 
 pub returns-clause-step : goal.returns-clause-step
 returns-clause-step g c =
-    let world = world_of g.B.Behaviour.meaning c.args._metamodel.now c.args._registry.now in
+    let world = world_of_unit g.B.Behaviour.meaning c.args._unit.now in
     let s = c.args.session.now in
     let os = s.work.objects.now in
     let em = c.args.em in

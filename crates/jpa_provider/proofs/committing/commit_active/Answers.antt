@@ -2,7 +2,7 @@ use Rattle.std.proofs.Common.{◌≡◌, ℕ, List, inl, inr, refl, ap, sym, sub
 use Rattle.std.specs.Prelude.{◌⊎◌, T, true, nat_le, OnOk, if◌then◌else◌}
 use Rattle.std.specs.FinMap.Entries.{is_sorted}
 use Rattle.jpa_value.specs.Value.{identity_cmp}
-use Rattle.jpa_behaviour.specs.Registered.{world_of}
+use Rattle.jpa_behaviour.specs.Served.{world_of_unit}
 use Rattle.jpa_stored.specs.Sets.{StoredSet, IsSound, each_fits}
 use Rattle.jpa_rows.specs.Cells.{CanBeHeld}
 use Rattle.jpa_rows.specs.Rows.{Rows}
@@ -27,7 +27,7 @@ use Rattle.jpa_provider.proofs.Worked.{still_working}
 use Rattle.jpa_provider.proofs.committing.commit_active.Goals as goal
 
 pub commit_work-requires-clause-ready : goal.commit_work-requires-clause-ready
-commit_work-requires-clause-ready g c = subst (IsReady c.args.metamodel.now) (sym c.take_work.ensures.work) (work_ready c.args.manager (c.requires.serving).machine)
+commit_work-requires-clause-ready g c = subst (IsReady c.args.unit.now.metamodel) (sym c.take_work.ensures.work) (work_ready c.args.manager (c.requires.serving).machine)
 
 pub commit_work-requires-clause-shown : goal.commit_work-requires-clause-shown
 commit_work-requires-clause-shown g c =
@@ -35,23 +35,23 @@ commit_work-requires-clause-shown g c =
 
 pub commit_work-requires-clause-sound : goal.commit_work-requires-clause-sound
 commit_work-requires-clause-sound g c =
-    let world = world_of g.B.Behaviour.meaning c.args.metamodel.now c.args.registry.now in
-    subst (λ (v : Work). IsSound c.args.metamodel.now v.view) (sym c.take_work.ensures.work) (view_sound world c.args.session.now c.args.manager c.requires.serving)
+    let world = world_of_unit g.B.Behaviour.meaning c.args.unit.now in
+    subst (λ (v : Work). IsSound c.args.unit.now.metamodel v.view) (sym c.take_work.ensures.work) (view_sound world c.args.session.now c.args.manager c.requires.serving)
 
 pub commit_work-requires-clause-rising : goal.commit_work-requires-clause-rising
 commit_work-requires-clause-rising g c =
-    let world = world_of g.B.Behaviour.meaning c.args.metamodel.now c.args.registry.now in
+    let world = world_of_unit g.B.Behaviour.meaning c.args.unit.now in
     subst (λ (v : Work). T (is_sorted identity_cmp v.view)) (sym c.take_work.ensures.work) (view_rises world c.args.session.now c.args.manager c.requires.serving)
 
 pub commit_work-requires-clause-distinct : goal.commit_work-requires-clause-distinct
 commit_work-requires-clause-distinct g c =
-    let world = world_of g.B.Behaviour.meaning c.args.metamodel.now c.args.registry.now in
-    subst (λ (v : Work). has_distinct_entries c.args.metamodel.now v ≡ true) (sym c.take_work.ensures.work) (entries_apart world c.args.session.now c.args.manager c.requires.serving)
+    let world = world_of_unit g.B.Behaviour.meaning c.args.unit.now in
+    subst (λ (v : Work). has_distinct_entries c.args.unit.now.metamodel v ≡ true) (sym c.take_work.ensures.work) (entries_apart world c.args.session.now c.args.manager c.requires.serving)
 
 pub commit_work-requires-clause-goes : goal.commit_work-requires-clause-goes
 commit_work-requires-clause-goes g c =
-    let world = world_of g.B.Behaviour.meaning c.args.metamodel.now c.args.registry.now in
-    subst (λ (v : Work). (w : Work) → flush world v ≡ Done tt w → IsReady c.args.metamodel.now w) (sym c.take_work.ensures.work) (flushed_ready world c.args.session.now c.args.manager c.requires.serving)
+    let world = world_of_unit g.B.Behaviour.meaning c.args.unit.now in
+    subst (λ (v : Work). (w : Work) → flush world v ≡ Done tt w → IsReady c.args.unit.now.metamodel w) (sym c.take_work.ensures.work) (flushed_ready world c.args.session.now c.args.manager c.requires.serving)
 
 pub refuse_commit-requires-clause-entries : goal.refuse_commit-requires-clause-entries
 refuse_commit-requires-clause-entries g c =
@@ -61,7 +61,7 @@ refuse_commit-requires-clause-entries g c =
 
 pub store_commit-requires-clause-committed : goal.store_commit-requires-clause-committed
 store_commit-requires-clause-committed g c =
-    let world = world_of g.B.Behaviour.meaning c.args.metamodel.now c.args.registry.now in
+    let world = world_of_unit g.B.Behaviour.meaning c.args.unit.now in
     let u = c.commit_work.new.work in
     let away = (still_working c.take_work.new.session u c.take_work.ensures.working c.commit_work.ensures.since).away in
     subst (λ (p : StoredSet × List ℕ). CanBeHeld world p.0 p.1) (λ i. (sym away.committed i, sym away.stored i)) ((c.requires.serving).machine).committed
@@ -70,7 +70,7 @@ pub store_commit-requires-clause-seen : goal.store_commit-requires-clause-seen
 store_commit-requires-clause-seen g c =
     let s = c.args.session.now in
     let m = c.args.manager in
-    let world = world_of g.B.Behaviour.meaning c.args.metamodel.now c.args.registry.now in
+    let world = world_of_unit g.B.Behaviour.meaning c.args.unit.now in
     let u = c.commit_work.new.work in
     let away = (still_working c.take_work.new.session u c.take_work.ensures.working c.commit_work.ensures.since).away in
     let shown = away.shown ∙ begun_there s m ∙ ap is_begun_status c.requires.active in
@@ -84,14 +84,14 @@ store_commit-requires-clause-shown g c =
 
 pub store_commit-requires-clause-rising : goal.store_commit-requires-clause-rising
 store_commit-requires-clause-rising g c =
-    let world = world_of g.B.Behaviour.meaning c.args.metamodel.now c.args.registry.now in
+    let world = world_of_unit g.B.Behaviour.meaning c.args.unit.now in
     let w : Work = now c.commit_work.new.work in
     let done = subst (λ (v : Work). commit_work world v ≡ Done tt w) c.take_work.ensures.work c.in-Ok.ensures.meets in
     subst (λ ns. each_fits nat_le ns w.numbers ≡ true) (sym ((c.take_work.ensures.working).away).stored) (flushed_rising world c.args.session.now c.args.manager c.requires.serving w done)
 
 pub store_commit-requires-clause-entries : goal.store_commit-requires-clause-entries
 store_commit-requires-clause-entries g c =
-    let world = world_of g.B.Behaviour.meaning c.args.metamodel.now c.args.registry.now in
+    let world = world_of_unit g.B.Behaviour.meaning c.args.unit.now in
     let w : Work = now c.commit_work.new.work in
     let done = subst (λ (v : Work). commit_work world v ≡ Done tt w) c.take_work.ensures.work c.in-Ok.ensures.meets in
     flushed_within world c.args.session.now c.args.manager c.requires.serving w done
@@ -102,7 +102,7 @@ pub returns-in-Err-clause-step : goal.returns-in-Err-clause-step
 returns-in-Err-clause-step g c = λ em named.
     let s = c.args.session.now in
     let m = c.args.manager in
-    let world = world_of g.B.Behaviour.meaning c.args.metamodel.now c.args.registry.now in
+    let world = world_of_unit g.B.Behaviour.meaning c.args.unit.now in
     let u = c.commit_work.new.work in
     let working = still_working c.take_work.new.session u c.take_work.ensures.working c.commit_work.ensures.since in
     let refused = subst (λ (v : Work). IsRefusedAs c.in-Err.cause u.events (commit_work world v)) c.take_work.ensures.work c.in-Err.ensures.meets in
@@ -120,7 +120,7 @@ pub returns-in-Err-clause-holds : goal.returns-in-Err-clause-holds
 returns-in-Err-clause-holds g c = λ clean.
     let s = c.args.session.now in
     let m = c.args.manager in
-    let world = world_of g.B.Behaviour.meaning c.args.metamodel.now c.args.registry.now in
+    let world = world_of_unit g.B.Behaviour.meaning c.args.unit.now in
     let u = c.commit_work.new.work in
     let working = still_working c.take_work.new.session u c.take_work.ensures.working c.commit_work.ensures.since in
     let kept = refused_still m c.in-Err.cause u.events c.refuse_commit.result (c.refuse_commit.ensures.refuses (machine_of s) (committing s _ m c.requires.serving (ap is_begun_status c.requires.active) working)) in
@@ -151,7 +151,7 @@ pub returns-in-Ok-clause-step : goal.returns-in-Ok-clause-step
 returns-in-Ok-clause-step g c = λ em named.
     let s = c.args.session.now in
     let m = c.args.manager in
-    let world = world_of g.B.Behaviour.meaning c.args.metamodel.now c.args.registry.now in
+    let world = world_of_unit g.B.Behaviour.meaning c.args.unit.now in
     let u = c.commit_work.new.work in
     let working = still_working c.take_work.new.session u c.take_work.ensures.working c.commit_work.ensures.since in
     let done = subst (λ (v : Work). commit_work world v ≡ Done tt (now u)) c.take_work.ensures.work c.in-Ok.ensures.meets in
@@ -176,7 +176,7 @@ pub returns-in-Ok-clause-crash : goal.returns-in-Ok-clause-crash
 returns-in-Ok-clause-crash g c = λ em named clean.
     let s = c.args.session.now in
     let m = c.args.manager in
-    let world = world_of g.B.Behaviour.meaning c.args.metamodel.now c.args.registry.now in
+    let world = world_of_unit g.B.Behaviour.meaning c.args.unit.now in
     let rows = c.args.rows.now in
     let u = c.commit_work.new.work in
     let away = (still_working c.take_work.new.session u c.take_work.ensures.working c.commit_work.ensures.since).away in
@@ -191,7 +191,7 @@ pub returns-in-Ok-clause-counted : goal.returns-in-Ok-clause-counted
 returns-in-Ok-clause-counted g c = λ em named.
     let s = c.args.session.now in
     let m = c.args.manager in
-    let world = world_of g.B.Behaviour.meaning c.args.metamodel.now c.args.registry.now in
+    let world = world_of_unit g.B.Behaviour.meaning c.args.unit.now in
     let u = c.commit_work.new.work in
     let away = (still_working c.take_work.new.session u c.take_work.ensures.working c.commit_work.ensures.since).away in
     let shown = away.shown ∙ begun_there s m ∙ ap is_begun_status c.requires.active in
@@ -205,7 +205,7 @@ pub returns-in-Ok-clause-bounded : goal.returns-in-Ok-clause-bounded
 returns-in-Ok-clause-bounded g c = λ em named refused.
     let s = c.args.session.now in
     let m = c.args.manager in
-    let world = world_of g.B.Behaviour.meaning c.args.metamodel.now c.args.registry.now in
+    let world = world_of_unit g.B.Behaviour.meaning c.args.unit.now in
     let rows = c.args.rows.now in
     let u = c.commit_work.new.work in
     let away = (still_working c.take_work.new.session u c.take_work.ensures.working c.commit_work.ensures.since).away in

@@ -1,7 +1,7 @@
 use Rattle.std.proofs.Common.{◌≡◌, ap, sym, subst, ◌∙◌}
 use Rattle.std.specs.Prelude.{Some}
 use Rattle.std.proofs.Math.Facts.{to_z-of_z}
-use Rattle.jpa_behaviour.specs.Registered.{world_of}
+use Rattle.jpa_behaviour.specs.Served.{world_of_unit}
 use Rattle.jpa_protocol.specs.declared.call.Call.{Call}
 use Rattle.jpa_provider.specs.Serving.{named, Serves}
 use Rattle.jpa_provider.proofs.Asked.{clear_clears}
@@ -9,7 +9,7 @@ use Rattle.jpa_provider.proofs.ending.clear_call.Goals as goal
 
 pub returns-clause-step : goal.returns-clause-step
 returns-clause-step g c =
-    let world = world_of g.B.Behaviour.meaning c.args._metamodel.now c.args._registry.now in
+    let world = world_of_unit g.B.Behaviour.meaning c.args._unit.now in
     let s = c.args.session.now in
     let t = c.clear.new.session in
     let m = c.in-Some.manager in

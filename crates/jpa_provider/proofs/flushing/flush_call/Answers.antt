@@ -3,7 +3,7 @@ use Rattle.std.specs.Prelude.{T, Some}
 use Rattle.std.specs.FinMap.Entries.{is_sorted}
 use Rattle.std.proofs.Math.Facts.{to_z-of_z}
 use Rattle.jpa_value.specs.Value.{identity_cmp}
-use Rattle.jpa_behaviour.specs.Registered.{world_of}
+use Rattle.jpa_behaviour.specs.Served.{world_of_unit}
 use Rattle.jpa_stored.specs.Sets.{IsSound}
 use Rattle.jpa_context.specs.Work.{Work}
 use Rattle.jpa_context.specs.Steps.{Meets}
@@ -24,7 +24,7 @@ use Rattle.jpa_provider.proofs.Worked.{still_working, if_refused, ends_so}
 use Rattle.jpa_provider.proofs.flushing.flush_call.Goals as goal
 
 pub flush_work-answered-requires-clause-ready : goal.flush_work-answered-requires-clause-ready
-flush_work-answered-requires-clause-ready g c = subst (IsReady c.args.metamodel.now) (sym c.take_work.ensures.work) (work_ready c.in-Some.manager (c.requires.serving).machine)
+flush_work-answered-requires-clause-ready g c = subst (IsReady c.args.unit.now.metamodel) (sym c.take_work.ensures.work) (work_ready c.in-Some.manager (c.requires.serving).machine)
 
 pub flush_work-answered-requires-clause-shown : goal.flush_work-answered-requires-clause-shown
 flush_work-answered-requires-clause-shown g c =
@@ -33,25 +33,25 @@ flush_work-answered-requires-clause-shown g c =
 
 pub flush_work-answered-requires-clause-sound : goal.flush_work-answered-requires-clause-sound
 flush_work-answered-requires-clause-sound g c =
-    let world = world_of g.B.Behaviour.meaning c.args.metamodel.now c.args.registry.now in
-    subst (λ (v : Work). IsSound c.args.metamodel.now v.view) (sym c.take_work.ensures.work) (view_sound world c.args.session.now c.in-Some.manager c.requires.serving)
+    let world = world_of_unit g.B.Behaviour.meaning c.args.unit.now in
+    subst (λ (v : Work). IsSound c.args.unit.now.metamodel v.view) (sym c.take_work.ensures.work) (view_sound world c.args.session.now c.in-Some.manager c.requires.serving)
 
 pub flush_work-answered-requires-clause-rising : goal.flush_work-answered-requires-clause-rising
 flush_work-answered-requires-clause-rising g c =
-    let world = world_of g.B.Behaviour.meaning c.args.metamodel.now c.args.registry.now in
+    let world = world_of_unit g.B.Behaviour.meaning c.args.unit.now in
     subst (λ (v : Work). T (is_sorted identity_cmp v.view)) (sym c.take_work.ensures.work) (view_rises world c.args.session.now c.in-Some.manager c.requires.serving)
 
 pub flush_work-answered-requires-clause-distinct : goal.flush_work-answered-requires-clause-distinct
 flush_work-answered-requires-clause-distinct g c =
-    let world = world_of g.B.Behaviour.meaning c.args.metamodel.now c.args.registry.now in
-    subst (λ (v : Work). has_distinct_entries c.args.metamodel.now v ≡ true) (sym c.take_work.ensures.work) (entries_apart world c.args.session.now c.in-Some.manager c.requires.serving)
+    let world = world_of_unit g.B.Behaviour.meaning c.args.unit.now in
+    subst (λ (v : Work). has_distinct_entries c.args.unit.now.metamodel v ≡ true) (sym c.take_work.ensures.work) (entries_apart world c.args.session.now c.in-Some.manager c.requires.serving)
 
 pub returns-clause-step : goal.returns-clause-step
 returns-clause-step g c =
     let s = c.args.session.now in
     let M = machine_of s in
     let m = c.in-Some.manager in
-    let world = world_of g.B.Behaviour.meaning c.args.metamodel.now c.args.registry.now in
+    let world = world_of_unit g.B.Behaviour.meaning c.args.unit.now in
     let done = c.flush_work-answered in
     let is : named s c.args.em ≡ Some m = ap (named s) (sym (to_z-of_z c.ranges.em)) ∙ sym c.in-Some.ensures.named in
     let begun : is_begun_status (manager_in s.managers.items m).status ≡ true = ap is_begun_status (sym c.status_of.ensures) ∙ sym c.is_begun.ensures ∙ c.if-not-is_begun.false in
@@ -69,7 +69,7 @@ returns-clause-settled g c =
 
 pub returns-clause-untold : goal.returns-clause-untold
 returns-clause-untold g c =
-    let world = world_of g.B.Behaviour.meaning c.args.metamodel.now c.args.registry.now in
+    let world = world_of_unit g.B.Behaviour.meaning c.args.unit.now in
     let done = c.flush_work-answered in
     c.conclude.ensures.untold (no_fault done.result (now done.new.work) (flush_call world (now c.take_work.new.session.work)) done.ensures.meets)
 
@@ -77,7 +77,7 @@ pub returns-then-not-is_begun-clause-step : goal.returns-then-not-is_begun-claus
 returns-then-not-is_begun-clause-step g c =
     let s = c.args.session.now in
     let m = c.in-Some.manager in
-    let world = world_of g.B.Behaviour.meaning c.args.metamodel.now c.args.registry.now in
+    let world = world_of_unit g.B.Behaviour.meaning c.args.unit.now in
     let is : named s c.args.em ≡ Some m = ap (named s) (sym (to_z-of_z c.ranges.em)) ∙ sym c.in-Some.ensures.named in
     let idle : is_begun_status (manager_in s.managers.items m).status ≡ false = ap is_begun_status (sym c.status_of.ensures) ∙ sym c.is_begun.ensures ∙ c.if-not-is_begun.true in
     subst (λ r. Serves world s (Call.Flush c.args.em) r s) (sym c.because-then-not-is_begun.ensures) (flush_idle world s c.args.em m is idle)

@@ -1,7 +1,7 @@
 use Rattle.std.proofs.Common.{◌≡◌, false, true, refl, ap, sym, subst, ◌∙◌}
 use Rattle.std.specs.Prelude.{Some}
 use Rattle.std.proofs.Math.Facts.{to_z-of_z}
-use Rattle.jpa_behaviour.specs.Registered.{world_of}
+use Rattle.jpa_behaviour.specs.Served.{world_of_unit}
 use Rattle.jpa_protocol.specs.declared.call.Call.{Call}
 use Rattle.jpa_provider.specs.declared.session.Session.{Session}
 use Rattle.jpa_provider.specs.declared.session.Status.{Status}
@@ -13,7 +13,7 @@ use Rattle.jpa_provider.proofs.opening.begin_call.Goals as goal
 
 pub returns-clause-step : goal.returns-clause-step
 returns-clause-step g c =
-    let world = world_of g.B.Behaviour.meaning c.args._metamodel.now c.args._registry.now in
+    let world = world_of_unit g.B.Behaviour.meaning c.args._unit.now in
     let s = c.args.session.now in
     let m = c.in-Some.manager in
     let t : Session = record s { managers = c.set_status.new.managers; is_busy = true } in
@@ -37,7 +37,7 @@ returns-clause-settled g c =
 
 pub returns-then-session-clause-step : goal.returns-then-session-clause-step
 returns-then-session-clause-step g c =
-    let world = world_of g.B.Behaviour.meaning c.args._metamodel.now c.args._registry.now in
+    let world = world_of_unit g.B.Behaviour.meaning c.args._unit.now in
     let s = c.args.session.now in
     let m = c.in-Some.manager in
     let is : named s c.args.em ≡ Some m = ap (named s) (sym (to_z-of_z c.ranges.em)) ∙ sym c.in-Some.ensures.named in

@@ -2,7 +2,7 @@ use Rattle.std.proofs.Common.{rules, ◌≡◌, length, ap, sym, subst, ◌∙�
 use Rattle.std.specs.Prelude.{Some}
 use Rattle.std.proofs.Math.Facts.{to_z-of_z}
 use Rattle.jpa_value.specs.declared.refusal.Cause.{Cause}
-use Rattle.jpa_behaviour.specs.Registered.{world_of}
+use Rattle.jpa_behaviour.specs.Served.{world_of_unit}
 use Rattle.jpa_heap.specs.Objects.{place_of}
 use Rattle.jpa_context.specs.Steps.{after, give, IsRefusedAs}
 use Rattle.jpa_context.specs.Undo.{now}
@@ -14,7 +14,7 @@ use Rattle.jpa_provider.proofs.operating.detach_numbered.Goals as goal
 
 pub returns-in_err-detach-clause-meets : goal.returns-in_err-detach-clause-meets
 returns-in_err-detach-clause-meets g c =
-    let world = world_of g.B.Behaviour.meaning c.args.metamodel.now c.args._registry.now in
+    let world = world_of_unit g.B.Behaviour.meaning c.args.unit.now in
     let w = now c.args.work.now in
     let place : place_of (length w.objects) c.args.object ≡ Some c.in-Some.place =
     ap (λ k. place_of k c.args.object) (sym c.len.ensures) ∙ ap (place_of c.len.result) (sym (to_z-of_z c.ranges.object)) ∙ sym c.in-Some.ensures.place in
@@ -27,7 +27,7 @@ returns-in_err-detach-clause-meets g c =
 
 pub returns-clause-meets : goal.returns-clause-meets
 returns-clause-meets g c =
-    let world = world_of g.B.Behaviour.meaning c.args.metamodel.now c.args._registry.now in
+    let world = world_of_unit g.B.Behaviour.meaning c.args.unit.now in
     let w = now c.args.work.now in
     let place : place_of (length w.objects) c.args.object ≡ Some c.in-Some.place =
     ap (λ k. place_of k c.args.object) (sym c.len.ensures) ∙ ap (place_of c.len.result) (sym (to_z-of_z c.ranges.object)) ∙ sym c.in-Some.ensures.place in

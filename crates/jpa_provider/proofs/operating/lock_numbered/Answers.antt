@@ -4,7 +4,7 @@ use Rattle.std.proofs.Math.Facts.{to_z-of_z}
 use Rattle.std.proofs.lemmas.Result.{err_from_is_err_and}
 use Rattle.jpa_value.specs.declared.refusal.Cause.{Cause}
 use Rattle.jpa_behaviour.specs.Behaviour.{World}
-use Rattle.jpa_behaviour.specs.Registered.{world_of}
+use Rattle.jpa_behaviour.specs.Served.{world_of_unit}
 use Rattle.jpa_heap.specs.Objects.{place_of}
 use Rattle.jpa_context.specs.declared.Lock.{Lock}
 use Rattle.jpa_context.specs.Steps.{Done, IsRefusedAs, after, give}
@@ -18,7 +18,7 @@ use Rattle.jpa_provider.proofs.operating.lock_numbered.Goals as goal
 
 pub returns-clause-meets : goal.returns-clause-meets
 returns-clause-meets g c =
-    let world : World = world_of g.B.Behaviour.meaning c.args.metamodel.now c.args._registry.now in
+    let world : World = world_of_unit g.B.Behaviour.meaning c.args.unit.now in
     let w : Work = now c.args.work.now in
     let place : place_of (length w.objects) c.args.object ≡ Some c.in-Some.place =
     ap (λ k. place_of k c.args.object) (sym c.len.ensures) ∙ ap (place_of c.len.result) (sym (to_z-of_z c.ranges.object)) ∙ sym c.in-Some.ensures.place in
@@ -27,7 +27,7 @@ returns-clause-meets g c =
 
 pub returns-in_err-lock-clause-meets : goal.returns-in_err-lock-clause-meets
 returns-in_err-lock-clause-meets g c =
-    let world : World = world_of g.B.Behaviour.meaning c.args.metamodel.now c.args._registry.now in
+    let world : World = world_of_unit g.B.Behaviour.meaning c.args.unit.now in
     let w : Work = now c.args.work.now in
     let place : place_of (length w.objects) c.args.object ≡ Some c.in-Some.place =
     ap (λ k. place_of k c.args.object) (sym c.len.ensures) ∙ ap (place_of c.len.result) (sym (to_z-of_z c.ranges.object)) ∙ sym c.in-Some.ensures.place in

@@ -2,7 +2,7 @@ use Rattle.std.proofs.Common.{◌≡◌, ◌⊎◌, List, length, ap, sym, subst
 use Rattle.std.specs.Prelude.{Some, Err}
 use Rattle.std.proofs.Math.Facts.{to_z-of_z}
 use Rattle.jpa_value.specs.declared.refusal.Cause.{Cause}
-use Rattle.jpa_behaviour.specs.Registered.{world_of}
+use Rattle.jpa_behaviour.specs.Served.{world_of_unit}
 use Rattle.jpa_heap.specs.declared.LiveObject.{LiveObject}
 use Rattle.jpa_heap.specs.Assign.{set_in}
 use Rattle.jpa_heap.specs.Objects.{place_of}
@@ -20,8 +20,8 @@ assign-requires-clause-handed g c =
 
 pub returns-in_err-changed-clause-meets : goal.returns-in_err-changed-clause-meets
 returns-in_err-changed-clause-meets g c =
-    let model = c.args.metamodel.now in
-    let world = world_of g.B.Behaviour.meaning model c.args._registry.now in
+    let model = c.args.unit.now.metamodel in
+    let world = world_of_unit g.B.Behaviour.meaning c.args.unit.now in
     let w = now c.args.work.now in
     let os = w.objects in
     let n = c.in-Some.place in

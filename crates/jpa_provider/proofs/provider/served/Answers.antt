@@ -1,7 +1,7 @@
 use Rattle.std.proofs.Common.{◌≡◌, ℕ, rules, w64, to_z, of_z, refl, ap, sym, subst, ◌∙◌}
 use Rattle.std.specs.Prelude.{◌⊎◌}
 use Rattle.jpa_behaviour.specs.Behaviour.{World}
-use Rattle.jpa_behaviour.specs.Registered.{world_of}
+use Rattle.jpa_behaviour.specs.Served.{world_of_unit}
 use Rattle.jpa_context.specs.Steps.{Op}
 use Rattle.jpa_protocol.specs.declared.reply.Answer.{Answer}
 use Rattle.jpa_machine.specs.Routes.{OfManager, OfObject, route, get_call, set_call, add_call, take_out_call, persist_call, remove_call, refresh_call, detach_call, find_call, get_reference_call}
@@ -17,7 +17,7 @@ rollback_call-requires-clause-entries g c = entries_in c.args.session.now (c.req
 
 pub returns-in-Commit-clause-crash : goal.returns-in-Commit-clause-crash
 returns-in-Commit-clause-crash g c = λ commits clean.
-    let world = world_of g.B.Behaviour.meaning c.args.metamodel.now c.args.registry.now in
+    let world = world_of_unit g.B.Behaviour.meaning c.args.unit.now in
     let em = c.in-Commit.em in
     let same : to_z w64 (of_z w64 em) ≡ em = search rules in
     subst (λ (call : Call). g.R.RowSource.endures c.args.rows.now c.commit_call.new.rows (λ left. left ≡ rows_made world (machine_of c.args.session.now) call)) (ap Call.Commit same ∙ sym c.in-Commit.is)
@@ -25,7 +25,7 @@ returns-in-Commit-clause-crash g c = λ commits clean.
 
 pub returns-in-Commit-clause-bounded : goal.returns-in-Commit-clause-bounded
 returns-in-Commit-clause-bounded g c = λ commits refused.
-    let world = world_of g.B.Behaviour.meaning c.args.metamodel.now c.args.registry.now in
+    let world = world_of_unit g.B.Behaviour.meaning c.args.unit.now in
     let M = machine_of c.args.session.now in
     let rows = c.args.rows.now in
     let new = c.commit_call.new.rows in

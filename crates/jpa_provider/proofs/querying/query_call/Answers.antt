@@ -4,7 +4,7 @@ use Rattle.std.specs.FinMap.Entries.{is_sorted}
 use Rattle.std.proofs.Math.Facts.{to_z-of_z}
 use Rattle.std.proofs.lemmas.Bool.{false≢true}
 use Rattle.jpa_value.specs.Value.{identity_cmp}
-use Rattle.jpa_behaviour.specs.Registered.{world_of}
+use Rattle.jpa_behaviour.specs.Served.{world_of_unit}
 use Rattle.jpa_stored.specs.Sets.{IsSound}
 use Rattle.jpa_context.specs.Work.{Work}
 use Rattle.jpa_context.specs.Steps.{Meets}
@@ -31,7 +31,7 @@ begun_then begun FlushMode.Auto h = h
 begun_then begun FlushMode.Commit h = absurd (false≢true h)
 
 pub query_work-answered-requires-clause-ready : goal.query_work-answered-requires-clause-ready
-query_work-answered-requires-clause-ready g c = subst (IsReady c.args.metamodel.now) (sym c.take_work.ensures.work) (work_ready c.in-Some.manager (c.requires.serving).machine)
+query_work-answered-requires-clause-ready g c = subst (IsReady c.args.unit.now.metamodel) (sym c.take_work.ensures.work) (work_ready c.in-Some.manager (c.requires.serving).machine)
 
 pub query_work-answered-requires-clause-shown : goal.query_work-answered-requires-clause-shown
 query_work-answered-requires-clause-shown g c = λ flushes.
@@ -43,22 +43,22 @@ query_work-answered-requires-clause-shown g c = λ flushes.
 
 pub query_work-answered-requires-clause-sound : goal.query_work-answered-requires-clause-sound
 query_work-answered-requires-clause-sound g c =
-    let world = world_of g.B.Behaviour.meaning c.args.metamodel.now c.args.registry.now in
-    subst (λ (v : Work). IsSound c.args.metamodel.now v.view) (sym c.take_work.ensures.work) (view_sound world c.args.session.now c.in-Some.manager c.requires.serving)
+    let world = world_of_unit g.B.Behaviour.meaning c.args.unit.now in
+    subst (λ (v : Work). IsSound c.args.unit.now.metamodel v.view) (sym c.take_work.ensures.work) (view_sound world c.args.session.now c.in-Some.manager c.requires.serving)
 
 pub query_work-answered-requires-clause-rising : goal.query_work-answered-requires-clause-rising
 query_work-answered-requires-clause-rising g c =
-    let world = world_of g.B.Behaviour.meaning c.args.metamodel.now c.args.registry.now in
+    let world = world_of_unit g.B.Behaviour.meaning c.args.unit.now in
     subst (λ (v : Work). T (is_sorted identity_cmp v.view)) (sym c.take_work.ensures.work) (view_rises world c.args.session.now c.in-Some.manager c.requires.serving)
 
 pub query_work-answered-requires-clause-distinct : goal.query_work-answered-requires-clause-distinct
 query_work-answered-requires-clause-distinct g c =
-    let world = world_of g.B.Behaviour.meaning c.args.metamodel.now c.args.registry.now in
-    subst (λ (v : Work). has_distinct_entries c.args.metamodel.now v ≡ true) (sym c.take_work.ensures.work) (entries_apart world c.args.session.now c.in-Some.manager c.requires.serving)
+    let world = world_of_unit g.B.Behaviour.meaning c.args.unit.now in
+    subst (λ (v : Work). has_distinct_entries c.args.unit.now.metamodel v ≡ true) (sym c.take_work.ensures.work) (entries_apart world c.args.session.now c.in-Some.manager c.requires.serving)
 
 pub query_work-answered-requires-clause-then_ready : goal.query_work-answered-requires-clause-then_ready
 query_work-answered-requires-clause-then_ready g c =
-    let world = world_of g.B.Behaviour.meaning c.args.metamodel.now c.args.registry.now in
+    let world = world_of_unit g.B.Behaviour.meaning c.args.unit.now in
     subst (StaysReady c.flushes_first-flushes.result world) (sym c.take_work.ensures.work) (query_ready world c.args.session.now c.in-Some.manager c.requires.serving c.flushes_first-flushes.result)
 
 pub returns-clause-step : goal.returns-clause-step
@@ -66,7 +66,7 @@ returns-clause-step g c = λ call e.
     let s = c.args.session.now in
     let M = machine_of s in
     let m = c.in-Some.manager in
-    let world = world_of g.B.Behaviour.meaning c.args.metamodel.now c.args.registry.now in
+    let world = world_of_unit g.B.Behaviour.meaning c.args.unit.now in
     let done = c.query_work-answered in
     let op = query_told c.args.told c.args.wanted in
     let is : named s c.args.em ≡ Some m = ap (named s) (sym (to_z-of_z c.ranges.em)) ∙ sym c.in-Some.ensures.named in
@@ -89,6 +89,6 @@ returns-clause-settled g c =
 
 pub returns-clause-untold : goal.returns-clause-untold
 returns-clause-untold g c =
-    let world = world_of g.B.Behaviour.meaning c.args.metamodel.now c.args.registry.now in
+    let world = world_of_unit g.B.Behaviour.meaning c.args.unit.now in
     let done = c.query_work-answered in
     c.conclude.ensures.untold (no_fault done.result (now done.new.work) (query_told c.args.told c.args.wanted c.flushes_first-flushes.result world (now c.take_work.new.session.work)) done.ensures.meets)

@@ -1,6 +1,6 @@
 use Rattle.std.proofs.Common.{ap, sym, subst}
 use Rattle.jpa_open.specs.Opened.{Opened}
-use Rattle.jpa_behaviour.specs.Registered.{world_of}
+use Rattle.jpa_behaviour.specs.Served.{world_of_unit}
 use Rattle.jpa_context.specs.Work.{Work}
 use Rattle.jpa_context.specs.Steps.{Meets}
 use Rattle.jpa_context.specs.Undo.{now}
@@ -15,13 +15,13 @@ use Rattle.jpa_provider.proofs.working.at_work.Goals as goal
 
 pub operate-answered-requires-clause-ready : goal.operate-answered-requires-clause-ready
 operate-answered-requires-clause-ready g c =
-    subst (IsReady c.args.metamodel.now) (sym c.take_work.ensures.work) (work_ready c.args.manager (c.requires.serving).machine)
+    subst (IsReady c.args.unit.now.metamodel) (sym c.take_work.ensures.work) (work_ready c.args.manager (c.requires.serving).machine)
 
 pub returns-clause-ends : goal.returns-clause-ends
 returns-clause-ends g c =
     let M = machine_of c.args.session.now in
     let m = c.args.manager in
-    let world = world_of g.B.Behaviour.meaning c.args.metamodel.now c.args.registry.now in
+    let world = world_of_unit g.B.Behaviour.meaning c.args.unit.now in
     let op = operation_of c.args.operation world in
     let done = c.operate-answered in
     let s = c.take_work.new.session in
@@ -40,6 +40,6 @@ returns-clause-settled g c =
 
 pub returns-clause-untold : goal.returns-clause-untold
 returns-clause-untold g c =
-    let world = world_of g.B.Behaviour.meaning c.args.metamodel.now c.args.registry.now in
+    let world = world_of_unit g.B.Behaviour.meaning c.args.unit.now in
     let done = c.operate-answered in
     c.conclude.ensures.untold (no_fault done.result (now done.new.work) (operation_of c.args.operation world (now c.take_work.new.session.work)) done.ensures.meets)

@@ -2,7 +2,7 @@ use Rattle.std.proofs.Common.{◌≡◌, ◌<◌, List, length, get_or, ap, sym,
 use Rattle.std.specs.Prelude.{Some, None}
 use Rattle.std.proofs.Math.Facts.{to_z-of_z}
 use Rattle.std.proofs.lemmas.List.{get_or_default}
-use Rattle.jpa_behaviour.specs.Registered.{world_of}
+use Rattle.jpa_behaviour.specs.Served.{world_of_unit}
 use Rattle.jpa_heap.specs.declared.LiveObject.{LiveObject}
 use Rattle.jpa_heap.specs.Objects.{object_at, no_object, place_of}
 use Rattle.jpa_provider.specs.Operations.{manager_holding}
@@ -30,7 +30,7 @@ pub returns-in-Some-manager_holding-clause-step : goal.returns-in-Some-manager_h
 returns-in-Some-manager_holding-clause-step g c = λ call op e same.
     let s = c.args.session.now in
     let os = s.work.objects.now in
-    let world = world_of g.B.Behaviour.meaning c.args.metamodel.now c.args.registry.now in
+    let world = world_of_unit g.B.Behaviour.meaning c.args.unit.now in
     let n = c.in-Some.place in
     let m = c.in-Some-manager_holding.manager in
     let x = c.index-as_slice-place.result in
@@ -48,7 +48,7 @@ pub returns-in-None-clause-step : goal.returns-in-None-clause-step
 returns-in-None-clause-step g c = λ call op e same.
     let s = c.args.session.now in
     let os = s.work.objects.now in
-    let world = world_of g.B.Behaviour.meaning c.args.metamodel.now c.args.registry.now in
+    let world = world_of_unit g.B.Behaviour.meaning c.args.unit.now in
     let n = c.in-Some.place in
     let x = c.index-as_slice-place.result in
     let counted = c.len.ensures in

@@ -1,7 +1,7 @@
 use Rattle.std.proofs.Common.{◌≡◌, ap, sym, subst, ◌∙◌}
 use Rattle.std.specs.Prelude.{Some, true, false}
 use Rattle.std.proofs.Math.Facts.{to_z-of_z}
-use Rattle.jpa_behaviour.specs.Registered.{world_of}
+use Rattle.jpa_behaviour.specs.Served.{world_of_unit}
 use Rattle.jpa_heap.specs.Objects.{place_of}
 use Rattle.jpa_protocol.specs.declared.call.Call.{Call}
 use Rattle.jpa_provider.specs.Serving.{machine_of, manager_in, is_begun_status, named, Serves}
@@ -18,7 +18,7 @@ pub returns-clause-step : goal.returns-clause-step
 returns-clause-step g c =
     let s = c.args.session.now in
     let m = c.in-Some.manager in
-    let world = world_of g.B.Behaviour.meaning c.args.metamodel.now c.args.registry.now in
+    let world = world_of_unit g.B.Behaviour.meaning c.args.unit.now in
     let is : named s c.args.em ≡ Some m = ap (named s) (sym (to_z-of_z c.ranges.em)) ∙ sym c.in-Some.ensures.named in
     let begun : is_begun_status (manager_in s.managers.items m).status ≡ true = ap is_begun_status (sym c.status_of.ensures) ∙ sym c.is_begun.ensures ∙ c.if-not-is_begun.false in
     lock_so world s c.args.em c.args.object c.args.mode c.at_work.new.session m c.at_work.result is begun
@@ -28,7 +28,7 @@ pub returns-then-not-is_begun-clause-step : goal.returns-then-not-is_begun-claus
 returns-then-not-is_begun-clause-step g c =
     let s = c.args.session.now in
     let m = c.in-Some.manager in
-    let world = world_of g.B.Behaviour.meaning c.args.metamodel.now c.args.registry.now in
+    let world = world_of_unit g.B.Behaviour.meaning c.args.unit.now in
     let is : named s c.args.em ≡ Some m = ap (named s) (sym (to_z-of_z c.ranges.em)) ∙ sym c.in-Some.ensures.named in
     let idle : is_begun_status (manager_in s.managers.items m).status ≡ false = ap is_begun_status (sym c.status_of.ensures) ∙ sym c.is_begun.ensures ∙ c.if-not-is_begun.true in
     let cause = c.required_of.ensures.required ∙ ap (λ z. required_of (place_of c.len.result z)) (to_z-of_z c.ranges.object) ∙ ap (λ k. required_of (place_of k c.args.object)) c.len.ensures in

@@ -4,7 +4,7 @@ use Rattle.jpa_value.specs.declared.refusal.Refusal.{Refusal}
 use Rattle.jpa_open.specs.Opened.{Opened, after_undoing}
 use Rattle.jpa_open.specs.Opened as opened
 use Rattle.jpa_context.specs.Undo as undoing
-use Rattle.jpa_behaviour.specs.Registered.{world_of}
+use Rattle.jpa_behaviour.specs.Served.{world_of_unit}
 use Rattle.jpa_context.specs.Work.{Work}
 use Rattle.jpa_context.specs.Steps.{Meets}
 use Rattle.jpa_context.specs.Undo.{now, Since}
@@ -27,14 +27,14 @@ operate-answered-requires-clause-ready g c =
     let w : Work = record { manager = c.len-session.result; objects = s.work.objects.now; context = c.new.result.now; numbers = s.work.numbers.now; view = (s.work.view).committed; events = s.work.events } in
     let counted : c.len-session.result ≡ n = let a = c.len-session.ensures in omega (arith, a) in
     let same : w ≡ work_of (machine_of s) n = nobody_works s w (c.requires.serving).settled (λ i. record w { manager = counted i; context = c.new.ensures.now i }) in
-    subst (IsReady c.args.metamodel.now) (sym ((λ i. record w { view = opened.now (c.show.ensures i) }) ∙ same)) (work_ready n (c.requires.serving).machine)
+    subst (IsReady c.args.unit.now.metamodel) (sym ((λ i. record w { view = opened.now (c.show.ensures i) }) ∙ same)) (work_ready n (c.requires.serving).machine)
 
 pub returns-in-Ok-clause-ends : goal.returns-in-Ok-clause-ends
 returns-in-Ok-clause-ends g c =
     let s = c.args.session.now in
     let M = machine_of s in
     let n = length s.managers.items in
-    let world = world_of g.B.Behaviour.meaning c.args.metamodel.now c.args.registry.now in
+    let world = world_of_unit g.B.Behaviour.meaning c.args.unit.now in
     let op = operation_of c.args.operation world in
     let done = c.operate-answered in
     let w = now done.new.work in
@@ -57,7 +57,7 @@ returns-in-Err-clause-ends g c =
     let s = c.args.session.now in
     let M = machine_of s in
     let n = length s.managers.items in
-    let world = world_of g.B.Behaviour.meaning c.args.metamodel.now c.args.registry.now in
+    let world = world_of_unit g.B.Behaviour.meaning c.args.unit.now in
     let op = operation_of c.args.operation world in
     let done = c.operate-answered in
     let r = c.in-Err.cause in

@@ -1,5 +1,5 @@
 use Rattle.std.proofs.Common.{◌≡◌, drop}
-use Rattle.jpa_behaviour.specs.Registered.{world_of}
+use Rattle.jpa_behaviour.specs.Served.{world_of_unit}
 use Rattle.jpa_context.specs.Undo.{now, since}
 use Rattle.jpa_fetch.specs.Grown.{IsReady}
 use Rattle.jpa_fetch.specs.Members.{collect}
@@ -10,9 +10,9 @@ use Rattle.jpa_queries.proofs.results.row_of.Given as goal
 -- the items so far before those of the rest
 abbrev pub invariant-loop-datum : goal.invariant-loop-datum
 invariant-loop-datum g l =
-    let world = world_of g.B.Behaviour.meaning l.metamodel l.registry in
+    let world = world_of_unit g.B.Behaviour.meaning l.unit in
     record {
       rest : behind l.items (collect (item_of world) (drop l.datum-index l.row) (now l.work)) ≡ collect (item_of world) l.row (now l.fn.work);
-      ready : IsReady l.metamodel (now l.work);
+      ready : IsReady l.unit.metamodel (now l.work);
       since : since l.work ≡ since l.fn.work;
     }

@@ -1,5 +1,5 @@
 use Rattle.std.proofs.Common.{◌≡◌, drop}
-use Rattle.jpa_behaviour.specs.Registered.{world_of}
+use Rattle.jpa_behaviour.specs.Served.{world_of_unit}
 use Rattle.jpa_context.specs.Undo.{now, since}
 use Rattle.jpa_fetch.specs.Grown.{IsReady}
 use Rattle.jpa_fetch.specs.Members.{collect}
@@ -10,9 +10,9 @@ use Rattle.jpa_queries.proofs.results.rows_of.Given as goal
 -- the rows so far before those of the rest
 abbrev pub invariant-loop-row : goal.invariant-loop-row
 invariant-loop-row g l =
-    let world = world_of g.B.Behaviour.meaning l.metamodel l.registry in
+    let world = world_of_unit g.B.Behaviour.meaning l.unit in
     record {
       rest : behind l.found (collect (row_of world) (drop l.row-index l.rows) (now l.work)) ≡ collect (row_of world) l.rows (now l.fn.work);
-      ready : IsReady l.metamodel (now l.work);
+      ready : IsReady l.unit.metamodel (now l.work);
       since : since l.work ≡ since l.fn.work;
     }

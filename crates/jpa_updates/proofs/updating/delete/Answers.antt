@@ -9,7 +9,7 @@ use Rattle.jpa_updates.proofs.updating.delete.Goals as goal
 
 pub returns-clause-representable : goal.returns-clause-representable
 returns-clause-representable g c =
-    let m = c.args.metamodel.now in
+    let m = c.args.unit.now.metamodel in
     let w = now c.args.work.now in
     let v = now c.take_sound.new.work in
     let ids = c.as_slice.result.now in

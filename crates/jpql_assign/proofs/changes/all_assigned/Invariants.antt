@@ -7,6 +7,6 @@ use Rattle.jpql_assign.proofs.changes.all_assigned.Given as goal
 -- what is left to assign makes of what was made what all make of the object
 abbrev pub invariant-loop-member : goal.invariant-loop-member
 invariant-loop-member g l =
-    let throws = throws_in g.B.Behaviour.meaning l.registry in
-    bulk.all_assigned l.metamodel throws l.fn.object (members_in l.members)
-    ≡ bulk.all_assigned l.metamodel throws l.made (members_in (drop l.member-index l.members))
+    let throws = throws_in g.B.Behaviour.meaning l.unit.registry in
+    bulk.all_assigned l.unit.metamodel throws l.fn.object (members_in l.members)
+    ≡ bulk.all_assigned l.unit.metamodel throws l.made (members_in (drop l.member-index l.members))

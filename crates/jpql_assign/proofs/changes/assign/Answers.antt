@@ -8,8 +8,8 @@ use Rattle.jpql_assign.proofs.changes.assign.Goals as goal
 
 pub loop-change-preserved : goal.loop-change-preserved
 loop-change-preserved g c =
-    let m = c.args.metamodel.now in
-    let throws = throws_in g.B.Behaviour.meaning c.args.registry.now in
+    let m = c.args.unit.now.metamodel in
+    let throws = throws_in g.B.Behaviour.meaning c.args.unit.now.registry in
     let xs = c.args.changes.now in
     let i = c.loop-change.change-index in
     let one = c.change-item.result in

@@ -8,5 +8,5 @@ use Rattle.jpql_assign.proofs.changes.assign.Given as goal
 -- what was made, and what is left
 abbrev pub invariant-loop-change : goal.invariant-loop-change
 invariant-loop-change g l =
-    let throws = throws_in g.B.Behaviour.meaning l.registry in
-    bulk.each_assigned l.metamodel throws (map change_in l.changes) ≡ after l.metamodel throws l.made.items (map change_in (drop l.change-index l.changes))
+    let throws = throws_in g.B.Behaviour.meaning l.unit.registry in
+    bulk.each_assigned l.unit.metamodel throws (map change_in l.changes) ≡ after l.unit.metamodel throws l.made.items (map change_in (drop l.change-index l.changes))

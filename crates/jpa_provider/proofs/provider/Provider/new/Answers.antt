@@ -1,5 +1,5 @@
 use Rattle.std.proofs.Common.{◌≡◌, ap, sym, subst, ◌∙◌}
-use Rattle.jpa_behaviour.specs.Registered.{world_of}
+use Rattle.jpa_behaviour.specs.Served.{world_of_unit}
 use Rattle.jpa_open.specs.Opened.{unwritten}
 use Rattle.jpa_object_rows.specs.Sets.{rows_of}
 use Rattle.jpa_machine.specs.Machine.{Machine, opened}
@@ -11,8 +11,8 @@ use Rattle.jpa_provider.proofs.provider.Provider.new.Goals as goal
 
 pub invariant_of-result : goal.invariant_of-result
 invariant_of-result g c =
-    let m = c.args.metamodel in
-    let world = world_of g.B.Behaviour.meaning m c.args.registry in
+    let m = c.args.unit.metamodel in
+    let world = world_of_unit g.B.Behaviour.meaning c.args.unit in
     let s = c.opened-session.result in
     let numbers = c.in-Ok.ensures in
     let view : c.in-Ok-new.view ≡ unwritten c.args.committed = c.in-Ok-new.ensures.opened ∙ ap unwritten c.into_entries.ensures.all in
