@@ -51,7 +51,8 @@ fn settings_of(rt: &HostRuntime) -> Result<Settings, Stop> {
 
 /// The bytes of a mapping file; one that can't be read is no JSON.
 fn mapping_file(rt: &HostRuntime, path: &Text) -> Result<Vec<u8>, Cause>
-    ensures { IfErr result (λ cause. (cause ≡ Cause.OutOfMemory) ⊎ (cause ≡ Cause.Mapping MappingFault.Json)) }
+    ensures { IfErr result (λ cause. (cause ≡ Cause.OutOfMemory)
+        ⊎ (cause ≡ Cause.Mapping MappingFault.Json)) }
 {
     match fs::read(rt, path.as_str()) {
         Ok(bytes) => Ok(bytes),
@@ -64,7 +65,8 @@ fn mapping_file(rt: &HostRuntime, path: &Text) -> Result<Vec<u8>, Cause>
 fn mapping_bytes(rt: &HostRuntime, settings: &Settings) -> Result<Option<Vec<u8>>, Cause>
     ensures none { settings.now.mapping ≡ None → result ≡ Ok None }
     ensures some { IsSome settings.now.mapping → IfOk result IsSome }
-    ensures refused { IfErr result (λ cause. (cause ≡ Cause.OutOfMemory) ⊎ (cause ≡ Cause.Mapping MappingFault.Json)) }
+    ensures refused { IfErr result (λ cause. (cause ≡ Cause.OutOfMemory)
+        ⊎ (cause ≡ Cause.Mapping MappingFault.Json)) }
 {
     match &settings.mapping {
         Some(path) => Ok(Some(mapping_file(rt, path)?)),
@@ -173,7 +175,8 @@ fn serve_file(
 /// Serves the unit of a mapping's bytes over the store's file that is named, or without one over a store in memory.
 fn serve_mapping(rt: &HostRuntime, mapping: Option<&[u8]>, db: Option<&Text>) -> Result<Stop, Cause>
     ensures served { OnOk result (spec.GivesServable (option_copied mapping.entry)) }
-    ensures refused { (cause : Cause) → spec.unit_from (option_copied mapping.entry) ≡ Err cause → IsErrAnd result (λ told. (told ≡ Cause.OutOfMemory) ⊎ (told ≡ cause)) }
+    ensures refused { (cause : Cause) → spec.unit_from (option_copied mapping.entry) ≡ Err cause →
+        IsErrAnd result (λ told. (told ≡ Cause.OutOfMemory) ⊎ (told ≡ cause)) }
 {
     let unit = unit_from(rt.alloc(), mapping)?;
     match db {

@@ -40,7 +40,8 @@ pub trait Behaviour {
         converter: &Self::Converter,
         value: &Value,
     ) -> Result<Option<Value>, Cause>
-        ensures attribute { IfOk result (λ answer. answer ≡ meaning.attribute converter.now value.now) }
+        ensures attribute { IfOk result (λ answer. answer
+            ≡ meaning.attribute converter.now value.now) }
         ensures refused { IfErr result (λ cause. cause ≡ Cause.OutOfMemory) };
 
     // The two directions of a converter are inverse.

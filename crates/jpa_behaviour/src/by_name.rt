@@ -64,7 +64,8 @@ impl<W: Drop> ByName<W> {
     // Adds it under a name that nothing stands under.
     fn put(&mut self, name: String, what: W) -> Result<(), Cause>
         requires { known_as (string_bytes name) self.old ≡ None }
-        ensures put { OnOk result (self.new ≡ self.old ++ (record { name = string_bytes name; what = what }) ∷ []) }
+        ensures put { OnOk result (self.new ≡ self.old
+            ++ (record { name = string_bytes name; what = what }) ∷ []) }
         ensures kept { OnErr result (self.new ≡ self.old) }
         ensures refused { IfErr result (λ cause. cause ≡ Cause.OutOfMemory) }
     {

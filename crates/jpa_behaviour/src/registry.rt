@@ -60,7 +60,8 @@ impl<B: Behaviour> Registry<B> {
     /// Adds a listener or callback. A listener's name that is there already is `IllegalArgument(second)`; after a
     /// refusal the registry is unchanged and the listener is dropped.
     pub fn add_listener(&mut self, name: &str, what: B::Listener) -> Result<(), Cause>
-        ensures added { spec.Adds result self.old.listeners self.new.listeners (spec.added name.now what self.old.listeners) }
+        ensures added { spec.Adds result self.old.listeners self.new.listeners
+            (spec.added name.now what self.old.listeners) }
         ensures kept { self.new.converters ≡ self.old.converters }
     {
         self.listeners.add(self.alloc, name, what)
@@ -69,7 +70,8 @@ impl<B: Behaviour> Registry<B> {
     /// Adds a converter. A converter's name that is there already is `IllegalArgument(second)`; after a refusal the
     /// registry is unchanged and the converter is dropped.
     pub fn add_converter(&mut self, name: &str, what: B::Converter) -> Result<(), Cause>
-        ensures added { spec.Adds result self.old.converters self.new.converters (spec.added name.now what self.old.converters) }
+        ensures added { spec.Adds result self.old.converters self.new.converters
+            (spec.added name.now what self.old.converters) }
         ensures kept { self.new.listeners ≡ self.old.listeners }
     {
         self.converters.add(self.alloc, name, what)
@@ -77,8 +79,11 @@ impl<B: Behaviour> Registry<B> {
 
     /// What the listener or callback of this name answers to an image; an unknown name is `IllegalArgument(name)`.
     pub fn hear(&self, name: &str, image: &Image) -> Result<Heard, Cause>
-        ensures unknown { spec.known_as name.now self.now.listeners ≡ None → result ≡ Err (Cause.IllegalArgument Argument.Name) }
-        ensures answer { IsUnlessMemory result (spec.if_known (spec.known_as name.now self.now.listeners) (Ok (spec.heard_in B.meaning self.now name.now image.now))) }
+        ensures unknown { spec.known_as name.now self.now.listeners ≡ None → result
+            ≡ Err (Cause.IllegalArgument Argument.Name) }
+        ensures answer { IsUnlessMemory result (spec.if_known
+            (spec.known_as name.now self.now.listeners)
+            (Ok (spec.heard_in B.meaning self.now name.now image.now))) }
     {
         let Some(listener) = self.listeners.get(name) else {
             return Err(Cause::IllegalArgument(Argument::Name));
@@ -90,8 +95,11 @@ impl<B: Behaviour> Registry<B> {
     /// `IllegalArgument(name)`. Where it throws, or answers null or a value of over 65,535 bytes, that is
     /// `Persistence(converter)`.
     pub fn to_column(&self, name: &str, value: &Value) -> Result<Value, Cause>
-        ensures unknown { spec.known_as name.now self.now.converters ≡ None → result ≡ Err (Cause.IllegalArgument Argument.Name) }
-        ensures answer { IsUnlessMemory result (spec.if_known (spec.known_as name.now self.now.converters) (spec.or_thrown (spec.column_in B.meaning self.now name.now value.now))) }
+        ensures unknown { spec.known_as name.now self.now.converters ≡ None → result
+            ≡ Err (Cause.IllegalArgument Argument.Name) }
+        ensures answer { IsUnlessMemory result (spec.if_known
+            (spec.known_as name.now self.now.converters)
+            (spec.or_thrown (spec.column_in B.meaning self.now name.now value.now))) }
     {
         let Some(converter) = self.converters.get(name) else {
             return Err(Cause::IllegalArgument(Argument::Name));
@@ -101,8 +109,11 @@ impl<B: Behaviour> Registry<B> {
 
     /// What the converter of this name makes of a column's value for its attribute; it is refused as `to_column` is.
     pub fn to_attribute(&self, name: &str, value: &Value) -> Result<Value, Cause>
-        ensures unknown { spec.known_as name.now self.now.converters ≡ None → result ≡ Err (Cause.IllegalArgument Argument.Name) }
-        ensures answer { IsUnlessMemory result (spec.if_known (spec.known_as name.now self.now.converters) (spec.or_thrown (spec.attribute_in B.meaning self.now name.now value.now))) }
+        ensures unknown { spec.known_as name.now self.now.converters ≡ None → result
+            ≡ Err (Cause.IllegalArgument Argument.Name) }
+        ensures answer { IsUnlessMemory result (spec.if_known
+            (spec.known_as name.now self.now.converters)
+            (spec.or_thrown (spec.attribute_in B.meaning self.now name.now value.now))) }
     {
         let Some(converter) = self.converters.get(name) else {
             return Err(Cause::IllegalArgument(Argument::Name));

@@ -12,12 +12,18 @@ const CREATE: &str =
     "CREATE TABLE cell (t INTEGER NOT NULL, r BLOB NOT NULL, c INTEGER NOT NULL, v BLOB NOT NULL, PRIMARY KEY (t, r, c)) STRICT";
 
 fn make_table<S: Alter>(tx: &mut Transaction<'_, S>) -> Result<usize, Error>
-    requires inside { HasCleanDisk (state S.Store tx.old.conn.now) → IsTrue (state S.Store tx.old.conn.now).in_transaction }
-    requires empty { HasCleanDisk (state S.Store tx.old.conn.now) → IsTrue (state S.Store tx.old.conn.now).is_open → (state S.Store tx.old.conn.now).now.schema ≡ no_schema }
+    requires inside { HasCleanDisk (state S.Store tx.old.conn.now) →
+        IsTrue (state S.Store tx.old.conn.now).in_transaction }
+    requires empty { HasCleanDisk (state S.Store tx.old.conn.now) →
+        IsTrue (state S.Store tx.old.conn.now).is_open → (state S.Store tx.old.conn.now).now.schema
+        ≡ no_schema }
     ensures same_reference { tx.new.conn.ghost_name ≡ tx.old.conn.ghost_name }
-    ensures makes { HasCleanDisk (state S.Store tx.new.conn.now) → OnOk result (Makes (state S.Store tx.old.conn.now) (state S.Store tx.new.conn.now)) }
-    ensures kept { HasCleanDisk (state S.Store tx.new.conn.now) → OnErr result (KeepsCommit (state S.Store tx.old.conn.now) (state S.Store tx.new.conn.now)) }
-    ensures survives { Survives (state S.Store tx.old.conn.now) (state S.Store tx.new.conn.now) (λ _. ⊥) }
+    ensures makes { HasCleanDisk (state S.Store tx.new.conn.now) →
+        OnOk result (Makes (state S.Store tx.old.conn.now) (state S.Store tx.new.conn.now)) }
+    ensures kept { HasCleanDisk (state S.Store tx.new.conn.now) →
+        OnErr result (KeepsCommit (state S.Store tx.old.conn.now) (state S.Store tx.new.conn.now)) }
+    ensures survives { Survives (state S.Store tx.old.conn.now) (state S.Store tx.new.conn.now)
+        (λ _. ⊥) }
 {
     tx.execute(CREATE, &[])
 }
@@ -25,11 +31,14 @@ fn make_table<S: Alter>(tx: &mut Transaction<'_, S>) -> Result<usize, Error>
 /// Makes the table, in a transaction of its own.
 pub fn create<S: Alter>(conn: &mut Connection<S>) -> Result<(), Error>
     requires idle { conn.old.in_transaction ≡ false }
-    requires empty { HasCleanDisk (state S.Store conn.old) → IsTrue (state S.Store conn.old).is_open → (state S.Store conn.old).now.schema ≡ no_schema }
+    requires empty { HasCleanDisk (state S.Store conn.old) →
+        IsTrue (state S.Store conn.old).is_open → (state S.Store conn.old).now.schema ≡ no_schema }
     ensures idle { conn.new.in_transaction ≡ false }
-    ensures made { HasCleanDisk (state S.Store conn.new) → OnOk result (Made (state S.Store conn.old) (state S.Store conn.new)) }
+    ensures made { HasCleanDisk (state S.Store conn.new) →
+        OnOk result (Made (state S.Store conn.old) (state S.Store conn.new)) }
     ensures kept { OnErr result (KeepsContent (state S.Store conn.old) (state S.Store conn.new)) }
-    ensures crash { Survives (state S.Store conn.old) (state S.Store conn.new) (Leaves (λ tables. tables ≡ (λ t. []))) }
+    ensures crash { Survives (state S.Store conn.old) (state S.Store conn.new)
+        (Leaves (λ tables. tables ≡ (λ t. []))) }
 {
     let _idle = conn.is_autocommit();
     let mut tx = conn.transaction();

@@ -18,7 +18,8 @@ const SELECT_TABLE: &str = "SELECT r, c, v FROM cell WHERE t = ?1 ORDER BY r, c"
 
 fn cell_of(row: &Row) -> Result<Cell, Error>
     ensures cell { IfOk result (λ cell. cell ≡ shown_cell row.now) }
-    ensures whole { IsShownCell row.now → IfErr result (λ e. e ≡ Error.SqliteFailure ErrorCode.OutOfMemory) }
+    ensures whole { IsShownCell row.now → IfErr result
+        (λ e. e ≡ Error.SqliteFailure ErrorCode.OutOfMemory) }
 {
     let column: i64 = row.get(0)?;
     let value: Vec<u8> = row.get(1)?;
@@ -30,7 +31,8 @@ fn cell_of(row: &Row) -> Result<Cell, Error>
 
 fn entry_of(row: &Row) -> Result<(Bytes, Cell), Error>
     ensures entry { IfOk result (λ entry. entry ≡ shown_entry row.now) }
-    ensures whole { IsShownEntry row.now → IfErr result (λ e. e ≡ Error.SqliteFailure ErrorCode.OutOfMemory) }
+    ensures whole { IsShownEntry row.now → IfErr result
+        (λ e. e ≡ Error.SqliteFailure ErrorCode.OutOfMemory) }
 {
     let key: Vec<u8> = row.get(0)?;
     let column: i64 = row.get(1)?;
@@ -46,7 +48,8 @@ fn entry_of(row: &Row) -> Result<(Bytes, Cell), Error>
 
 fn cells_of(alloc: Global, rows: &[Row]) -> Result<Seq<Cell>, Error>
     ensures cells { IfOk result (λ cells. cells ≡ map shown_cell rows.now) }
-    ensures whole { All IsShownCell rows.now → IfErr result (λ e. e ≡ Error.SqliteFailure ErrorCode.OutOfMemory) }
+    ensures whole { All IsShownCell rows.now → IfErr result
+        (λ e. e ≡ Error.SqliteFailure ErrorCode.OutOfMemory) }
 {
     let mut cells = Vec::new(alloc);
     'rows: for row in rows {
@@ -99,7 +102,8 @@ fn add_entry(
 
 fn rows_of(alloc: Global, shown: &[Row]) -> Result<Seq<CellRow>, Error>
     ensures rows { IfOk result (λ rows. rows ≡ grouped (map shown_entry shown.now)) }
-    ensures whole { All IsShownEntry shown.now → IfErr result (λ e. e ≡ Error.SqliteFailure ErrorCode.OutOfMemory) }
+    ensures whole { All IsShownEntry shown.now →
+        IfErr result (λ e. e ≡ Error.SqliteFailure ErrorCode.OutOfMemory) }
 {
     let mut rows = Vec::new(alloc);
     'entries: for entry in shown {
@@ -113,10 +117,14 @@ fn select_row<S: Alter>(conn: &mut Connection<S>, table: i64, row: &[u8]) -> Res
     requires idle { conn.old.in_transaction ≡ false }
     requires cells { IsCellStore (state S.Store conn.old) }
     ensures idle { conn.new.in_transaction ≡ false }
-    ensures shows { HasCleanDisk (state S.Store conn.new) → IfOk result (λ rows. ShowsCells (state S.Store conn.old) (state S.Store conn.new) table row.now rows.items) }
+    ensures shows { HasCleanDisk (state S.Store conn.new) →
+        IfOk result (λ rows. ShowsCells (state S.Store conn.old) (state S.Store conn.new) table
+        row.now rows.items) }
     ensures kept { KeepsContent (state S.Store conn.old) (state S.Store conn.new) }
-    ensures cause { HasCleanDisk (state S.Store conn.new) → IfErr result (IsExcused (state S.Store conn.old) (state S.Store conn.new)) }
-    ensures survives { Survives (state S.Store conn.old) (state S.Store conn.new) (Leaves (λ _. ⊥)) }
+    ensures cause { HasCleanDisk (state S.Store conn.new) →
+        IfErr result (IsExcused (state S.Store conn.old) (state S.Store conn.new)) }
+    ensures survives { Survives (state S.Store conn.old) (state S.Store conn.new)
+        (Leaves (λ _. ⊥)) }
 {
     let _idle = conn.is_autocommit();
     conn.query_all(SELECT_ROW, params![table, row])
@@ -126,10 +134,14 @@ fn select_table<S: Alter>(conn: &mut Connection<S>, table: i64) -> Result<Vec<Ro
     requires idle { conn.old.in_transaction ≡ false }
     requires cells { IsCellStore (state S.Store conn.old) }
     ensures idle { conn.new.in_transaction ≡ false }
-    ensures shows { HasCleanDisk (state S.Store conn.new) → IfOk result (λ rows. ShowsTable (state S.Store conn.old) (state S.Store conn.new) table rows.items) }
+    ensures shows { HasCleanDisk (state S.Store conn.new) →
+        IfOk result (λ rows. ShowsTable (state S.Store conn.old) (state S.Store conn.new) table
+        rows.items) }
     ensures kept { KeepsContent (state S.Store conn.old) (state S.Store conn.new) }
-    ensures cause { HasCleanDisk (state S.Store conn.new) → IfErr result (IsExcused (state S.Store conn.old) (state S.Store conn.new)) }
-    ensures survives { Survives (state S.Store conn.old) (state S.Store conn.new) (Leaves (λ _. ⊥)) }
+    ensures cause { HasCleanDisk (state S.Store conn.new) →
+        IfErr result (IsExcused (state S.Store conn.old) (state S.Store conn.new)) }
+    ensures survives { Survives (state S.Store conn.old) (state S.Store conn.new)
+        (Leaves (λ _. ⊥)) }
 {
     let _idle = conn.is_autocommit();
     conn.query_all(SELECT_TABLE, params![table])
@@ -145,11 +157,17 @@ pub fn read_row<S: Alter>(
     requires idle { conn.old.in_transaction ≡ false }
     requires cells { IsCellStore (state S.Store conn.old) }
     ensures idle { conn.new.in_transaction ≡ false }
-    ensures cells { HasCleanDisk (state S.Store conn.new) → IfOk result (λ cells. cells ≡ cells_at row.now (tables_of (state S.Store conn.old).now table)) }
-    ensures stays { HasCleanDisk (state S.Store conn.new) → OnOk result (IsTrue (state S.Store conn.old).is_open × IsTrue (state S.Store conn.new).is_open) }
+    ensures cells { HasCleanDisk (state S.Store conn.new) →
+        IfOk result (λ cells. cells ≡ cells_at row.now
+        (tables_of (state S.Store conn.old).now table)) }
+    ensures stays { HasCleanDisk (state S.Store conn.new) →
+        OnOk result (IsTrue (state S.Store conn.old).is_open
+        × IsTrue (state S.Store conn.new).is_open) }
     ensures kept { KeepsContent (state S.Store conn.old) (state S.Store conn.new) }
-    ensures cause { HasCleanDisk (state S.Store conn.new) → IfErr result (IsExcused (state S.Store conn.old) (state S.Store conn.new)) }
-    ensures survives { Survives (state S.Store conn.old) (state S.Store conn.new) (Leaves (λ _. ⊥)) }
+    ensures cause { HasCleanDisk (state S.Store conn.new) →
+        IfErr result (IsExcused (state S.Store conn.old) (state S.Store conn.new)) }
+    ensures survives { Survives (state S.Store conn.old) (state S.Store conn.new)
+        (Leaves (λ _. ⊥)) }
 {
     let rows = select_row(conn, table, row)?;
     cells_of(alloc, rows.as_slice())
@@ -164,12 +182,17 @@ pub fn read_table<S: Alter>(
     requires idle { conn.old.in_transaction ≡ false }
     requires cells { IsCellStore (state S.Store conn.old) }
     ensures idle { conn.new.in_transaction ≡ false }
-    ensures rows { HasCleanDisk (state S.Store conn.new) → IfOk result (λ rows. rows ≡ tables_of (state S.Store conn.old).now table) }
+    ensures rows { HasCleanDisk (state S.Store conn.new) →
+        IfOk result (λ rows. rows ≡ tables_of (state S.Store conn.old).now table) }
     ensures rise { HasCleanDisk (state S.Store conn.new) → IfOk result AreRows }
-    ensures stays { HasCleanDisk (state S.Store conn.new) → OnOk result (IsTrue (state S.Store conn.old).is_open × IsTrue (state S.Store conn.new).is_open) }
+    ensures stays { HasCleanDisk (state S.Store conn.new) →
+        OnOk result (IsTrue (state S.Store conn.old).is_open
+        × IsTrue (state S.Store conn.new).is_open) }
     ensures kept { KeepsContent (state S.Store conn.old) (state S.Store conn.new) }
-    ensures cause { HasCleanDisk (state S.Store conn.new) → IfErr result (IsExcused (state S.Store conn.old) (state S.Store conn.new)) }
-    ensures survives { Survives (state S.Store conn.old) (state S.Store conn.new) (Leaves (λ _. ⊥)) }
+    ensures cause { HasCleanDisk (state S.Store conn.new) →
+        IfErr result (IsExcused (state S.Store conn.old) (state S.Store conn.new)) }
+    ensures survives { Survives (state S.Store conn.old) (state S.Store conn.new)
+        (Leaves (λ _. ⊥)) }
 {
     let rows = select_table(conn, table)?;
     rows_of(alloc, rows.as_slice())

@@ -27,14 +27,17 @@ pub trait RowSink {
         ensures taken { OnOk result (taken self.new ≡ taken self.old ++ row ∷ []) }
         ensures more { IfOk result (λ more. more ≡ not (stops self.new (taken self.new))) }
         ensures steady { stops self.new ≡ stops self.old }
-        ensures refused { IfErr result (λ cause. (taken self.new ≡ taken self.old) × (cause ≢ Cause.StoreFault)) }
+        ensures refused { IfErr result (λ cause. (taken self.new ≡ taken self.old)
+            × (cause ≢ Cause.StoreFault)) }
         ensures own { IfErr result (λ cause. refuses cause) };
 }
 
 /// Hands the rows on, up to the one after which the sink wants no more.
 pub fn hand_on<K: RowSink>(rows: Vec<CellRow>, sink: &mut K) -> Result<(), Cause>
-    ensures taken { OnOk result (HandsOn (K.stops sink.old) rows.items (K.taken sink.old) (K.taken sink.new)) }
-    ensures refused { IfErr result (λ cause. HandsSome (K.stops sink.old) rows.items (K.taken sink.old) (K.taken sink.new) × (cause ≢ Cause.StoreFault)) }
+    ensures taken { OnOk result (HandsOn (K.stops sink.old) rows.items (K.taken sink.old)
+        (K.taken sink.new)) }
+    ensures refused { IfErr result (λ cause. HandsSome (K.stops sink.old) rows.items
+        (K.taken sink.old) (K.taken sink.new) × (cause ≢ Cause.StoreFault)) }
     ensures own { IfErr result (λ cause. K.refuses cause) }
     ensures steady { K.stops sink.new ≡ K.stops sink.old }
 {

@@ -78,15 +78,19 @@ impl<S: Alter + Drop> CellStore<S> {
     ) -> Result<CellStore<S>, (Cause, Connection<S>)>
         requires { IsOrderedIfFound S.Store conn }
         ensures opens { IfOk result (Opens S.Store conn) }
-        ensures crash { IfOk result (λ store. Endures S.Store conn store.conn (λ tables. tables ≡ (λ t. []))) }
+        ensures crash { IfOk result (λ store. Endures S.Store conn store.conn
+            (λ tables. tables ≡ (λ t. []))) }
         ensures refused { IfErr result (λ e. (e.0 ≡ Cause.OutOfMemory) ⊎ (e.0 ≡ Cause.StoreFault)) }
         ensures takes { conn.in_transaction ≡ false → HoldsTable S.Store conn → IsOk result }
-        ensures memory { IfErr result (λ e. e.0 ≡ Cause.OutOfMemory → (conn.in_transaction ≡ false) × ((state S.Store conn).now.schema ≡ no_schema)) }
+        ensures memory { IfErr result (λ e. e.0 ≡ Cause.OutOfMemory → (conn.in_transaction ≡ false)
+            × ((state S.Store conn).now.schema ≡ no_schema)) }
         ensures kept { IfErr result (λ e. Keeps S.Store conn e.1) }
-        ensures kept_content { IfErr result (λ e. KeepsContent (state S.Store conn) (state S.Store e.1)) }
+        ensures kept_content { IfErr result (λ e. KeepsContent (state S.Store conn)
+            (state S.Store e.1)) }
         ensures idle { IfErr result (λ e. e.1.in_transaction ≡ conn.in_transaction) }
         ensures again { IfErr result (λ e. IsOrderedIfFound S.Store e.1) }
-        ensures crash_err { IfErr result (λ e. Endures S.Store conn e.1 (λ tables. tables ≡ (λ t. []))) }
+        ensures crash_err { IfErr result (λ e. Endures S.Store conn e.1
+            (λ tables. tables ≡ (λ t. []))) }
     {
         let mut faults = 0;
         if !conn.is_autocommit() {
@@ -139,7 +143,9 @@ impl<S: Alter> CellStore<S> {
     /// How many statements were run since the opening, with the opening's CREATE, up to the greatest u64. Takes no
     /// memory.
     pub fn statements(&self) -> u64
-        ensures { result ≡ up_to_greatest (self.now.row_selects + self.now.table_selects + self.now.writes + self.now.creates) }
+        ensures { result
+            ≡ up_to_greatest (self.now.row_selects + self.now.table_selects + self.now.writes +
+            self.now.creates) }
     {
         self.row_selects
             .saturating_add(self.table_selects)
@@ -169,13 +175,22 @@ impl<S: Alter> CellStore<S> {
 
     /// The cells of a row, in rising order of their columns, by one SELECT; none where there is no such row.
     pub fn row(&mut self, table: i64, row: &[u8]) -> Result<Seq<Cell>, Cause>
-        ensures cells { IsClean S.Store self.new.conn → IfOk result (λ cells. cells ≡ cells_at row.now (tables_in S.Store self.old.conn table)) }
-        ensures open { IsClean S.Store self.new.conn → OnOk result (IsOpen S.Store self.old.conn × IsOpen S.Store self.new.conn) }
+        ensures cells { IsClean S.Store self.new.conn →
+            IfOk result (λ cells. cells ≡ cells_at row.now
+            (tables_in S.Store self.old.conn table)) }
+        ensures open { IsClean S.Store self.new.conn →
+            OnOk result (IsOpen S.Store self.old.conn × IsOpen S.Store self.new.conn) }
         ensures kept { Keeps S.Store self.old.conn self.new.conn }
         ensures counted { self.new.row_selects ≡ up_to_greatest (self.old.row_selects + 1) }
         ensures told { Tells result self.old.faults self.new.faults }
-        ensures cause { IsClean S.Store self.new.conn → result ≡ Err Cause.StoreFault → HasFault S.Store self.old.conn self.new.conn }
-        ensures others { self.new ≡ record self.old { conn = self.new.conn; row_selects = self.new.row_selects; faults = self.new.faults } }
+        ensures cause { IsClean S.Store self.new.conn → result ≡ Err Cause.StoreFault →
+            HasFault S.Store self.old.conn self.new.conn }
+        ensures others { self.new
+            ≡ record self.old {
+              conn = self.new.conn;
+              row_selects = self.new.row_selects;
+              faults = self.new.faults;
+            } }
         ensures crash { Endures S.Store self.old.conn self.new.conn (λ _. ⊥) }
     {
         self.row_selects = self.row_selects.saturating_add(1);
@@ -188,14 +203,22 @@ impl<S: Alter> CellStore<S> {
     /// The rows of a table, in rising order of their bytes, each with its cells in rising order of their columns, by one
     /// SELECT.
     pub fn table(&mut self, table: i64) -> Result<Seq<CellRow>, Cause>
-        ensures rows { IsClean S.Store self.new.conn → IfOk result (λ rows. rows ≡ tables_in S.Store self.old.conn table) }
+        ensures rows { IsClean S.Store self.new.conn →
+            IfOk result (λ rows. rows ≡ tables_in S.Store self.old.conn table) }
         ensures rise { IsClean S.Store self.new.conn → IfOk result AreRows }
-        ensures open { IsClean S.Store self.new.conn → OnOk result (IsOpen S.Store self.old.conn × IsOpen S.Store self.new.conn) }
+        ensures open { IsClean S.Store self.new.conn →
+            OnOk result (IsOpen S.Store self.old.conn × IsOpen S.Store self.new.conn) }
         ensures kept { Keeps S.Store self.old.conn self.new.conn }
         ensures counted { self.new.table_selects ≡ up_to_greatest (self.old.table_selects + 1) }
         ensures told { Tells result self.old.faults self.new.faults }
-        ensures cause { IsClean S.Store self.new.conn → result ≡ Err Cause.StoreFault → HasFault S.Store self.old.conn self.new.conn }
-        ensures others { self.new ≡ record self.old { conn = self.new.conn; table_selects = self.new.table_selects; faults = self.new.faults } }
+        ensures cause { IsClean S.Store self.new.conn → result ≡ Err Cause.StoreFault →
+            HasFault S.Store self.old.conn self.new.conn }
+        ensures others { self.new
+            ≡ record self.old {
+              conn = self.new.conn;
+              table_selects = self.new.table_selects;
+              faults = self.new.faults;
+            } }
         ensures crash { Endures S.Store self.old.conn self.new.conn (λ _. ⊥) }
     {
         self.table_selects = self.table_selects.saturating_add(1);
@@ -208,16 +231,28 @@ impl<S: Alter> CellStore<S> {
     /// Hands the rows of a table on, in rising order, by one SELECT: up to the first after which the sink wants no more,
     /// or else all of them. A refusal of the sink is the answer; the rows before it were taken.
     pub fn each<K: RowSink>(&mut self, table: i64, sink: &mut K) -> Result<(), Cause>
-        ensures taken { IsClean S.Store self.new.conn → OnOk result (HandsOn (K.stops sink.old) (tables_in S.Store self.old.conn table) (K.taken sink.old) (K.taken sink.new)) }
-        ensures refused { IsClean S.Store self.new.conn → OnErr result (HandsSome (K.stops sink.old) (tables_in S.Store self.old.conn table) (K.taken sink.old) (K.taken sink.new)) }
-        ensures own { IfErr result (λ cause. (cause ≡ Cause.OutOfMemory) ⊎ (cause ≡ Cause.StoreFault) ⊎ K.refuses cause) }
+        ensures taken { IsClean S.Store self.new.conn →
+            OnOk result (HandsOn (K.stops sink.old) (tables_in S.Store self.old.conn table)
+            (K.taken sink.old) (K.taken sink.new)) }
+        ensures refused { IsClean S.Store self.new.conn →
+            OnErr result (HandsSome (K.stops sink.old) (tables_in S.Store self.old.conn table)
+            (K.taken sink.old) (K.taken sink.new)) }
+        ensures own { IfErr result (λ cause. (cause ≡ Cause.OutOfMemory)
+            ⊎ (cause ≡ Cause.StoreFault) ⊎ K.refuses cause) }
         ensures steady { K.stops sink.new ≡ K.stops sink.old }
-        ensures open { IsClean S.Store self.new.conn → OnOk result (IsOpen S.Store self.old.conn × IsOpen S.Store self.new.conn) }
+        ensures open { IsClean S.Store self.new.conn →
+            OnOk result (IsOpen S.Store self.old.conn × IsOpen S.Store self.new.conn) }
         ensures kept { Keeps S.Store self.old.conn self.new.conn }
         ensures counted { self.new.table_selects ≡ up_to_greatest (self.old.table_selects + 1) }
         ensures told { self.new.faults ≡ faults_after result self.old.faults }
-        ensures cause { IsClean S.Store self.new.conn → result ≡ Err Cause.StoreFault → HasFault S.Store self.old.conn self.new.conn }
-        ensures others { self.new ≡ record self.old { conn = self.new.conn; table_selects = self.new.table_selects; faults = self.new.faults } }
+        ensures cause { IsClean S.Store self.new.conn → result ≡ Err Cause.StoreFault →
+            HasFault S.Store self.old.conn self.new.conn }
+        ensures others { self.new
+            ≡ record self.old {
+              conn = self.new.conn;
+              table_selects = self.new.table_selects;
+              faults = self.new.faults;
+            } }
         ensures crash { Endures S.Store self.old.conn self.new.conn (λ _. ⊥) }
     {
         let rows = self.table(table)?;
@@ -230,15 +265,25 @@ impl<S: Alter> CellStore<S> {
     /// database takes the bytes of each cell and where rowids are left for all of them, a `StoreFault` has a fault as its
     /// cause.
     pub fn apply(&mut self, changes: &[CellChange]) -> Result<(), Cause>
-        ensures applied { 0 < length changes.now → OnOk result (Becomes S.Store self.old.conn self.new.conn (tables_after changes.now)) }
+        ensures applied { 0 < length changes.now → OnOk result
+            (Becomes S.Store self.old.conn self.new.conn (tables_after changes.now)) }
         ensures nothing { length changes.now ≡ 0 → (result ≡ Ok tt) × (self.new ≡ self.old) }
         ensures kept { OnErr result (Keeps S.Store self.old.conn self.new.conn) }
-        ensures counted { 0 < length changes.now → Counts result self.old.writes self.new.writes (sum_by statements_of changes.now) }
+        ensures counted { 0 < length changes.now → Counts result self.old.writes self.new.writes
+            (sum_by statements_of changes.now) }
         ensures once { IsClean S.Store self.new.conn → OnOk result (NameColumnsOnce changes.now) }
         ensures told { Tells result self.old.faults self.new.faults }
-        ensures cause { IsClean S.Store self.new.conn → Allows S.Store self.old.conn changes.now → result ≡ Err Cause.StoreFault → HasFault S.Store self.old.conn self.new.conn }
-        ensures others { self.new ≡ record self.old { conn = self.new.conn; writes = self.new.writes; faults = self.new.faults } }
-        ensures crash { Endures S.Store self.old.conn self.new.conn (λ tables. IsOpen S.Store self.old.conn × (tables ≡ tables_after changes.now (tables_in S.Store self.old.conn))) }
+        ensures cause { IsClean S.Store self.new.conn → Allows S.Store self.old.conn changes.now →
+            result ≡ Err Cause.StoreFault → HasFault S.Store self.old.conn self.new.conn }
+        ensures others { self.new
+            ≡ record self.old {
+              conn = self.new.conn;
+              writes = self.new.writes;
+              faults = self.new.faults;
+            } }
+        ensures crash { Endures S.Store self.old.conn self.new.conn
+            (λ tables. IsOpen S.Store self.old.conn
+            × (tables ≡ tables_after changes.now (tables_in S.Store self.old.conn))) }
     {
         if changes.is_empty() {
             return Ok(());

@@ -38,7 +38,8 @@ impl ObjectPlaces {
     /// Gives an object a place, where it has none. For want of memory nothing changes.
     pub fn note(&mut self, object: usize, place: usize) -> Result<(), AllocError>
         ensures noted { OnOk result (indexed.Notes object place self.old self.new) }
-        ensures refused { OnErr result ((n : ℕ) → indexed.place_in self.new n ≡ indexed.place_in self.old n) }
+        ensures refused { OnErr result ((n : ℕ) → indexed.place_in self.new n
+            ≡ indexed.place_in self.old n) }
     {
         if !self.has(object) {
             self.places.insert(object, place)?;

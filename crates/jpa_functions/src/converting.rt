@@ -51,7 +51,8 @@ fn column_beside(table: &[Pair], value: &Value) -> Result<Option<Value>, Cause>
 }
 
 fn attribute_beside(table: &[Pair], value: &Value) -> Result<Option<Value>, Cause>
-    ensures attribute { IfOk result (λ answer. answer ≡ pairs.attribute_beside table.now value.now) }
+    ensures attribute { IfOk result (λ answer. answer
+        ≡ pairs.attribute_beside table.now value.now) }
     ensures refused { IfErr result (λ cause. cause ≡ Cause.OutOfMemory) }
 {
     match of_column(table, value) {

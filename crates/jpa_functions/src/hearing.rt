@@ -57,7 +57,8 @@ fn set_text(alloc: Global, attribute: &Text, text: &Text) -> Result<Heard, Cause
 
 /// Gives an attribute the value of another name, null where there is none.
 fn copy(alloc: Global, image: &Image, from: &Text, to: &Text) -> Result<Heard, Cause>
-    ensures heard { IfOk result (λ heard. heard ≡ spec.assign to.now (spec.value_or_null (spec.value_of image.now from.now))) }
+    ensures heard { IfOk result (λ heard. heard ≡ spec.assign to.now
+        (spec.value_or_null (spec.value_of image.now from.now))) }
     ensures refused { IfErr result (λ cause. cause ≡ Cause.OutOfMemory) }
 {
     match value_of(image, from.as_str()) {
@@ -80,7 +81,8 @@ fn count_up(alloc: Global, attribute: &Text, number: i64) -> Result<Heard, Cause
 
 /// Adds 1 to an attribute, from 0 where it is null.
 fn count(alloc: Global, image: &Image, attribute: &Text) -> Result<Heard, Cause>
-    ensures heard { IfOk result (λ heard. heard ≡ spec.counted attribute.now (spec.value_of image.now attribute.now)) }
+    ensures heard { IfOk result (λ heard. heard ≡ spec.counted attribute.now
+        (spec.value_of image.now attribute.now)) }
     ensures refused { IfErr result (λ cause. cause ≡ Cause.OutOfMemory) }
 {
     match value_of(image, attribute.as_str()) {
@@ -92,7 +94,8 @@ fn count(alloc: Global, image: &Image, attribute: &Text) -> Result<Heard, Cause>
 
 /// Throws where an attribute has no value.
 fn require(alloc: Global, image: &Image, attribute: &Text) -> Result<Heard, Cause>
-    ensures heard { IfOk result (λ heard. heard ≡ spec.required attribute.now (spec.value_of image.now attribute.now)) }
+    ensures heard { IfOk result (λ heard. heard ≡ spec.required attribute.now
+        (spec.value_of image.now attribute.now)) }
     ensures refused { IfErr result (λ cause. cause ≡ Cause.OutOfMemory) }
 {
     match value_of(image, attribute.as_str()) {

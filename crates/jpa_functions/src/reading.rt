@@ -48,7 +48,8 @@ fn functions_at(alloc: Global, json: &Json) -> Result<Seq<Function>, Cause>
 }
 
 fn functions_if_there(alloc: Global, json: &Json) -> Result<Seq<Function>, Unread>
-    ensures { Gives same result (said.functions_if_there (get (codes "functions") (view json.now))) }
+    ensures { Gives same result (said.functions_if_there
+        (get (codes "functions") (view json.now))) }
 {
     match json.get("functions") {
         Some(functions) => functions_of(alloc, functions),

@@ -31,9 +31,13 @@ pub fn registry_of(
 
 /// Adds a function to its sort.
 fn register(registry: &mut Registry<ProgramFunctions>, function: Function) -> Result<(), Cause>
-    ensures listeners { OnOk result (registry.new.listeners ≡ registry.old.listeners ++ option_to_list (sorts.listener_so function.name function.make)) }
-    ensures converters { OnOk result (registry.new.converters ≡ registry.old.converters ++ option_to_list (sorts.converter_so function.name function.make)) }
-    ensures refused { IfErr result (λ cause. (cause ≡ Cause.OutOfMemory) ⊎ ((cause ≡ Cause.IllegalArgument Argument.Second) × (sorts.stands registry.old function.name function.make ≡ true))) }
+    ensures listeners { OnOk result (registry.new.listeners ≡ registry.old.listeners
+        ++ option_to_list (sorts.listener_so function.name function.make)) }
+    ensures converters { OnOk result (registry.new.converters ≡ registry.old.converters
+        ++ option_to_list (sorts.converter_so function.name function.make)) }
+    ensures refused { IfErr result (λ cause. (cause ≡ Cause.OutOfMemory)
+        ⊎ ((cause ≡ Cause.IllegalArgument Argument.Second)
+        × (sorts.stands registry.old function.name function.make ≡ true))) }
 {
     let Function { name, make } = function;
     match make {

@@ -47,7 +47,8 @@ fn empty_held(alloc: Global, to_one: bool) -> Held
 
 /// No object for each relation.
 fn empty_relations(alloc: Global, relations: &[Relation]) -> Result<Seq<Held>, Cause>
-    ensures ok { IfOk result (λ held. held ≡ map (λ r. objects.empty_held (is_to_one r.side)) relations.now) }
+    ensures ok { IfOk result (λ held. held ≡ map (λ r. objects.empty_held (is_to_one r.side))
+        relations.now) }
     ensures err { IfErr result (λ cause. cause ≡ Cause.OutOfMemory) }
 {
     let mut held = Seq::new(alloc);

@@ -91,7 +91,8 @@ fn set_part(
     handed: Handed,
 ) -> Result<LiveObject, Cause>
     requires { HasShape metamodel.now object.now }
-    ensures { IsUnlessMemory result (spec.set_part (root_of metamodel.now object.now.class).key object.now handed part) }
+    ensures { IsUnlessMemory result (spec.set_part (root_of metamodel.now object.now.class).key
+        object.now handed part) }
 {
     let parts = metamodel.root_of(object.class).key.as_slice();
     if !fits_part(parts.get(part), &handed) {
@@ -131,7 +132,8 @@ fn set_attribute(
     handed: Handed,
 ) -> Result<LiveObject, Cause>
     requires { HasShape metamodel.now object.now }
-    ensures { IsUnlessMemory result (spec.set_attribute (attributes_of metamodel.now object.now.class) object.now handed attribute) }
+    ensures { IsUnlessMemory result (spec.set_attribute
+        (attributes_of metamodel.now object.now.class) object.now handed attribute) }
 {
     let attributes = metamodel.attributes_of(object.class);
     if !fits_attribute(attributes.get(attribute), &handed) {
@@ -154,7 +156,8 @@ fn set_relation(
     requires shape { HasShape metamodel.now object.now }
     requires shaped { All (HasShape metamodel.now) objects.now }
     requires handed { IsInHeap objects.now handed }
-    ensures { IsUnlessMemory result (spec.set_member metamodel.now objects.now object.now handed (Some (Member.Relation relation))) }
+    ensures { IsUnlessMemory result (spec.set_member metamodel.now objects.now object.now handed
+        (Some (Member.Relation relation))) }
 {
     let along = &metamodel.relations_of(object.class)[relation];
     if !along.side.is_to_one() {
@@ -180,7 +183,8 @@ fn set_member(
     requires shape { HasShape metamodel.now object.now }
     requires shaped { All (HasShape metamodel.now) objects.now }
     requires handed { IsInHeap objects.now handed }
-    ensures { IsUnlessMemory result (spec.set_member metamodel.now objects.now object.now handed member) }
+    ensures { IsUnlessMemory result (spec.set_member metamodel.now objects.now object.now handed
+        member) }
 {
     match member {
         None => Err(Cause::IllegalArgument(Argument::Name)),

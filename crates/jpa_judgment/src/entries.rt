@@ -32,7 +32,8 @@ fn is_entry(schema: &Schema, id: &RowId, row: &Row) -> bool
 }
 
 fn are_entries(schema: &Schema, rows: &[(RowId, Row)]) -> bool
-    ensures { IsTrue result ↔ AllByRecursion (λ e. IsEntryBy (table_of schema.now (e.0).table) e) rows.now }
+    ensures { IsTrue result ↔ AllByRecursion (λ e. IsEntryBy (table_of schema.now (e.0).table) e)
+        rows.now }
 {
     for (id, row) in rows {
         if !is_entry(schema, id, row) {

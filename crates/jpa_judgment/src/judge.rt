@@ -64,7 +64,8 @@ fn stand_together(
     numbers: &[u64],
 ) -> Result<bool, Cause>
     requires { AreOfClasses metamodel.now set.now }
-    ensures together { IfOk result (λ together. IsTrue together ↔ StandTogether metamodel.now rows.now set.now numbers.now) }
+    ensures together { IfOk result (λ together. IsTrue together
+        ↔ StandTogether metamodel.now rows.now set.now numbers.now) }
     ensures err { IfErr result (λ cause. cause ≡ Cause.OutOfMemory) }
 {
     if !are_owned(alloc, metamodel, set, rows)? || !is_sound(metamodel, set)? {
@@ -83,7 +84,8 @@ pub(crate) fn judge<B: Behaviour>(
     requires named { AreRowsOf (schema_of metamodel.now) rows.now }
     requires whole { AreWhole (schema_of metamodel.now) rows.now }
     requires filled { AreFilled rows.now }
-    ensures judged { IfOk result (IsJudged (world_of B.meaning metamodel.now registry.now) rows.now) }
+    ensures judged { IfOk result (IsJudged (world_of B.meaning metamodel.now registry.now)
+        rows.now) }
     ensures err { IfErr result (λ cause. cause ≡ Cause.OutOfMemory) }
 {
     // what the judgment rests on

@@ -30,7 +30,9 @@ fn next_of(numbers: &[u64], class: usize) -> u64
 
 fn is_key_given(metamodel: &Metamodel, numbers: &[u64], entry: &(Identity, Stored)) -> bool
     requires { entry.now.1.class < length metamodel.now.entities }
-    ensures { result ≡ cells.key_given_by numbers.now (chains.root_class metamodel.now entry.now.1.class) (chains.root_of metamodel.now entry.now.1.class).generated entry.now.0.key }
+    ensures { result ≡ cells.key_given_by numbers.now
+        (chains.root_class metamodel.now entry.now.1.class)
+        (chains.root_of metamodel.now entry.now.1.class).generated entry.now.0.key }
 {
     let class = entry.1.class;
     !metamodel.root_of(class).generated

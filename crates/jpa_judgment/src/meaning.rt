@@ -45,7 +45,8 @@ fn object_of<B: Behaviour>(
     rows: &[(RowId, Row)],
 ) -> Result<Option<Stored>, Cause>
     requires { AreRowsOf (schema_of metamodel.now) rows.now }
-    ensures object { IfOk result (IsObjectOf (world_of B.meaning metamodel.now registry.now) rows.now id.now row.now) }
+    ensures object { IfOk result (IsObjectOf (world_of B.meaning metamodel.now registry.now)
+        rows.now id.now row.now) }
     ensures err { IfErr result (λ cause. cause ≡ Cause.OutOfMemory) }
 {
     match from_rows_by_id(alloc, metamodel, registry, id, row, rows) {
@@ -65,7 +66,8 @@ pub(crate) fn meaning_of<B: Behaviour>(
     rows: &[(RowId, Row)],
 ) -> Result<Option<Meaning>, Cause>
     requires { AreRowsOf (schema_of metamodel.now) rows.now }
-    ensures meaning { IfOk result (SaysIfSound (world_of B.meaning metamodel.now registry.now) rows.now id.now row.now) }
+    ensures meaning { IfOk result (SaysIfSound (world_of B.meaning metamodel.now registry.now)
+        rows.now id.now row.now) }
     ensures err { IfErr result (λ cause. cause ≡ Cause.OutOfMemory) }
 {
     if is_number_row(metamodel, id, row) {

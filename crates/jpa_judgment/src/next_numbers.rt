@@ -67,7 +67,8 @@ fn number_id(alloc: Global, table: u64) -> Result<RowId, Cause>
 fn number_of(alloc: Global, rows: &[(RowId, Row)], table: u64) -> Result<u64, Cause>
     requires rising { AreRising rows.now }
     requires table { table < 2 ^ 32 }
-    ensures ok { IfOk result (λ next. next ≡ sets.number_in (find identity_cmp (objects.number_id table) rows.now)) }
+    ensures ok { IfOk result (λ next. next ≡ sets.number_in
+        (find identity_cmp (objects.number_id table) rows.now)) }
     ensures err { IfErr result (λ cause. cause ≡ Cause.OutOfMemory) }
 {
     let id = number_id(alloc, table)?;

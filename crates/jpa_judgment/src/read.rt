@@ -61,12 +61,18 @@ pub(crate) fn read_tables<S: Alter>(
 ) -> Result<(Seq<(RowId, Row)>, Option<(u64, Bytes)>), Cause>
     requires rising { reads.IsRising numbers.now }
     requires known { AllByRecursion (λ n. IsSome (table_of space.old.schema n)) numbers.now }
-    ensures read { IsClean S.Store space.new.store.conn → IfOk result (λ found. reads.AreReadUpTo space.old.schema (tables_in S.Store space.old.store.conn) numbers.now found.0 found.1) }
+    ensures read { IsClean S.Store space.new.store.conn →
+        IfOk result (λ found. reads.AreReadUpTo space.old.schema
+        (tables_in S.Store space.old.store.conn) numbers.now found.0 found.1) }
     ensures refused { IfErr result IsStoreCause }
-    ensures open { IsClean S.Store space.new.store.conn → 0 < length numbers.now → OnOk result (IsOpen S.Store space.old.store.conn × IsOpen S.Store space.new.store.conn) }
-    ensures counted { IfOk result (λ found. found.1 ≡ None → 0 < length numbers.now → space.new.store.table_selects ≡ up_to_greatest (space.old.store.table_selects + length numbers.now)) }
+    ensures open { IsClean S.Store space.new.store.conn → 0 < length numbers.now →
+        OnOk result (IsOpen S.Store space.old.store.conn × IsOpen S.Store space.new.store.conn) }
+    ensures counted { IfOk result (λ found. found.1 ≡ None → 0 < length numbers.now →
+        space.new.store.table_selects ≡ up_to_greatest
+        (space.old.store.table_selects + length numbers.now)) }
     ensures told { Tells result space.old.store.faults space.new.store.faults }
-    ensures cause { IsClean S.Store space.new.store.conn → result ≡ Err Cause.StoreFault → HasFault S.Store space.old.store.conn space.new.store.conn }
+    ensures cause { IsClean S.Store space.new.store.conn → result ≡ Err Cause.StoreFault →
+        HasFault S.Store space.old.store.conn space.new.store.conn }
     ensures keeps { reads.KeepsTables S.Store space.old space.new }
 {
     let mut rows = Seq::new(alloc);

@@ -28,7 +28,8 @@ use std::alloc::Global;
 
 /// The refusal that tells of a row, or `OutOfMemory`.
 fn damaged(alloc: Global, id: &RowId) -> Cause
-    ensures { (result ≡ Cause.OutOfMemory) ⊎ (result ≡ Cause.Damaged id.now.table (key_bytes id.now.key)) }
+    ensures { (result ≡ Cause.OutOfMemory) ⊎ (result
+        ≡ Cause.Damaged id.now.table (key_bytes id.now.key)) }
 {
     match encode_key(alloc, &id.key) {
         Ok(bytes) => Cause::Damaged(id.table, bytes),
@@ -56,8 +57,12 @@ fn judge_read<B: Behaviour>(
     requires { schema.now ≡ schema_of metamodel.now }
     ensures whole { OnOk result (end ≡ None) }
     ensures named { OnOk result (AreRowsOf schema.now rows.now) }
-    ensures held { IfOk result (λ c. AreHeld (world_of B.meaning metamodel.now registry.now) rows.now c) }
-    ensures err { IfErr result (λ cause. (cause ≡ Cause.OutOfMemory) ⊎ ((t : ℕ) × (bytes : List ℕ) × (cause ≡ Cause.Damaged t bytes) × (AreRowsOf schema.now rows.now → IsTold (world_of B.meaning metamodel.now registry.now) rows.now end t bytes))) }
+    ensures held { IfOk result (λ c. AreHeld (world_of B.meaning metamodel.now registry.now)
+        rows.now c) }
+    ensures err { IfErr result (λ cause. (cause ≡ Cause.OutOfMemory)
+        ⊎ ((t : ℕ) × (bytes : List ℕ) × (cause ≡ Cause.Damaged t bytes)
+        × (AreRowsOf schema.now rows.now →
+        IsTold (world_of B.meaning metamodel.now registry.now) rows.now end t bytes))) }
 {
     if !are_rows_of(schema, rows) {
         return Err(nothing_at_fault(alloc));
@@ -86,17 +91,40 @@ pub fn read_store<S: Alter, B: Behaviour>(
     space: &mut RowSpace<S>,
 ) -> Result<Committed, Cause>
     requires schema { space.old.schema ≡ schema_of metamodel.now }
-    ensures can_be_held { IfOk result (λ c. CanBeHeld (world_of B.meaning metamodel.now registry.now) c.set c.numbers) }
-    ensures holds { IsClean S.Store space.new.store.conn → IfOk result (λ c. CanBeHeld (world_of B.meaning metamodel.now registry.now) c.set c.numbers × HoldsRows S.Store (schema_of metamodel.now) space.new.store.conn (rows_of (world_of B.meaning metamodel.now registry.now) c.set c.numbers)) }
-    ensures stand { IsClean S.Store space.new.store.conn → IsOpen S.Store space.new.store.conn → IfOk result (λ c. StandFor (world_of B.meaning metamodel.now registry.now) (cells_in (world_of B.meaning metamodel.now registry.now) (tables_in S.Store space.new.store.conn)) c.set c.numbers) }
-    ensures refused { IfErr result (λ cause. IsStoreCause cause ⊎ ((t : ℕ) × (bytes : List ℕ) × (cause ≡ Cause.Damaged t bytes) × (IsClean S.Store space.new.store.conn → AreDamagedAt (world_of B.meaning metamodel.now registry.now) (tables_in S.Store space.new.store.conn) t bytes))) }
-    ensures live { IsClean S.Store space.new.store.conn → (t : ℕ) (bytes : List ℕ) → result ≡ Err (Cause.Damaged t bytes) → IsOpen S.Store space.old.store.conn × IsOpen S.Store space.new.store.conn }
-    ensures open { IsClean S.Store space.new.store.conn → OnOk result (IsOpen S.Store space.old.store.conn × IsOpen S.Store space.new.store.conn) }
+    ensures can_be_held { IfOk result (λ c. CanBeHeld
+        (world_of B.meaning metamodel.now registry.now) c.set c.numbers) }
+    ensures holds { IsClean S.Store space.new.store.conn →
+        IfOk result (λ c. CanBeHeld (world_of B.meaning metamodel.now registry.now) c.set c.numbers
+        × HoldsRows S.Store (schema_of metamodel.now) space.new.store.conn
+        (rows_of (world_of B.meaning metamodel.now registry.now) c.set c.numbers)) }
+    ensures stand { IsClean S.Store space.new.store.conn → IsOpen S.Store space.new.store.conn →
+        IfOk result (λ c. StandFor (world_of B.meaning metamodel.now registry.now)
+        (cells_in (world_of B.meaning metamodel.now registry.now)
+        (tables_in S.Store space.new.store.conn)) c.set c.numbers) }
+    ensures refused { IfErr result (λ cause. IsStoreCause cause
+        ⊎ ((t : ℕ) × (bytes : List ℕ) × (cause ≡ Cause.Damaged t bytes)
+        × (IsClean S.Store space.new.store.conn →
+        AreDamagedAt (world_of B.meaning metamodel.now registry.now)
+        (tables_in S.Store space.new.store.conn) t bytes))) }
+    ensures live { IsClean S.Store space.new.store.conn → (t : ℕ) (bytes : List ℕ) → result
+        ≡ Err (Cause.Damaged t bytes) → IsOpen S.Store space.old.store.conn
+        × IsOpen S.Store space.new.store.conn }
+    ensures open { IsClean S.Store space.new.store.conn →
+        OnOk result (IsOpen S.Store space.old.store.conn × IsOpen S.Store space.new.store.conn) }
     ensures kept { Keeps S.Store space.old.store.conn space.new.store.conn }
-    ensures counted { OnOk result (space.new.store.table_selects ≡ up_to_greatest (space.old.store.table_selects + length (schema_of metamodel.now).tables)) }
+    ensures counted { OnOk result (space.new.store.table_selects
+        ≡ up_to_greatest (space.old.store.table_selects + length
+        (schema_of metamodel.now).tables)) }
     ensures told { space.new.store.faults ≡ faults_after result space.old.store.faults }
-    ensures cause { IsClean S.Store space.new.store.conn → result ≡ Err Cause.StoreFault → HasFault S.Store space.old.store.conn space.new.store.conn }
-    ensures others { space.new ≡ record space.old { store = record space.old.store { conn = space.new.store.conn; table_selects = space.new.store.table_selects; faults = space.new.store.faults } } }
+    ensures cause { IsClean S.Store space.new.store.conn → result ≡ Err Cause.StoreFault →
+        HasFault S.Store space.old.store.conn space.new.store.conn }
+    ensures others { space.new ≡ record space.old {
+      store = record space.old.store {
+        conn = space.new.store.conn;
+        table_selects = space.new.store.table_selects;
+        faults = space.new.store.faults;
+      };
+    } }
     ensures crash { Endures S.Store space.old.store.conn space.new.store.conn (λ _. ⊥) }
 {
     let _unit = metamodel.unit();

@@ -157,7 +157,8 @@ fn read_pair(
     target_kinds: &[Kind],
     bytes: &[u8],
 ) -> Result<Option<(Key, Key)>, Cause>
-    ensures ok { IfOk result (λ found. found ≡ reading.pair_in owner_kinds.now target_kinds.now bytes.now) }
+    ensures ok { IfOk result (λ found. found ≡ reading.pair_in owner_kinds.now target_kinds.now
+        bytes.now) }
     ensures err { IfErr result (λ cause. cause ≡ Cause.OutOfMemory) }
 {
     match read_key(alloc, owner_kinds, bytes)? {
@@ -174,7 +175,8 @@ fn read_pair(
 ///
 /// Fails for want of memory alone, with `OutOfMemory`.
 pub fn decode_key(alloc: Global, kinds: &[Kind], bytes: &[u8]) -> Result<Option<Key>, Cause>
-    ensures spelled { IfOk result (λ found. (key : List Value) → (found ≡ Some key) ↔ Spells kinds.now bytes.now key) }
+    ensures spelled { IfOk result (λ found. (key : List Value) → (found ≡ Some key)
+        ↔ Spells kinds.now bytes.now key) }
     ensures refused { IfErr result (λ cause. cause ≡ Cause.OutOfMemory) }
 {
     Ok(read_whole(alloc, kinds, bytes)?)
@@ -189,7 +191,8 @@ pub fn decode_front(
     kinds: &[Kind],
     bytes: &[u8],
 ) -> Result<Option<(Key, usize)>, Cause>
-    ensures spelled { IfOk result (λ found. (key : List Value) (count : ℕ) → (found ≡ Some (key, count)) ↔ SpellsFront kinds.now bytes.now key count) }
+    ensures spelled { IfOk result (λ found. (key : List Value) (count : ℕ) →
+        (found ≡ Some (key, count)) ↔ SpellsFront kinds.now bytes.now key count) }
     ensures refused { IfErr result (λ cause. cause ≡ Cause.OutOfMemory) }
 {
     Ok(read_key(alloc, kinds, bytes)?)
@@ -205,7 +208,9 @@ pub fn decode_pair(
     target_kinds: &[Kind],
     bytes: &[u8],
 ) -> Result<Option<(Key, Key)>, Cause>
-    ensures spelled { IfOk result (λ found. (owner target : List Value) → (found ≡ Some (owner, target)) ↔ SpellsPair owner_kinds.now target_kinds.now bytes.now owner target) }
+    ensures spelled { IfOk result (λ found. (owner target : List Value) →
+        (found ≡ Some (owner, target)) ↔ SpellsPair owner_kinds.now target_kinds.now bytes.now owner
+        target) }
     ensures refused { IfErr result (λ cause. cause ≡ Cause.OutOfMemory) }
 {
     Ok(read_pair(alloc, owner_kinds, target_kinds, bytes)?)
@@ -216,7 +221,8 @@ pub fn decode_pair(
 #[tactic(auto, using(crate::proofs::Orders::spelled_order))]
 pub fn order_key_bytes(a: &[u8], b: &[u8]) -> Ordering
     ensures bytes { result ≡ slice_cmp nat_cmp a.now b.now }
-    ensures keys { (kinds : List Kind) (x y : List Value) → Spells kinds a.now x → Spells kinds b.now y → result ≡ key_cmp x y }
+    ensures keys { (kinds : List Kind) (x y : List Value) → Spells kinds a.now x →
+        Spells kinds b.now y → result ≡ key_cmp x y }
 {
     a.cmp(b)
 }

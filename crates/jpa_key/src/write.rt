@@ -23,7 +23,8 @@ fn shifted(number: i64) -> u64
 
 /// Appends bytes with each 0 written as 0 and 255, and then two bytes 0.
 fn push_escaped(out: &mut Vec<u8>, bytes: &[u8]) -> Result<(), Cause>
-    ensures ok { OnOk result (out.new.items ≡ out.old.items ++ keys.escaped bytes.now ++ 0 ∷ 0 ∷ []) }
+    ensures ok { OnOk result (out.new.items ≡ out.old.items ++ keys.escaped bytes.now ++ 0 ∷ 0
+        ∷ []) }
     ensures err { IfErr result (λ cause. cause ≡ Cause.OutOfMemory) }
 {
     for &byte in bytes {
@@ -49,7 +50,8 @@ fn push_int(out: &mut Vec<u8>, number: i64) -> Result<(), Cause>
 
 /// Appends a text part.
 fn push_text(out: &mut Vec<u8>, text: &str) -> Result<(), Cause>
-    ensures ok { OnOk result (out.new.items ≡ out.old.items ++ keys.part_bytes (Value.Text text.now)) }
+    ensures ok { OnOk result (out.new.items ≡ out.old.items
+        ++ keys.part_bytes (Value.Text text.now)) }
     ensures representable { OnOk result (is_representable (Value.Text text.now) ≡ true) }
     ensures err { IfErr result (λ cause. cause ≡ Cause.OutOfMemory) }
 {
@@ -60,7 +62,8 @@ fn push_text(out: &mut Vec<u8>, text: &str) -> Result<(), Cause>
 
 /// Appends a part that is a byte string.
 fn push_bytes(out: &mut Vec<u8>, bytes: &[u8]) -> Result<(), Cause>
-    ensures ok { OnOk result (out.new.items ≡ out.old.items ++ keys.part_bytes (Value.Bytes bytes.now)) }
+    ensures ok { OnOk result (out.new.items ≡ out.old.items
+        ++ keys.part_bytes (Value.Bytes bytes.now)) }
     ensures representable { OnOk result (is_representable (Value.Bytes bytes.now) ≡ true) }
     ensures err { IfErr result (λ cause. cause ≡ Cause.OutOfMemory) }
 {
@@ -114,7 +117,8 @@ pub fn encode_key(alloc: Global, key: &Key) -> Result<Bytes, Cause>
 ///
 /// Fails for want of memory alone, with `OutOfMemory`.
 pub fn encode_pair(alloc: Global, owner: &Key, target: &Key) -> Result<Bytes, Cause>
-    ensures bytes { IfOk result (λ bytes. bytes ≡ keys.key_bytes owner.now ++ keys.key_bytes target.now) }
+    ensures bytes { IfOk result (λ bytes. bytes ≡ keys.key_bytes owner.now
+        ++ keys.key_bytes target.now) }
     ensures owner_representable { OnOk result (list_all is_representable owner.now ≡ true) }
     ensures target_representable { OnOk result (list_all is_representable target.now ≡ true) }
     ensures refused { IfErr result (λ cause. cause ≡ Cause.OutOfMemory) }

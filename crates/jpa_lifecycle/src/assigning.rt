@@ -36,7 +36,8 @@ fn takes(metamodel: &Metamodel, class: usize, member: Option<Member>, value: &Va
 /// An attribute that takes a value gets it.
 fn assign(metamodel: &Metamodel, object: &mut LiveObject, member: Option<Member>, value: Value)
     requires shape { HasShape metamodel.now object.old }
-    requires taken { callbacks.takes (attributes_of metamodel.now object.old.class) member value ≡ true }
+    requires taken { callbacks.takes (attributes_of metamodel.now object.old.class) member value
+        ≡ true }
     ensures assigned { object.new ≡ callbacks.assigned_to member object.old value }
     ensures shape { HasShape metamodel.now object.new }
 {
@@ -53,7 +54,8 @@ pub(crate) fn assigned(
     assignments: &[Named],
 ) -> Result<Option<LiveObject>, Cause>
     requires { HasShape metamodel.now object.now }
-    ensures ok { IfOk result (λ made. made ≡ callbacks.assigned metamodel.now assignments.now object.now) }
+    ensures ok { IfOk result (λ made. made ≡ callbacks.assigned metamodel.now assignments.now
+        object.now) }
     ensures shape { IfOk result (λ made. IfSome made (HasShape metamodel.now)) }
     ensures err { IfErr result (λ cause. cause ≡ Cause.OutOfMemory) }
 {

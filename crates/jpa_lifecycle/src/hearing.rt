@@ -73,7 +73,8 @@ fn push_default(
     event: LifecycleEvent,
 ) -> Result<(), Cause>
     requires { All (λ c. c < length metamodel.now.entities) classes.now }
-    ensures ok { OnOk result (names.new ≡ names.old ++ callbacks.hearing event (callbacks.default_listeners metamodel.now classes.now)) }
+    ensures ok { OnOk result (names.new ≡ names.old
+        ++ callbacks.hearing event (callbacks.default_listeners metamodel.now classes.now)) }
     ensures err { IfErr result (λ cause. cause ≡ Cause.OutOfMemory) }
 {
     if excludes_default(metamodel, classes) {
@@ -105,7 +106,9 @@ fn push_listeners(
     event: LifecycleEvent,
 ) -> Result<(), Cause>
     requires { All (λ c. c < length metamodel.now.entities) classes.now }
-    ensures ok { OnOk result (names.new ≡ names.old ++ callbacks.hearing event (flat_map (λ c. (entity_at metamodel.now c).listeners) classes.now)) }
+    ensures ok { OnOk result (names.new ≡ names.old
+        ++ callbacks.hearing event (flat_map (λ c. (entity_at metamodel.now c).listeners)
+        classes.now)) }
     ensures err { IfErr result (λ cause. cause ≡ Cause.OutOfMemory) }
 {
     for class in classes {
@@ -122,7 +125,9 @@ fn push_callbacks(
     event: LifecycleEvent,
 ) -> Result<(), Cause>
     requires { All (λ c. c < length metamodel.now.entities) classes.now }
-    ensures ok { OnOk result (names.new ≡ names.old ++ callbacks.hearing event (flat_map (λ c. (entity_at metamodel.now c).callbacks) classes.now)) }
+    ensures ok { OnOk result (names.new ≡ names.old
+        ++ callbacks.hearing event (flat_map (λ c. (entity_at metamodel.now c).callbacks)
+        classes.now)) }
     ensures err { IfErr result (λ cause. cause ≡ Cause.OutOfMemory) }
 {
     for class in classes {

@@ -28,7 +28,8 @@ fn part_name(alloc: Global, root: &Root, part: &Part) -> Result<Text, Cause>
 
 /// Adds a copy of a value under its name.
 fn push_value(values: &mut Seq<Named>, name: Text, value: &Value) -> Result<(), Cause>
-    ensures ok { OnOk result (values.new ≡ values.old ++ record { name = name; value = value.now } ∷ []) }
+    ensures ok { OnOk result (values.new ≡ values.old ++ record { name = name; value = value.now }
+        ∷ []) }
     ensures err { IfErr result (λ cause. cause ≡ Cause.OutOfMemory) }
 {
     let value = value.try_copy()?;
@@ -39,7 +40,8 @@ fn push_value(values: &mut Seq<Named>, name: Text, value: &Value) -> Result<(), 
 /// Adds the parts of a key.
 fn push_key(alloc: Global, values: &mut Seq<Named>, root: &Root, key: &[Value]) -> Result<(), Cause>
     requires { length key.now ≡ length root.now.key }
-    ensures ok { OnOk result (values.new ≡ values.old ++ callbacks.named (zip (map (chains.part_name root.now) root.now.key) key.now)) }
+    ensures ok { OnOk result (values.new ≡ values.old
+        ++ callbacks.named (zip (map (chains.part_name root.now) root.now.key) key.now)) }
     ensures err { IfErr result (λ cause. cause ≡ Cause.OutOfMemory) }
 {
     let parts = root.key.as_slice();
@@ -51,7 +53,8 @@ fn push_key(alloc: Global, values: &mut Seq<Named>, root: &Root, key: &[Value]) 
 
 /// Adds the version, where the hierarchy has one.
 fn push_version(values: &mut Seq<Named>, root: &Root, object: &LiveObject) -> Result<(), Cause>
-    ensures ok { OnOk result (values.new ≡ values.old ++ callbacks.version_image root.now.version object.now) }
+    ensures ok { OnOk result (values.new ≡ values.old
+        ++ callbacks.version_image root.now.version object.now) }
     ensures err { IfErr result (λ cause. cause ≡ Cause.OutOfMemory) }
 {
     if let Some(version) = &root.version {
@@ -69,7 +72,8 @@ fn push_attributes(
     held: &[Value],
 ) -> Result<(), Cause>
     requires { length held.now ≡ length attributes.now }
-    ensures ok { OnOk result (values.new ≡ values.old ++ callbacks.named (zip (map (λ a. a.name) attributes.now) held.now)) }
+    ensures ok { OnOk result (values.new ≡ values.old
+        ++ callbacks.named (zip (map (λ a. a.name) attributes.now) held.now)) }
     ensures err { IfErr result (λ cause. cause ≡ Cause.OutOfMemory) }
 {
     for (i, value) in held.iter().enumerate() {

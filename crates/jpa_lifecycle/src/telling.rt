@@ -24,7 +24,8 @@ fn tell(
     ran: Seq<Text>,
 ) -> Result<(), Cause>
     requires { object < length work.old.objects.now }
-    ensures told { OnOk result (now work.new ≡ works.told (record { event = event; object = suc object; ran = ran }) (now work.old)) }
+    ensures told { OnOk result (now work.new ≡ works.told
+        (record { event = event; object = suc object; ran = ran }) (now work.old)) }
     ensures others { work.new ≡ record work.old { events = work.new.events } }
     ensures err { IfErr result (λ cause. cause ≡ Cause.OutOfMemory) }
 {
@@ -47,8 +48,10 @@ fn conclude(
 ) -> Result<(), Cause>
     requires object { object < length work.old.objects.now }
     requires refusal { callbacks.IsCallbackRefusal fired.refusal }
-    ensures meets { Meets result (now work.new) (callbacks.ended fired.refusal (callbacks.told_fired event object fired (now work.old))) }
-    ensures others { work.new ≡ record work.old { objects = work.new.objects; events = work.new.events } }
+    ensures meets { Meets result (now work.new) (callbacks.ended fired.refusal
+        (callbacks.told_fired event object fired (now work.old))) }
+    ensures others { work.new
+        ≡ record work.old { objects = work.new.objects; events = work.new.events } }
     ensures since { since work.new ≡ since work.old }
 {
     let Fired {

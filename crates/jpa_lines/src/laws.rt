@@ -14,7 +14,8 @@ ghost use Rattle.jpa_lines.specs.Run.{lines_of, texts_of};
 
 /// Each reply is one line: the lines of what is written are the replies' JSON.
 pub fn one_line_each()
-    ensures { (replies : List Reply) → lines_of (texts_of replies) ≡ map (λ r. compact_text (reply_data r)) replies }
+    ensures { (replies : List Reply) → lines_of (texts_of replies)
+        ≡ map (λ r. compact_text (reply_data r)) replies }
 {}
 
 /// A line names each parameter once: the names of what it says as parameters rise.

@@ -52,7 +52,8 @@ pub fn run<R: Read, W: Write, P: PersistenceProvider>(
     ensures err { IfErr result (λ fault. Broken P.steps provider.old provider.new fault
         (R.remaining reader.old) (W.contents writer.old) (W.contents writer.new)) }
     ensures read { IfErr result (λ fault. AnswersRead P.steps provider.old provider.new fault
-        (R.remaining reader.old) (R.remaining reader.new) (W.contents writer.old) (W.contents writer.new)) }
+        (R.remaining reader.old) (R.remaining reader.new) (W.contents writer.old)
+        (W.contents writer.new)) }
     ensures stands { P.stands provider.old → P.stands provider.new }
 {
     answer_lines(alloc, reader, writer, provider)
@@ -69,7 +70,8 @@ fn answer_lines<R: Read, W: Write, P: PersistenceProvider>(
     ensures err { IfErr result (λ fault. Broken P.steps provider.old provider.new fault
         (R.remaining reader.old) (W.contents writer.old) (W.contents writer.new)) }
     ensures read { IfErr result (λ fault. AnswersRead P.steps provider.old provider.new fault
-        (R.remaining reader.old) (R.remaining reader.new) (W.contents writer.old) (W.contents writer.new)) }
+        (R.remaining reader.old) (R.remaining reader.new) (W.contents writer.old)
+        (W.contents writer.new)) }
 {
     let mut held = Vec::new(alloc);
     let mut piece = [0u8; PIECE_LEN];
@@ -96,8 +98,8 @@ fn finish<W: Write, P: PersistenceProvider>(
 ) -> Result<(), RunFault>
     ensures ok { OnOk result (Finishes P.steps provider.old provider.new held.now
         (W.contents writer.old) (W.contents writer.new)) }
-    ensures err { IfErr result (λ fault. FailsToFinish P.steps provider.old provider.new fault held.now
-        (W.contents writer.old) (W.contents writer.new)) }
+    ensures err { IfErr result (λ fault. FailsToFinish P.steps provider.old provider.new fault
+        held.now (W.contents writer.old) (W.contents writer.new)) }
     ensures no_read { IfErr result IsNoRead }
 {
     if held.is_empty() {
@@ -222,7 +224,8 @@ fn answer<P: PersistenceProvider>(
 
 fn write_text<W: Write>(writer: &mut W, text: &[u8]) -> Result<(), RunFault>
     ensures ok { OnOk result (Appends (W.contents writer.old) (W.contents writer.new) text.now) }
-    ensures err { IfErr result (λ fault. (fault ≡ write_fault) × ((part : List ℕ) × StartsWith text.now part
+    ensures err { IfErr result (λ fault. (fault ≡ write_fault)
+        × ((part : List ℕ) × StartsWith text.now part
         × Appends (W.contents writer.old) (W.contents writer.new) part)) }
 {
     let mut done = 0;

@@ -13,8 +13,11 @@ use jpa_value::{Cause, Persist, TryCopy, Value};
 /// What the converter of this name makes of a value for its column; a throw, an answer that counts as one and an unknown
 /// name are `Persistence(converter)`.
 fn convert<B: Behaviour>(registry: &Registry<B>, name: &str, value: &Value) -> Result<Value, Cause>
-    ensures ok { IfOk result (λ held. column_in B.meaning registry.now name.now value.now ≡ Some held) }
-    ensures err { IfErr result (λ cause. (cause ≡ Cause.OutOfMemory) ⊎ ((cause ≡ Cause.Persistence Persist.Converter) × (column_in B.meaning registry.now name.now value.now ≡ None))) }
+    ensures ok { IfOk result (λ held. column_in B.meaning registry.now name.now value.now
+        ≡ Some held) }
+    ensures err { IfErr result (λ cause. (cause ≡ Cause.OutOfMemory)
+        ⊎ ((cause ≡ Cause.Persistence Persist.Converter)
+        × (column_in B.meaning registry.now name.now value.now ≡ None))) }
 {
     match registry.to_column(name, value) {
         Ok(held) => Ok(held),
@@ -29,9 +32,15 @@ pub(crate) fn column_value<B: Behaviour>(
     attribute: &Attribute,
     value: &Value,
 ) -> Result<Value, Cause>
-    ensures ok { (m : PersistenceUnit) → IfOk result (λ held. held ≡ cells.column_value (world_of B.meaning m registry.now) attribute.now.converter value.now) }
-    ensures passed { (m : PersistenceUnit) → OnOk result (cells.passes (world_of B.meaning m registry.now) attribute.now value.now ≡ true) }
-    ensures err { (m : PersistenceUnit) → IfErr result (λ cause. (cause ≡ Cause.OutOfMemory) ⊎ ((cause ≡ Cause.Persistence Persist.Converter) × (cells.passes (world_of B.meaning m registry.now) attribute.now value.now ≡ false))) }
+    ensures ok { (m : PersistenceUnit) → IfOk result
+        (λ held. held ≡ cells.column_value (world_of B.meaning m registry.now)
+        attribute.now.converter value.now) }
+    ensures passed { (m : PersistenceUnit) → OnOk result
+        (cells.passes (world_of B.meaning m registry.now) attribute.now value.now ≡ true) }
+    ensures err { (m : PersistenceUnit) → IfErr result
+        (λ cause. (cause ≡ Cause.OutOfMemory)
+        ⊎ ((cause ≡ Cause.Persistence Persist.Converter)
+        × (cells.passes (world_of B.meaning m registry.now) attribute.now value.now ≡ false))) }
 {
     match (&attribute.converter, value) {
         (None, _) => value.try_copy(),

@@ -104,7 +104,8 @@ fn converted<B: Behaviour>(
     name: &Text,
     value: &Value,
 ) -> Result<Value, Cause>
-    ensures ok { IfOk result (λ answer. answer ≡ cell_value (registered.attribute_in B.meaning registry.now name.now value.now)) }
+    ensures ok { IfOk result (λ answer. answer ≡ cell_value
+        (registered.attribute_in B.meaning registry.now name.now value.now)) }
     ensures err { IfErr result (λ cause. cause ≡ Cause.OutOfMemory) }
 {
     match registry.to_attribute(name.as_str(), value) {
@@ -120,7 +121,8 @@ fn converted_back<B: Behaviour>(
     converter: &Option<Text>,
     value: Value,
 ) -> Result<Value, Cause>
-    ensures ok { IfOk result (λ answer. answer ≡ spec.converted_back (registered.attribute_in B.meaning registry.now) converter.now value) }
+    ensures ok { IfOk result (λ answer. answer ≡ spec.converted_back
+        (registered.attribute_in B.meaning registry.now) converter.now value) }
     ensures err { IfErr result (λ cause. cause ≡ Cause.OutOfMemory) }
 {
     match (converter, &value) {
@@ -136,7 +138,9 @@ fn values_in<B: Behaviour>(
     attributes: &[Attribute],
     row: &[Field],
 ) -> Result<Seq<Value>, Cause>
-    ensures ok { IfOk result (λ values. values ≡ map (spec.attribute_in (registered.attribute_in B.meaning registry.now) row.now) attributes.now) }
+    ensures ok { IfOk result (λ values. values ≡ map
+        (spec.attribute_in (registered.attribute_in B.meaning registry.now) row.now)
+        attributes.now) }
     ensures err { IfErr result (λ cause. cause ≡ Cause.OutOfMemory) }
 {
     let mut values = Seq::new(alloc);
@@ -178,7 +182,8 @@ fn owned_in(
     row: &[Field],
 ) -> Result<Seq<Seq<Identity>>, Cause>
     requires { All (λ r. r.target < length metamodel.now.entities) relations.now }
-    ensures ok { IfOk result (λ owned. owned ≡ map (spec.links_in metamodel.now row.now) relations.now) }
+    ensures ok { IfOk result (λ owned. owned ≡ map (spec.links_in metamodel.now row.now)
+        relations.now) }
     ensures err { IfErr result (λ cause. cause ≡ Cause.OutOfMemory) }
 {
     let mut owned = Seq::new(alloc);
@@ -199,7 +204,8 @@ pub(crate) fn guessed<B: Behaviour>(
     row: &[Field],
 ) -> Result<Stored, Cause>
     requires { class < length metamodel.now.entities }
-    ensures ok { IfOk result (λ x. x ≡ spec.guessed (registered.world_of B.meaning metamodel.now registry.now) row.now class) }
+    ensures ok { IfOk result (λ x. x ≡ spec.guessed
+        (registered.world_of B.meaning metamodel.now registry.now) row.now class) }
     ensures err { IfErr result (λ cause. cause ≡ Cause.OutOfMemory) }
 {
     Ok(Stored {

@@ -18,7 +18,8 @@ pub fn mapper_laws()
 
 /// The law of discriminators, for contracts to cite: a column may hold each of them. It takes no memory.
 pub fn discriminator_law(metamodel: &Metamodel)
-    ensures { (class : ℕ) → is_class metamodel.now class ≡ true → is_discriminator (entity_at metamodel.now class) ≡ true }
+    ensures { (class : ℕ) → is_class metamodel.now class ≡ true →
+        is_discriminator (entity_at metamodel.now class) ≡ true }
 {
     let _unit = metamodel.unit();
     for entity in metamodel.entities() {

@@ -25,7 +25,11 @@ fn has_main_row<B: Behaviour>(
     row: &Row,
 ) -> Result<bool, Cause>
     requires { object.now.class < length metamodel.now.entities }
-    ensures ok { IfOk result (λ b. IsTrue b ↔ ((all_pass (world_of B.meaning metamodel.now registry.now) object.now ≡ true) × (objects.main_row (world_of B.meaning metamodel.now registry.now) object.now ≡ row.now))) }
+    ensures ok { IfOk result
+        (λ b. IsTrue b
+        ↔ ((all_pass (world_of B.meaning metamodel.now registry.now) object.now ≡ true)
+        × (objects.main_row (world_of B.meaning metamodel.now registry.now) object.now
+        ≡ row.now))) }
     ensures err { IfErr result (λ cause. cause ≡ Cause.OutOfMemory) }
 {
     match main_row(alloc, metamodel, registry, object) {
@@ -44,7 +48,8 @@ pub(crate) fn main_object<B: Behaviour>(
     id: &Identity,
     row: &Row,
 ) -> Result<Option<Stored>, Cause>
-    ensures read { IfOk result (λ found. (x : stored.Stored) → (found ≡ Some x) ↔ IsReadAs (world_of B.meaning metamodel.now registry.now) id.now row.now no_pairs x) }
+    ensures read { IfOk result (λ found. (x : stored.Stored) → (found ≡ Some x)
+        ↔ IsReadAs (world_of B.meaning metamodel.now registry.now) id.now row.now no_pairs x) }
     ensures err { IfErr result (λ cause. cause ≡ Cause.OutOfMemory) }
 {
     let _unit = metamodel.unit();

@@ -20,7 +20,8 @@ use std::alloc::Global;
 /// Puts a column in its place among columns that rise, instead of the one of its number, if any.
 fn put_field(fields: &mut Vec<Field>, field: Field) -> Result<(), Cause>
     requires { T (is_sorted nat_cmp (placed fields.old.items)) }
-    ensures ok { OnOk result (placed fields.new.items ≡ put nat_cmp field.column field.content (placed fields.old.items)) }
+    ensures ok { OnOk result (placed fields.new.items
+        ≡ put nat_cmp field.column field.content (placed fields.old.items)) }
     ensures err { IfErr result (λ cause. cause ≡ Cause.OutOfMemory) }
 {
     match fields
@@ -59,9 +60,13 @@ pub(crate) fn main_row<B: Behaviour>(
     object: &Stored,
 ) -> Result<Row, Cause>
     requires class { object.now.class < length metamodel.now.entities }
-    ensures ok { IfOk result (λ row. row ≡ objects.main_row (world_of B.meaning metamodel.now registry.now) object.now) }
-    ensures passed { OnOk result (all_pass (world_of B.meaning metamodel.now registry.now) object.now ≡ true) }
-    ensures err { IfErr result (λ cause. (cause ≡ Cause.OutOfMemory) ⊎ ((cause ≡ Cause.Persistence Persist.Converter) × (all_pass (world_of B.meaning metamodel.now registry.now) object.now ≡ false))) }
+    ensures ok { IfOk result (λ row. row ≡ objects.main_row
+        (world_of B.meaning metamodel.now registry.now) object.now) }
+    ensures passed { OnOk result (all_pass (world_of B.meaning metamodel.now registry.now)
+        object.now ≡ true) }
+    ensures err { IfErr result (λ cause. (cause ≡ Cause.OutOfMemory)
+        ⊎ ((cause ≡ Cause.Persistence Persist.Converter)
+        × (all_pass (world_of B.meaning metamodel.now registry.now) object.now ≡ false))) }
 {
     row_of_places(alloc, places_of(alloc, metamodel, registry, object)?)
 }

@@ -66,7 +66,8 @@ fn is_pair_row(row: &Row) -> bool
 
 /// The refusal that tells of a row, or `OutOfMemory`.
 fn damaged(alloc: Global, id: &RowId) -> Cause
-    ensures { (result ≡ Cause.OutOfMemory) ⊎ (result ≡ Cause.Damaged id.now.table (key_bytes id.now.key)) }
+    ensures { (result ≡ Cause.OutOfMemory) ⊎ (result
+        ≡ Cause.Damaged id.now.table (key_bytes id.now.key)) }
 {
     match encode_key(alloc, &id.key) {
         Ok(bytes) => Cause::Damaged(id.table, bytes),
@@ -85,7 +86,8 @@ pub(crate) fn judge_own_pairs(
 ) -> Result<(), Cause>
     requires { class < length metamodel.now.entities }
     ensures ok { OnOk result (spec.OwnAreOnes metamodel.now class owner.now rows.now) }
-    ensures err { IfErr result (λ cause. (cause ≡ Cause.OutOfMemory) ⊎ spec.IsDamagedPair metamodel.now class owner.now rows.now cause) }
+    ensures err { IfErr result (λ cause. (cause ≡ Cause.OutOfMemory)
+        ⊎ spec.IsDamagedPair metamodel.now class owner.now rows.now cause) }
 {
     for row in rows {
         if is_own_pair(metamodel, class, owner, &row.0) && !is_pair_row(&row.1) {

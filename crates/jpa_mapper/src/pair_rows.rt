@@ -49,7 +49,8 @@ fn push_pairs(
     owner: &Identity,
     targets: &[Identity],
 ) -> Result<(), Cause>
-    ensures ok { OnOk result (rows.new ≡ rows.old ++ objects.as_pairs (map (objects.pair_id join owner.now) targets.now)) }
+    ensures ok { OnOk result (rows.new ≡ rows.old
+        ++ objects.as_pairs (map (objects.pair_id join owner.now) targets.now)) }
     ensures err { IfErr result (λ cause. cause ≡ Cause.OutOfMemory) }
 {
     for target in targets {
@@ -66,7 +67,8 @@ fn push_side(
     side: Side,
     targets: &[Identity],
 ) -> Result<(), Cause>
-    ensures ok { OnOk result (rows.new ≡ rows.old ++ objects.as_pairs (objects.side_pairs owner.now side targets.now)) }
+    ensures ok { OnOk result (rows.new ≡ rows.old
+        ++ objects.as_pairs (objects.side_pairs owner.now side targets.now)) }
     ensures err { IfErr result (λ cause. cause ≡ Cause.OutOfMemory) }
 {
     match side {
@@ -82,7 +84,8 @@ pub(crate) fn push_pairs_along(
     relations: &[Relation],
     owned: &[Seq<Identity>],
 ) -> Result<(), Cause>
-    ensures ok { OnOk result (rows.new ≡ rows.old ++ objects.as_pairs (objects.pairs_along owner.now (zip relations.now owned.now))) }
+    ensures ok { OnOk result (rows.new ≡ rows.old
+        ++ objects.as_pairs (objects.pairs_along owner.now (zip relations.now owned.now))) }
     ensures err { IfErr result (λ cause. cause ≡ Cause.OutOfMemory) }
 {
     for (relation, targets) in relations.iter().zip(owned.iter()) {

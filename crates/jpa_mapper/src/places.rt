@@ -68,7 +68,8 @@ fn push_version(
     version: Option<i64>,
 ) -> Result<(), Cause>
     requires { IsNarrowVersion version_column.now }
-    ensures ok { OnOk result (places.new ≡ places.old ++ objects.version_places version_column.now version) }
+    ensures ok { OnOk result (places.new ≡ places.old
+        ++ objects.version_places version_column.now version) }
     ensures err { IfErr result (λ cause. cause ≡ Cause.OutOfMemory) }
 {
     if let Some(version_column) = version_column {
@@ -85,9 +86,15 @@ fn push_attribute<B: Behaviour>(
     value: &Value,
 ) -> Result<(), Cause>
     requires { attribute.now.column < 2 ^ 32 }
-    ensures ok { (m : PersistenceUnit) → OnOk result (places.new ≡ places.old ++ objects.attribute_places (world_of B.meaning m registry.now) ((attribute.now, value.now) ∷ [])) }
-    ensures passed { (m : PersistenceUnit) → OnOk result (passes (world_of B.meaning m registry.now) attribute.now value.now ≡ true) }
-    ensures err { (m : PersistenceUnit) → IfErr result (λ cause. (cause ≡ Cause.OutOfMemory) ⊎ ((cause ≡ Cause.Persistence Persist.Converter) × (passes (world_of B.meaning m registry.now) attribute.now value.now ≡ false))) }
+    ensures ok { (m : PersistenceUnit) → OnOk result
+        (places.new ≡ places.old ++ objects.attribute_places (world_of B.meaning m registry.now)
+        ((attribute.now, value.now) ∷ [])) }
+    ensures passed { (m : PersistenceUnit) → OnOk result
+        (passes (world_of B.meaning m registry.now) attribute.now value.now ≡ true) }
+    ensures err { (m : PersistenceUnit) → IfErr result
+        (λ cause. (cause ≡ Cause.OutOfMemory)
+        ⊎ ((cause ≡ Cause.Persistence Persist.Converter)
+        × (passes (world_of B.meaning m registry.now) attribute.now value.now ≡ false))) }
 {
     let held = column_value(registry, attribute, value)?;
     places.push((attribute.column as u32, value_content(held)))?;
@@ -102,9 +109,17 @@ fn push_attributes<B: Behaviour>(
     values: &[Value],
 ) -> Result<(), Cause>
     requires { HaveNarrowColumns attributes.now }
-    ensures ok { (m : PersistenceUnit) → OnOk result (places.new ≡ places.old ++ objects.attribute_places (world_of B.meaning m registry.now) (zip attributes.now values.now)) }
-    ensures passed { (m : PersistenceUnit) → OnOk result (list_all (λ p. passes (world_of B.meaning m registry.now) p.0 p.1) (zip attributes.now values.now) ≡ true) }
-    ensures err { (m : PersistenceUnit) → IfErr result (λ cause. (cause ≡ Cause.OutOfMemory) ⊎ ((cause ≡ Cause.Persistence Persist.Converter) × (list_all (λ p. passes (world_of B.meaning m registry.now) p.0 p.1) (zip attributes.now values.now) ≡ false))) }
+    ensures ok { (m : PersistenceUnit) → OnOk result
+        (places.new ≡ places.old ++ objects.attribute_places (world_of B.meaning m registry.now)
+        (zip attributes.now values.now)) }
+    ensures passed { (m : PersistenceUnit) → OnOk result
+        (list_all (λ p. passes (world_of B.meaning m registry.now) p.0 p.1)
+        (zip attributes.now values.now) ≡ true) }
+    ensures err { (m : PersistenceUnit) → IfErr result
+        (λ cause. (cause ≡ Cause.OutOfMemory)
+        ⊎ ((cause ≡ Cause.Persistence Persist.Converter)
+        × (list_all (λ p. passes (world_of B.meaning m registry.now) p.0 p.1)
+        (zip attributes.now values.now) ≡ false))) }
 {
     for (attribute, value) in attributes.iter().zip(values.iter()) {
         push_attribute(places, registry, attribute, value)?;
@@ -130,7 +145,8 @@ fn push_links(
     owned: &[Seq<Identity>],
 ) -> Result<(), Cause>
     requires { HaveNarrowLinks relations.now }
-    ensures ok { OnOk result (places.new ≡ places.old ++ objects.relation_places (zip relations.now owned.now)) }
+    ensures ok { OnOk result (places.new ≡ places.old
+        ++ objects.relation_places (zip relations.now owned.now)) }
     ensures err { IfErr result (λ cause. cause ≡ Cause.OutOfMemory) }
 {
     for (relation, ids) in relations.iter().zip(owned.iter()) {
@@ -148,9 +164,13 @@ pub(crate) fn places_of<B: Behaviour>(
     object: &Stored,
 ) -> Result<Seq<Place>, Cause>
     requires { object.now.class < length metamodel.now.entities }
-    ensures ok { IfOk result (λ places. places ≡ objects.places_of (world_of B.meaning metamodel.now registry.now) object.now) }
-    ensures passed { OnOk result (all_pass (world_of B.meaning metamodel.now registry.now) object.now ≡ true) }
-    ensures err { IfErr result (λ cause. (cause ≡ Cause.OutOfMemory) ⊎ ((cause ≡ Cause.Persistence Persist.Converter) × (all_pass (world_of B.meaning metamodel.now registry.now) object.now ≡ false))) }
+    ensures ok { IfOk result (λ places. places ≡ objects.places_of
+        (world_of B.meaning metamodel.now registry.now) object.now) }
+    ensures passed { OnOk result (all_pass (world_of B.meaning metamodel.now registry.now)
+        object.now ≡ true) }
+    ensures err { IfErr result (λ cause. (cause ≡ Cause.OutOfMemory)
+        ⊎ ((cause ≡ Cause.Persistence Persist.Converter)
+        × (all_pass (world_of B.meaning metamodel.now registry.now) object.now ≡ false))) }
 {
     let class = object.class;
     columns_are_narrow(metamodel, class);

@@ -38,9 +38,11 @@ pub fn from_rows<B: Behaviour>(
     pairs: &[(RowId, Row)],
 ) -> Result<Stored, Cause>
     requires pairs { AreRowsOf (schema_of metamodel.now) pairs.now }
-    ensures ok { IfOk result (IsReadAs (world_of B.meaning metamodel.now registry.now) id.now row.now (targets_in metamodel.now pairs.now id.now)) }
+    ensures ok { IfOk result (IsReadAs (world_of B.meaning metamodel.now registry.now) id.now
+        row.now (targets_in metamodel.now pairs.now id.now)) }
     ensures ones { IfOk result (λ x. OwnAreOnes metamodel.now x.class id.now pairs.now) }
-    ensures err { IfErr result (IsRefused (world_of B.meaning metamodel.now registry.now) id.now row.now pairs.now) }
+    ensures err { IfErr result (IsRefused (world_of B.meaning metamodel.now registry.now) id.now
+        row.now pairs.now) }
 {
     let object = from_rows_by_id(alloc, metamodel, registry, id, row, pairs)?;
     judge_own_pairs(alloc, metamodel, object.class, id, pairs)?;
@@ -63,8 +65,11 @@ pub fn from_rows_by_id<B: Behaviour>(
     pairs: &[(RowId, Row)],
 ) -> Result<Stored, Cause>
     requires pairs { AreRowsOf (schema_of metamodel.now) pairs.now }
-    ensures ok { IfOk result (IsReadAs (world_of B.meaning metamodel.now registry.now) id.now row.now (targets_in metamodel.now pairs.now id.now)) }
-    ensures err { IfErr result (λ cause. (cause ≡ Cause.OutOfMemory) ⊎ ((cause ≡ Cause.Damaged id.now.table (key_bytes id.now.key)) × (IsMainRow (world_of B.meaning metamodel.now registry.now) id.now row.now → ⊥))) }
+    ensures ok { IfOk result (IsReadAs (world_of B.meaning metamodel.now registry.now) id.now
+        row.now (targets_in metamodel.now pairs.now id.now)) }
+    ensures err { IfErr result (λ cause. (cause ≡ Cause.OutOfMemory)
+        ⊎ ((cause ≡ Cause.Damaged id.now.table (key_bytes id.now.key))
+        × (IsMainRow (world_of B.meaning metamodel.now registry.now) id.now row.now → ⊥))) }
 {
     let _unit = metamodel.unit();
     match main_object(alloc, metamodel, registry, id, row)? {
@@ -87,7 +92,8 @@ fn with_pairs(
     requires class { object.class < length metamodel.now.entities }
     requires owned { length object.owned ≡ length (relations_of metamodel.now object.class) }
     requires rising { AreRising pairs.now }
-    ensures ok { IfOk result (λ x. x ≡ spec.with_pairs metamodel.now (targets_in metamodel.now pairs.now id.now) object) }
+    ensures ok { IfOk result (λ x. x ≡ spec.with_pairs metamodel.now
+        (targets_in metamodel.now pairs.now id.now) object) }
     ensures refused { IfErr result (λ cause. cause ≡ Cause.OutOfMemory) }
 {
     let Stored {
@@ -117,7 +123,8 @@ fn owned_with(
     requires class { class < length metamodel.now.entities }
     requires owned { length owned ≡ length (relations_of metamodel.now class) }
     requires rising { AreRising pairs.now }
-    ensures ok { IfOk result (λ all. all ≡ spec.owned_with (targets_in metamodel.now pairs.now id.now) (relations_of metamodel.now class) owned) }
+    ensures ok { IfOk result (λ all. all ≡ spec.owned_with
+        (targets_in metamodel.now pairs.now id.now) (relations_of metamodel.now class) owned) }
     ensures refused { IfErr result (λ cause. cause ≡ Cause.OutOfMemory) }
 {
     for (at, relation) in metamodel.relations_of(class).iter().enumerate() {

@@ -27,7 +27,8 @@ pub(crate) fn targets(
 ) -> Result<Seq<Identity>, Cause>
     requires target { target < length metamodel.now.entities }
     requires rising { AreRising rows.now }
-    ensures ok { IfOk result (λ ids. ids ≡ targets_in metamodel.now rows.now owner.now join target) }
+    ensures ok { IfOk result (λ ids. ids ≡ targets_in metamodel.now rows.now owner.now join
+        target) }
     ensures refused { IfErr result (λ cause. cause ≡ Cause.OutOfMemory) }
 {
     let table = metamodel.root_of(target).table;

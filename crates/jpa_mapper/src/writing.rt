@@ -30,9 +30,13 @@ pub fn to_rows<B: Behaviour>(
     object: &Stored,
 ) -> Result<Seq<(RowId, Row)>, Cause>
     requires shaped { is_shaped metamodel.now id.now object.now ≡ true }
-    ensures ok { IfOk result (λ rows. rows ≡ objects.object_entries (world_of B.meaning metamodel.now registry.now) id.now object.now) }
-    ensures storable { OnOk result (is_storable (world_of B.meaning metamodel.now registry.now) id.now object.now ≡ true) }
-    ensures err { IfErr result (λ cause. (cause ≡ Cause.OutOfMemory) ⊎ ((cause ≡ Cause.Persistence Persist.Converter) × (all_pass (world_of B.meaning metamodel.now registry.now) object.now ≡ false))) }
+    ensures ok { IfOk result (λ rows. rows ≡ objects.object_entries
+        (world_of B.meaning metamodel.now registry.now) id.now object.now) }
+    ensures storable { OnOk result (is_storable (world_of B.meaning metamodel.now registry.now)
+        id.now object.now ≡ true) }
+    ensures err { IfErr result (λ cause. (cause ≡ Cause.OutOfMemory)
+        ⊎ ((cause ≡ Cause.Persistence Persist.Converter)
+        × (all_pass (world_of B.meaning metamodel.now registry.now) object.now ≡ false))) }
 {
     identity_is_representable(id);
     object_is_representable(object);

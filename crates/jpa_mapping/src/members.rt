@@ -72,7 +72,9 @@ pub(crate) fn only(json: &Json, names: &[&str]) -> Result<(), Unread>
 }
 
 fn all_listed(members: &Map<String, Json>, names: &[&str]) -> Result<(), Unread>
-    ensures { Gives same result (guard (drafts.are_listed (map (λ name. name.now) names.now) (members_view members.now.entries))) }
+    ensures { Gives same result
+        (guard (drafts.are_listed (map (λ name. name.now) names.now)
+        (members_view members.now.entries))) }
 {
     for (name, _) in members.iter() {
         if !is_listed(names, name.as_str()) {

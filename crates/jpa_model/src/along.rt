@@ -14,7 +14,8 @@ use jpa_value::{Cause, Seq, Text};
 use std::alloc::Global;
 
 fn push_root_names<'a>(names: &mut Vec<&'a Text>, origin: &'a DraftOrigin) -> Result<(), Cause>
-    ensures added { OnOk result (map (λ n. n.now) names.new.items ≡ map (λ n. n.now) names.old.items ++ drafted.root_names origin.now) }
+    ensures added { OnOk result (map (λ n. n.now) names.new.items ≡ map (λ n. n.now) names.old.items
+        ++ drafted.root_names origin.now) }
     ensures refused { IfErr result (λ cause. cause ≡ Cause.OutOfMemory) }
 {
     if let DraftOrigin::Root(root) = origin {
@@ -30,7 +31,8 @@ fn push_root_names<'a>(names: &mut Vec<&'a Text>, origin: &'a DraftOrigin) -> Re
 }
 
 fn push_member_names<'a>(names: &mut Vec<&'a Text>, entity: &'a DraftEntity) -> Result<(), Cause>
-    ensures added { OnOk result (map (λ n. n.now) names.new.items ≡ map (λ n. n.now) names.old.items ++ drafted.member_names entity.now) }
+    ensures added { OnOk result (map (λ n. n.now) names.new.items ≡ map (λ n. n.now) names.old.items
+        ++ drafted.member_names entity.now) }
     ensures refused { IfErr result (λ cause. cause ≡ Cause.OutOfMemory) }
 {
     push_root_names(names, &entity.origin)?;
@@ -39,7 +41,8 @@ fn push_member_names<'a>(names: &mut Vec<&'a Text>, entity: &'a DraftEntity) -> 
 }
 
 fn names_along<'a>(alloc: Global, draft: &'a Draft, chain: &[usize]) -> Result<Vec<&'a Text>, Cause>
-    ensures found { IfOk result (λ names. map (λ n. n.now) names.items ≡ drafted.declared_by drafted.member_names draft.now chain.now) }
+    ensures found { IfOk result (λ names. map (λ n. n.now) names.items
+        ≡ drafted.declared_by drafted.member_names draft.now chain.now) }
     ensures refused { IfErr result (λ cause. cause ≡ Cause.OutOfMemory) }
 {
     let mut names = Vec::new(alloc);
@@ -52,7 +55,9 @@ fn names_along<'a>(alloc: Global, draft: &'a Draft, chain: &[usize]) -> Result<V
 }
 
 fn are_few_along(draft: &Draft, chain: &[usize]) -> bool
-    ensures { result ≡ nat_le (sum_by (λ class. well.member_count (drafted.entity_at draft.now class)) chain.now) 64 }
+    ensures { result
+        ≡ nat_le (sum_by (λ class. well.member_count (drafted.entity_at draft.now class)) chain.now)
+        64 }
 {
     let mut room: usize = 64;
     for class in chain {
@@ -113,7 +118,8 @@ fn discriminators_of<'a>(
     places: &[usize],
 ) -> Result<Vec<&'a Text>, Cause>
     requires { All (λ class. class < length draft.now.entities) places.now }
-    ensures found { IfOk result (λ texts. map (λ n. n.now) texts.items ≡ map (λ class. drafted.discriminator (drafted.entity_at draft.now class)) places.now) }
+    ensures found { IfOk result (λ texts. map (λ n. n.now) texts.items
+        ≡ map (λ class. drafted.discriminator (drafted.entity_at draft.now class)) places.now) }
     ensures refused { IfErr result (λ cause. cause ≡ Cause.OutOfMemory) }
 {
     let mut texts = Vec::new(alloc);
@@ -140,7 +146,9 @@ fn is_stored_apart(alloc: Global, draft: &Draft, places: &[usize]) -> Result<boo
 #[tactic(auto, using(crate::proofs::Chained::range_next))]
 fn are_stored_apart(alloc: Global, draft: &Draft, chains: &[Seq<usize>]) -> Result<bool, Cause>
     requires { chains.now ≡ drafted.chains draft.now }
-    ensures judged { IfOk result (λ b. b ≡ list_all (λ root. well.is_stored_apart draft.now (drafted.hierarchy draft.now root)) (drafted.classes draft.now)) }
+    ensures judged { IfOk result (λ b. b ≡ list_all
+        (λ root. well.is_stored_apart draft.now (drafted.hierarchy draft.now root))
+        (drafted.classes draft.now)) }
     ensures refused { IfErr result (λ cause. cause ≡ Cause.OutOfMemory) }
 {
     for root in 0..draft.entities.len() {

@@ -36,7 +36,8 @@ fn chain_from(
     class: usize,
     superclass: Option<usize>,
 ) -> Result<Seq<usize>, Cause>
-    ensures found { IfOk result (λ chain. chain ≡ drafted.chain_from draft.now steps class superclass) }
+    ensures found { IfOk result (λ chain. chain ≡ drafted.chain_from draft.now steps class
+        superclass) }
     ensures refused { IfErr result (λ cause. cause ≡ Cause.OutOfMemory) }
 {
     let mut chain = match superclass {
@@ -112,7 +113,8 @@ pub(crate) fn hierarchy_of(
 ) -> Result<Seq<usize>, Cause>
     requires { chains.now ≡ drafted.chains draft.now }
     ensures found { IfOk result (λ members. members ≡ drafted.hierarchy draft.now root) }
-    ensures within { IfOk result (λ members. All (λ class. class < length draft.now.entities) members) }
+    ensures within { IfOk result (λ members. All (λ class. class < length draft.now.entities)
+        members) }
     ensures refused { IfErr result (λ cause. cause ≡ Cause.OutOfMemory) }
 {
     let mut members = Seq::new(alloc);

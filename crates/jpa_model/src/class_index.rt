@@ -96,7 +96,8 @@ impl ClassIndex {
 
     /// What a name means.
     pub(crate) fn member(&self, name: &str) -> Option<Member>
-        ensures { result ≡ member_among self.now.root self.now.attributes self.now.relations name.now }
+        ensures { result ≡ member_among self.now.root self.now.attributes self.now.relations
+            name.now }
     {
         self.members.get(name).copied()
     }

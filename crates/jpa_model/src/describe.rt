@@ -119,7 +119,8 @@ fn relation_names<'a>(
     draft: &'a Draft,
     chain: &[usize],
 ) -> Result<Vec<&'a Text>, Cause>
-    ensures found { IfOk result (λ names. map (λ n. n.now) names.items ≡ map (λ r. r.name) (drafted.declared_by (λ e. e.relations) draft.now chain.now)) }
+    ensures found { IfOk result (λ names. map (λ n. n.now) names.items
+        ≡ map (λ r. r.name) (drafted.declared_by (λ e. e.relations) draft.now chain.now)) }
     ensures refused { IfErr result (λ cause. cause ≡ Cause.OutOfMemory) }
 {
     let mut names = Vec::new(alloc);
@@ -132,7 +133,9 @@ fn relation_names<'a>(
 }
 
 fn place_along(alloc: Global, draft: &Draft, chain: &[usize], name: &Text) -> Result<usize, Cause>
-    ensures found { IfOk result (λ place. place ≡ unwrap_or (position_from (λ o. same_name o.name name.now) 0 (drafted.declared_by (λ e. e.relations) draft.now chain.now)) 0) }
+    ensures found { IfOk result (λ place. place ≡ unwrap_or
+        (position_from (λ o. same_name o.name name.now) 0
+        (drafted.declared_by (λ e. e.relations) draft.now chain.now)) 0) }
     ensures refused { IfErr result (λ cause. cause ≡ Cause.OutOfMemory) }
 {
     let names = relation_names(alloc, draft, chain)?;
@@ -251,7 +254,8 @@ fn relations_of(
     relations: &[DraftRelation],
 ) -> Result<Seq<Relation>, Cause>
     requires { chains.now ≡ drafted.chains draft.now }
-    ensures found { IfOk result (λ found. found ≡ map (described.relation_of draft.now) relations.now) }
+    ensures found { IfOk result (λ found. found ≡ map (described.relation_of draft.now)
+        relations.now) }
     ensures refused { IfErr result (λ cause. cause ≡ Cause.OutOfMemory) }
 {
     let mut found = Seq::new(alloc);
@@ -313,7 +317,8 @@ fn entity_of(
 
 fn entities_of(alloc: Global, draft: &Draft, chains: &[Seq<usize>]) -> Result<Seq<Entity>, Cause>
     requires { chains.now ≡ drafted.chains draft.now }
-    ensures found { IfOk result (λ found. found ≡ map (described.entity_of draft.now) draft.now.entities) }
+    ensures found { IfOk result (λ found. found ≡ map (described.entity_of draft.now)
+        draft.now.entities) }
     ensures refused { IfErr result (λ cause. cause ≡ Cause.OutOfMemory) }
 {
     let mut found = Seq::new(alloc);

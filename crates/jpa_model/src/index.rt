@@ -15,7 +15,8 @@ use std::collections::BTreeMap;
 /// A name gets this meaning.
 
 fn put<V: Drop>(names: &mut BTreeMap<String, V>, name: String, value: V) -> Result<(), Cause>
-    ensures put { OnOk result ((q : List ℕ) → get_by_text names.new q ≡ (if same_name (string_bytes name) q then Some value else get_by_text names.old q)) }
+    ensures put { OnOk result ((q : List ℕ) → get_by_text names.new q
+        ≡ (if same_name (string_bytes name) q then Some value else get_by_text names.old q)) }
     ensures refused { IfErr result (λ cause. cause ≡ Cause.OutOfMemory) }
 {
     names.insert(name, value)?;
@@ -27,7 +28,8 @@ pub(crate) fn entities_by_name(
     alloc: Global,
     entities: &[Entity],
 ) -> Result<BTreeMap<String, usize>, Cause>
-    ensures found { IfOk result (λ names. (q : List ℕ) → get_by_text names q ≡ position_from (λ e. same_name e.name q) 0 entities.now) }
+    ensures found { IfOk result (λ names. (q : List ℕ) → get_by_text names q
+        ≡ position_from (λ e. same_name e.name q) 0 entities.now) }
     ensures refused { IfErr result (λ cause. cause ≡ Cause.OutOfMemory) }
 {
     let mut names = BTreeMap::new(alloc);
@@ -45,7 +47,9 @@ fn add_attributes(
     members: &mut BTreeMap<String, Member>,
     attributes: &[Attribute],
 ) -> Result<(), Cause>
-    ensures added { OnOk result ((q : List ℕ) → get_by_text members.new q ≡ or_else (option_map Member.Attribute (position_from (λ a. same_name a.name q) 0 attributes.now)) (get_by_text members.old q)) }
+    ensures added { OnOk result ((q : List ℕ) → get_by_text members.new q
+        ≡ or_else (option_map Member.Attribute
+        (position_from (λ a. same_name a.name q) 0 attributes.now)) (get_by_text members.old q)) }
     ensures refused { IfErr result (λ cause. cause ≡ Cause.OutOfMemory) }
 {
     let mut left = attributes.len();
@@ -62,7 +66,9 @@ fn add_relations(
     members: &mut BTreeMap<String, Member>,
     relations: &[Relation],
 ) -> Result<(), Cause>
-    ensures added { OnOk result ((q : List ℕ) → get_by_text members.new q ≡ or_else (option_map Member.Relation (position_from (λ r. same_name r.name q) 0 relations.now)) (get_by_text members.old q)) }
+    ensures added { OnOk result ((q : List ℕ) → get_by_text members.new q
+        ≡ or_else (option_map Member.Relation
+        (position_from (λ r. same_name r.name q) 0 relations.now)) (get_by_text members.old q)) }
     ensures refused { IfErr result (λ cause. cause ≡ Cause.OutOfMemory) }
 {
     let mut left = relations.len();
@@ -92,7 +98,10 @@ fn add_parts(
     members: &mut BTreeMap<String, Member>,
     root: &Root,
 ) -> Result<(), Cause>
-    ensures added { OnOk result ((q : List ℕ) → get_by_text members.new q ≡ or_else (option_map Member.KeyPart (position_from (λ part. same_name (part_name root.now part) q) 0 root.now.key)) (get_by_text members.old q)) }
+    ensures added { OnOk result ((q : List ℕ) → get_by_text members.new q
+        ≡ or_else (option_map Member.KeyPart
+        (position_from (λ part. same_name (part_name root.now part) q) 0 root.now.key))
+        (get_by_text members.old q)) }
     ensures refused { IfErr result (λ cause. cause ≡ Cause.OutOfMemory) }
 {
     let key = root.key.as_slice();
@@ -110,7 +119,8 @@ fn add_version(
     members: &mut BTreeMap<String, Member>,
     root: &Root,
 ) -> Result<(), Cause>
-    ensures added { OnOk result ((q : List ℕ) → get_by_text members.new q ≡ or_else (version_member root.now q) (get_by_text members.old q)) }
+    ensures added { OnOk result ((q : List ℕ) → get_by_text members.new q
+        ≡ or_else (version_member root.now q) (get_by_text members.old q)) }
     ensures refused { IfErr result (λ cause. cause ≡ Cause.OutOfMemory) }
 {
     if let Some(version) = &root.version {
@@ -127,7 +137,8 @@ pub(crate) fn members_by_name(
     attributes: &[Attribute],
     relations: &[Relation],
 ) -> Result<BTreeMap<String, Member>, Cause>
-    ensures found { IfOk result (λ names. (q : List ℕ) → get_by_text names q ≡ member_among root.now attributes.now relations.now q) }
+    ensures found { IfOk result (λ names. (q : List ℕ) → get_by_text names q
+        ≡ member_among root.now attributes.now relations.now q) }
     ensures refused { IfErr result (λ cause. cause ≡ Cause.OutOfMemory) }
 {
     let mut members = BTreeMap::new(alloc);

@@ -43,7 +43,8 @@ fn chain_from(
     steps: usize,
     class: usize,
 ) -> Result<Seq<usize>, Cause>
-    ensures found { IfOk result (λ chain. chain ≡ chains.chain_from unit.now steps class (chains.entity_at unit.now class).origin) }
+    ensures found { IfOk result (λ chain. chain ≡ chains.chain_from unit.now steps class
+        (chains.entity_at unit.now class).origin) }
     ensures refused { IfErr result (λ cause. cause ≡ Cause.OutOfMemory) }
 {
     let mut chain = match superclass_of(unit, class) {
@@ -76,7 +77,8 @@ fn no_root(alloc: Global) -> Root
 }
 
 fn root_at(alloc: Global, unit: &PersistenceUnit, class: usize) -> Result<Root, Cause>
-    ensures found { IfOk result (λ root. root ≡ chains.root_in (chains.entity_at unit.now class).origin) }
+    ensures found { IfOk result (λ root. root ≡ chains.root_in
+        (chains.entity_at unit.now class).origin) }
     ensures refused { IfErr result (λ cause. cause ≡ Cause.OutOfMemory) }
 {
     let Some(entity) = unit.entities.as_slice().get(class) else {
@@ -120,7 +122,8 @@ fn attributes_along(
     unit: &PersistenceUnit,
     chain: &[usize],
 ) -> Result<Seq<Attribute>, Cause>
-    ensures found { IfOk result (λ found. found ≡ flat_map (λ c. (chains.entity_at unit.now c).attributes) chain.now) }
+    ensures found { IfOk result (λ found. found ≡ flat_map
+        (λ c. (chains.entity_at unit.now c).attributes) chain.now) }
     ensures refused { IfErr result (λ cause. cause ≡ Cause.OutOfMemory) }
 {
     let mut found = Seq::new(alloc);
@@ -137,7 +140,8 @@ fn relations_along(
     unit: &PersistenceUnit,
     chain: &[usize],
 ) -> Result<Seq<Relation>, Cause>
-    ensures found { IfOk result (λ found. found ≡ flat_map (λ c. (chains.entity_at unit.now c).relations) chain.now) }
+    ensures found { IfOk result (λ found. found ≡ flat_map
+        (λ c. (chains.entity_at unit.now c).relations) chain.now) }
     ensures refused { IfErr result (λ cause. cause ≡ Cause.OutOfMemory) }
 {
     let mut found = Seq::new(alloc);
@@ -168,7 +172,8 @@ fn push_declarer_of(
     unit: &PersistenceUnit,
     class: usize,
 ) -> Result<(), Cause>
-    ensures added { OnOk result (declarers.new ≡ declarers.old ++ map (λ r. class) (chains.entity_at unit.now class).relations) }
+    ensures added { OnOk result (declarers.new ≡ declarers.old
+        ++ map (λ r. class) (chains.entity_at unit.now class).relations) }
     ensures refused { IfErr result (λ cause. cause ≡ Cause.OutOfMemory) }
 {
     match unit.entities.as_slice().get(class) {
@@ -182,7 +187,8 @@ fn declarers_along(
     unit: &PersistenceUnit,
     chain: &[usize],
 ) -> Result<Seq<usize>, Cause>
-    ensures found { IfOk result (λ found. found ≡ flat_map (λ c. map (λ r. c) (chains.entity_at unit.now c).relations) chain.now) }
+    ensures found { IfOk result (λ found. found ≡ flat_map
+        (λ c. map (λ r. c) (chains.entity_at unit.now c).relations) chain.now) }
     ensures refused { IfErr result (λ cause. cause ≡ Cause.OutOfMemory) }
 {
     let mut found = Seq::new(alloc);

@@ -182,7 +182,8 @@ impl Metamodel {
     pub fn declarer_of(&self, class: usize, relation: usize) -> usize
         requires class { class < length self.now.entities }
         requires relation { relation < length (chains.relations_of self.now class) }
-        ensures declarer { result ≡ slice_index_or (chains.declarers_of self.now class) relation class }
+        ensures declarer { result ≡ slice_index_or (chains.declarers_of self.now class) relation
+            class }
         ensures within { result < length self.now.entities }
     {
         self.declarers_of(class)[relation]

@@ -154,7 +154,8 @@ pub(crate) fn are_distinct_names<T: Named>(items: &[T]) -> bool
 
 /// The place of the first item of this name.
 pub(crate) fn place_by_name<T: Named>(items: &[T], name: &Text) -> Option<usize>
-    ensures place { result ≡ position_from (λ item. same_name (T.name_of item) name.now) 0 items.now }
+    ensures place { result ≡ position_from (λ item. same_name (T.name_of item) name.now) 0
+        items.now }
     ensures within { IfSome result (λ i. i < length items.now) }
 {
     for (i, item) in items.iter().enumerate() {
@@ -182,7 +183,8 @@ pub(crate) fn push_names<'a, T: Named>(
     names: &mut Vec<&'a Text>,
     items: &'a [T],
 ) -> Result<(), Cause>
-    ensures added { OnOk result (map (λ n. n.now) names.new.items ≡ map (λ n. n.now) names.old.items ++ map T.name_of items.now) }
+    ensures added { OnOk result (map (λ n. n.now) names.new.items ≡ map (λ n. n.now) names.old.items
+        ++ map T.name_of items.now) }
     ensures refused { IfErr result (λ cause. cause ≡ Cause.OutOfMemory) }
 {
     for item in items {

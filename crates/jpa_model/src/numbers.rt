@@ -50,7 +50,8 @@ fn push_attribute_columns(
     columns: &mut Vec<i64>,
     attributes: &[DraftAttribute],
 ) -> Result<(), Cause>
-    ensures added { OnOk result (columns.new.items ≡ columns.old.items ++ map (λ a. a.column) attributes.now) }
+    ensures added { OnOk result (columns.new.items ≡ columns.old.items
+        ++ map (λ a. a.column) attributes.now) }
     ensures refused { IfErr result (λ cause. cause ≡ Cause.OutOfMemory) }
 {
     for attribute in attributes {
@@ -60,7 +61,8 @@ fn push_attribute_columns(
 }
 
 fn push_relation_columns(columns: &mut Vec<i64>, relations: &[DraftRelation]) -> Result<(), Cause>
-    ensures added { OnOk result (columns.new.items ≡ columns.old.items ++ flat_map (λ r. drafted.side_columns r.side) relations.now) }
+    ensures added { OnOk result (columns.new.items ≡ columns.old.items
+        ++ flat_map (λ r. drafted.side_columns r.side) relations.now) }
     ensures refused { IfErr result (λ cause. cause ≡ Cause.OutOfMemory) }
 {
     for relation in relations {
@@ -72,7 +74,8 @@ fn push_relation_columns(columns: &mut Vec<i64>, relations: &[DraftRelation]) ->
 }
 
 fn push_columns(columns: &mut Vec<i64>, entity: &DraftEntity) -> Result<(), Cause>
-    ensures added { OnOk result (columns.new.items ≡ columns.old.items ++ drafted.columns entity.now) }
+    ensures added { OnOk result (columns.new.items ≡ columns.old.items
+        ++ drafted.columns entity.now) }
     ensures refused { IfErr result (λ cause. cause ≡ Cause.OutOfMemory) }
 {
     if let DraftOrigin::Root(root) = &entity.origin {
@@ -86,7 +89,8 @@ fn push_columns(columns: &mut Vec<i64>, entity: &DraftEntity) -> Result<(), Caus
 
 /// The columns that the classes of these places declare.
 pub(crate) fn columns_of(alloc: Global, draft: &Draft, places: &[usize]) -> Result<Vec<i64>, Cause>
-    ensures found { IfOk result (λ columns. columns.items ≡ drafted.declared_by drafted.columns draft.now places.now) }
+    ensures found { IfOk result (λ columns. columns.items
+        ≡ drafted.declared_by drafted.columns draft.now places.now) }
     ensures refused { IfErr result (λ cause. cause ≡ Cause.OutOfMemory) }
 {
     let mut columns = Vec::new(alloc);
@@ -99,7 +103,8 @@ pub(crate) fn columns_of(alloc: Global, draft: &Draft, places: &[usize]) -> Resu
 }
 
 fn push_join_tables(tables: &mut Vec<i64>, relations: &[DraftRelation]) -> Result<(), Cause>
-    ensures added { OnOk result (tables.new.items ≡ tables.old.items ++ flat_map (λ r. drafted.join_tables r.side) relations.now) }
+    ensures added { OnOk result (tables.new.items ≡ tables.old.items
+        ++ flat_map (λ r. drafted.join_tables r.side) relations.now) }
     ensures refused { IfErr result (λ cause. cause ≡ Cause.OutOfMemory) }
 {
     for relation in relations {

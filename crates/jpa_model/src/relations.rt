@@ -37,7 +37,8 @@ fn keeps(declaring: &DraftEntity, kind: RelationKind, owner: &DraftRelation) -> 
 }
 
 fn relation_in<'a>(draft: &'a Draft, class: usize, name: &Text) -> Option<&'a DraftRelation>
-    ensures { option_copied result ≡ find (λ o. same_name o.name name.now) (drafted.entity_at draft.now class).relations }
+    ensures { option_copied result ≡ find (λ o. same_name o.name name.now)
+        (drafted.entity_at draft.now class).relations }
 {
     match draft.entities.as_slice().get(class) {
         None => None,
@@ -47,7 +48,8 @@ fn relation_in<'a>(draft: &'a Draft, class: usize, name: &Text) -> Option<&'a Dr
 
 /// The relation of this name along a chain.
 fn relation_named<'a>(draft: &'a Draft, chain: &[usize], name: &Text) -> Option<&'a DraftRelation>
-    ensures { option_copied result ≡ find (λ o. same_name o.name name.now) (drafted.declared_by (λ e. e.relations) draft.now chain.now) }
+    ensures { option_copied result ≡ find (λ o. same_name o.name name.now)
+        (drafted.declared_by (λ e. e.relations) draft.now chain.now) }
 {
     for class in chain {
         if let Some(found) = relation_in(draft, *class, name) {
@@ -64,7 +66,9 @@ fn is_kept_by(
     kind: RelationKind,
     name: &Text,
 ) -> bool
-    ensures { result ≡ well.is_some_that (well.keeps declaring.now kind) (find (λ o. same_name o.name name.now) (drafted.declared_by (λ e. e.relations) draft.now chain.now)) }
+    ensures { result ≡ well.is_some_that (well.keeps declaring.now kind)
+        (find (λ o. same_name o.name name.now)
+        (drafted.declared_by (λ e. e.relations) draft.now chain.now)) }
 {
     match relation_named(draft, chain, name) {
         None => false,
@@ -112,7 +116,8 @@ fn has_target_and_owner(
 
 fn have_targets_and_owners(draft: &Draft, chains: &[Seq<usize>], declaring: &DraftEntity) -> bool
     requires { chains.now ≡ drafted.chains draft.now }
-    ensures { result ≡ list_all (well.has_target_and_owner draft.now declaring.now) declaring.now.relations }
+    ensures { result ≡ list_all (well.has_target_and_owner draft.now declaring.now)
+        declaring.now.relations }
 {
     for relation in declaring.relations.as_slice() {
         if !has_target_and_owner(draft, chains, declaring, relation) {
@@ -124,7 +129,8 @@ fn have_targets_and_owners(draft: &Draft, chains: &[Seq<usize>], declaring: &Dra
 
 fn all_have_targets_and_owners(draft: &Draft, chains: &[Seq<usize>]) -> bool
     requires { chains.now ≡ drafted.chains draft.now }
-    ensures { result ≡ list_all (λ e. list_all (well.has_target_and_owner draft.now e) e.relations) draft.now.entities }
+    ensures { result ≡ list_all (λ e. list_all (well.has_target_and_owner draft.now e) e.relations)
+        draft.now.entities }
 {
     for entity in draft.entities.as_slice() {
         if !have_targets_and_owners(draft, chains, entity) {
@@ -219,7 +225,9 @@ fn have_one_inverse(
 #[tactic(auto, using(crate::proofs::Chained::range_next))]
 fn all_have_one_inverse(draft: &Draft, chains: &[Seq<usize>]) -> bool
     requires { chains.now ≡ drafted.chains draft.now }
-    ensures { result ≡ list_all (λ class. list_all (well.has_one_inverse draft.now class) (drafted.entity_at draft.now class).relations) (drafted.classes draft.now) }
+    ensures { result
+        ≡ list_all (λ class. list_all (well.has_one_inverse draft.now class)
+        (drafted.entity_at draft.now class).relations) (drafted.classes draft.now) }
 {
     let entities = draft.entities.as_slice();
     for class in 0..entities.len() {

@@ -38,7 +38,8 @@ pub(crate) fn find<'a>(
     id: &Identity,
 ) -> Option<&'a (Identity, Stored)>
     requires { T (is_sorted identity_cmp entries.now.items) }
-    ensures { option_copied result ≡ option_map (λ x. (id.now, x)) (sets.stored_at entries.now.items id.now) }
+    ensures { option_copied result ≡ option_map (λ x. (id.now, x))
+        (sets.stored_at entries.now.items id.now) }
 {
     match place_of(entries, id) {
         Ok(at) => Some(entries[at].get()),

@@ -44,7 +44,8 @@ pub(crate) fn knows(ids: &Vec<(Identity, ())>, id: &Identity) -> bool
 /// the identities stay.
 pub(crate) fn insert(ids: &mut Vec<(Identity, ())>, id: &Identity) -> Result<(), Cause>
     requires { T (is_sorted identity_cmp ids.old.items) }
-    ensures ok { OnOk result ((q : Identity) → is_some (find identity_cmp q ids.new.items) ≡ (same_identity q id.now || is_some (find identity_cmp q ids.old.items))) }
+    ensures ok { OnOk result ((q : Identity) → is_some (find identity_cmp q ids.new.items)
+        ≡ (same_identity q id.now || is_some (find identity_cmp q ids.old.items))) }
     ensures rising { OnOk result (T (is_sorted identity_cmp ids.new.items)) }
     ensures len { vec_len ids.new ≤ vec_len ids.old + 1 }
     ensures capacity { vec_capacity ids.old ≤ vec_capacity ids.new }
@@ -64,7 +65,8 @@ pub(crate) fn insert(ids: &mut Vec<(Identity, ())>, id: &Identity) -> Result<(),
 fn note(ids: &mut Vec<(Identity, ())>, id: Identity)
     requires rising { T (is_sorted identity_cmp ids.old.items) }
     requires room { vec_len ids.old < vec_capacity ids.old }
-    ensures noted { (q : Identity) → is_some (find identity_cmp q ids.new.items) ≡ (same_identity q id || is_some (find identity_cmp q ids.old.items)) }
+    ensures noted { (q : Identity) → is_some (find identity_cmp q ids.new.items)
+        ≡ (same_identity q id || is_some (find identity_cmp q ids.old.items)) }
     ensures rising { T (is_sorted identity_cmp ids.new.items) }
     ensures len { vec_len ids.new ≤ vec_len ids.old + 1 }
     ensures capacity { vec_capacity ids.old ≤ vec_capacity ids.new }
@@ -79,7 +81,9 @@ fn note(ids: &mut Vec<(Identity, ())>, id: Identity)
 pub(crate) fn note_each(ids: &mut Vec<(Identity, ())>, more: Vec<(Identity, ())>)
     requires rising { T (is_sorted identity_cmp ids.old.items) }
     requires room { vec_len ids.old + vec_len more ≤ vec_capacity ids.old }
-    ensures noted { (q : Identity) → is_some (find identity_cmp q ids.new.items) ≡ (is_some (find identity_cmp q more.items) || is_some (find identity_cmp q ids.old.items)) }
+    ensures noted { (q : Identity) → is_some (find identity_cmp q ids.new.items)
+        ≡ (is_some (find identity_cmp q more.items)
+        || is_some (find identity_cmp q ids.old.items)) }
     ensures rising { T (is_sorted identity_cmp ids.new.items) }
     ensures len { vec_len ids.new ≤ vec_len ids.old + vec_len more }
     ensures capacity { vec_capacity ids.old ≤ vec_capacity ids.new }
@@ -95,7 +99,8 @@ pub(crate) fn insert_each(
     more: &[(Identity, ())],
 ) -> Result<(), Cause>
     requires { T (is_sorted identity_cmp ids.old.items) }
-    ensures ok { OnOk result ((q : Identity) → is_some (find identity_cmp q ids.new.items) ≡ (is_some (find identity_cmp q more.now) || is_some (find identity_cmp q ids.old.items))) }
+    ensures ok { OnOk result ((q : Identity) → is_some (find identity_cmp q ids.new.items)
+        ≡ (is_some (find identity_cmp q more.now) || is_some (find identity_cmp q ids.old.items))) }
     ensures rising { OnOk result (T (is_sorted identity_cmp ids.new.items)) }
     ensures err { IfErr result (λ cause. cause ≡ Cause.OutOfMemory) }
 {
@@ -111,7 +116,8 @@ pub(crate) fn insert_keys(
     entries: &[Boxed<(Identity, Stored)>],
 ) -> Result<(), Cause>
     requires { T (is_sorted identity_cmp ids.old.items) }
-    ensures ok { OnOk result ((q : Identity) → is_some (find identity_cmp q ids.new.items) ≡ (is_some (sets.stored_at entries.now q) || is_some (find identity_cmp q ids.old.items))) }
+    ensures ok { OnOk result ((q : Identity) → is_some (find identity_cmp q ids.new.items)
+        ≡ (is_some (sets.stored_at entries.now q) || is_some (find identity_cmp q ids.old.items))) }
     ensures rising { OnOk result (T (is_sorted identity_cmp ids.new.items)) }
     ensures err { IfErr result (λ cause. cause ≡ Cause.OutOfMemory) }
 {

@@ -38,7 +38,8 @@ fn add_targets(
     owner: &Identity,
 ) -> Result<(), Cause>
     ensures kept { KeepsAll index.old.keys index.new.keys }
-    ensures added { OnOk result ((target : Identity) → list_any (same_identity target) targets.now ≡ true → IsIn index.new.keys (reference target class place owner.now)) }
+    ensures added { OnOk result ((target : Identity) → list_any (same_identity target) targets.now
+        ≡ true → IsIn index.new.keys (reference target class place owner.now)) }
     ensures refused { IfErr result (λ cause. cause ≡ Cause.OutOfMemory) }
 {
     for target in targets {

@@ -142,7 +142,8 @@ impl OpenSet {
 
     /// What the transaction sees under an identity.
     fn seen(&self, id: &Identity) -> Option<&(Identity, Stored)>
-        ensures { option_copied result ≡ option_map (λ x. (id.now, x)) (sets.stored_at self.now.seen id.now) }
+        ensures { option_copied result ≡ option_map (λ x. (id.now, x))
+            (sets.stored_at self.now.seen id.now) }
     {
         if let Some(entry) = find(&self.fresh, id) {
             return Some(entry);
@@ -155,7 +156,8 @@ impl OpenSet {
 
     /// What stood under an identity before this call.
     fn kept(&self, id: &Identity) -> Option<&(Identity, Stored)>
-        ensures { option_copied result ≡ option_map (λ x. (id.now, x)) (sets.stored_at self.now.kept id.now) }
+        ensures { option_copied result ≡ option_map (λ x. (id.now, x))
+            (sets.stored_at self.now.kept id.now) }
     {
         if let Some(entry) = find(&self.written, id) {
             return Some(entry);
@@ -220,7 +222,8 @@ impl OpenSet {
 
     /// Undoes what the transaction wrote, and gives back the room for it. Takes no memory.
     pub fn discard(&mut self)
-        ensures { self.new ≡ opened.with_kept self.old.committed (opened.with_seen self.old.committed self.old) }
+        ensures { self.new ≡ opened.with_kept self.old.committed
+            (opened.with_seen self.old.committed self.old) }
     {
         let alloc = *self.committed.allocator();
         self.written = Vec::new(alloc);
@@ -231,7 +234,8 @@ impl OpenSet {
 
     /// Commits what the transaction wrote. Takes no memory.
     pub fn commit(&mut self)
-        ensures { self.new ≡ opened.with_committed self.old.seen (opened.with_kept self.old.seen self.old) }
+        ensures { self.new ≡ opened.with_committed self.old.seen
+            (opened.with_kept self.old.seen self.old) }
     {
         let alloc = *self.committed.allocator();
         let written = mem::replace(&mut self.written, Vec::new(alloc));

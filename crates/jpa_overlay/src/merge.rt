@@ -19,7 +19,8 @@ pub fn merge(
     rows: Seq<(RowId, Row)>,
     changes: &[Change],
 ) -> Result<Seq<(RowId, Row)>, Cause>
-    ensures ok { IfOk result (λ merged. AreRising rows → T (is_sorted identity_cmp changes.now) → merged ≡ rows_under changes.now rows) }
+    ensures ok { IfOk result (λ merged. AreRising rows → T (is_sorted identity_cmp changes.now) →
+        merged ≡ rows_under changes.now rows) }
     ensures refused { IfErr result (λ cause. cause ≡ Cause.OutOfMemory) }
 {
     let mut merged = Seq::new(alloc);
@@ -38,8 +39,11 @@ fn merge_row<'a>(
     id: RowId,
     row: Row,
 ) -> Result<&'a [Change], Cause>
-    ensures step { T (is_sorted identity_cmp left.now) → IfOk result (λ rest. (rows : Rows) → AreRising ((id, row) ∷ rows) → merged.new ++ rows_under rest.now rows ≡ merged.old ++ rows_under left.now ((id, row) ∷ rows)) }
-    ensures rising { T (is_sorted identity_cmp left.now) → IfOk result (λ rest. T (is_sorted identity_cmp rest.now)) }
+    ensures step { T (is_sorted identity_cmp left.now) →
+        IfOk result (λ rest. (rows : Rows) → AreRising ((id, row) ∷ rows) → merged.new
+        ++ rows_under rest.now rows ≡ merged.old ++ rows_under left.now ((id, row) ∷ rows)) }
+    ensures rising { T (is_sorted identity_cmp left.now) →
+        IfOk result (λ rest. T (is_sorted identity_cmp rest.now)) }
     ensures refused { IfErr result (λ cause. cause ≡ Cause.OutOfMemory) }
 {
     let before = left.partition_point(|change| is_before(change, &id));

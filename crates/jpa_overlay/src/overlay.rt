@@ -66,10 +66,16 @@ impl Overlay {
     /// The row under an id, as it is under the changes. A row that is changed here is answered without a look at the
     /// store. It refuses with `OutOfMemory`, and as the store does where it looks there.
     pub fn get<R: RowSource>(&self, source: &mut R, id: &RowId) -> Result<Option<Row>, Cause>
-        ensures ok { R.clean source.new → IfOk result (λ row. (rows : Rows) → R.holds source.old rows → row ≡ find identity_cmp id.now (rows_under self.now rows)) }
-        ensures err { R.clean source.new → IfErr result (λ cause. (rows : Rows) → R.holds source.old rows → (cause ≡ Cause.OutOfMemory) ⊎ (cause ≡ Cause.StoreFault)) }
-        ensures changed { IsSome (find identity_cmp id.now self.now) → IfOk result (λ row. find identity_cmp id.now self.now ≡ Some row) }
-        ensures own { IsSome (find identity_cmp id.now self.now) → (source.new ≡ source.old) × IfErr result (λ cause. cause ≡ Cause.OutOfMemory) }
+        ensures ok { R.clean source.new → IfOk result
+            (λ row. (rows : Rows) → R.holds source.old rows → row
+            ≡ find identity_cmp id.now (rows_under self.now rows)) }
+        ensures err { R.clean source.new → IfErr result
+            (λ cause. (rows : Rows) → R.holds source.old rows → (cause ≡ Cause.OutOfMemory)
+            ⊎ (cause ≡ Cause.StoreFault)) }
+        ensures changed { IsSome (find identity_cmp id.now self.now) →
+            IfOk result (λ row. find identity_cmp id.now self.now ≡ Some row) }
+        ensures own { IsSome (find identity_cmp id.now self.now) → (source.new ≡ source.old)
+            × IfErr result (λ cause. cause ≡ Cause.OutOfMemory) }
         ensures kept { (rows : Rows) → R.holds source.old rows → R.holds source.new rows }
         ensures told { R.faults source.new ≡ faults_after result (R.faults source.old) }
         ensures read { IsAtMostOne (R.reads source.old) (R.reads source.new) }
@@ -87,8 +93,12 @@ impl Overlay {
     /// The rows of a table as they are under the changes, in the order of their ids. It looks through the table's rows in
     /// the store once, and refuses with `OutOfMemory`, and as the store does.
     pub fn scan<R: RowSource>(&self, source: &mut R, table: u64) -> Result<Seq<(RowId, Row)>, Cause>
-        ensures ok { R.clean source.new → IfOk result (λ found. (rows : Rows) → AreRising rows → R.holds source.old rows → found ≡ table_rows table (rows_under self.now rows)) }
-        ensures err { R.clean source.new → IfErr result (λ cause. (rows : Rows) → R.holds source.old rows → (cause ≡ Cause.OutOfMemory) ⊎ (cause ≡ Cause.StoreFault)) }
+        ensures ok { R.clean source.new → IfOk result
+            (λ found. (rows : Rows) → AreRising rows → R.holds source.old rows → found
+            ≡ table_rows table (rows_under self.now rows)) }
+        ensures err { R.clean source.new → IfErr result
+            (λ cause. (rows : Rows) → R.holds source.old rows → (cause ≡ Cause.OutOfMemory)
+            ⊎ (cause ≡ Cause.StoreFault)) }
         ensures kept { (rows : Rows) → R.holds source.old rows → R.holds source.new rows }
         ensures told { R.faults source.new ≡ faults_after result (R.faults source.old) }
         ensures read { IsAtMostOne (R.reads source.old) (R.reads source.new) }
@@ -106,11 +116,19 @@ impl Overlay {
     /// or not the store is clean. It reads each changed row of the store once, and refuses with `OutOfMemory`, and as the store
     /// does.
     pub fn changes<R: RowSource>(&self, source: &mut R) -> Result<Seq<RowChange>, Cause>
-        ensures difference { R.clean source.new → IfOk result (λ changes. (rows : Rows) → R.holds source.old rows → AreDifference identity_cmp rows (map entry_of changes)) }
-        ensures seen { R.clean source.new → IfOk result (λ changes. (rows : Rows) → AreRising rows → R.holds source.old rows → rows_after changes rows ≡ rows_under self.now rows) }
-        ensures rising { IfOk result (λ changes. T (is_sorted identity_cmp (map entry_of changes))) }
-        ensures among { IfOk result (λ changes. All (λ change. find identity_cmp change.id self.now ≡ Some change.row) changes) }
-        ensures err { R.clean source.new → IfErr result (λ cause. (rows : Rows) → R.holds source.old rows → (cause ≡ Cause.OutOfMemory) ⊎ (cause ≡ Cause.StoreFault)) }
+        ensures difference { R.clean source.new → IfOk result
+            (λ changes. (rows : Rows) → R.holds source.old rows →
+            AreDifference identity_cmp rows (map entry_of changes)) }
+        ensures seen { R.clean source.new → IfOk result
+            (λ changes. (rows : Rows) → AreRising rows → R.holds source.old rows →
+            rows_after changes rows ≡ rows_under self.now rows) }
+        ensures rising { IfOk result
+            (λ changes. T (is_sorted identity_cmp (map entry_of changes))) }
+        ensures among { IfOk result (λ changes. All
+            (λ change. find identity_cmp change.id self.now ≡ Some change.row) changes) }
+        ensures err { R.clean source.new → IfErr result
+            (λ cause. (rows : Rows) → R.holds source.old rows → (cause ≡ Cause.OutOfMemory)
+            ⊎ (cause ≡ Cause.StoreFault)) }
         ensures kept { (rows : Rows) → R.holds source.old rows → R.holds source.new rows }
         ensures told { R.faults source.new ≡ faults_after result (R.faults source.old) }
         ensures read { AreAtMost (length self.now) (R.reads source.old) (R.reads source.new) }
@@ -138,10 +156,14 @@ impl Overlay {
     /// their ids, without those that leave a row as it stood. Made in a store of such rows, they give the rows that are seen here.
     /// It reads no store and copies no row, and refuses with `OutOfMemory` alone.
     pub fn into_difference(self, stood: &Overlay) -> Result<Seq<RowChange>, Cause>
-        ensures difference { IfOk result (λ changes. (rows : Rows) → Recalls stood.now self rows → AreDifference identity_cmp rows (map entry_of changes)) }
-        ensures seen { IfOk result (λ changes. (rows : Rows) → AreRising rows → Recalls stood.now self rows → rows_after changes rows ≡ rows_under self rows) }
-        ensures rising { IfOk result (λ changes. T (is_sorted identity_cmp (map entry_of changes))) }
-        ensures among { IfOk result (λ changes. All (λ change. find identity_cmp change.id self ≡ Some change.row) changes) }
+        ensures difference { IfOk result (λ changes. (rows : Rows) → Recalls stood.now self rows →
+            AreDifference identity_cmp rows (map entry_of changes)) }
+        ensures seen { IfOk result (λ changes. (rows : Rows) → AreRising rows →
+            Recalls stood.now self rows → rows_after changes rows ≡ rows_under self rows) }
+        ensures rising { IfOk result
+            (λ changes. T (is_sorted identity_cmp (map entry_of changes))) }
+        ensures among { IfOk result (λ changes. All
+            (λ change. find identity_cmp change.id self ≡ Some change.row) changes) }
         ensures err { IfErr result (λ cause. cause ≡ Cause.OutOfMemory) }
     {
         let mut changes = Seq::new(self.allocator());
@@ -159,7 +181,8 @@ impl Overlay {
     /// was.
     pub fn put(&mut self, id: RowId, row: Row) -> Result<(), Cause>
         ensures ok { OnOk result (self.new ≡ with_change id (Some row) self.old) }
-        ensures seen { OnOk result ((base : Rows) → AreRising base → rows_under self.new base ≡ with_row id (Some row) (rows_under self.old base)) }
+        ensures seen { OnOk result ((base : Rows) → AreRising base → rows_under self.new base
+            ≡ with_row id (Some row) (rows_under self.old base)) }
         ensures err { OnErr result (self.new ≡ self.old) }
         ensures refused { IfErr result (λ cause. cause ≡ Cause.OutOfMemory) }
     {
@@ -170,7 +193,8 @@ impl Overlay {
     /// only refusal, the overlay stays as it was.
     pub fn drop_row(&mut self, id: RowId) -> Result<(), Cause>
         ensures ok { OnOk result (self.new ≡ with_change id None self.old) }
-        ensures seen { OnOk result ((base : Rows) → AreRising base → rows_under self.new base ≡ with_row id None (rows_under self.old base)) }
+        ensures seen { OnOk result ((base : Rows) → AreRising base → rows_under self.new base
+            ≡ with_row id None (rows_under self.old base)) }
         ensures err { OnErr result (self.new ≡ self.old) }
         ensures refused { IfErr result (λ cause. cause ≡ Cause.OutOfMemory) }
     {

@@ -67,18 +67,25 @@ pub fn open_rows<S: Alter + Drop, B: Behaviour>(
 ) -> Result<(RowSpace<S>, Committed), (Cause, Connection<S>)>
     requires ordered { IsOrderedIfFound S.Store conn }
     ensures schema { IfOk result (λ o. o.0.schema ≡ schema_of unit.now.metamodel) }
-    ensures held { IfOk result (λ o. CanBeHeld (world_of_unit B.meaning unit.now) o.1.set o.1.numbers) }
-    ensures holds { IfOk result (λ o. IsClean S.Store o.0.store.conn → HoldsRows S.Store (schema_of unit.now.metamodel) o.0.store.conn (rows_of (world_of_unit B.meaning unit.now) o.1.set o.1.numbers)) }
-    ensures stand { IfOk result (λ o. HoldsCells S.Store (world_of_unit B.meaning unit.now) o.0.store.conn o.1.set o.1.numbers) }
-    ensures live { IfOk result (λ o. IsClean S.Store o.0.store.conn → IsOpen S.Store o.0.store.conn) }
+    ensures held { IfOk result (λ o. CanBeHeld (world_of_unit B.meaning unit.now) o.1.set
+        o.1.numbers) }
+    ensures holds { IfOk result (λ o. IsClean S.Store o.0.store.conn →
+        HoldsRows S.Store (schema_of unit.now.metamodel) o.0.store.conn
+        (rows_of (world_of_unit B.meaning unit.now) o.1.set o.1.numbers)) }
+    ensures stand { IfOk result (λ o. HoldsCells S.Store (world_of_unit B.meaning unit.now)
+        o.0.store.conn o.1.set o.1.numbers) }
+    ensures live { IfOk result (λ o. IsClean S.Store o.0.store.conn →
+        IsOpen S.Store o.0.store.conn) }
     ensures opens { IfOk result (λ o. KeepsOrMakes S.Store conn o.0.store.conn) }
     ensures crash { IfOk result (λ o. EnduresMaking S.Store conn o.0.store.conn) }
-    ensures counted { IfOk result (λ o. OpensReading S.Store conn o.0.store (length (schema_of unit.now.metamodel).tables)) }
+    ensures counted { IfOk result (λ o. OpensReading S.Store conn o.0.store
+        (length (schema_of unit.now.metamodel).tables)) }
     ensures unknown { known.names_are_known unit.now.registry unit.now.metamodel ≡ false
         → result ≡ Err (Cause.Mapping MappingFault.Function, conn) }
-    ensures refused { IfErr result (λ e. known.names_are_known unit.now.registry unit.now.metamodel ≡ true
-        → IsOpenCause S.Store (world_of_unit B.meaning unit.now) e.1 e.0) }
-    ensures cause { IfErr result (λ e. e.0 ≡ Cause.StoreFault → IsClean S.Store e.1 → conn.in_transaction ≡ false → HoldsTable S.Store conn → HasFault S.Store conn e.1) }
+    ensures refused { IfErr result (λ e. known.names_are_known unit.now.registry unit.now.metamodel
+        ≡ true → IsOpenCause S.Store (world_of_unit B.meaning unit.now) e.1 e.0) }
+    ensures cause { IfErr result (λ e. e.0 ≡ Cause.StoreFault → IsClean S.Store e.1 →
+        conn.in_transaction ≡ false → HoldsTable S.Store conn → HasFault S.Store conn e.1) }
     ensures kept { IfErr result (λ e. KeepsOrMakes S.Store conn e.1) }
     ensures crash_err { IfErr result (λ e. EnduresMaking S.Store conn e.1) }
     ensures again { IfErr result (λ e. IsOrderedIfFound S.Store e.1) }
@@ -112,18 +119,24 @@ pub fn open<S: Alter + Drop, B: Behaviour>(
     requires ordered { IsOrderedIfFound S.Store conn }
     ensures model { IfOk result (λ provider. provider.model ≡ unit.metamodel) }
     ensures registry { IfOk result (λ provider. provider.registry ≡ unit.registry) }
-    ensures machine { IfOk result (λ provider. provider.machine ≡ opened (provider.machine).committed (provider.machine).stored_numbers) }
-    ensures held { IfOk result (λ provider. CanBeHeld (world_of_unit B.meaning unit) (provider.machine).committed (provider.machine).stored_numbers) }
+    ensures machine { IfOk result (λ provider. provider.machine
+        ≡ opened (provider.machine).committed (provider.machine).stored_numbers) }
+    ensures held { IfOk result (λ provider. CanBeHeld (world_of_unit B.meaning unit)
+        (provider.machine).committed (provider.machine).stored_numbers) }
     ensures cells { IfOk result (HoldsCommitted S.Store B.meaning) }
-    ensures live { IfOk result (λ provider. IsClean S.Store (provider.rows).store.conn → IsOpen S.Store (provider.rows).store.conn) }
+    ensures live { IfOk result (λ provider. IsClean S.Store (provider.rows).store.conn →
+        IsOpen S.Store (provider.rows).store.conn) }
     ensures opens { IfOk result (λ provider. KeepsOrMakes S.Store conn (provider.rows).store.conn) }
-    ensures crash { IfOk result (λ provider. EnduresMaking S.Store conn (provider.rows).store.conn) }
-    ensures counted { IfOk result (λ provider. OpensReading S.Store conn (provider.rows).store (length (schema_of unit.metamodel).tables)) }
+    ensures crash { IfOk result (λ provider. EnduresMaking S.Store conn
+        (provider.rows).store.conn) }
+    ensures counted { IfOk result (λ provider. OpensReading S.Store conn (provider.rows).store
+        (length (schema_of unit.metamodel).tables)) }
     ensures unknown { known.names_are_known unit.registry unit.metamodel ≡ false
         → result ≡ Err (Cause.Mapping MappingFault.Function, conn) }
     ensures refused { IfErr result (λ e. known.names_are_known unit.registry unit.metamodel ≡ true
         → IsOpenCause S.Store (world_of_unit B.meaning unit) e.1 e.0) }
-    ensures cause { IfErr result (λ e. e.0 ≡ Cause.StoreFault → IsClean S.Store e.1 → conn.in_transaction ≡ false → HoldsTable S.Store conn → HasFault S.Store conn e.1) }
+    ensures cause { IfErr result (λ e. e.0 ≡ Cause.StoreFault → IsClean S.Store e.1 →
+        conn.in_transaction ≡ false → HoldsTable S.Store conn → HasFault S.Store conn e.1) }
     ensures kept { IfErr result (λ e. KeepsOrMakes S.Store conn e.1) }
     ensures crash_err { IfErr result (λ e. EnduresMaking S.Store conn e.1) }
     ensures again { IfErr result (λ e. IsOrderedIfFound S.Store e.1) }

@@ -33,18 +33,23 @@ pub fn run<S: Alter, B: Behaviour, R: Read, W: Write>(
     writer: &mut W,
     provider: &mut Provider<RowSpace<S>, B>,
 ) -> Result<(), RunFault>
-    ensures ok { OnOk result (Served (Step (world_in B.meaning provider.old)) provider.old.machine provider.new.machine
-        (R.remaining reader.old) (W.contents writer.old) (W.contents writer.new)) }
-    ensures err { IfErr result (λ fault. Broken (Step (world_in B.meaning provider.old)) provider.old.machine provider.new.machine fault
-        (R.remaining reader.old) (W.contents writer.old) (W.contents writer.new)) }
-    ensures read { IfErr result (λ fault. AnswersRead (Step (world_in B.meaning provider.old)) provider.old.machine provider.new.machine
-        fault (R.remaining reader.old) (R.remaining reader.new) (W.contents writer.old) (W.contents writer.new)) }
-    ensures calls { OnOk result (Served (Steps B.meaning (rows_over S.Store)) provider.old provider.new
-        (R.remaining reader.old) (W.contents writer.old) (W.contents writer.new)) }
-    ensures calls_err { IfErr result (λ fault. Broken (Steps B.meaning (rows_over S.Store)) provider.old provider.new fault
-        (R.remaining reader.old) (W.contents writer.old) (W.contents writer.new)) }
-    ensures calls_read { IfErr result (λ fault. AnswersRead (Steps B.meaning (rows_over S.Store)) provider.old provider.new
-        fault (R.remaining reader.old) (R.remaining reader.new) (W.contents writer.old) (W.contents writer.new)) }
+    ensures ok { OnOk result (Served (Step (world_in B.meaning provider.old)) provider.old.machine
+        provider.new.machine (R.remaining reader.old) (W.contents writer.old)
+        (W.contents writer.new)) }
+    ensures err { IfErr result (λ fault. Broken (Step (world_in B.meaning provider.old))
+        provider.old.machine provider.new.machine fault (R.remaining reader.old)
+        (W.contents writer.old) (W.contents writer.new)) }
+    ensures read { IfErr result (λ fault. AnswersRead (Step (world_in B.meaning provider.old))
+        provider.old.machine provider.new.machine fault (R.remaining reader.old)
+        (R.remaining reader.new) (W.contents writer.old) (W.contents writer.new)) }
+    ensures calls { OnOk result (Served (Steps B.meaning (rows_over S.Store)) provider.old
+        provider.new (R.remaining reader.old) (W.contents writer.old) (W.contents writer.new)) }
+    ensures calls_err { IfErr result (λ fault. Broken (Steps B.meaning (rows_over S.Store))
+        provider.old provider.new fault (R.remaining reader.old) (W.contents writer.old)
+        (W.contents writer.new)) }
+    ensures calls_read { IfErr result (λ fault. AnswersRead (Steps B.meaning (rows_over S.Store))
+        provider.old provider.new fault (R.remaining reader.old) (R.remaining reader.new)
+        (W.contents writer.old) (W.contents writer.new)) }
     ensures model { provider.new.model ≡ provider.old.model }
     ensures registry { provider.new.registry ≡ provider.old.registry }
     ensures cells { HoldsCommitted S.Store B.meaning provider.new }

@@ -95,8 +95,15 @@ fn person(alloc: Global) -> Result<DraftEntity, Cause>
 
 /// The root of orders: table 2, with a key that is assigned and no version.
 fn order_root(alloc: Global) -> Result<DraftRoot, Cause>
-    ensures root { IfOk result (λ root. root
-        ≡ record { table = pos 2; key = order_key; embedded = None; generated = false; version = None }) }
+    ensures root { IfOk result
+        (λ root. root
+        ≡ record {
+          table = pos 2;
+          key = order_key;
+          embedded = None;
+          generated = false;
+          version = None;
+        }) }
     ensures err { IfErr result (λ cause. cause ≡ Cause.OutOfMemory) }
 {
     let mut key = Seq::new(alloc);

@@ -155,7 +155,8 @@ fn query_work<B: Behaviour>(
     requires then_ready { StaysReady flushes (world_of_unit B.meaning unit.now)
         (now work.old) }
     ensures meets { let world = world_of_unit B.meaning unit.now in
-        Meets result (now work.new) (operations.query_told told wanted flushes world (now work.old)) }
+        Meets result (now work.new) (operations.query_told told wanted flushes world
+        (now work.old)) }
     ensures since { since work.new ≡ since work.old }
 {
     let asked = asked_of(alloc, work, wanted)?;

@@ -56,7 +56,8 @@ fn read_key(alloc: Global, kinds: &[Kind], bytes: &[u8]) -> Result<Option<Key>, 
 ///
 /// Fails for want of memory alone, with `OutOfMemory`.
 pub fn read_id(alloc: Global, table: &TableRule, bytes: &[u8]) -> Result<Option<Key>, Cause>
-    ensures spelled { IfOk result (λ found. (key : List Value) → (found ≡ Some key) ↔ SpellsId table.now bytes.now key) }
+    ensures spelled { IfOk result (λ found. (key : List Value) → (found ≡ Some key)
+        ↔ SpellsId table.now bytes.now key) }
     ensures refused { IfErr result (λ cause. cause ≡ Cause.OutOfMemory) }
 {
     Ok(read_key(alloc, table.key.as_slice(), bytes)?)
@@ -178,7 +179,9 @@ fn read_any(alloc: Global, bytes: &[u8]) -> Result<Option<Value>, Cause>
 }
 
 fn read_reference(alloc: Global, kinds: &[Kind], bytes: &[u8]) -> Result<Option<Key>, Cause>
-    ensures spelled { IfOk result (Finds (λ key. SpellsContent (Holds.Reference kinds.now) bytes.now (Content.Reference key))) }
+    ensures spelled { IfOk result
+        (Finds (λ key. SpellsContent (Holds.Reference kinds.now) bytes.now
+        (Content.Reference key))) }
     ensures refused { IfErr result (λ cause. cause ≡ Cause.OutOfMemory) }
 {
     match untagged(REFERENCE, bytes) {
@@ -209,7 +212,8 @@ fn as_reference(found: Option<Key>) -> Option<Content>
 ///
 /// Fails for want of memory alone, with `OutOfMemory`.
 pub fn read_content(alloc: Global, holds: &Holds, bytes: &[u8]) -> Result<Option<Content>, Cause>
-    ensures spelled { IfOk result (λ found. (content : Content) → (found ≡ Some content) ↔ SpellsContent holds.now bytes.now content) }
+    ensures spelled { IfOk result (λ found. (content : Content) → (found ≡ Some content)
+        ↔ SpellsContent holds.now bytes.now content) }
     ensures refused { IfErr result (λ cause. cause ≡ Cause.OutOfMemory) }
 {
     match holds {
@@ -225,7 +229,8 @@ pub fn read_content(alloc: Global, holds: &Holds, bytes: &[u8]) -> Result<Option
 
 /// The rule of a cell's column, where the table has it.
 fn rule_for<'a>(table: &'a TableRule, cell: &(i64, Bytes)) -> Option<&'a ColumnRule>
-    ensures { option_copied result ≡ find (λ rule. int_eq (pos rule.column) cell.now.0) table.now.columns }
+    ensures { option_copied result ≡ find (λ rule. int_eq (pos rule.column) cell.now.0)
+        table.now.columns }
 {
     table
         .columns
@@ -300,7 +305,8 @@ pub fn read_row(
     table: &TableRule,
     cells: &[(i64, Bytes)],
 ) -> Result<Option<Row>, Cause>
-    ensures spelled { IfOk result (λ found. (row : Row) → (found ≡ Some row) ↔ SpellsRow table.now cells.now row) }
+    ensures spelled { IfOk result (λ found. (row : Row) → (found ≡ Some row)
+        ↔ SpellsRow table.now cells.now row) }
     ensures refused { IfErr result (λ cause. cause ≡ Cause.OutOfMemory) }
 {
     Ok(rising_row(read_fields(alloc, table, cells)?))

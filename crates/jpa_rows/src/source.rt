@@ -43,8 +43,11 @@ pub trait RowSource {
 
     /// The row under an id, by one statement at most. While the store holds rows, it refuses with `OutOfMemory` and `StoreFault` alone.
     fn get(&mut self, id: &RowId) -> Result<Option<Row>, Cause>
-        ensures ok { clean self.new → IfOk result (λ row. (rows : Rows) → holds self.old rows → row ≡ find identity_cmp id.now rows) }
-        ensures err { clean self.new → IfErr result (λ cause. (rows : Rows) → holds self.old rows → (cause ≡ Cause.OutOfMemory) ⊎ (cause ≡ Cause.StoreFault)) }
+        ensures ok { clean self.new → IfOk result
+            (λ row. (rows : Rows) → holds self.old rows → row ≡ find identity_cmp id.now rows) }
+        ensures err { clean self.new → IfErr result
+            (λ cause. (rows : Rows) → holds self.old rows → (cause ≡ Cause.OutOfMemory)
+            ⊎ (cause ≡ Cause.StoreFault)) }
         ensures kept { (rows : Rows) → holds self.old rows → holds self.new rows }
         ensures told { faults self.new ≡ faults_after result (faults self.old) }
         ensures was_clean { clean self.new → clean self.old }
@@ -55,8 +58,11 @@ pub trait RowSource {
 
     /// The rows of a table, in the order of their ids, by one statement at most. It refuses as `get` does.
     fn scan(&mut self, table: u64) -> Result<Seq<(RowId, Row)>, Cause>
-        ensures ok { clean self.new → IfOk result (λ found. (rows : Rows) → holds self.old rows → found ≡ table_rows table rows) }
-        ensures err { clean self.new → IfErr result (λ cause. (rows : Rows) → holds self.old rows → (cause ≡ Cause.OutOfMemory) ⊎ (cause ≡ Cause.StoreFault)) }
+        ensures ok { clean self.new → IfOk result
+            (λ found. (rows : Rows) → holds self.old rows → found ≡ table_rows table rows) }
+        ensures err { clean self.new → IfErr result
+            (λ cause. (rows : Rows) → holds self.old rows → (cause ≡ Cause.OutOfMemory)
+            ⊎ (cause ≡ Cause.StoreFault)) }
         ensures kept { (rows : Rows) → holds self.old rows → holds self.new rows }
         ensures told { faults self.new ≡ faults_after result (faults self.old) }
         ensures was_clean { clean self.new → clean self.old }
@@ -68,15 +74,19 @@ pub trait RowSource {
     /// Makes these changes in their order, all or none.
     fn commit(&mut self, changes: &[RowChange]) -> Result<(), Cause>
         requires { AreChanges (schema self.old) changes.now }
-        ensures ok { OnOk result ((rows : Rows) → holds self.old rows → holds self.new (rows_after changes.now rows)) }
+        ensures ok { OnOk result ((rows : Rows) → holds self.old rows →
+            holds self.new (rows_after changes.now rows)) }
         ensures err { OnErr result ((rows : Rows) → holds self.old rows → holds self.new rows) }
-        ensures cause { IfErr result (λ cause. (cause ≡ Cause.OutOfMemory) ⊎ (cause ≡ Cause.StoreFault)) }
+        ensures cause { IfErr result (λ cause. (cause ≡ Cause.OutOfMemory)
+            ⊎ (cause ≡ Cause.StoreFault)) }
         ensures told { faults self.new ≡ faults_after result (faults self.old) }
         ensures nothing { changes.now ≡ [] → (result ≡ Ok tt) × (self.new ≡ self.old) }
-        ensures counted { Counts result (writes self.old) (writes self.new) (sum_by statements_of changes.now) }
+        ensures counted { Counts result (writes self.old) (writes self.new)
+            (sum_by statements_of changes.now) }
         ensures unread { reads self.new ≡ reads self.old }
         ensures was_clean { clean self.new → clean self.old }
-        ensures crash { (rows : Rows) → holds self.old rows → endures self.old self.new (λ left. left ≡ rows_after changes.now rows) }
+        ensures crash { (rows : Rows) → holds self.old rows →
+            endures self.old self.new (λ left. left ≡ rows_after changes.now rows) }
         ensures schema { schema self.new ≡ schema self.old };
 
     /// Where nothing happened, a crash leaves what it could leave before.

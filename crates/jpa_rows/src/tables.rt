@@ -84,7 +84,8 @@ fn push_link(
 ) -> Result<(), Cause>
     requires target { target < length metamodel.now.entities }
     requires narrow { IsNarrowLink column }
-    ensures ok { OnOk result (rules.new ≡ rules.old ++ tables.link_rules metamodel.now target column) }
+    ensures ok { OnOk result (rules.new ≡ rules.old
+        ++ tables.link_rules metamodel.now target column) }
     ensures err { IfErr result (λ cause. cause ≡ Cause.OutOfMemory) }
 {
     if let Some(column) = column {
@@ -104,7 +105,9 @@ fn push_links(
     relations: &[Relation],
 ) -> Result<(), Cause>
     requires { AreNarrowRelations metamodel.now relations.now }
-    ensures ok { OnOk result (rules.new ≡ rules.old ++ flat_map (λ r. tables.link_rules metamodel.now r.target (chains.column_of r.side)) relations.now) }
+    ensures ok { OnOk result (rules.new ≡ rules.old
+        ++ flat_map (λ r. tables.link_rules metamodel.now r.target (chains.column_of r.side))
+        relations.now) }
     ensures err { IfErr result (λ cause. cause ≡ Cause.OutOfMemory) }
 {
     for relation in relations {
@@ -120,7 +123,8 @@ fn push_class(
     entity: &Entity,
 ) -> Result<(), Cause>
     requires { IsNarrow metamodel.now entity.now }
-    ensures ok { OnOk result (rules.new ≡ rules.old ++ tables.rules_of_class metamodel.now entity.now) }
+    ensures ok { OnOk result (rules.new ≡ rules.old
+        ++ tables.rules_of_class metamodel.now entity.now) }
     ensures err { IfErr result (λ cause. cause ≡ Cause.OutOfMemory) }
 {
     push_attributes(rules, entity.attributes.as_slice())?;
@@ -134,7 +138,9 @@ fn push_classes(
     metamodel: &Metamodel,
     root: usize,
 ) -> Result<(), Cause>
-    ensures ok { OnOk result (rules.new ≡ rules.old ++ flat_map (λ c. tables.rules_of_class metamodel.now (chains.entity_at metamodel.now c)) (tables.classes_below metamodel.now root)) }
+    ensures ok { OnOk result (rules.new ≡ rules.old
+        ++ flat_map (λ c. tables.rules_of_class metamodel.now (chains.entity_at metamodel.now c))
+        (tables.classes_below metamodel.now root)) }
     ensures err { IfErr result (λ cause. cause ≡ Cause.OutOfMemory) }
 {
     for class in 0..metamodel.entities().len() {
@@ -202,7 +208,8 @@ fn root_table(
     root: &Root,
 ) -> Result<TableRule, Cause>
     requires { IsNarrowRoot root.now }
-    ensures ok { IfOk result (λ table. tables.root_table metamodel.now class (Origin.Root root.now) ≡ table ∷ []) }
+    ensures ok { IfOk result (λ table. tables.root_table metamodel.now class (Origin.Root root.now)
+        ≡ table ∷ []) }
     ensures err { IfErr result (λ cause. cause ≡ Cause.OutOfMemory) }
 {
     let mut key = Seq::new(alloc);
@@ -221,7 +228,8 @@ fn push_root_table(
     origin: &Origin,
 ) -> Result<(), Cause>
     requires { IsNarrowOrigin origin.now }
-    ensures ok { OnOk result (found.new ≡ found.old ++ tables.root_table metamodel.now class origin.now) }
+    ensures ok { OnOk result (found.new ≡ found.old
+        ++ tables.root_table metamodel.now class origin.now) }
     ensures err { IfErr result (λ cause. cause ≡ Cause.OutOfMemory) }
 {
     if let Origin::Root(root) = origin {
@@ -239,7 +247,8 @@ fn pair_kinds(
 ) -> Result<Seq<Kind>, Cause>
     requires owner { owner < length metamodel.now.entities }
     requires target { target < length metamodel.now.entities }
-    ensures ok { IfOk result (λ kinds. kinds ≡ tables.kinds_of (chains.root_of metamodel.now owner) ++ tables.kinds_of (chains.root_of metamodel.now target)) }
+    ensures ok { IfOk result (λ kinds. kinds ≡ tables.kinds_of (chains.root_of metamodel.now owner)
+        ++ tables.kinds_of (chains.root_of metamodel.now target)) }
     ensures err { IfErr result (λ cause. cause ≡ Cause.OutOfMemory) }
 {
     let mut kinds = Seq::new(alloc);
@@ -256,7 +265,8 @@ fn push_join_table(
 ) -> Result<(), Cause>
     requires class { class < length metamodel.now.entities }
     requires narrow { IsNarrowRelation metamodel.now relation.now }
-    ensures ok { OnOk result (found.new ≡ found.old ++ tables.join_table metamodel.now class relation.now) }
+    ensures ok { OnOk result (found.new ≡ found.old
+        ++ tables.join_table metamodel.now class relation.now) }
     ensures err { IfErr result (λ cause. cause ≡ Cause.OutOfMemory) }
 {
     if let Side::ManyToMany(join) = relation.side {
@@ -278,7 +288,8 @@ fn push_join_tables(
 ) -> Result<(), Cause>
     requires class { class < length metamodel.now.entities }
     requires narrow { AreNarrowRelations metamodel.now relations.now }
-    ensures ok { OnOk result (found.new ≡ found.old ++ flat_map (tables.join_table metamodel.now class) relations.now) }
+    ensures ok { OnOk result (found.new ≡ found.old
+        ++ flat_map (tables.join_table metamodel.now class) relations.now) }
     ensures err { IfErr result (λ cause. cause ≡ Cause.OutOfMemory) }
 {
     for relation in relations {

@@ -16,7 +16,8 @@ use jpa_value::{Key, Kind, Value, fits};
 
 /// Whether a value may stand in a column of every kind.
 fn may_stand(value: &Value) -> bool
-    ensures { result ≡ (is_given value.now && (is_representable value.now && behaviour.is_short value.now)) }
+    ensures { result
+        ≡ (is_given value.now && (is_representable value.now && behaviour.is_short value.now)) }
 {
     value_is_representable(value);
     !matches!(value, Value::Null) && is_short(value)
@@ -31,7 +32,8 @@ fn may_stand_as(kind: Kind, value: &Value) -> bool
 }
 
 fn are_parts(kinds: &[Kind], key: &[Value]) -> bool
-    ensures { result ≡ list_all (λ p. is_part_of p.0 p.1 && behaviour.is_short p.1) (zip kinds.now key.now) }
+    ensures { result ≡ list_all (λ p. is_part_of p.0 p.1 && behaviour.is_short p.1)
+        (zip kinds.now key.now) }
 {
     kinds
         .iter()
@@ -68,7 +70,8 @@ fn rule_of(table: &TableRule, column: u32) -> Option<&ColumnRule>
 }
 
 fn is_field_of(table: &TableRule, field: &Field) -> bool
-    ensures { result ≡ rows.is_field_by field.now.content (rows.rule_of table.now field.now.column) }
+    ensures { result ≡ rows.is_field_by field.now.content
+        (rows.rule_of table.now field.now.column) }
 {
     match rule_of(table, field.column) {
         None => false,
@@ -77,7 +80,8 @@ fn is_field_of(table: &TableRule, field: &Field) -> bool
 }
 
 fn are_fields_of(table: &TableRule, row: &[Field]) -> bool
-    ensures { result ≡ list_all (λ f. rows.is_field_by f.content (rows.rule_of table.now f.column)) row.now }
+    ensures { result ≡ list_all (λ f. rows.is_field_by f.content (rows.rule_of table.now f.column))
+        row.now }
 {
     row.iter().all(|field| is_field_of(table, field))
 }

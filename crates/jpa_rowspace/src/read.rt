@@ -23,7 +23,8 @@ fn columns_of(alloc: Global, cells: Vec<Cell>) -> Result<Seq<(i64, Bytes)>, Caus
 
 /// The row that cells spell.
 fn row_of(alloc: Global, table: &TableRule, cells: Seq<Cell>) -> Result<Option<Row>, Cause>
-    ensures spelled { IfOk result (λ found. (row : rows.Row) → (found ≡ Some row) ↔ rows.SpellsRow table.now (reading.columns_of cells) row) }
+    ensures spelled { IfOk result (λ found. (row : rows.Row) → (found ≡ Some row)
+        ↔ rows.SpellsRow table.now (reading.columns_of cells) row) }
     ensures err { IfErr result (λ cause. cause ≡ Cause.OutOfMemory) }
 {
     let columns = columns_of(alloc, cells.into_vec())?;
@@ -38,7 +39,8 @@ pub(crate) fn found_row(
     cells: Seq<Cell>,
 ) -> Result<Option<Row>, Cause>
     ensures found { IfOk result (reading.IsFound table.now cells) }
-    ensures err { IfErr result (λ cause. (cause ≡ Cause.OutOfMemory) ⊎ ((cause ≡ Cause.Damaged table.now.table bytes) × reading.IsIllFormed table.now cells)) }
+    ensures err { IfErr result (λ cause. (cause ≡ Cause.OutOfMemory)
+        ⊎ ((cause ≡ Cause.Damaged table.now.table bytes) × reading.IsIllFormed table.now cells)) }
 {
     if cells.is_empty() {
         return Ok(None);
@@ -55,7 +57,8 @@ fn entry_of(
     table: &TableRule,
     stored: CellRow,
 ) -> Result<Result<(RowId, Row), Bytes>, Cause>
-    ensures read { IfOk result (λ read. MatchResult read (reading.IsEntry table.now stored) (λ bytes. reading.IsDamaged table.now stored × (stored.row ≡ bytes))) }
+    ensures read { IfOk result (λ read. MatchResult read (reading.IsEntry table.now stored)
+        (λ bytes. reading.IsDamaged table.now stored × (stored.row ≡ bytes))) }
     ensures err { IfErr result (λ cause. cause ≡ Cause.OutOfMemory) }
 {
     let CellRow { row, cells } = stored;

@@ -23,15 +23,27 @@ pub(crate) fn row_under<S: Alter>(
     table: &TableRule,
     key: &Key,
 ) -> Result<Option<Row>, Cause>
-    ensures found { IsClean S.Store store.new.conn → IfOk result (IsFound table.now (cells_at (key_bytes key.now) (tables_in S.Store store.old.conn (pos table.now.table)))) }
-    ensures refused { IfErr result (λ cause. IsStoreCause cause ⊎ ((cause ≡ Cause.Damaged table.now.table (key_bytes key.now)) × (IsClean S.Store store.new.conn → IsOpen S.Store store.old.conn × IsOpen S.Store store.new.conn × IsIllFormed table.now (cells_at (key_bytes key.now) (tables_in S.Store store.old.conn (pos table.now.table)))))) }
-    ensures open { IsClean S.Store store.new.conn → OnOk result (IsOpen S.Store store.old.conn × IsOpen S.Store store.new.conn) }
+    ensures found { IsClean S.Store store.new.conn →
+        IfOk result
+        (IsFound table.now (cells_at (key_bytes key.now)
+        (tables_in S.Store store.old.conn (pos table.now.table)))) }
+    ensures refused { IfErr result (λ cause. IsStoreCause cause
+        ⊎ ((cause ≡ Cause.Damaged table.now.table (key_bytes key.now))
+        × (IsClean S.Store store.new.conn → IsOpen S.Store store.old.conn
+        × IsOpen S.Store store.new.conn × IsIllFormed table.now
+        (cells_at (key_bytes key.now) (tables_in S.Store store.old.conn (pos table.now.table)))))) }
+    ensures open { IsClean S.Store store.new.conn →
+        OnOk result (IsOpen S.Store store.old.conn × IsOpen S.Store store.new.conn) }
     ensures kept { Keeps S.Store store.old.conn store.new.conn }
-    ensures counted { OnOk result (store.new.row_selects ≡ up_to_greatest (store.old.row_selects + 1)) }
-    ensures at_most_one { (store.new.row_selects ≡ store.old.row_selects) ⊎ (store.new.row_selects ≡ up_to_greatest (store.old.row_selects + 1)) }
+    ensures counted { OnOk result (store.new.row_selects
+        ≡ up_to_greatest (store.old.row_selects + 1)) }
+    ensures at_most_one { (store.new.row_selects ≡ store.old.row_selects)
+        ⊎ (store.new.row_selects ≡ up_to_greatest (store.old.row_selects + 1)) }
     ensures told { store.new.faults ≡ faults_after result store.old.faults }
-    ensures cause { IsClean S.Store store.new.conn → result ≡ Err Cause.StoreFault → HasFault S.Store store.old.conn store.new.conn }
-    ensures others { store.new ≡ record store.old { conn = store.new.conn; row_selects = store.new.row_selects; faults = store.new.faults } }
+    ensures cause { IsClean S.Store store.new.conn → result ≡ Err Cause.StoreFault →
+        HasFault S.Store store.old.conn store.new.conn }
+    ensures others { store.new ≡ record store.old
+        { conn = store.new.conn; row_selects = store.new.row_selects; faults = store.new.faults } }
     ensures crash { Endures S.Store store.old.conn store.new.conn (λ _. ⊥) }
 {
     let bytes = encode_key(alloc, key)?;
@@ -45,15 +57,24 @@ pub(crate) fn rows_under<S: Alter>(
     store: &mut CellStore<S>,
     table: &TableRule,
 ) -> Result<(Seq<(RowId, Row)>, Option<Bytes>), Cause>
-    ensures read { IsClean S.Store store.new.conn → IfOk result (λ read. AreRead table.now (tables_in S.Store store.old.conn (pos table.now.table)) read.0 read.1) }
-    ensures rise { IsClean S.Store store.new.conn → OnOk result (AreRows (tables_in S.Store store.old.conn (pos table.now.table))) }
+    ensures read { IsClean S.Store store.new.conn →
+        IfOk result (λ read. AreRead table.now
+        (tables_in S.Store store.old.conn (pos table.now.table)) read.0 read.1) }
+    ensures rise { IsClean S.Store store.new.conn →
+        OnOk result (AreRows (tables_in S.Store store.old.conn (pos table.now.table))) }
     ensures refused { IfErr result IsStoreCause }
-    ensures open { IsClean S.Store store.new.conn → OnOk result (IsOpen S.Store store.old.conn × IsOpen S.Store store.new.conn) }
+    ensures open { IsClean S.Store store.new.conn →
+        OnOk result (IsOpen S.Store store.old.conn × IsOpen S.Store store.new.conn) }
     ensures kept { Keeps S.Store store.old.conn store.new.conn }
     ensures counted { store.new.table_selects ≡ up_to_greatest (store.old.table_selects + 1) }
     ensures told { Tells result store.old.faults store.new.faults }
-    ensures cause { IsClean S.Store store.new.conn → result ≡ Err Cause.StoreFault → HasFault S.Store store.old.conn store.new.conn }
-    ensures others { store.new ≡ record store.old { conn = store.new.conn; table_selects = store.new.table_selects; faults = store.new.faults } }
+    ensures cause { IsClean S.Store store.new.conn → result ≡ Err Cause.StoreFault →
+        HasFault S.Store store.old.conn store.new.conn }
+    ensures others { store.new ≡ record store.old {
+      conn = store.new.conn;
+      table_selects = store.new.table_selects;
+      faults = store.new.faults;
+    } }
     ensures crash { Endures S.Store store.old.conn store.new.conn (λ _. ⊥) }
 {
     let rows = store.table(number_of(table))?;

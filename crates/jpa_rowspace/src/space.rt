@@ -60,16 +60,40 @@ impl<S: Alter> RowSpace<S> {
     /// The row under an id, by one SELECT; none where there is no such row, and without a SELECT where the id names none of
     /// the schema's rows. Cells that spell no row of the table are `Damaged`.
     pub fn get(&mut self, id: &RowId) -> Result<Option<Row>, Cause>
-        ensures found { IsClean S.Store self.new.store.conn → IfOk result (λ found. IfSome (stored.table_for self.old.schema id.now) (λ table. IsFound table (cells_at (key_bytes id.now.key) (tables_in S.Store self.old.store.conn (pos id.now.table))) found)) }
-        ensures unknown { stored.table_for self.old.schema id.now ≡ None → (result ≡ Ok None) × (self.new ≡ self.old) }
-        ensures refused { IfErr result (λ cause. IsStoreCause cause ⊎ ((cause ≡ Cause.Damaged id.now.table (key_bytes id.now.key)) × (IsClean S.Store self.new.store.conn → IfSome (stored.table_for self.old.schema id.now) (λ table. IsOpen S.Store self.old.store.conn × IsOpen S.Store self.new.store.conn × IsIllFormed table (cells_at (key_bytes id.now.key) (tables_in S.Store self.old.store.conn (pos id.now.table))))))) }
-        ensures open { IsClean S.Store self.new.store.conn → IsSome (stored.table_for self.old.schema id.now) → OnOk result (IsOpen S.Store self.old.store.conn × IsOpen S.Store self.new.store.conn) }
+        ensures found { IsClean S.Store self.new.store.conn →
+            IfOk result (λ found. IfSome (stored.table_for self.old.schema id.now)
+            (λ table.
+            IsFound table (cells_at (key_bytes id.now.key)
+            (tables_in S.Store self.old.store.conn (pos id.now.table))) found)) }
+        ensures unknown { stored.table_for self.old.schema id.now ≡ None → (result ≡ Ok None)
+            × (self.new ≡ self.old) }
+        ensures refused { IfErr result (λ cause. IsStoreCause cause
+            ⊎ ((cause ≡ Cause.Damaged id.now.table (key_bytes id.now.key))
+            × (IsClean S.Store self.new.store.conn →
+            IfSome (stored.table_for self.old.schema id.now)
+            (λ table. IsOpen S.Store self.old.store.conn × IsOpen S.Store self.new.store.conn
+            × IsIllFormed table (cells_at (key_bytes id.now.key)
+            (tables_in S.Store self.old.store.conn (pos id.now.table))))))) }
+        ensures open { IsClean S.Store self.new.store.conn →
+            IsSome (stored.table_for self.old.schema id.now) →
+            OnOk result (IsOpen S.Store self.old.store.conn × IsOpen S.Store self.new.store.conn) }
         ensures kept { Keeps S.Store self.old.store.conn self.new.store.conn }
-        ensures counted { IsSome (stored.table_for self.old.schema id.now) → OnOk result (self.new.store.row_selects ≡ up_to_greatest (self.old.store.row_selects + 1)) }
-        ensures at_most_one { (self.new.store.row_selects ≡ self.old.store.row_selects) ⊎ (self.new.store.row_selects ≡ up_to_greatest (self.old.store.row_selects + 1)) }
+        ensures counted { IsSome (stored.table_for self.old.schema id.now) →
+            OnOk result (self.new.store.row_selects
+            ≡ up_to_greatest (self.old.store.row_selects + 1)) }
+        ensures at_most_one { (self.new.store.row_selects ≡ self.old.store.row_selects)
+            ⊎ (self.new.store.row_selects ≡ up_to_greatest (self.old.store.row_selects + 1)) }
         ensures told { self.new.store.faults ≡ faults_after result self.old.store.faults }
-        ensures cause { IsClean S.Store self.new.store.conn → result ≡ Err Cause.StoreFault → HasFault S.Store self.old.store.conn self.new.store.conn }
-        ensures others { self.new ≡ record self.old { store = record self.old.store { conn = self.new.store.conn; row_selects = self.new.store.row_selects; faults = self.new.store.faults } } }
+        ensures cause { IsClean S.Store self.new.store.conn → result ≡ Err Cause.StoreFault →
+            HasFault S.Store self.old.store.conn self.new.store.conn }
+        ensures others { self.new
+            ≡ record self.old {
+              store = record self.old.store {
+                conn = self.new.store.conn;
+                row_selects = self.new.store.row_selects;
+                faults = self.new.store.faults;
+              };
+            } }
         ensures crash { Endures S.Store self.old.store.conn self.new.store.conn (λ _. ⊥) }
     {
         match self.schema.table(id.table) {
@@ -87,17 +111,35 @@ impl<S: Alter> RowSpace<S> {
     /// The rows of a table in the order of their ids, up to the first that is damaged, and the bytes of that one, by one
     /// SELECT; none, and without a SELECT, where the table is none of the schema's.
     pub fn read_table(&mut self, table: u64) -> Result<(Seq<(RowId, Row)>, Option<Bytes>), Cause>
-        ensures read { IsClean S.Store self.new.store.conn → IfOk result (λ read. IfSome (table_of self.old.schema table) (λ rule. AreRead rule (tables_in S.Store self.old.store.conn (pos table)) read.0 read.1)) }
-        ensures rise { IsClean S.Store self.new.store.conn → OnOk result (IsSome (table_of self.old.schema table) → AreRows (tables_in S.Store self.old.store.conn (pos table))) }
-        ensures rising { IsClean S.Store self.new.store.conn → IfOk result (λ read. AreRising read.0) }
-        ensures unknown { table_of self.old.schema table ≡ None → (result ≡ Ok ([], None)) × (self.new ≡ self.old) }
+        ensures read { IsClean S.Store self.new.store.conn →
+            IfOk result (λ read. IfSome (table_of self.old.schema table)
+            (λ rule. AreRead rule (tables_in S.Store self.old.store.conn (pos table)) read.0
+            read.1)) }
+        ensures rise { IsClean S.Store self.new.store.conn →
+            OnOk result (IsSome (table_of self.old.schema table) →
+            AreRows (tables_in S.Store self.old.store.conn (pos table))) }
+        ensures rising { IsClean S.Store self.new.store.conn →
+            IfOk result (λ read. AreRising read.0) }
+        ensures unknown { table_of self.old.schema table ≡ None → (result ≡ Ok ([], None))
+            × (self.new ≡ self.old) }
         ensures refused { IfErr result IsStoreCause }
-        ensures open { IsClean S.Store self.new.store.conn → IsSome (table_of self.old.schema table) → OnOk result (IsOpen S.Store self.old.store.conn × IsOpen S.Store self.new.store.conn) }
+        ensures open { IsClean S.Store self.new.store.conn →
+            IsSome (table_of self.old.schema table) →
+            OnOk result (IsOpen S.Store self.old.store.conn × IsOpen S.Store self.new.store.conn) }
         ensures kept { Keeps S.Store self.old.store.conn self.new.store.conn }
-        ensures counted { IsSome (table_of self.old.schema table) → self.new.store.table_selects ≡ up_to_greatest (self.old.store.table_selects + 1) }
+        ensures counted { IsSome (table_of self.old.schema table) → self.new.store.table_selects
+            ≡ up_to_greatest (self.old.store.table_selects + 1) }
         ensures told { Tells result self.old.store.faults self.new.store.faults }
-        ensures cause { IsClean S.Store self.new.store.conn → result ≡ Err Cause.StoreFault → HasFault S.Store self.old.store.conn self.new.store.conn }
-        ensures others { self.new ≡ record self.old { store = record self.old.store { conn = self.new.store.conn; table_selects = self.new.store.table_selects; faults = self.new.store.faults } } }
+        ensures cause { IsClean S.Store self.new.store.conn → result ≡ Err Cause.StoreFault →
+            HasFault S.Store self.old.store.conn self.new.store.conn }
+        ensures others { self.new
+            ≡ record self.old {
+              store = record self.old.store {
+                conn = self.new.store.conn;
+                table_selects = self.new.store.table_selects;
+                faults = self.new.store.faults;
+              };
+            } }
         ensures crash { Endures S.Store self.old.store.conn self.new.store.conn (λ _. ⊥) }
     {
         match self.schema.table(table) {
@@ -109,17 +151,40 @@ impl<S: Alter> RowSpace<S> {
     /// The rows of a table in the order of their ids, by one SELECT; none, and without a SELECT, where the table is none of
     /// the schema's. The lowest row that is damaged is told by its bytes.
     pub fn scan(&mut self, table: u64) -> Result<Seq<(RowId, Row)>, Cause>
-        ensures rows { IsClean S.Store self.new.store.conn → IfOk result (λ rows. IfSome (table_of self.old.schema table) (λ rule. AreRead rule (tables_in S.Store self.old.store.conn (pos table)) rows None)) }
-        ensures rise { IsClean S.Store self.new.store.conn → OnOk result (IsSome (table_of self.old.schema table) → AreRows (tables_in S.Store self.old.store.conn (pos table))) }
-        ensures rising { IsClean S.Store self.new.store.conn → IfOk result (λ rows. AreRising rows) }
-        ensures unknown { table_of self.old.schema table ≡ None → (result ≡ Ok []) × (self.new ≡ self.old) }
-        ensures refused { IfErr result (λ cause. IsStoreCause cause ⊎ ((bytes : List ℕ) × (cause ≡ Cause.Damaged table bytes) × (IsClean S.Store self.new.store.conn → IfSome (table_of self.old.schema table) (λ rule. IsOpen S.Store self.old.store.conn × IsOpen S.Store self.new.store.conn × (before : Rows) × AreRead rule (tables_in S.Store self.old.store.conn (pos table)) before (Some bytes))))) }
-        ensures open { IsClean S.Store self.new.store.conn → IsSome (table_of self.old.schema table) → OnOk result (IsOpen S.Store self.old.store.conn × IsOpen S.Store self.new.store.conn) }
+        ensures rows { IsClean S.Store self.new.store.conn →
+            IfOk result (λ rows. IfSome (table_of self.old.schema table)
+            (λ rule. AreRead rule (tables_in S.Store self.old.store.conn (pos table)) rows None)) }
+        ensures rise { IsClean S.Store self.new.store.conn →
+            OnOk result (IsSome (table_of self.old.schema table) →
+            AreRows (tables_in S.Store self.old.store.conn (pos table))) }
+        ensures rising { IsClean S.Store self.new.store.conn →
+            IfOk result (λ rows. AreRising rows) }
+        ensures unknown { table_of self.old.schema table ≡ None → (result ≡ Ok [])
+            × (self.new ≡ self.old) }
+        ensures refused { IfErr result (λ cause. IsStoreCause cause
+            ⊎ ((bytes : List ℕ) × (cause ≡ Cause.Damaged table bytes)
+            × (IsClean S.Store self.new.store.conn →
+            IfSome (table_of self.old.schema table)
+            (λ rule. IsOpen S.Store self.old.store.conn × IsOpen S.Store self.new.store.conn
+            × (before : Rows) × AreRead rule (tables_in S.Store self.old.store.conn (pos table))
+            before (Some bytes))))) }
+        ensures open { IsClean S.Store self.new.store.conn →
+            IsSome (table_of self.old.schema table) →
+            OnOk result (IsOpen S.Store self.old.store.conn × IsOpen S.Store self.new.store.conn) }
         ensures kept { Keeps S.Store self.old.store.conn self.new.store.conn }
-        ensures counted { IsSome (table_of self.old.schema table) → self.new.store.table_selects ≡ up_to_greatest (self.old.store.table_selects + 1) }
+        ensures counted { IsSome (table_of self.old.schema table) → self.new.store.table_selects
+            ≡ up_to_greatest (self.old.store.table_selects + 1) }
         ensures told { self.new.store.faults ≡ faults_after result self.old.store.faults }
-        ensures cause { IsClean S.Store self.new.store.conn → result ≡ Err Cause.StoreFault → HasFault S.Store self.old.store.conn self.new.store.conn }
-        ensures others { self.new ≡ record self.old { store = record self.old.store { conn = self.new.store.conn; table_selects = self.new.store.table_selects; faults = self.new.store.faults } } }
+        ensures cause { IsClean S.Store self.new.store.conn → result ≡ Err Cause.StoreFault →
+            HasFault S.Store self.old.store.conn self.new.store.conn }
+        ensures others { self.new
+            ≡ record self.old {
+              store = record self.old.store {
+                conn = self.new.store.conn;
+                table_selects = self.new.store.table_selects;
+                faults = self.new.store.faults;
+              };
+            } }
         ensures crash { Endures S.Store self.old.store.conn self.new.store.conn (λ _. ⊥) }
     {
         let (rows, damaged) = self.read_table(table)?;
@@ -133,16 +198,35 @@ impl<S: Alter> RowSpace<S> {
     /// new row. An empty list runs no statement.
     pub fn commit(&mut self, changes: &[RowChange]) -> Result<(), Cause>
         requires { AreChanges self.old.schema changes.now }
-        ensures applied { 0 < length changes.now → OnOk result (Becomes S.Store self.old.store.conn self.new.store.conn (tables_after (stored.cell_changes changes.now))) }
-        ensures holds { OnOk result ((rows : Rows) → HoldsRows S.Store self.old.schema self.old.store.conn rows → HoldsRows S.Store self.old.schema self.new.store.conn (rows_after changes.now rows)) }
+        ensures applied { 0 < length changes.now → OnOk result
+            (Becomes S.Store self.old.store.conn self.new.store.conn
+            (tables_after (stored.cell_changes changes.now))) }
+        ensures holds { OnOk result ((rows : Rows) →
+            HoldsRows S.Store self.old.schema self.old.store.conn rows →
+            HoldsRows S.Store self.old.schema self.new.store.conn (rows_after changes.now rows)) }
         ensures nothing { length changes.now ≡ 0 → (result ≡ Ok tt) × (self.new ≡ self.old) }
         ensures kept { OnErr result (Keeps S.Store self.old.store.conn self.new.store.conn) }
-        ensures counted { Counts result self.old.store.writes self.new.store.writes (sum_by statements_of changes.now) }
+        ensures counted { Counts result self.old.store.writes self.new.store.writes
+            (sum_by statements_of changes.now) }
         ensures told { Tells result self.old.store.faults self.new.store.faults }
-        ensures cause { IsClean S.Store self.new.store.conn → Allows S.Store self.old.store.conn (stored.cell_changes changes.now) → result ≡ Err Cause.StoreFault → HasFault S.Store self.old.store.conn self.new.store.conn }
-        ensures others { self.new ≡ record self.old { store = record self.old.store { conn = self.new.store.conn; writes = self.new.store.writes; faults = self.new.store.faults } } }
-        ensures crash { Endures S.Store self.old.store.conn self.new.store.conn (λ tables. IsOpen S.Store self.old.store.conn × (tables ≡ tables_after (stored.cell_changes changes.now) (tables_in S.Store self.old.store.conn))) }
-        ensures crash_rows { (rows : Rows) → HoldsRows S.Store self.old.schema self.old.store.conn rows → Endures S.Store self.old.store.conn self.new.store.conn (λ tables. stored.AreStored self.old.schema tables (rows_after changes.now rows)) }
+        ensures cause { IsClean S.Store self.new.store.conn →
+            Allows S.Store self.old.store.conn (stored.cell_changes changes.now) → result
+            ≡ Err Cause.StoreFault → HasFault S.Store self.old.store.conn self.new.store.conn }
+        ensures others { self.new
+            ≡ record self.old {
+              store = record self.old.store {
+                conn = self.new.store.conn;
+                writes = self.new.store.writes;
+                faults = self.new.store.faults;
+              };
+            } }
+        ensures crash { Endures S.Store self.old.store.conn self.new.store.conn
+            (λ tables. IsOpen S.Store self.old.store.conn
+            × (tables ≡ tables_after (stored.cell_changes changes.now)
+            (tables_in S.Store self.old.store.conn))) }
+        ensures crash_rows { (rows : Rows) → HoldsRows S.Store self.old.schema self.old.store.conn
+            rows → Endures S.Store self.old.store.conn self.new.store.conn
+            (λ tables. stored.AreStored self.old.schema tables (rows_after changes.now rows)) }
     {
         let _writes = self.store.writes();
         let made = cell_changes(self.alloc, &self.schema, changes)?;

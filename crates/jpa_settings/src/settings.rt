@@ -43,7 +43,8 @@ fn jpa<'a>(alloc: Global) -> Result<Command<'a>, AllocError>
 
 /// What clap answers in place of values: a request's text, or what it says of a fault.
 fn stop_of(alloc: Global, error: Error) -> Stop
-    ensures memory { kind_of error ≡ ErrorKind.OutOfMemory → result ≡ Stop.Refused (Refusal.Because Cause.OutOfMemory) }
+    ensures memory { kind_of error ≡ ErrorKind.OutOfMemory → result
+        ≡ Stop.Refused (Refusal.Because Cause.OutOfMemory) }
     ensures told { Tells (kind_of error ∷ []) result }
 {
     if error.kind() == ErrorKind::OutOfMemory {
@@ -78,11 +79,13 @@ fn copied(alloc: Global, value: Option<&str>) -> Result<Option<Text>, Stop>
 /// of memory it is `Refused` with `OutOfMemory`, and so is each `Err` of words that clap takes.
 #[tactic(auto, using(crate::proofs::Found::value_read))]
 pub fn read_settings(alloc: Global, words: &[String]) -> Result<Settings, Stop>
-    ensures mapping { IfOk result (λ s. s.mapping ≡ value_of (codes "mapping") (map string_bytes words.now)) }
+    ensures mapping { IfOk result (λ s. s.mapping ≡ value_of (codes "mapping")
+        (map string_bytes words.now)) }
     ensures db { IfOk result (λ s. s.db ≡ value_of (codes "db") (map string_bytes words.now)) }
     ensures accepted { OnOk result (fault_of command (map string_bytes words.now) ≡ []) }
     ensures told { IfErr result (Tells (fault_of command (map string_bytes words.now))) }
-    ensures taken { takes command (map string_bytes words.now) ≡ true → IfErr result (λ stop. stop ≡ Stop.Refused (Refusal.Because Cause.OutOfMemory)) }
+    ensures taken { takes command (map string_bytes words.now) ≡ true →
+        IfErr result (λ stop. stop ≡ Stop.Refused (Refusal.Because Cause.OutOfMemory)) }
 {
     let command = match jpa(alloc) {
         Ok(command) => command,

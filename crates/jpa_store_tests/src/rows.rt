@@ -57,7 +57,12 @@ fn rule(column: u32, holds: Holds) -> ColumnRule
 
 /// A table whose rows are named by one integer.
 fn table(alloc: Global, table: u32, columns: Vec<ColumnRule>) -> Result<TableRule, Cause>
-    ensures { IfOk result (λ rule. rule ≡ record { table = table; key = Kind.Int ∷ []; columns = columns.items }) }
+    ensures { IfOk result (λ rule. rule ≡ record {
+      table = table;
+      key = Kind.Int
+          ∷ [];
+      columns = columns.items;
+    }) }
 {
     Ok(TableRule {
         table,

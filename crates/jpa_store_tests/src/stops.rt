@@ -111,7 +111,8 @@ fn copy(alloc: Global, device: &Device) -> Result<Memory, Fail>
 }
 
 fn copies(alloc: Global, files: &Files<Device>) -> Result<Files<Memory>, Fail>
-    ensures { IfOk result (λ files. IsTrue (memory_is_usable files.log) × IsTrue (memory_is_usable files.db)) }
+    ensures { IfOk result (λ files. IsTrue (memory_is_usable files.log)
+        × IsTrue (memory_is_usable files.db)) }
 {
     Ok(Files {
         log: copy(alloc, &files.log)?,

@@ -78,7 +78,8 @@ fn one_to_one(side: Side) -> Option<u64>
 
 /// Adds what identities claim that an object of this table owns in this relation.
 fn push_link(out: &mut Vec<Claim>, table: u64, side: Side, ids: &[Identity]) -> Result<(), Cause>
-    ensures ok { OnOk result (out.new.items ≡ out.old.items ++ claims_at table (one_to_one_column side) ids.now) }
+    ensures ok { OnOk result (out.new.items ≡ out.old.items
+        ++ claims_at table (one_to_one_column side) ids.now) }
     ensures err { IfErr result (λ cause. cause ≡ Cause.OutOfMemory) }
 {
     if let Some(column) = one_to_one(side) {
@@ -100,7 +101,9 @@ fn push_links(
     relations: &[Relation],
     owned: &[Seq<Identity>],
 ) -> Result<(), Cause>
-    ensures ok { OnOk result (out.new.items ≡ out.old.items ++ flat_map (λ p. claims_at table (one_to_one_column (p.0).side) p.1) (zip relations.now owned.now)) }
+    ensures ok { OnOk result (out.new.items ≡ out.old.items
+        ++ flat_map (λ p. claims_at table (one_to_one_column (p.0).side) p.1)
+        (zip relations.now owned.now)) }
     ensures err { IfErr result (λ cause. cause ≡ Cause.OutOfMemory) }
 {
     for (i, ids) in owned.iter().enumerate() {
@@ -117,7 +120,9 @@ fn push_entry(
     metamodel: &Metamodel,
     entry: &(Identity, Stored),
 ) -> Result<(), Cause>
-    ensures ok { OnOk result (out.new.items ≡ out.old.items ++ flat_map (λ p. claims_at (entry.now.0).table (one_to_one_column (p.0).side) p.1) (zip (chains.relations_of metamodel.now (entry.now.1).class) (entry.now.1).owned)) }
+    ensures ok { OnOk result (out.new.items ≡ out.old.items
+        ++ flat_map (λ p. claims_at (entry.now.0).table (one_to_one_column (p.0).side) p.1)
+        (zip (chains.relations_of metamodel.now (entry.now.1).class) (entry.now.1).owned)) }
     ensures err { IfErr result (λ cause. cause ≡ Cause.OutOfMemory) }
 {
     let (id, object) = entry;

@@ -64,7 +64,10 @@ fn links_filled(relations: &[Relation], owned: &[Seq<Identity>]) -> bool
 
 /// Whether an object has what its class requires.
 fn object_filled(metamodel: &Metamodel, object: &Stored) -> bool
-    ensures { result ≡ (sets.values_there (zip (chains.attributes_of metamodel.now object.now.class) object.now.values) && sets.links_there (zip (chains.relations_of metamodel.now object.now.class) object.now.owned)) }
+    ensures { result
+        ≡ (sets.values_there (zip (chains.attributes_of metamodel.now object.now.class)
+        object.now.values) && sets.links_there
+        (zip (chains.relations_of metamodel.now object.now.class) object.now.owned)) }
 {
     let attributes = attributes_of(metamodel, object.class);
     let relations = relations_of(metamodel, object.class);
@@ -96,7 +99,8 @@ fn leads(metamodel: &Metamodel, set: &StoredSet, target: usize, id: &Identity) -
 
 /// Whether an object of the class or below it stands under each of these identities.
 fn ids_lead(metamodel: &Metamodel, set: &StoredSet, target: usize, ids: &[Identity]) -> bool
-    ensures { result ≡ list_all (λ id. sets.is_of metamodel.now (sets.stored_at set.now id) target) ids.now }
+    ensures { result ≡ list_all (λ id. sets.is_of metamodel.now (sets.stored_at set.now id) target)
+        ids.now }
 {
     for id in ids {
         if !leads(metamodel, set, target, id) {
@@ -113,7 +117,10 @@ fn links_lead(
     relations: &[Relation],
     owned: &[Seq<Identity>],
 ) -> bool
-    ensures { result ≡ list_all (λ p. list_all (λ id. sets.is_of metamodel.now (sets.stored_at set.now id) (p.0).target) p.1) (zip relations.now owned.now) }
+    ensures { result
+        ≡ list_all
+        (λ p. list_all (λ id. sets.is_of metamodel.now (sets.stored_at set.now id) (p.0).target)
+        p.1) (zip relations.now owned.now) }
 {
     for (i, ids) in owned.iter().enumerate() {
         if i < relations.len() && !ids_lead(metamodel, set, relations[i].target, ids.as_slice()) {
@@ -125,7 +132,10 @@ fn links_lead(
 
 /// Whether the links of an object lead to objects of their targets.
 fn object_leads(metamodel: &Metamodel, set: &StoredSet, object: &Stored) -> bool
-    ensures { result ≡ list_all (λ p. list_all (λ id. sets.is_of metamodel.now (sets.stored_at set.now id) (p.0).target) p.1) (zip (chains.relations_of metamodel.now object.now.class) object.now.owned) }
+    ensures { result
+        ≡ list_all
+        (λ p. list_all (λ id. sets.is_of metamodel.now (sets.stored_at set.now id) (p.0).target)
+        p.1) (zip (chains.relations_of metamodel.now object.now.class) object.now.owned) }
 {
     let relations = relations_of(metamodel, object.class);
     links_lead(metamodel, set, relations, object.owned.as_slice())
@@ -151,7 +161,8 @@ fn all_lead(metamodel: &Metamodel, set: &StoredSet) -> bool
 /// `OutOfMemory` for want of memory. With n links and objects it takes O(n log n) comparisons of identities.
 pub fn integrity(metamodel: &Metamodel, set: &StoredSet) -> Result<(), Cause>
     ensures sound { OnOk result (sets.IsSound metamodel.now set.now) }
-    ensures fault { IfErr result (λ cause. (cause ≡ Cause.OutOfMemory) ⊎ (option_map Cause.Persistence (sets.fault_of metamodel.now set.now) ≡ Some cause)) }
+    ensures fault { IfErr result (λ cause. (cause ≡ Cause.OutOfMemory)
+        ⊎ (option_map Cause.Persistence (sets.fault_of metamodel.now set.now) ≡ Some cause)) }
 {
     if !all_filled(metamodel, set.entries()) {
         return Err(Cause::Persistence(Persist::Null));

@@ -159,7 +159,8 @@ fn join(alloc: Global, depth: usize, tokens: &[Token]) -> Result<(Join, &[Token]
 #[cycle(cond)]
 #[tactic(auto, unfolding(jpql_tree::specs::Conditions::joins_at))]
 fn joins(alloc: Global, depth: usize, tokens: &[Token]) -> Result<(Seq<Join>, &[Token]), ReadError>
-    ensures { Gives (λ r. (r.0, r.1.now)) result (spec.joins_at (cond_at depth) (length tokens.now) [] tokens.now) }
+    ensures { Gives (λ r. (r.0, r.1.now)) result
+        (spec.joins_at (cond_at depth) (length tokens.now) [] tokens.now) }
 {
     let mut found = Seq::new(alloc);
     let mut rest = tokens;
@@ -182,7 +183,8 @@ fn source(
     is_nested: bool,
     tokens: &[Token],
 ) -> Result<(Source, &[Token]), ReadError>
-    ensures { Gives (λ r. (r.0, r.1.now)) result (spec.source_at (cond_at depth) is_nested tokens.now) }
+    ensures { Gives (λ r. (r.0, r.1.now)) result
+        (spec.source_at (cond_at depth) is_nested tokens.now) }
 {
     let (origin, rest) = origin(alloc, is_nested, tokens)?;
     let (variable, rest) = named(alloc, rest)?;
@@ -206,7 +208,8 @@ pub fn sources(
     is_nested: bool,
     tokens: &[Token],
 ) -> Result<(Seq<Source>, &[Token]), ReadError>
-    ensures { Gives (λ r. (r.0, r.1.now)) result (list_at (spec.source_at (cond_at depth) is_nested) tokens.now) }
+    ensures { Gives (λ r. (r.0, r.1.now)) result
+        (list_at (spec.source_at (cond_at depth) is_nested) tokens.now) }
 {
     let (first, mut rest) = source(alloc, depth, is_nested, tokens)?;
     let mut found = Seq::new(alloc);
@@ -309,7 +312,8 @@ fn ands(
     first: Condition,
     tokens: &[Token],
 ) -> Result<(Condition, &[Token]), ReadError>
-    ensures { Gives (λ r. (r.0, r.1.now)) result (spec.ands_at depth (cond_at depth) (length tokens.now) first tokens.now) }
+    ensures { Gives (λ r. (r.0, r.1.now)) result
+        (spec.ands_at depth (cond_at depth) (length tokens.now) first tokens.now) }
 {
     let mut found = first;
     let mut rest = tokens;
@@ -352,7 +356,8 @@ fn ors(
     first: Condition,
     tokens: &[Token],
 ) -> Result<(Condition, &[Token]), ReadError>
-    ensures { Gives (λ r. (r.0, r.1.now)) result (spec.ors_at depth (cond_at depth) (length tokens.now) first tokens.now) }
+    ensures { Gives (λ r. (r.0, r.1.now)) result
+        (spec.ors_at depth (cond_at depth) (length tokens.now) first tokens.now) }
 {
     let mut found = first;
     let mut rest = tokens;
@@ -381,7 +386,8 @@ fn disjunction(
     depth: usize,
     tokens: &[Token],
 ) -> Result<(Condition, &[Token]), ReadError>
-    ensures { Gives (λ r. (r.0, r.1.now)) result (spec.cond_level_at depth (cond_at depth) tokens.now) }
+    ensures { Gives (λ r. (r.0, r.1.now)) result
+        (spec.cond_level_at depth (cond_at depth) tokens.now) }
 {
     let (first, rest) = conjunction(alloc, depth, tokens)?;
     ors(alloc, depth, first, rest)

@@ -16,7 +16,8 @@ use std::collections::BTreeSet;
 
 /// Those that aren't null.
 fn there<'a>(alloc: Global, all: &[Seen<'a>]) -> Result<Vec<Seen<'a>>, AllocError>
-    ensures { IfOk result (λ found. map seen found.items ≡ filter (λ a. not (data_.is_nothing a)) (map seen all.now)) }
+    ensures { IfOk result (λ found. map seen found.items
+        ≡ filter (λ a. not (data_.is_nothing a)) (map seen all.now)) }
 {
     let mut found = Vec::new(alloc);
     for one in all {
@@ -29,7 +30,8 @@ fn there<'a>(alloc: Global, all: &[Seen<'a>]) -> Result<Vec<Seen<'a>>, AllocErro
 
 /// Without those that are the same as one before.
 fn once<'a>(alloc: Global, all: &[Seen<'a>]) -> Result<Vec<Seen<'a>>, AllocError>
-    ensures { IfOk result (λ kept. map seen kept.items ≡ aggregates.once data_.same_datum (map seen all.now)) }
+    ensures { IfOk result (λ kept. map seen kept.items
+        ≡ aggregates.once data_.same_datum (map seen all.now)) }
 {
     let mut met = BTreeSet::new(alloc);
     let mut kept = Vec::new(alloc);
@@ -46,7 +48,8 @@ fn counted<'a>(
     is_distinct: bool,
     all: &[Seen<'a>],
 ) -> Result<Vec<Seen<'a>>, AllocError>
-    ensures { IfOk result (λ found. map seen found.items ≡ aggregates.counted is_distinct (map seen all.now)) }
+    ensures { IfOk result (λ found. map seen found.items
+        ≡ aggregates.counted is_distinct (map seen all.now)) }
 {
     let found = there(alloc, all)?;
     if is_distinct {
@@ -116,7 +119,8 @@ pub fn aggregated<'a>(
     is_distinct: bool,
     all: &[Seen<'a>],
 ) -> Result<Seen<'a>, Failure>
-    ensures { Finds seen result (aggregates.aggregated aggregate (aggregates.counted is_distinct (map seen all.now))) }
+    ensures { Finds seen result (aggregates.aggregated aggregate
+        (aggregates.counted is_distinct (map seen all.now))) }
 {
     let all = counted(alloc, is_distinct, all)?;
     match aggregate {

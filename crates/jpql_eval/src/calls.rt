@@ -27,7 +27,8 @@ fn length_of<'a>(text: &Seen<'a>) -> Seen<'a>
 }
 
 fn concat<'a>(alloc: Global, all: &[Seen<'a>]) -> Result<Seen<'a>, AllocError>
-    ensures { IfOk result (λ found. seen found ≡ calls.of_one calls.text (calls.joined_texts (map seen all.now))) }
+    ensures { IfOk result (λ found. seen found
+        ≡ calls.of_one calls.text (calls.joined_texts (map seen all.now))) }
 {
     let mut joined = String::new(alloc);
     for one in all {
@@ -40,7 +41,8 @@ fn concat<'a>(alloc: Global, all: &[Seen<'a>]) -> Result<Seen<'a>, AllocError>
 }
 
 fn substring_of<'a>(alloc: Global, text: &Seen<'a>, from: &Seen<'a>) -> Result<Seen<'a>, AllocError>
-    ensures { IfOk result (λ found. seen found ≡ calls.substring_of (seen text.now) (seen from.now)) }
+    ensures { IfOk result (λ found. seen found
+        ≡ calls.substring_of (seen text.now) (seen from.now)) }
 {
     let Some(text) = text.text() else {
         return Ok(Seen::Null);
@@ -57,7 +59,8 @@ fn substring_upto<'a>(
     from: &Seen<'a>,
     count: &Seen<'a>,
 ) -> Result<Seen<'a>, AllocError>
-    ensures { IfOk result (λ found. seen found ≡ calls.substring_upto (seen text.now) (seen from.now) (seen count.now)) }
+    ensures { IfOk result (λ found. seen found
+        ≡ calls.substring_upto (seen text.now) (seen from.now) (seen count.now)) }
 {
     let Some(text) = text.text() else {
         return Ok(Seen::Null);
@@ -77,7 +80,8 @@ fn locate_from<'a>(
     text: &Seen<'a>,
     from: &Seen<'a>,
 ) -> Result<Seen<'a>, AllocError>
-    ensures { IfOk result (λ found. seen found ≡ calls.locate_from (seen sought.now) (seen text.now) (seen from.now)) }
+    ensures { IfOk result (λ found. seen found
+        ≡ calls.locate_from (seen sought.now) (seen text.now) (seen from.now)) }
 {
     let Some(sought) = sought.text() else {
         return Ok(Seen::Null);
@@ -150,7 +154,8 @@ fn of_three<'a>(
     two: &Seen<'a>,
     three: &Seen<'a>,
 ) -> Result<Seen<'a>, Failure>
-    ensures { Finds seen result (calls.of_three function (seen one.now) (seen two.now) (seen three.now)) }
+    ensures { Finds seen result (calls.of_three function (seen one.now) (seen two.now)
+        (seen three.now)) }
 {
     match function {
         Function::Substring => Ok(substring_upto(alloc, one, two, three)?),

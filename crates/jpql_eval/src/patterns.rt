@@ -54,7 +54,8 @@ fn is_escape(escape: Option<char>, c: char) -> bool
 
 /// What a pattern's first character begins, and the characters after that.
 fn first_mark(escape: Option<char>, c: char, after: &[char]) -> (Mark, &[char])
-    ensures first { texts.marks escape (c ∷ after.now) ≡ result.0 ∷ texts.marks escape result.1.now }
+    ensures first { texts.marks escape (c ∷ after.now) ≡ result.0
+        ∷ texts.marks escape result.1.now }
     ensures fewer { length result.1.now ≤ length after.now }
 {
     if !is_escape(escape, c) {

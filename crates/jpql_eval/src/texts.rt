@@ -29,7 +29,8 @@ struct Places {
 impl Places {
     /// Whether this place is among them.
     fn has(&self, place: usize) -> bool
-        ensures { result ≡ (int_le self.now.from (pos place) && texts.is_before (pos place) (texts.end_of self.now.from self.now.count)) }
+        ensures { result ≡ (int_le self.now.from (pos place)
+            && texts.is_before (pos place) (texts.end_of self.now.from self.now.count)) }
     {
         let place = place as i128;
         let from = self.from as i128;
@@ -42,7 +43,9 @@ impl Places {
 
 /// The characters at these places.
 fn written(alloc: Global, all: &[char], places: &Places) -> Result<String, AllocError>
-    ensures { IfOk result (λ part. string_bytes part ≡ encode_utf8_all (texts.those_from 1 places.now.from (texts.end_of places.now.from places.now.count) all.now)) }
+    ensures { IfOk result (λ part. string_bytes part
+        ≡ encode_utf8_all (texts.those_from 1 places.now.from
+        (texts.end_of places.now.from places.now.count) all.now)) }
 {
     let mut part = String::new(alloc);
     for (i, c) in all.iter().enumerate() {

@@ -20,7 +20,8 @@ pub fn from_laws()
 /// The laws of WHERE (chapter 4.5); it does nothing. Where nothing overflows, WHERE is the filter of what is true, and tuples
 /// may be tested one by one.
 pub fn where_laws()
-    ensures { (test : Tuple → Answer Truth) (drops : Tuple → Bool) (ts : List Tuple) → WhereLaws test drops ts }
+    ensures { (test : Tuple → Answer Truth) (drops : Tuple → Bool) (ts : List Tuple) →
+        WhereLaws test drops ts }
 {}
 
 /// The laws of ORDER BY (chapter 4.9); it does nothing. It is the one stable sort by the keys.

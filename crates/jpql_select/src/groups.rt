@@ -59,12 +59,7 @@ fn begin<'a>(
 }
 
 /// Whether two tuples are grouped by the same.
-fn are_alike<'a>(
-    run: &Run<'a>,
-    paths: &[TypedPath],
-    one: &Tuple<'a>,
-    other: &Tuple<'a>,
-) -> bool
+fn are_alike<'a>(run: &Run<'a>, paths: &[TypedPath], one: &Tuple<'a>, other: &Tuple<'a>) -> bool
     ensures { result ≡ same_data (selects.group_key run.now paths.now one.now)
         (selects.group_key run.now paths.now other.now) }
 {

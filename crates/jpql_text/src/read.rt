@@ -19,7 +19,8 @@ use std::alloc::Global;
 fn whole(alloc: Global, text: &str) -> Result<Query, ReadError>
     requires { limits.nests_over 32 false 0 text.now ≡ false }
     ensures found { IfOk result (λ query. IsQuery text.now query) }
-    ensures only { (query : Query) → IsQuery text.now query → Gives (λ query. query) result (Some query) }
+    ensures only { (query : Query) → IsQuery text.now query →
+        Gives (λ query. query) result (Some query) }
 {
     let tokens = tokens(alloc, text)?;
     statement(alloc, MOST_OPEN_PARENTHESES + 2, tokens.as_slice())
@@ -34,7 +35,8 @@ fn whole(alloc: Global, text: &str) -> Result<Query, ReadError>
 pub fn read_query(alloc: Global, text: &str) -> Result<Query, Cause>
     ensures read { IfOk result (IsRead text.now) }
     ensures refused { IfErr result (IsRefused text.now) }
-    ensures only { (query : Query) → IsRead text.now query → (result ≡ Ok query) ⊎ (result ≡ Err cause.OutOfMemory) }
+    ensures only { (query : Query) → IsRead text.now query → (result ≡ Ok query)
+        ⊎ (result ≡ Err cause.OutOfMemory) }
 {
     if text.len() > MOST_QUERY_BYTES || nests_over(text.as_bytes()) {
         return Err(Cause::Limit);
@@ -55,5 +57,6 @@ pub fn read_query(alloc: Global, text: &str) -> Result<Query, Cause>
 
 /// A text has at most one tree.
 pub fn at_most_one_tree()
-    ensures { (text : Text) (one other : Query) → IsQuery text one → IsQuery text other → one ≡ other }
+    ensures { (text : Text) (one other : Query) → IsQuery text one → IsQuery text other → one
+        ≡ other }
 {}

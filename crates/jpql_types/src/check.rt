@@ -58,10 +58,12 @@ fn update_of(
 ) -> Result<Typed, TypingError>
     requires scope { IsScope context.now.metamodel.now scope.now }
     requires groups { context.now.groups.now ≡ [] }
-    ensures typed { IsJudged result (spec.is_update_typed context.now.metamodel.now context.now.parameters.now assignments.now filter.now scope.now) }
+    ensures typed { IsJudged result (spec.is_update_typed context.now.metamodel.now
+        context.now.parameters.now assignments.now filter.now scope.now) }
     ensures tree { IfOk result (λ found. found ≡ Typed.Update class
-        (map (trees.typed_assignment context.now.metamodel.now context.now.parameters.now scope.now) assignments.now)
-        (trees.typed_filter context.now.metamodel.now context.now.parameters.now scope.now filter.now)) }
+        (map (trees.typed_assignment context.now.metamodel.now context.now.parameters.now scope.now)
+        assignments.now) (trees.typed_filter context.now.metamodel.now context.now.parameters.now
+        scope.now filter.now)) }
 {
     if !are_distinct_assignments(alloc, assignments)? {
         return Err(TypingError::Typing);
@@ -84,8 +86,12 @@ fn typed_update(
     filter: &Filter,
 ) -> Result<Typed, TypingError>
     requires { context.now.groups.now ≡ [] }
-    ensures typed { IsJudged result (spec.is_statement_typed context.now.metamodel.now context.now.parameters.now (Query.Update entity.now variable.now assignments.now filter.now)) }
-    ensures tree { IfOk result (λ found. found ≡ trees.typed_statement context.now.metamodel.now context.now.parameters.now (Query.Update entity.now variable.now assignments.now filter.now)) }
+    ensures typed { IsJudged result (spec.is_statement_typed context.now.metamodel.now
+        context.now.parameters.now (Query.Update entity.now variable.now assignments.now
+        filter.now)) }
+    ensures tree { IfOk result (λ found. found ≡ trees.typed_statement context.now.metamodel.now
+        context.now.parameters.now (Query.Update entity.now variable.now assignments.now
+        filter.now)) }
 {
     let class = context
         .metamodel
@@ -103,8 +109,10 @@ fn typed_delete(
     filter: &Filter,
 ) -> Result<Typed, TypingError>
     requires { context.now.groups.now ≡ [] }
-    ensures typed { IsJudged result (spec.is_statement_typed context.now.metamodel.now context.now.parameters.now (Query.Delete entity.now variable.now filter.now)) }
-    ensures tree { IfOk result (λ found. found ≡ trees.typed_statement context.now.metamodel.now context.now.parameters.now (Query.Delete entity.now variable.now filter.now)) }
+    ensures typed { IsJudged result (spec.is_statement_typed context.now.metamodel.now
+        context.now.parameters.now (Query.Delete entity.now variable.now filter.now)) }
+    ensures tree { IfOk result (λ found. found ≡ trees.typed_statement context.now.metamodel.now
+        context.now.parameters.now (Query.Delete entity.now variable.now filter.now)) }
 {
     let class = context
         .metamodel
@@ -126,8 +134,10 @@ fn typed_statement(
     parameters: &Parameters<'_>,
     query: &Query,
 ) -> Result<Typed, TypingError>
-    ensures typed { IsJudged result (spec.is_statement_typed metamodel.now parameters.now query.now) }
-    ensures tree { IfOk result (λ found. found ≡ trees.typed_statement metamodel.now parameters.now query.now) }
+    ensures typed { IsJudged result (spec.is_statement_typed metamodel.now parameters.now
+        query.now) }
+    ensures tree { IfOk result (λ found. found ≡ trees.typed_statement metamodel.now parameters.now
+        query.now) }
 {
     let no_groups: &[Path] = &[];
     let groups = Groups::of(alloc, no_groups)?;
@@ -169,7 +179,8 @@ fn typed_query(
     query: &Query,
 ) -> Result<Typed, TypingError>
     ensures typed { IsJudged result (spec.is_typed metamodel.now parameters.now query.now) }
-    ensures tree { IfOk result (λ found. found ≡ trees.typed_statement metamodel.now parameters.now query.now) }
+    ensures tree { IfOk result (λ found. found ≡ trees.typed_statement metamodel.now parameters.now
+        query.now) }
 {
     if !has_distinct_names(alloc, query)? {
         return Err(TypingError::Typing);
@@ -185,7 +196,8 @@ fn with_parameters<T: Drop>(
     query: &Query,
     tree: T,
 ) -> Result<T, Cause>
-    ensures { IsUnlessMemory result (if not (spec.are_given parameters.now query.now) then Err (Cause.IllegalArgument Argument.Parameter) else Ok tree) }
+    ensures { IsUnlessMemory result (if not (spec.are_given parameters.now query.now) then Err
+        (Cause.IllegalArgument Argument.Parameter) else Ok tree) }
 {
     if are_given(alloc, parameters, query)? {
         Ok(tree)

@@ -32,8 +32,10 @@ pub(crate) fn typed_condition(
     condition: &Condition,
 ) -> Result<TypedCondition, TypingError>
     requires { IsScope context.now.metamodel.now scope.now }
-    ensures typed { IsJudged result (typing.is_condition_typed context.now.metamodel.now context.now.parameters.now context.now.groups.now scope.now clause condition.now) }
-    ensures tree { IfOk result (λ found. found ≡ trees.typed_condition context.now.metamodel.now context.now.parameters.now condition.now scope.now) }
+    ensures typed { IsJudged result (typing.is_condition_typed context.now.metamodel.now
+        context.now.parameters.now context.now.groups.now scope.now clause condition.now) }
+    ensures tree { IfOk result (λ found. found ≡ trees.typed_condition context.now.metamodel.now
+        context.now.parameters.now condition.now scope.now) }
 {
     match condition {
         Condition::Or(left, right) => {
@@ -84,8 +86,10 @@ fn boxed_condition(
     condition: &Condition,
 ) -> Result<Boxed<TypedCondition>, TypingError>
     requires { IsScope context.now.metamodel.now scope.now }
-    ensures typed { IsJudged result (typing.is_condition_typed context.now.metamodel.now context.now.parameters.now context.now.groups.now scope.now clause condition.now) }
-    ensures tree { IfOk result (λ found. found ≡ trees.typed_condition context.now.metamodel.now context.now.parameters.now condition.now scope.now) }
+    ensures typed { IsJudged result (typing.is_condition_typed context.now.metamodel.now
+        context.now.parameters.now context.now.groups.now scope.now clause condition.now) }
+    ensures tree { IfOk result (λ found. found ≡ trees.typed_condition context.now.metamodel.now
+        context.now.parameters.now condition.now scope.now) }
 {
     let condition = typed_condition(alloc, context, scope, clause, condition)?;
     Ok(Boxed::new(alloc, condition)?)
@@ -102,9 +106,12 @@ fn with_right(
     left: Boxed<TypedCondition>,
 ) -> Result<(Boxed<TypedCondition>, Boxed<TypedCondition>), TypingError>
     requires { IsScope context.now.metamodel.now scope.now }
-    ensures typed { IsJudged result (typing.is_condition_typed context.now.metamodel.now context.now.parameters.now context.now.groups.now scope.now clause right.now) }
+    ensures typed { IsJudged result (typing.is_condition_typed context.now.metamodel.now
+        context.now.parameters.now context.now.groups.now scope.now clause right.now) }
     ensures left { IfOk result (λ found. found.0 ≡ left) }
-    ensures right { IfOk result (λ found. found.1 ≡ trees.typed_condition context.now.metamodel.now context.now.parameters.now right.now scope.now) }
+    ensures right { IfOk result (λ found. found.1
+        ≡ trees.typed_condition context.now.metamodel.now context.now.parameters.now right.now
+        scope.now) }
 {
     let right = boxed_condition(alloc, context, scope, clause, right)?;
     Ok((left, right))
@@ -120,8 +127,12 @@ fn typed_exists(
     block: &Block,
 ) -> Result<TypedCondition, TypingError>
     requires { IsScope context.now.metamodel.now scope.now }
-    ensures typed { IsJudged result (typing.allows_exists clause && typing.is_block_typed context.now.metamodel.now context.now.parameters.now context.now.groups.now block.now scope.now) }
-    ensures tree { IfOk result (λ found. found ≡ TypedCondition.Exists (trees.typed_block context.now.metamodel.now context.now.parameters.now block.now scope.now)) }
+    ensures typed { IsJudged result (typing.allows_exists clause
+        && typing.is_block_typed context.now.metamodel.now context.now.parameters.now
+        context.now.groups.now block.now scope.now) }
+    ensures tree { IfOk result (λ found. found ≡ TypedCondition.Exists
+        (trees.typed_block context.now.metamodel.now context.now.parameters.now block.now
+        scope.now)) }
 {
     if !allows_exists(clause) {
         return Err(TypingError::Typing);
@@ -140,8 +151,11 @@ pub(crate) fn typed_filter(
     filter: &Option<Boxed<Condition>>,
 ) -> Result<Option<Boxed<TypedCondition>>, TypingError>
     requires { IsScope context.now.metamodel.now scope.now }
-    ensures typed { IsJudged result (if_some (typing.is_condition_typed context.now.metamodel.now context.now.parameters.now context.now.groups.now scope.now clause) filter.now) }
-    ensures tree { IfOk result (λ found. found ≡ trees.typed_filter context.now.metamodel.now context.now.parameters.now scope.now filter.now) }
+    ensures typed { IsJudged result
+        (if_some (typing.is_condition_typed context.now.metamodel.now context.now.parameters.now
+        context.now.groups.now scope.now clause) filter.now) }
+    ensures tree { IfOk result (λ found. found ≡ trees.typed_filter context.now.metamodel.now
+        context.now.parameters.now scope.now filter.now) }
 {
     match filter {
         None => Ok(None),
@@ -158,8 +172,10 @@ fn typed_block(
     block: &Block,
 ) -> Result<TypedBlock, TypingError>
     requires { IsScope context.now.metamodel.now outer.now }
-    ensures typed { IsJudged result (typing.is_block_typed context.now.metamodel.now context.now.parameters.now context.now.groups.now block.now outer.now) }
-    ensures tree { IfOk result (λ found. found ≡ trees.typed_block context.now.metamodel.now context.now.parameters.now block.now outer.now) }
+    ensures typed { IsJudged result (typing.is_block_typed context.now.metamodel.now
+        context.now.parameters.now context.now.groups.now block.now outer.now) }
+    ensures tree { IfOk result (λ found. found ≡ trees.typed_block context.now.metamodel.now
+        context.now.parameters.now block.now outer.now) }
 {
     let scope = from::copied(alloc, outer)?;
     let (scope, sources) = typed_sources(alloc, context, scope, block.sources.as_slice())?;
@@ -182,9 +198,15 @@ fn typed_join(
     join: &Join,
 ) -> Result<(Seq<Variable>, TypedJoin), TypingError>
     requires { IsScope context.now.metamodel.now scope }
-    ensures scope { Gives (λ found. found.0) result (typing.join_scope context.now.metamodel.now context.now.parameters.now context.now.groups.now join.now scope) }
-    ensures tree { IfOk result (λ found. found.1 ≡ (trees.typed_join context.now.metamodel.now context.now.parameters.now join.now scope).0) }
-    ensures after { IfOk result (λ found. found.0 ≡ (trees.typed_join context.now.metamodel.now context.now.parameters.now join.now scope).1) }
+    ensures scope { Gives (λ found. found.0) result
+        (typing.join_scope context.now.metamodel.now context.now.parameters.now
+        context.now.groups.now join.now scope) }
+    ensures tree { IfOk result (λ found. found.1
+        ≡ (trees.typed_join context.now.metamodel.now context.now.parameters.now join.now
+        scope).0) }
+    ensures after { IfOk result (λ found. found.0
+        ≡ (trees.typed_join context.now.metamodel.now context.now.parameters.now join.now
+        scope).1) }
     ensures within { IfOk result (λ found. IsScope context.now.metamodel.now found.0) }
 {
     let (scope, (of, step)) = from::with_join(
@@ -217,9 +239,18 @@ fn typed_joins(
     joins: &[Join],
 ) -> Result<(Seq<Variable>, Seq<TypedJoin>), TypingError>
     requires { IsScope context.now.metamodel.now scope }
-    ensures scope { Gives (λ found. found.0) result (typing.in_turn (map (typing.join_scope context.now.metamodel.now context.now.parameters.now context.now.groups.now) joins.now) scope) }
-    ensures trees { IfOk result (λ found. found.1 ≡ (trees.in_scope (map (trees.typed_join context.now.metamodel.now context.now.parameters.now) joins.now) scope).0) }
-    ensures after { IfOk result (λ found. found.0 ≡ (trees.in_scope (map (trees.typed_join context.now.metamodel.now context.now.parameters.now) joins.now) scope).1) }
+    ensures scope { Gives (λ found. found.0) result
+        (typing.in_turn
+        (map (typing.join_scope context.now.metamodel.now context.now.parameters.now
+        context.now.groups.now) joins.now) scope) }
+    ensures trees { IfOk result (λ found. found.1
+        ≡ (trees.in_scope
+        (map (trees.typed_join context.now.metamodel.now context.now.parameters.now) joins.now)
+        scope).0) }
+    ensures after { IfOk result (λ found. found.0
+        ≡ (trees.in_scope
+        (map (trees.typed_join context.now.metamodel.now context.now.parameters.now) joins.now)
+        scope).1) }
     ensures within { IfOk result (λ found. IsScope context.now.metamodel.now found.0) }
 {
     let mut scope = scope;
@@ -241,9 +272,15 @@ pub(crate) fn typed_source(
     source: &Source,
 ) -> Result<(Seq<Variable>, TypedSource), TypingError>
     requires { IsScope context.now.metamodel.now scope }
-    ensures scope { Gives (λ found. found.0) result (typing.source_scope context.now.metamodel.now context.now.parameters.now context.now.groups.now source.now scope) }
-    ensures tree { IfOk result (λ found. found.1 ≡ (trees.typed_source context.now.metamodel.now context.now.parameters.now source.now scope).0) }
-    ensures after { IfOk result (λ found. found.0 ≡ (trees.typed_source context.now.metamodel.now context.now.parameters.now source.now scope).1) }
+    ensures scope { Gives (λ found. found.0) result
+        (typing.source_scope context.now.metamodel.now context.now.parameters.now
+        context.now.groups.now source.now scope) }
+    ensures tree { IfOk result (λ found. found.1
+        ≡ (trees.typed_source context.now.metamodel.now context.now.parameters.now source.now
+        scope).0) }
+    ensures after { IfOk result (λ found. found.0
+        ≡ (trees.typed_source context.now.metamodel.now context.now.parameters.now source.now
+        scope).1) }
     ensures within { IfOk result (λ found. IsScope context.now.metamodel.now found.0) }
 {
     let (scope, origin) = from::with_source(
@@ -266,9 +303,18 @@ pub(crate) fn typed_sources(
     sources: &[Source],
 ) -> Result<(Seq<Variable>, Seq<TypedSource>), TypingError>
     requires { IsScope context.now.metamodel.now scope }
-    ensures scope { Gives (λ found. found.0) result (typing.in_turn (map (typing.source_scope context.now.metamodel.now context.now.parameters.now context.now.groups.now) sources.now) scope) }
-    ensures trees { IfOk result (λ found. found.1 ≡ (trees.in_scope (map (trees.typed_source context.now.metamodel.now context.now.parameters.now) sources.now) scope).0) }
-    ensures after { IfOk result (λ found. found.0 ≡ (trees.in_scope (map (trees.typed_source context.now.metamodel.now context.now.parameters.now) sources.now) scope).1) }
+    ensures scope { Gives (λ found. found.0) result
+        (typing.in_turn
+        (map (typing.source_scope context.now.metamodel.now context.now.parameters.now
+        context.now.groups.now) sources.now) scope) }
+    ensures trees { IfOk result (λ found. found.1
+        ≡ (trees.in_scope
+        (map (trees.typed_source context.now.metamodel.now context.now.parameters.now) sources.now)
+        scope).0) }
+    ensures after { IfOk result (λ found. found.0
+        ≡ (trees.in_scope
+        (map (trees.typed_source context.now.metamodel.now context.now.parameters.now) sources.now)
+        scope).1) }
     ensures within { IfOk result (λ found. IsScope context.now.metamodel.now found.0) }
 {
     let mut scope = scope;

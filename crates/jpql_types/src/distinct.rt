@@ -49,7 +49,8 @@ fn are_distinct_names(alloc: Global, names: &[Text]) -> Result<bool, AllocError>
 }
 
 fn are_no_variables(names: &[Text], variables: &[Text]) -> bool
-    ensures { result ≡ list_all (λ name. not (list_any (same_variable name) variables.now)) names.now }
+    ensures { result ≡ list_all (λ name. not (list_any (same_variable name) variables.now))
+        names.now }
 {
     names.iter().all(|name| !is_variable(name, variables))
 }
@@ -97,7 +98,8 @@ fn is_given(parameters: &Parameters<'_>, name: &Text) -> bool
 }
 
 fn are_all_given(names: &[Text], parameters: &Parameters<'_>) -> bool
-    ensures { result ≡ list_all (λ name. list_any (λ p. same_name p.0 name) parameters.now) names.now }
+    ensures { result ≡ list_all (λ name. list_any (λ p. same_name p.0 name) parameters.now)
+        names.now }
 {
     names.iter().all(|name| is_given(parameters, name))
 }

@@ -61,9 +61,13 @@ fn related(
     name: &Text,
 ) -> Option<((usize, Step), usize)>
     requires { IsScope context.now.metamodel.now scope.now }
-    ensures class { option_map (λ found. found.1) result ≡ typing.related_class context.now.metamodel.now scope.now variable.now name.now }
-    ensures step { IfSome result (λ found. found.0 ≡ trees.typed_step context.now.metamodel.now context.now.parameters.now scope.now variable.now name.now) }
-    ensures to { IfSome result (λ found. found.1 ≡ trees.place (scopes.target context.now.metamodel.now found.0.1)) }
+    ensures class { option_map (λ found. found.1) result
+        ≡ typing.related_class context.now.metamodel.now scope.now variable.now name.now }
+    ensures step { IfSome result (λ found. found.0
+        ≡ trees.typed_step context.now.metamodel.now context.now.parameters.now scope.now
+        variable.now name.now) }
+    ensures to { IfSome result (λ found. found.1
+        ≡ trees.place (scopes.target context.now.metamodel.now found.0.1)) }
     ensures within { IfSome result (λ found. IsClass context.now.metamodel.now found.1) }
 {
     let found = step_from(context.metamodel, scope, variable, name)?;
@@ -78,8 +82,11 @@ fn typed_origin(
     origin: &Origin,
 ) -> Option<(TypedOrigin, usize)>
     requires { IsScope context.now.metamodel.now scope.now }
-    ensures class { option_map (λ found. found.1) result ≡ typing.origin_class context.now.metamodel.now scope.now origin.now }
-    ensures origin { IfSome result (λ found. found ≡ trees.typed_origin context.now.metamodel.now context.now.parameters.now scope.now origin.now) }
+    ensures class { option_map (λ found. found.1) result
+        ≡ typing.origin_class context.now.metamodel.now scope.now origin.now }
+    ensures origin { IfSome result (λ found. found
+        ≡ trees.typed_origin context.now.metamodel.now context.now.parameters.now scope.now
+        origin.now) }
     ensures within { IfSome result (λ found. IsClass context.now.metamodel.now found.1) }
 {
     match origin {
@@ -103,9 +110,16 @@ pub(crate) fn with_source(
     variable: &Text,
 ) -> Result<(Seq<Variable>, TypedOrigin), TypingError>
     requires { IsScope context.now.metamodel.now scope }
-    ensures scope { Gives (λ found. found.0) result (option_map (typing.with_variable scope variable.now) (typing.origin_class context.now.metamodel.now scope origin.now)) }
-    ensures origin { IfOk result (λ found. found.1 ≡ (trees.typed_origin context.now.metamodel.now context.now.parameters.now scope origin.now).0) }
-    ensures class { IfOk result (λ found. found.0 ≡ typing.with_variable scope variable.now (trees.typed_origin context.now.metamodel.now context.now.parameters.now scope origin.now).1) }
+    ensures scope { Gives (λ found. found.0) result
+        (option_map (typing.with_variable scope variable.now)
+        (typing.origin_class context.now.metamodel.now scope origin.now)) }
+    ensures origin { IfOk result (λ found. found.1
+        ≡ (trees.typed_origin context.now.metamodel.now context.now.parameters.now scope
+        origin.now).0) }
+    ensures class { IfOk result (λ found. found.0
+        ≡ typing.with_variable scope variable.now
+        (trees.typed_origin context.now.metamodel.now context.now.parameters.now scope
+        origin.now).1) }
     ensures within { IfOk result (λ found. IsScope context.now.metamodel.now found.0) }
 {
     let found = typed_origin(context, scope.as_slice(), origin);
@@ -124,9 +138,15 @@ pub(crate) fn with_join(
     variable: &Text,
 ) -> Result<(Seq<Variable>, (usize, Step)), TypingError>
     requires { IsScope context.now.metamodel.now scope }
-    ensures scope { Gives (λ found. found.0) result (option_map (typing.with_variable scope variable.now) (typing.related_class context.now.metamodel.now scope of.now relation.now)) }
-    ensures step { IfOk result (λ found. found.1 ≡ trees.typed_step context.now.metamodel.now context.now.parameters.now scope of.now relation.now) }
-    ensures class { IfOk result (λ found. found.0 ≡ typing.with_variable scope variable.now (trees.place (scopes.target context.now.metamodel.now found.1.1))) }
+    ensures scope { Gives (λ found. found.0) result
+        (option_map (typing.with_variable scope variable.now)
+        (typing.related_class context.now.metamodel.now scope of.now relation.now)) }
+    ensures step { IfOk result (λ found. found.1
+        ≡ trees.typed_step context.now.metamodel.now context.now.parameters.now scope of.now
+        relation.now) }
+    ensures class { IfOk result (λ found. found.0
+        ≡ typing.with_variable scope variable.now
+        (trees.place (scopes.target context.now.metamodel.now found.1.1))) }
     ensures within { IfOk result (λ found. IsScope context.now.metamodel.now found.0) }
 {
     let found = related(context, scope.as_slice(), of, relation);

@@ -46,7 +46,8 @@ fn add_parameters(names: &mut Seq<Text>, value: &Value) -> Result<(), AllocError
 
 #[cycle(add_parameters)]
 fn add_parameters_of_all(names: &mut Seq<Text>, values: &[Value]) -> Result<(), AllocError>
-    ensures { OnOk result (names.new ≡ names.old ++ flat_map (spec.in_value Names.Parameters) values.now) }
+    ensures { OnOk result (names.new ≡ names.old
+        ++ flat_map (spec.in_value Names.Parameters) values.now) }
 {
     for value in values {
         add_parameters(names, value)?;
@@ -222,7 +223,8 @@ fn add_in_assignments(
     which: Names,
     assignments: &[Assignment],
 ) -> Result<(), AllocError>
-    ensures { OnOk result (names.new ≡ names.old ++ flat_map (spec.in_assignment which) assignments.now) }
+    ensures { OnOk result (names.new ≡ names.old
+        ++ flat_map (spec.in_assignment which) assignments.now) }
 {
     for assignment in assignments {
         add_in_assignment(names, which, assignment)?;

@@ -56,7 +56,8 @@ pub(crate) fn aggregate(
     operand: (TypedValue, Sort),
 ) -> Result<(TypedValue, Sort), TypingError>
     ensures sort { Gives (λ found. found.1) result (sorts.aggregate_sort aggregate operand.1) }
-    ensures tree { IfOk result (λ found. found.0 ≡ TypedValue.Aggregate aggregate is_distinct operand.0) }
+    ensures tree { IfOk result (λ found. found.0
+        ≡ TypedValue.Aggregate aggregate is_distinct operand.0) }
 {
     let sort = aggregate_sort(aggregate, operand.1);
     let operand = Boxed::new(alloc, operand.0)?;

@@ -62,8 +62,11 @@ fn is_kept(
 
 /// The place of the item of a name, of items that are of these sorts, and its sort.
 fn item_named(items: &NameIndex<'_, Item>, sorts: &[Sort], name: &Text) -> Option<(usize, Sort)>
-    ensures sort { (sort : Item → Option Sort) → typing.all_some (map sort items.now) ≡ Some sorts.now → option_map (λ found. found.1) result ≡ spec.sort_named sort items.now name.now }
-    ensures place { IfSome result (λ found. position_from (trees.is_named name.now) 0 items.now ≡ Some found.0) }
+    ensures sort { (sort : Item → Option Sort) → typing.all_some (map sort items.now)
+        ≡ Some sorts.now → option_map (λ found. found.1) result
+        ≡ spec.sort_named sort items.now name.now }
+    ensures place { IfSome result (λ found. position_from (trees.is_named name.now) 0 items.now
+        ≡ Some found.0) }
 {
     let place = place_of_name(items, name)?;
     let sort = sorts.get(place)?;
@@ -76,9 +79,11 @@ fn by_name(
     sorts: &[Sort],
     name: &Text,
 ) -> Result<TypedSorted, TypingError>
-    ensures typed { (sort : Item → Option Sort) → typing.all_some (map sort items.now) ≡ Some sorts.now
-        → IsJudged result (is_some_that is_basic (spec.sort_named sort items.now name.now)) }
-    ensures tree { IfOk result (λ found. found ≡ TypedSorted.Item (trees.place (position_from (trees.is_named name.now) 0 items.now))) }
+    ensures typed { (sort : Item → Option Sort) → typing.all_some (map sort items.now)
+        ≡ Some sorts.now → IsJudged result
+        (is_some_that is_basic (spec.sort_named sort items.now name.now)) }
+    ensures tree { IfOk result (λ found. found ≡ TypedSorted.Item
+        (trees.place (position_from (trees.is_named name.now) 0 items.now))) }
 {
     let (place, sort) = item_named(items, sorts, name).ok_or(TypingError::Typing)?;
     if sort.is_basic() {
@@ -124,9 +129,14 @@ fn by_path(
     requires groups { context.now.groups.now ≡ select.now.groups }
     requires clause { clause ≡ spec.select_clause select.now }
     requires items { items.now ≡ select.now.items }
-    ensures typed { IsJudged result (is_some_that is_basic (spec.sorted_sort context.now.metamodel.now context.now.parameters.now select.now scope.now (Sorted.Path path.now))
-        && (not select.now.is_distinct || spec.is_kept context.now.metamodel.now context.now.parameters.now select.now scope.now (Sorted.Path path.now))) }
-    ensures tree { IfOk result (λ found. found ≡ TypedSorted.Path (trees.typed_path context.now.metamodel.now context.now.parameters.now scope.now path.now)) }
+    ensures typed { IsJudged result (is_some_that is_basic
+        (spec.sorted_sort context.now.metamodel.now context.now.parameters.now select.now scope.now
+        (Sorted.Path path.now)) && (not select.now.is_distinct
+        || spec.is_kept context.now.metamodel.now context.now.parameters.now select.now scope.now
+        (Sorted.Path path.now))) }
+    ensures tree { IfOk result (λ found. found ≡ TypedSorted.Path
+        (trees.typed_path context.now.metamodel.now context.now.parameters.now scope.now
+        path.now)) }
 {
     let (found, sort) = typed_path(alloc, context, scope, clause, path)?;
     if !may_sort(alloc, select, items, path, found.steps.len(), sort)? {
@@ -150,9 +160,13 @@ fn typed_key(
     requires clause { clause ≡ spec.select_clause select.now }
     requires names { items.now.names ≡ select.now.items }
     requires paths { items.now.paths ≡ select.now.items }
-    requires sorts { typing.all_some (map (spec.item_sort context.now.metamodel.now context.now.parameters.now select.now scope.now) select.now.items) ≡ Some sorts.now }
-    ensures typed { IsJudged result (spec.is_key_typed context.now.metamodel.now context.now.parameters.now select.now scope.now key.now) }
-    ensures tree { IfOk result (λ found. found ≡ trees.typed_key context.now.metamodel.now context.now.parameters.now scope.now select.now.items key.now) }
+    requires sorts { typing.all_some
+        (map (spec.item_sort context.now.metamodel.now context.now.parameters.now select.now
+        scope.now) select.now.items) ≡ Some sorts.now }
+    ensures typed { IsJudged result (spec.is_key_typed context.now.metamodel.now
+        context.now.parameters.now select.now scope.now key.now) }
+    ensures tree { IfOk result (λ found. found ≡ trees.typed_key context.now.metamodel.now
+        context.now.parameters.now scope.now select.now.items key.now) }
 {
     let by = match &key.by {
         Sorted::Name(name) => by_name(&items.names, sorts, name)?,
@@ -176,9 +190,15 @@ pub(crate) fn typed_keys(
     requires scope { IsScope context.now.metamodel.now scope.now }
     requires groups { context.now.groups.now ≡ select.now.groups }
     requires clause { clause ≡ spec.select_clause select.now }
-    requires sorts { typing.all_some (map (spec.item_sort context.now.metamodel.now context.now.parameters.now select.now scope.now) select.now.items) ≡ Some sorts.now }
-    ensures typed { IsJudged result (list_all (spec.is_key_typed context.now.metamodel.now context.now.parameters.now select.now scope.now) select.now.order) }
-    ensures trees { IfOk result (λ found. found ≡ map (trees.typed_key context.now.metamodel.now context.now.parameters.now scope.now select.now.items) select.now.order) }
+    requires sorts { typing.all_some
+        (map (spec.item_sort context.now.metamodel.now context.now.parameters.now select.now
+        scope.now) select.now.items) ≡ Some sorts.now }
+    ensures typed { IsJudged result
+        (list_all (spec.is_key_typed context.now.metamodel.now context.now.parameters.now select.now
+        scope.now) select.now.order) }
+    ensures trees { IfOk result (λ found. found ≡ map
+        (trees.typed_key context.now.metamodel.now context.now.parameters.now scope.now
+        select.now.items) select.now.order) }
 {
     let items = items_of(alloc, select.items.as_slice())?;
     let mut found = Seq::new(alloc);

@@ -265,8 +265,11 @@ pub(crate) fn resolved(
     path: &Path,
 ) -> Result<TypedPath, TypingError>
     requires { IsScope context.now.metamodel.now scope.now }
-    ensures path { Gives (λ found. found) result (scopes.resolved context.now.metamodel.now context.now.groups.now scope.now clause path.now) }
-    ensures meaning { IfOk result (λ p. scopes.path_of context.now.metamodel.now scope.now path.now ≡ Some p) }
+    ensures path { Gives (λ found. found) result
+        (scopes.resolved context.now.metamodel.now context.now.groups.now scope.now clause
+        path.now) }
+    ensures meaning { IfOk result (λ p. scopes.path_of context.now.metamodel.now scope.now path.now
+        ≡ Some p) }
     ensures within { IfOk result (λ p. IsPath context.now.metamodel.now p) }
 {
     let found = path_of(alloc, context.metamodel, scope, path)?;

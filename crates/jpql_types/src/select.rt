@@ -33,8 +33,12 @@ fn typed_item(
     requires scope { IsScope context.now.metamodel.now scope.now }
     requires groups { context.now.groups.now ≡ select.now.groups }
     requires clause { clause ≡ spec.select_clause select.now }
-    ensures sort { Gives (λ found. found.1) result (spec.item_sort context.now.metamodel.now context.now.parameters.now select.now scope.now item.now) }
-    ensures tree { IfOk result (λ found. found.0 ≡ trees.typed_value context.now.metamodel.now context.now.parameters.now scope.now item.now.value) }
+    ensures sort { Gives (λ found. found.1) result
+        (spec.item_sort context.now.metamodel.now context.now.parameters.now select.now scope.now
+        item.now) }
+    ensures tree { IfOk result (λ found. found.0
+        ≡ trees.typed_value context.now.metamodel.now context.now.parameters.now scope.now
+        item.now.value) }
 {
     typed_value(alloc, context, scope, clause, &item.value)
 }
@@ -50,9 +54,15 @@ fn typed_items(
     requires scope { IsScope context.now.metamodel.now scope.now }
     requires groups { context.now.groups.now ≡ select.now.groups }
     requires clause { clause ≡ spec.select_clause select.now }
-    ensures typed { IsJudged result (list_all (λ i. is_some (spec.item_sort context.now.metamodel.now context.now.parameters.now select.now scope.now i)) select.now.items) }
-    ensures sorts { IfOk result (λ found. typing.all_some (map (spec.item_sort context.now.metamodel.now context.now.parameters.now select.now scope.now) select.now.items) ≡ Some found.1) }
-    ensures trees { IfOk result (λ found. found.0 ≡ map (λ i. trees.typed_value context.now.metamodel.now context.now.parameters.now scope.now i.value) select.now.items) }
+    ensures typed { IsJudged result (list_all (λ i.
+        is_some (spec.item_sort context.now.metamodel.now context.now.parameters.now select.now
+        scope.now i)) select.now.items) }
+    ensures sorts { IfOk result (λ found. typing.all_some
+        (map (spec.item_sort context.now.metamodel.now context.now.parameters.now select.now
+        scope.now) select.now.items) ≡ Some found.1) }
+    ensures trees { IfOk result (λ found. found.0
+        ≡ map (λ i. trees.typed_value context.now.metamodel.now context.now.parameters.now scope.now
+        i.value) select.now.items) }
 {
     let mut found = Seq::new(alloc);
     let mut sorts = Seq::new(alloc);
@@ -73,8 +83,12 @@ fn typed_groups(
 ) -> Result<Seq<TypedPath>, TypingError>
     requires scope { IsScope context.now.metamodel.now scope.now }
     requires groups { context.now.groups.now ≡ select.now.groups }
-    ensures typed { IsJudged result (list_all (spec.is_group_typed context.now.metamodel.now context.now.parameters.now select.now scope.now) select.now.groups) }
-    ensures trees { IfOk result (λ found. found ≡ map (trees.typed_path context.now.metamodel.now context.now.parameters.now scope.now) select.now.groups) }
+    ensures typed { IsJudged result
+        (list_all (spec.is_group_typed context.now.metamodel.now context.now.parameters.now
+        select.now scope.now) select.now.groups) }
+    ensures trees { IfOk result (λ found. found ≡ map
+        (trees.typed_path context.now.metamodel.now context.now.parameters.now scope.now)
+        select.now.groups) }
 {
     let mut found = Seq::new(alloc);
     for group in select.groups.as_slice() {
@@ -94,8 +108,10 @@ fn typed_select_in(
 ) -> Result<TypedSelect, TypingError>
     requires scope { IsScope context.now.metamodel.now scope.now }
     requires groups { context.now.groups.now ≡ select.now.groups }
-    ensures typed { IsJudged result (spec.is_select_typed_in context.now.metamodel.now context.now.parameters.now select.now scope.now) }
-    ensures tree { IfOk result (λ found. found ≡ trees.typed_select_in context.now.metamodel.now context.now.parameters.now select.now scope.now sources) }
+    ensures typed { IsJudged result (spec.is_select_typed_in context.now.metamodel.now
+        context.now.parameters.now select.now scope.now) }
+    ensures tree { IfOk result (λ found. found ≡ trees.typed_select_in context.now.metamodel.now
+        context.now.parameters.now select.now scope.now sources) }
 {
     let clause = select_clause(select);
     let (items, sorts) = typed_items(alloc, context, scope, clause, select)?;
@@ -122,7 +138,8 @@ pub(crate) fn typed_select(
     select: &Select,
 ) -> Result<TypedSelect, TypingError>
     ensures typed { IsJudged result (spec.is_select_typed metamodel.now parameters.now select.now) }
-    ensures tree { IfOk result (λ found. found ≡ trees.typed_select metamodel.now parameters.now select.now) }
+    ensures tree { IfOk result (λ found. found ≡ trees.typed_select metamodel.now parameters.now
+        select.now) }
 {
     let groups = Groups::of(alloc, select.groups.as_slice())?;
     let context = Context {

@@ -72,8 +72,10 @@ fn value_of(
 ) -> Result<TypedValue, TypingError>
     requires scope { IsScope context.now.metamodel.now scope.now }
     requires groups { context.now.groups.now ≡ [] }
-    ensures typed { IsJudged result (spec.is_value_of context.now.metamodel.now context.now.parameters.now scope.now sort value.now) }
-    ensures tree { IfOk result (λ found. found ≡ trees.typed_value context.now.metamodel.now context.now.parameters.now scope.now value.now) }
+    ensures typed { IsJudged result (spec.is_value_of context.now.metamodel.now
+        context.now.parameters.now scope.now sort value.now) }
+    ensures tree { IfOk result (λ found. found ≡ trees.typed_value context.now.metamodel.now
+        context.now.parameters.now scope.now value.now) }
 {
     let (value, found) = typed_value(alloc, context, scope, Clause::Where, value)?;
     judged(is_of(sort, found), value)
@@ -90,8 +92,11 @@ fn new_value(
     requires scope { IsScope context.now.metamodel.now scope.now }
     requires groups { context.now.groups.now ≡ [] }
     requires class { IsClass context.now.metamodel.now step.class }
-    ensures typed { IsJudged result (spec.is_set_typed context.now.metamodel.now context.now.parameters.now scope.now value.now step) }
-    ensures tree { IfOk result (λ found. found ≡ option_map (trees.typed_value context.now.metamodel.now context.now.parameters.now scope.now) value.now) }
+    ensures typed { IsJudged result (spec.is_set_typed context.now.metamodel.now
+        context.now.parameters.now scope.now value.now step) }
+    ensures tree { IfOk result (λ found. found ≡ option_map
+        (trees.typed_value context.now.metamodel.now context.now.parameters.now scope.now)
+        value.now) }
 {
     if !is_settable(context.metamodel, step) || !allows_value(step.member, value) {
         return Err(TypingError::Typing);
@@ -113,8 +118,10 @@ fn typed_assignment(
 ) -> Result<TypedAssignment, TypingError>
     requires scope { IsScope context.now.metamodel.now scope.now }
     requires groups { context.now.groups.now ≡ [] }
-    ensures typed { IsJudged result (spec.is_assignment_typed context.now.metamodel.now context.now.parameters.now scope.now assignment.now) }
-    ensures tree { IfOk result (λ found. found ≡ trees.typed_assignment context.now.metamodel.now context.now.parameters.now scope.now assignment.now) }
+    ensures typed { IsJudged result (spec.is_assignment_typed context.now.metamodel.now
+        context.now.parameters.now scope.now assignment.now) }
+    ensures tree { IfOk result (λ found. found ≡ trees.typed_assignment context.now.metamodel.now
+        context.now.parameters.now scope.now assignment.now) }
 {
     let (_, step) = step_from(
         context.metamodel,
@@ -139,8 +146,12 @@ pub(crate) fn typed_assignments(
 ) -> Result<Seq<TypedAssignment>, TypingError>
     requires scope { IsScope context.now.metamodel.now scope.now }
     requires groups { context.now.groups.now ≡ [] }
-    ensures typed { IsJudged result (list_all (spec.is_assignment_typed context.now.metamodel.now context.now.parameters.now scope.now) assignments.now) }
-    ensures trees { IfOk result (λ found. found ≡ map (trees.typed_assignment context.now.metamodel.now context.now.parameters.now scope.now) assignments.now) }
+    ensures typed { IsJudged result
+        (list_all (spec.is_assignment_typed context.now.metamodel.now context.now.parameters.now
+        scope.now) assignments.now) }
+    ensures trees { IfOk result (λ found. found ≡ map
+        (trees.typed_assignment context.now.metamodel.now context.now.parameters.now scope.now)
+        assignments.now) }
 {
     let mut found = Seq::new(alloc);
     for assignment in assignments {

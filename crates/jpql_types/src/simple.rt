@@ -32,8 +32,11 @@ pub(crate) fn compare(
     right: &Value,
 ) -> Result<TypedCondition, TypingError>
     requires { IsScope context.now.metamodel.now scope.now }
-    ensures typed { IsJudged result (typing.condition_step context.now.metamodel.now context.now.parameters.now context.now.groups.now (test.Compare comparison left.now right.now) scope.now clause) }
-    ensures tree { IfOk result (λ found. found ≡ trees.test_step context.now.metamodel.now context.now.parameters.now (test.Compare comparison left.now right.now) scope.now) }
+    ensures typed { IsJudged result (typing.condition_step context.now.metamodel.now
+        context.now.parameters.now context.now.groups.now
+        (test.Compare comparison left.now right.now) scope.now clause) }
+    ensures tree { IfOk result (λ found. found ≡ trees.test_step context.now.metamodel.now
+        context.now.parameters.now (test.Compare comparison left.now right.now) scope.now) }
 {
     let (left, left_sort) = typed_value(alloc, context, scope, clause, left)?;
     let (left, (right, right_sort)) = with_value(alloc, context, scope, clause, right, left)?;
@@ -53,8 +56,11 @@ pub(crate) fn between(
     high: &Value,
 ) -> Result<TypedCondition, TypingError>
     requires { IsScope context.now.metamodel.now scope.now }
-    ensures typed { IsJudged result (typing.condition_step context.now.metamodel.now context.now.parameters.now context.now.groups.now (test.Between value.now low.now high.now) scope.now clause) }
-    ensures tree { IfOk result (λ found. found ≡ trees.test_step context.now.metamodel.now context.now.parameters.now (test.Between value.now low.now high.now) scope.now) }
+    ensures typed { IsJudged result (typing.condition_step context.now.metamodel.now
+        context.now.parameters.now context.now.groups.now (test.Between value.now low.now high.now)
+        scope.now clause) }
+    ensures tree { IfOk result (λ found. found ≡ trees.test_step context.now.metamodel.now
+        context.now.parameters.now (test.Between value.now low.now high.now) scope.now) }
 {
     let (value, sort) = typed_value(alloc, context, scope, clause, value)?;
     let (value, (low, low_sort)) = with_value(alloc, context, scope, clause, low, value)?;
@@ -75,8 +81,11 @@ pub(crate) fn among(
     all: &[Value],
 ) -> Result<TypedCondition, TypingError>
     requires { IsScope context.now.metamodel.now scope.now }
-    ensures typed { IsJudged result (typing.condition_step context.now.metamodel.now context.now.parameters.now context.now.groups.now (test.In value.now all.now) scope.now clause) }
-    ensures tree { IfOk result (λ found. found ≡ trees.test_step context.now.metamodel.now context.now.parameters.now (test.In value.now all.now) scope.now) }
+    ensures typed { IsJudged result (typing.condition_step context.now.metamodel.now
+        context.now.parameters.now context.now.groups.now (test.In value.now all.now) scope.now
+        clause) }
+    ensures tree { IfOk result (λ found. found ≡ trees.test_step context.now.metamodel.now
+        context.now.parameters.now (test.In value.now all.now) scope.now) }
 {
     let (all, others) = typed_values(alloc, context, scope, clause, all)?;
     let (all, (value, sort)) = with_value(alloc, context, scope, clause, value, all)?;
@@ -135,8 +144,11 @@ pub(crate) fn like(
     escape: &Option<Text>,
 ) -> Result<TypedCondition, TypingError>
     requires { IsScope context.now.metamodel.now scope.now }
-    ensures typed { IsJudged result (typing.condition_step context.now.metamodel.now context.now.parameters.now context.now.groups.now (test.Like value.now pattern.now escape.now) scope.now clause) }
-    ensures tree { IfOk result (λ found. found ≡ trees.test_step context.now.metamodel.now context.now.parameters.now (test.Like value.now pattern.now escape.now) scope.now) }
+    ensures typed { IsJudged result (typing.condition_step context.now.metamodel.now
+        context.now.parameters.now context.now.groups.now
+        (test.Like value.now pattern.now escape.now) scope.now clause) }
+    ensures tree { IfOk result (λ found. found ≡ trees.test_step context.now.metamodel.now
+        context.now.parameters.now (test.Like value.now pattern.now escape.now) scope.now) }
 {
     let copy = copied(alloc, escape)?;
     let (copy, (value, sort)) = with_value(alloc, context, scope, clause, value, copy)?;
@@ -158,8 +170,11 @@ pub(crate) fn is_null(
     value: &Value,
 ) -> Result<TypedCondition, TypingError>
     requires { IsScope context.now.metamodel.now scope.now }
-    ensures typed { IsJudged result (typing.condition_step context.now.metamodel.now context.now.parameters.now context.now.groups.now (test.IsNull value.now) scope.now clause) }
-    ensures tree { IfOk result (λ found. found ≡ trees.test_step context.now.metamodel.now context.now.parameters.now (test.IsNull value.now) scope.now) }
+    ensures typed { IsJudged result (typing.condition_step context.now.metamodel.now
+        context.now.parameters.now context.now.groups.now (test.IsNull value.now) scope.now
+        clause) }
+    ensures tree { IfOk result (λ found. found ≡ trees.test_step context.now.metamodel.now
+        context.now.parameters.now (test.IsNull value.now) scope.now) }
 {
     let (value, _) = typed_value(alloc, context, scope, clause, value)?;
     Ok(TypedCondition::IsNull(value))
@@ -174,8 +189,11 @@ pub(crate) fn is_empty(
     path: &Path,
 ) -> Result<TypedCondition, TypingError>
     requires { IsScope context.now.metamodel.now scope.now }
-    ensures typed { IsJudged result (typing.condition_step context.now.metamodel.now context.now.parameters.now context.now.groups.now (test.IsEmpty path.now) scope.now clause) }
-    ensures tree { IfOk result (λ found. found ≡ trees.test_step context.now.metamodel.now context.now.parameters.now (test.IsEmpty path.now) scope.now) }
+    ensures typed { IsJudged result (typing.condition_step context.now.metamodel.now
+        context.now.parameters.now context.now.groups.now (test.IsEmpty path.now) scope.now
+        clause) }
+    ensures tree { IfOk result (λ found. found ≡ trees.test_step context.now.metamodel.now
+        context.now.parameters.now (test.IsEmpty path.now) scope.now) }
 {
     let (path, _) = typed_collection(alloc, context, scope, clause, path)?;
     Ok(TypedCondition::IsEmpty(path))
@@ -191,8 +209,11 @@ pub(crate) fn member(
     path: &Path,
 ) -> Result<TypedCondition, TypingError>
     requires { IsScope context.now.metamodel.now scope.now }
-    ensures typed { IsJudged result (typing.condition_step context.now.metamodel.now context.now.parameters.now context.now.groups.now (test.Member value.now path.now) scope.now clause) }
-    ensures tree { IfOk result (λ found. found ≡ trees.test_step context.now.metamodel.now context.now.parameters.now (test.Member value.now path.now) scope.now) }
+    ensures typed { IsJudged result (typing.condition_step context.now.metamodel.now
+        context.now.parameters.now context.now.groups.now (test.Member value.now path.now) scope.now
+        clause) }
+    ensures tree { IfOk result (λ found. found ≡ trees.test_step context.now.metamodel.now
+        context.now.parameters.now (test.Member value.now path.now) scope.now) }
 {
     let (path, class) = typed_collection(alloc, context, scope, clause, path)?;
     let (path, (value, sort)) = with_value(alloc, context, scope, clause, value, path)?;
@@ -205,8 +226,10 @@ pub(crate) fn member(
 /// The class of this name in the hierarchy of another.
 fn class_of_hierarchy(context: &Context<'_>, class: usize, name: &Text) -> Option<usize>
     requires { IsClass context.now.metamodel.now class }
-    ensures typed { is_some result ≡ typing.is_of_hierarchy context.now.metamodel.now class name.now }
-    ensures class { IfSome result (λ found. found ≡ trees.class_named context.now.metamodel.now context.now.parameters.now name.now) }
+    ensures typed { is_some result ≡ typing.is_of_hierarchy context.now.metamodel.now class
+        name.now }
+    ensures class { IfSome result (λ found. found
+        ≡ trees.class_named context.now.metamodel.now context.now.parameters.now name.now) }
 {
     let found = context.metamodel.class_of(name.as_str())?;
     if context.metamodel.root_class(found) == context.metamodel.root_class(class) {
@@ -224,8 +247,10 @@ fn classes_of_hierarchy(
     names: &[Text],
 ) -> Result<Seq<usize>, TypingError>
     requires { IsClass context.now.metamodel.now class }
-    ensures typed { IsJudged result (list_all (typing.is_of_hierarchy context.now.metamodel.now class) names.now) }
-    ensures classes { IfOk result (λ found. found ≡ map (trees.class_named context.now.metamodel.now context.now.parameters.now) names.now) }
+    ensures typed { IsJudged result
+        (list_all (typing.is_of_hierarchy context.now.metamodel.now class) names.now) }
+    ensures classes { IfOk result (λ found. found ≡ map
+        (trees.class_named context.now.metamodel.now context.now.parameters.now) names.now) }
 {
     let mut classes = Seq::new(alloc);
     for name in names {
@@ -244,8 +269,11 @@ fn resolved_variable(
     variable: &Text,
 ) -> Result<TypedPath, TypingError>
     requires { IsScope context.now.metamodel.now scope.now }
-    ensures path { Gives (λ found. found) result (scopes.resolved context.now.metamodel.now context.now.groups.now scope.now clause (typing.variable_path variable.now)) }
-    ensures place { IfOk result (λ p. p.variable ≡ trees.place (scopes.place_of scope.now variable.now)) }
+    ensures path { Gives (λ found. found) result
+        (scopes.resolved context.now.metamodel.now context.now.groups.now scope.now clause
+        (typing.variable_path variable.now)) }
+    ensures place { IfOk result (λ p. p.variable
+        ≡ trees.place (scopes.place_of scope.now variable.now)) }
     ensures within { IfOk result (λ p. IsClass context.now.metamodel.now p.class) }
 {
     let path = Path {
@@ -265,8 +293,11 @@ pub(crate) fn type_of(
     names: &[Text],
 ) -> Result<TypedCondition, TypingError>
     requires { IsScope context.now.metamodel.now scope.now }
-    ensures typed { IsJudged result (typing.condition_step context.now.metamodel.now context.now.parameters.now context.now.groups.now (test.«Type» variable.now names.now) scope.now clause) }
-    ensures tree { IfOk result (λ found. found ≡ trees.test_step context.now.metamodel.now context.now.parameters.now (test.«Type» variable.now names.now) scope.now) }
+    ensures typed { IsJudged result (typing.condition_step context.now.metamodel.now
+        context.now.parameters.now context.now.groups.now (test.«Type» variable.now names.now)
+        scope.now clause) }
+    ensures tree { IfOk result (λ found. found ≡ trees.test_step context.now.metamodel.now
+        context.now.parameters.now (test.«Type» variable.now names.now) scope.now) }
 {
     let path = resolved_variable(alloc, context, scope, clause, variable)?;
     let classes = classes_of_hierarchy(alloc, context, path.class, names)?;

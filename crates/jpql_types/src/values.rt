@@ -44,9 +44,14 @@ pub(crate) fn typed_path(
     path: &Path,
 ) -> Result<(TypedPath, Sort), TypingError>
     requires { IsScope context.now.metamodel.now scope.now }
-    ensures sort { Gives (λ found. found.1) result (typing.sort_of_path context.now.metamodel.now context.now.groups.now scope.now clause path.now) }
-    ensures tree { IfOk result (λ found. found.0 ≡ trees.typed_path context.now.metamodel.now context.now.parameters.now scope.now path.now) }
-    ensures meaning { IfOk result (λ found. path_of context.now.metamodel.now scope.now path.now ≡ Some found.0) }
+    ensures sort { Gives (λ found. found.1) result
+        (typing.sort_of_path context.now.metamodel.now context.now.groups.now scope.now clause
+        path.now) }
+    ensures tree { IfOk result (λ found. found.0
+        ≡ trees.typed_path context.now.metamodel.now context.now.parameters.now scope.now
+        path.now) }
+    ensures meaning { IfOk result (λ found. path_of context.now.metamodel.now scope.now path.now
+        ≡ Some found.0) }
 {
     let path = resolved(alloc, context, scope, clause, path)?;
     let sort = path_sort(context.metamodel, &path);
@@ -62,8 +67,12 @@ pub(crate) fn typed_collection(
     path: &Path,
 ) -> Result<(TypedPath, usize), TypingError>
     requires { IsScope context.now.metamodel.now scope.now }
-    ensures class { Gives (λ found. found.1) result (typing.collection context.now.metamodel.now context.now.groups.now scope.now clause path.now) }
-    ensures tree { IfOk result (λ found. found.0 ≡ trees.typed_path context.now.metamodel.now context.now.parameters.now scope.now path.now) }
+    ensures class { Gives (λ found. found.1) result
+        (typing.collection context.now.metamodel.now context.now.groups.now scope.now clause
+        path.now) }
+    ensures tree { IfOk result (λ found. found.0
+        ≡ trees.typed_path context.now.metamodel.now context.now.parameters.now scope.now
+        path.now) }
     ensures within { IfOk result (λ found. IsClass context.now.metamodel.now found.1) }
 {
     let path = resolved(alloc, context, scope, clause, path)?;
@@ -79,7 +88,8 @@ fn place_of_parameter(parameters: &Parameters<'_>, name: &Text) -> usize
 
 fn typed_parameter(context: &Context<'_>, name: &Text) -> (TypedValue, Sort)
     ensures sort { result.1 ≡ typing.parameter_sort context.now.parameters.now name.now }
-    ensures tree { result.0 ≡ TypedValue.Parameter (trees.place_of_parameter context.now.parameters.now name.now) }
+    ensures tree { result.0 ≡ TypedValue.Parameter
+        (trees.place_of_parameter context.now.parameters.now name.now) }
 {
     let place = place_of_parameter(context.parameters, name);
     (
@@ -105,8 +115,12 @@ fn path_value(
     path: &Path,
 ) -> Result<(TypedValue, Sort), TypingError>
     requires { IsScope context.now.metamodel.now scope.now }
-    ensures sort { Gives (λ found. found.1) result (typing.sort_of_path context.now.metamodel.now context.now.groups.now scope.now clause path.now) }
-    ensures tree { IfOk result (λ found. found.0 ≡ TypedValue.Path (trees.typed_path context.now.metamodel.now context.now.parameters.now scope.now path.now)) }
+    ensures sort { Gives (λ found. found.1) result
+        (typing.sort_of_path context.now.metamodel.now context.now.groups.now scope.now clause
+        path.now) }
+    ensures tree { IfOk result (λ found. found.0
+        ≡ TypedValue.Path (trees.typed_path context.now.metamodel.now context.now.parameters.now
+        scope.now path.now)) }
 {
     let (path, sort) = typed_path(alloc, context, scope, clause, path)?;
     Ok((TypedValue::Path(path), sort))
@@ -121,8 +135,12 @@ fn size_value(
     path: &Path,
 ) -> Result<(TypedValue, Sort), TypingError>
     requires { IsScope context.now.metamodel.now scope.now }
-    ensures sort { Gives (λ found. found.1) result (typing.sort_step context.now.metamodel.now context.now.parameters.now context.now.groups.now scope.now (part.Size path.now) clause) }
-    ensures tree { IfOk result (λ found. found.0 ≡ TypedValue.Size (trees.typed_path context.now.metamodel.now context.now.parameters.now scope.now path.now)) }
+    ensures sort { Gives (λ found. found.1) result
+        (typing.sort_step context.now.metamodel.now context.now.parameters.now
+        context.now.groups.now scope.now (part.Size path.now) clause) }
+    ensures tree { IfOk result (λ found. found.0
+        ≡ TypedValue.Size (trees.typed_path context.now.metamodel.now context.now.parameters.now
+        scope.now path.now)) }
 {
     let (path, _) = typed_collection(alloc, context, scope, clause, path)?;
     Ok((TypedValue::Size(path), INTEGER))
@@ -140,8 +158,12 @@ pub(crate) fn typed_value(
     value: &Value,
 ) -> Result<(TypedValue, Sort), TypingError>
     requires { IsScope context.now.metamodel.now scope.now }
-    ensures sort { Gives (λ found. found.1) result (typing.value_sort context.now.metamodel.now context.now.parameters.now context.now.groups.now scope.now clause value.now) }
-    ensures tree { IfOk result (λ found. found.0 ≡ trees.typed_value context.now.metamodel.now context.now.parameters.now scope.now value.now) }
+    ensures sort { Gives (λ found. found.1) result
+        (typing.value_sort context.now.metamodel.now context.now.parameters.now
+        context.now.groups.now scope.now clause value.now) }
+    ensures tree { IfOk result (λ found. found.0
+        ≡ trees.typed_value context.now.metamodel.now context.now.parameters.now scope.now
+        value.now) }
 {
     match value {
         Value::Integer(number) => Ok((TypedValue::Integer(*number), INTEGER)),
@@ -189,8 +211,12 @@ fn typed_sign(
     operand: &Value,
 ) -> Result<(TypedValue, Sort), TypingError>
     requires { IsScope context.now.metamodel.now scope.now }
-    ensures sort { Gives (λ found. found.1) result (typing.value_sort context.now.metamodel.now context.now.parameters.now context.now.groups.now scope.now clause (Value.Signed sign operand.now)) }
-    ensures tree { IfOk result (λ found. found.0 ≡ trees.typed_value context.now.metamodel.now context.now.parameters.now scope.now (Value.Signed sign operand.now)) }
+    ensures sort { Gives (λ found. found.1) result
+        (typing.value_sort context.now.metamodel.now context.now.parameters.now
+        context.now.groups.now scope.now clause (Value.Signed sign operand.now)) }
+    ensures tree { IfOk result (λ found. found.0
+        ≡ trees.typed_value context.now.metamodel.now context.now.parameters.now scope.now
+        (Value.Signed sign operand.now)) }
 {
     let operand = typed_value(alloc, context, scope, clause, operand)?;
     nodes::signed(alloc, sign, operand)
@@ -209,9 +235,15 @@ fn typed_right(
     right: &Value,
 ) -> Result<(TypedValue, Sort), TypingError>
     requires { IsScope context.now.metamodel.now scope.now }
-    ensures sort { Gives (λ found. found.1) result (typing.sort_step context.now.metamodel.now context.now.parameters.now context.now.groups.now scope.now
-        (part.Arithmetic operation (λ _. Some left.1) (λ c. typing.value_sort context.now.metamodel.now context.now.parameters.now context.now.groups.now scope.now c right.now)) clause) }
-    ensures tree { IfOk result (λ found. found.0 ≡ TypedValue.Arithmetic operation left.0 (trees.typed_value context.now.metamodel.now context.now.parameters.now scope.now right.now)) }
+    ensures sort { Gives (λ found. found.1) result
+        (typing.sort_step context.now.metamodel.now context.now.parameters.now
+        context.now.groups.now scope.now (part.Arithmetic operation (λ _. Some left.1)
+        (λ c. typing.value_sort context.now.metamodel.now context.now.parameters.now
+        context.now.groups.now scope.now c right.now)) clause) }
+    ensures tree { IfOk result (λ found. found.0
+        ≡ TypedValue.Arithmetic operation left.0
+        (trees.typed_value context.now.metamodel.now context.now.parameters.now scope.now
+        right.now)) }
 {
     let right = typed_value(alloc, context, scope, clause, right)?;
     nodes::arithmetic(alloc, operation, left, right)
@@ -228,8 +260,12 @@ fn typed_call(
     arguments: &[Value],
 ) -> Result<(TypedValue, Sort), TypingError>
     requires { IsScope context.now.metamodel.now scope.now }
-    ensures sort { Gives (λ found. found.1) result (typing.value_sort context.now.metamodel.now context.now.parameters.now context.now.groups.now scope.now clause (Value.Call function arguments.now)) }
-    ensures tree { IfOk result (λ found. found.0 ≡ trees.typed_value context.now.metamodel.now context.now.parameters.now scope.now (Value.Call function arguments.now)) }
+    ensures sort { Gives (λ found. found.1) result
+        (typing.value_sort context.now.metamodel.now context.now.parameters.now
+        context.now.groups.now scope.now clause (Value.Call function arguments.now)) }
+    ensures tree { IfOk result (λ found. found.0
+        ≡ trees.typed_value context.now.metamodel.now context.now.parameters.now scope.now
+        (Value.Call function arguments.now)) }
 {
     let (arguments, sorts) = typed_values(alloc, context, scope, clause, arguments)?;
     nodes::call(function, arguments, sorts)
@@ -247,8 +283,13 @@ fn typed_aggregate(
     operand: &Value,
 ) -> Result<(TypedValue, Sort), TypingError>
     requires { IsScope context.now.metamodel.now scope.now }
-    ensures sort { Gives (λ found. found.1) result (typing.value_sort context.now.metamodel.now context.now.parameters.now context.now.groups.now scope.now clause (Value.Aggregate aggregate is_distinct operand.now)) }
-    ensures tree { IfOk result (λ found. found.0 ≡ trees.typed_value context.now.metamodel.now context.now.parameters.now scope.now (Value.Aggregate aggregate is_distinct operand.now)) }
+    ensures sort { Gives (λ found. found.1) result
+        (typing.value_sort context.now.metamodel.now context.now.parameters.now
+        context.now.groups.now scope.now clause
+        (Value.Aggregate aggregate is_distinct operand.now)) }
+    ensures tree { IfOk result (λ found. found.0
+        ≡ trees.typed_value context.now.metamodel.now context.now.parameters.now scope.now
+        (Value.Aggregate aggregate is_distinct operand.now)) }
 {
     if !allows_aggregates(clause) {
         return Err(TypingError::Typing);
@@ -267,8 +308,12 @@ pub(crate) fn typed_values(
     values: &[Value],
 ) -> Result<(Seq<TypedValue>, Seq<Sort>), TypingError>
     requires { IsScope context.now.metamodel.now scope.now }
-    ensures sorts { Gives (λ found. found.1) result (typing.sorts_of context.now.metamodel.now context.now.parameters.now context.now.groups.now scope.now clause values.now) }
-    ensures trees { IfOk result (λ found. found.0 ≡ map (trees.typed_value context.now.metamodel.now context.now.parameters.now scope.now) values.now) }
+    ensures sorts { Gives (λ found. found.1) result
+        (typing.sorts_of context.now.metamodel.now context.now.parameters.now context.now.groups.now
+        scope.now clause values.now) }
+    ensures trees { IfOk result (λ found. found.0
+        ≡ map (trees.typed_value context.now.metamodel.now context.now.parameters.now scope.now)
+        values.now) }
 {
     let mut found = Seq::new(alloc);
     let mut sorts = Seq::new(alloc);
@@ -291,9 +336,13 @@ pub(crate) fn with_value<T: Drop>(
     tree: T,
 ) -> Result<(T, (TypedValue, Sort)), TypingError>
     requires { IsScope context.now.metamodel.now scope.now }
-    ensures sort { Gives (λ found. found.1.1) result (typing.value_sort context.now.metamodel.now context.now.parameters.now context.now.groups.now scope.now clause value.now) }
+    ensures sort { Gives (λ found. found.1.1) result
+        (typing.value_sort context.now.metamodel.now context.now.parameters.now
+        context.now.groups.now scope.now clause value.now) }
     ensures beside { IfOk result (λ found. found.0 ≡ tree) }
-    ensures tree { IfOk result (λ found. found.1.0 ≡ trees.typed_value context.now.metamodel.now context.now.parameters.now scope.now value.now) }
+    ensures tree { IfOk result (λ found. found.1.0
+        ≡ trees.typed_value context.now.metamodel.now context.now.parameters.now scope.now
+        value.now) }
 {
     let found = typed_value(alloc, context, scope, clause, value)?;
     Ok((tree, found))

@@ -93,7 +93,8 @@ fn others(
     first: Value,
     tokens: &[Token],
 ) -> Result<(Seq<Value>, &[Token]), ReadError>
-    ensures { Gives (λ r. (r.0, r.1.now)) result (spec.others_at (value_at depth) (length tokens.now) (first ∷ []) tokens.now) }
+    ensures { Gives (λ r. (r.0, r.1.now)) result
+        (spec.others_at (value_at depth) (length tokens.now) (first ∷ []) tokens.now) }
 {
     let mut found = Seq::new(alloc);
     found.push(first)?;
@@ -117,7 +118,8 @@ pub fn value_list(
     depth: usize,
     tokens: &[Token],
 ) -> Result<(Seq<Value>, &[Token]), ReadError>
-    ensures { Gives (λ r. (r.0, r.1.now)) result (spec.closed (spec.list_at (value_at depth) tokens.now)) }
+    ensures { Gives (λ r. (r.0, r.1.now)) result
+        (spec.closed (spec.list_at (value_at depth) tokens.now)) }
 {
     let (first, rest) = value(alloc, depth, tokens)?;
     let (all, rest) = others(alloc, depth, first, rest)?;
@@ -184,7 +186,8 @@ fn times(
     first: Value,
     tokens: &[Token],
 ) -> Result<(Value, &[Token]), ReadError>
-    ensures { Gives (λ r. (r.0, r.1.now)) result (spec.times_at (value_at depth) (length tokens.now) first tokens.now) }
+    ensures { Gives (λ r. (r.0, r.1.now)) result
+        (spec.times_at (value_at depth) (length tokens.now) first tokens.now) }
 {
     let mut found = first;
     let mut rest = tokens;
@@ -229,7 +232,8 @@ fn sums(
     first: Value,
     tokens: &[Token],
 ) -> Result<(Value, &[Token]), ReadError>
-    ensures { Gives (λ r. (r.0, r.1.now)) result (spec.sums_at (value_at depth) (length tokens.now) first tokens.now) }
+    ensures { Gives (λ r. (r.0, r.1.now)) result
+        (spec.sums_at (value_at depth) (length tokens.now) first tokens.now) }
 {
     let mut found = first;
     let mut rest = tokens;

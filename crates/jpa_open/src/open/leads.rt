@@ -71,7 +71,8 @@ fn passes(asked: &Asked<'_>, owner: &Identity) -> bool
 impl OpenSet {
     /// Whether what stands under an identity owns another, at any place.
     fn owns_anywhere(&self, owner: &Identity, id: &Identity) -> bool
-        ensures { result ≡ test_at (leads.owns_anywhere id.now) owner.now (sets.stored_at (opened.now self.now) owner.now) }
+        ensures { result ≡ test_at (leads.owns_anywhere id.now) owner.now
+            (sets.stored_at (opened.now self.now) owner.now) }
     {
         match self.get(owner) {
             None => false,
@@ -99,7 +100,8 @@ impl OpenSet {
 
     /// Whether an object of the class or below it stands under an identity.
     fn is_of(&self, metamodel: &Metamodel, id: &Identity, class: usize) -> bool
-        ensures { result ≡ sets.is_of metamodel.now (sets.stored_at (opened.now self.now) id.now) class }
+        ensures { result ≡ sets.is_of metamodel.now (sets.stored_at (opened.now self.now) id.now)
+            class }
     {
         match self.get(id) {
             None => false,
@@ -115,7 +117,8 @@ impl OpenSet {
         asked: &Asked<'_>,
         relation: &Relation,
     ) -> bool
-        ensures { result ≡ relation_test metamodel.now (opened.now self.now) id.now asked.now relation.now }
+        ensures { result ≡ relation_test metamodel.now (opened.now self.now) id.now asked.now
+            relation.now }
     {
         match asked {
             Asked::Wrong => !self.is_of(metamodel, id, relation.target),
@@ -136,7 +139,8 @@ impl OpenSet {
         id: &Identity,
         asked: &Asked<'_>,
     ) -> bool
-        ensures { result ≡ test_at (owns_asked asked.now class place id.now) owner.now (sets.stored_at (opened.now self.now) owner.now) }
+        ensures { result ≡ test_at (owns_asked asked.now class place id.now) owner.now
+            (sets.stored_at (opened.now self.now) owner.now) }
     {
         match self.get(owner) {
             None => false,
@@ -148,7 +152,8 @@ impl OpenSet {
 
     /// Whether an object of this very class that is asked for owns an identity at a place.
     fn has_owner(&self, class: usize, place: usize, id: &Identity, asked: &Asked<'_>) -> bool
-        ensures { result ≡ list_any (owns_asked asked.now class place id.now) (opened.now self.now) }
+        ensures { result ≡ list_any (owns_asked asked.now class place id.now)
+            (opened.now self.now) }
     {
         let alloc = *self.committed.allocator();
         let print = print_of(id);
@@ -173,7 +178,10 @@ impl OpenSet {
         id: &Identity,
         asked: &Asked<'_>,
     ) -> bool
-        ensures { result ≡ list_any (holds_asked_at asked.now class (relation_test metamodel.now (opened.now self.now) id.now asked.now relation.now) place id.now) (opened.now self.now) }
+        ensures { result
+            ≡ list_any (holds_asked_at asked.now class
+            (relation_test metamodel.now (opened.now self.now) id.now asked.now relation.now) place
+            id.now) (opened.now self.now) }
     {
         if !self.is_asked(metamodel, id, asked, relation) {
             return false;
@@ -190,7 +198,10 @@ impl OpenSet {
         asked: &Asked<'_>,
     ) -> bool
         requires { class < length metamodel.now.entities }
-        ensures { result ≡ list_any (holds_asked_in asked.now class (relation_test metamodel.now (opened.now self.now) id.now asked.now) id.now (chains.relations_of metamodel.now class)) (opened.now self.now) }
+        ensures { result
+            ≡ list_any (holds_asked_in asked.now class
+            (relation_test metamodel.now (opened.now self.now) id.now asked.now) id.now
+            (chains.relations_of metamodel.now class)) (opened.now self.now) }
     {
         for (place, relation) in metamodel.relations_of(class).iter().enumerate() {
             if self.holds_at(metamodel, class, place, relation, id, asked) {
@@ -202,7 +213,10 @@ impl OpenSet {
 
     /// Whether an object that is asked for owns an identity in a relation that is.
     fn holds(&self, metamodel: &Metamodel, id: &Identity, asked: &Asked<'_>) -> bool
-        ensures { result ≡ list_any (holds_asked metamodel.now asked.now (relation_test metamodel.now (opened.now self.now) id.now asked.now) id.now) (opened.now self.now) }
+        ensures { result
+            ≡ list_any (holds_asked metamodel.now asked.now
+            (relation_test metamodel.now (opened.now self.now) id.now asked.now) id.now)
+            (opened.now self.now) }
     {
         for class in 0..metamodel.unit().entities.len() {
             if self.class_holds(metamodel, class, id, asked) {
