@@ -4,3 +4,4 @@ pub mod Blocks
 pub mod Stable
 pub mod Ordered
 pub mod Once
+pub mod Grouped

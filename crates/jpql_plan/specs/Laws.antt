@@ -20,7 +20,7 @@ use Rattle.jpql_eval.specs.Data.{same_data}
 use Rattle.jpql_eval.specs.Aggregates.{once}
 use Rattle.jpql_plan.specs.Paths.{Entry, Tuple, object_at, with_object, objects, related_objects}
 use Rattle.jpql_plan.specs.Meaning.{alone, is_any, in_turn, kept, tuples_where, value, value_drops, condition, truth, source, join, exists}
-use Rattle.jpql_plan.specs.Selection.{Row, precedes, in_order}
+use Rattle.jpql_plan.specs.Selection.{Row, put_tuples, precedes, in_order}
 
 -- the objects of a class, without joins
 abbrev pub range_of : ℕ → TypedSource
@@ -82,3 +82,15 @@ is_same_row a b = same_data a.items b.items
 pub record DistinctLaws (rows : List Row) (row : Row) : Type 0 where
   pub one_more : once is_same_row (rows ++ row ∷ [])
       ≡ (if list_any (λ (before : Row). is_same_row before row) rows then once is_same_row rows else once is_same_row rows ++ row ∷ [])
+
+-- the tuples that are grouped by the same as one, and those that aren't
+abbrev pub grouped_with : (Tuple → List Datum) → Tuple → List Tuple → List Tuple
+grouped_with key t ts = filter (λ u. same_data (key t) (key u)) ts
+
+abbrev pub grouped_apart : (Tuple → List Datum) → Tuple → List Tuple → List Tuple
+grouped_apart key t ts = filter (λ u. not (same_data (key t) (key u))) ts
+
+-- GROUP BY (chapter 4.8) parts the tuples: the first group has the first tuple and all that are grouped by the same, in their
+-- order, and the others are the groups of those that are left.
+pub record GroupLaws (key : Tuple → List Datum) (t : Tuple) (ts : List Tuple) : Type 0 where
+  pub first_group : put_tuples key [] (t ∷ ts) ≡ (t ∷ grouped_with key t ts) ∷ put_tuples key [] (grouped_apart key t ts)

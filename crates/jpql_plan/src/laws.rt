@@ -8,7 +8,7 @@ ghost use Rattle.jpql_eval.specs.declared.datum.Truth.{Truth};
 ghost use Rattle.jpql_eval.specs.Answers.{Answer};
 ghost use Rattle.jpql_plan.specs.Paths.{Tuple};
 ghost use Rattle.jpql_plan.specs.Selection.{Row};
-ghost use Rattle.jpql_plan.specs.Laws.{FromLaws, WhereLaws, OrderLaws, DistinctLaws};
+ghost use Rattle.jpql_plan.specs.Laws.{FromLaws, WhereLaws, GroupLaws, OrderLaws, DistinctLaws};
 
 /// The laws of FROM and EXISTS (chapters 4.4 and 4.6.16); it does nothing. A range is the objects of its class in rising
 /// order, an inner join a filter of related objects; a LEFT JOIN loses no tuple; elements of FROM may be parted anywhere;
@@ -22,6 +22,13 @@ pub fn from_laws()
 pub fn where_laws()
     ensures { (test : Tuple → Answer Truth) (drops : Tuple → Bool) (ts : List Tuple) →
         WhereLaws test drops ts }
+{}
+
+/// The law of GROUP BY (chapter 4.8); it does nothing. The first group has the first tuple and all that are grouped by the
+/// same, in their order, and the others are the groups of those that are left: so each tuple stands in one group, and no
+/// two groups are of one key.
+pub fn group_laws()
+    ensures { (key : Tuple → List Datum) (t : Tuple) (ts : List Tuple) → GroupLaws key t ts }
 {}
 
 /// The laws of ORDER BY (chapter 4.9); it does nothing. It is the one stable sort by the keys.

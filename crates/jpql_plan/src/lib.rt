@@ -8,5 +8,5 @@
 mod laws;
 mod plan;
 
-pub use laws::{distinct_laws, from_laws, order_laws, where_laws};
+pub use laws::{distinct_laws, from_laws, group_laws, order_laws, where_laws};
 pub use plan::{Plan, compile};
