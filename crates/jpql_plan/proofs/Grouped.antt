@@ -1,6 +1,5 @@
 -- GROUP BY: the first group takes all tuples of its key, and the others are the groups of those that are left.
 use Rattle.std.proofs.Common.{◌≡◌, ◌∙◌, ap, sym, refl, Bool, true, false, cond, not, List, [], ◌∷◌, ◌++◌, append_assoc}
-use Rattle.std.specs.List.{filter}
 use Rattle.std.proofs.lemmas.List.{append-nil}
 use Rattle.jpql_eval.specs.declared.datum.Datum.{Datum}
 use Rattle.jpql_eval.specs.Data.{same_data}
