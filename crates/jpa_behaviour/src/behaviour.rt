@@ -30,7 +30,8 @@ pub trait Behaviour {
         converter: &Self::Converter,
         value: &Value,
     ) -> Result<Option<Value>, Cause>
-        ensures column { IfOk result (λ answer. answer ≡ meaning.column converter.now value.now) }
+        ensures column { IfOk result (λ answer. answer
+            ≡ meaning.column converter.now value.now) }
         ensures refused { IfErr result (λ cause. cause ≡ Cause.OutOfMemory) };
 
     /// What a converter makes of a column's value for its attribute, nothing where it throws; `OutOfMemory` where

@@ -36,8 +36,8 @@ pub fn members(
     relation: usize,
 ) -> Result<Seq<Identity>, Cause>
     requires class { object.now.class < length metamodel.now.entities }
-    ensures ok { IfOk result
-        (λ ids. ids ≡ sets.members metamodel.now (opened.now view.now) id.now object.now relation) }
+    ensures ok { IfOk result (λ ids. ids ≡ sets.members metamodel.now (opened.now view.now)
+        id.now object.now relation) }
     ensures refused { IfErr result (λ cause. cause ≡ Cause.OutOfMemory) }
 {
     let Some(declared) = metamodel.relations_of(object.class).get(relation) else {

@@ -15,8 +15,8 @@ fn make_table<S: Alter>(tx: &mut Transaction<'_, S>) -> Result<usize, Error>
     requires inside { HasCleanDisk (state S.Store tx.old.conn.now) →
         IsTrue (state S.Store tx.old.conn.now).in_transaction }
     requires empty { HasCleanDisk (state S.Store tx.old.conn.now) →
-        IsTrue (state S.Store tx.old.conn.now).is_open → (state S.Store tx.old.conn.now).now.schema
-        ≡ no_schema }
+        IsTrue (state S.Store tx.old.conn.now).is_open →
+        (state S.Store tx.old.conn.now).now.schema ≡ no_schema }
     ensures same_reference { tx.new.conn.ghost_name ≡ tx.old.conn.ghost_name }
     ensures makes { HasCleanDisk (state S.Store tx.new.conn.now) →
         OnOk result (Makes (state S.Store tx.old.conn.now) (state S.Store tx.new.conn.now)) }
@@ -32,7 +32,8 @@ fn make_table<S: Alter>(tx: &mut Transaction<'_, S>) -> Result<usize, Error>
 pub fn create<S: Alter>(conn: &mut Connection<S>) -> Result<(), Error>
     requires idle { conn.old.in_transaction ≡ false }
     requires empty { HasCleanDisk (state S.Store conn.old) →
-        IsTrue (state S.Store conn.old).is_open → (state S.Store conn.old).now.schema ≡ no_schema }
+        IsTrue (state S.Store conn.old).is_open → (state S.Store conn.old).now.schema
+        ≡ no_schema }
     ensures idle { conn.new.in_transaction ≡ false }
     ensures made { HasCleanDisk (state S.Store conn.new) →
         OnOk result (Made (state S.Store conn.old) (state S.Store conn.new)) }

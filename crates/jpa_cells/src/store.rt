@@ -55,7 +55,8 @@ impl<S: Alter> Model for CellStore<S> {
 /// Counts the refusal, unless it is for want of memory.
 fn refusal_of(error: Error, faults: &mut u64) -> Cause
     ensures told { TellsOf result faults.old faults.new }
-    ensures cause { result ≡ Cause.StoreFault → error ≢ Error.SqliteFailure ErrorCode.OutOfMemory }
+    ensures cause { result ≡ Cause.StoreFault →
+        error ≢ Error.SqliteFailure ErrorCode.OutOfMemory }
 {
     match error {
         Error::SqliteFailure(ErrorCode::OutOfMemory) => Cause::OutOfMemory,
@@ -80,10 +81,11 @@ impl<S: Alter + Drop> CellStore<S> {
         ensures opens { IfOk result (Opens S.Store conn) }
         ensures crash { IfOk result (λ store. Endures S.Store conn store.conn
             (λ tables. tables ≡ (λ t. []))) }
-        ensures refused { IfErr result (λ e. (e.0 ≡ Cause.OutOfMemory) ⊎ (e.0 ≡ Cause.StoreFault)) }
+        ensures refused { IfErr result (λ e. (e.0 ≡ Cause.OutOfMemory)
+            ⊎ (e.0 ≡ Cause.StoreFault)) }
         ensures takes { conn.in_transaction ≡ false → HoldsTable S.Store conn → IsOk result }
-        ensures memory { IfErr result (λ e. e.0 ≡ Cause.OutOfMemory → (conn.in_transaction ≡ false)
-            × ((state S.Store conn).now.schema ≡ no_schema)) }
+        ensures memory { IfErr result (λ e. e.0 ≡ Cause.OutOfMemory →
+            (conn.in_transaction ≡ false) × ((state S.Store conn).now.schema ≡ no_schema)) }
         ensures kept { IfErr result (λ e. Keeps S.Store conn e.1) }
         ensures kept_content { IfErr result (λ e. KeepsContent (state S.Store conn)
             (state S.Store e.1)) }
@@ -267,14 +269,16 @@ impl<S: Alter> CellStore<S> {
     pub fn apply(&mut self, changes: &[CellChange]) -> Result<(), Cause>
         ensures applied { 0 < length changes.now → OnOk result
             (Becomes S.Store self.old.conn self.new.conn (tables_after changes.now)) }
-        ensures nothing { length changes.now ≡ 0 → (result ≡ Ok tt) × (self.new ≡ self.old) }
+        ensures nothing { length changes.now ≡ 0 → (result ≡ Ok tt)
+            × (self.new ≡ self.old) }
         ensures kept { OnErr result (Keeps S.Store self.old.conn self.new.conn) }
         ensures counted { 0 < length changes.now → Counts result self.old.writes self.new.writes
             (sum_by statements_of changes.now) }
         ensures once { IsClean S.Store self.new.conn → OnOk result (NameColumnsOnce changes.now) }
         ensures told { Tells result self.old.faults self.new.faults }
-        ensures cause { IsClean S.Store self.new.conn → Allows S.Store self.old.conn changes.now →
-            result ≡ Err Cause.StoreFault → HasFault S.Store self.old.conn self.new.conn }
+        ensures cause { IsClean S.Store self.new.conn →
+            Allows S.Store self.old.conn changes.now → result ≡ Err Cause.StoreFault →
+            HasFault S.Store self.old.conn self.new.conn }
         ensures others { self.new
             ≡ record self.old {
               conn = self.new.conn;

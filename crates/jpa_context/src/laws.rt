@@ -12,10 +12,11 @@ ghost use Rattle.jpa_context.specs.Work as works;
 /// The laws of `PersistenceContext::near`; it does nothing. The places near a key are places of entries. Who looks for an
 /// entry of a key finds the same among those near it, and so the object of an identity is the first of them that has it.
 pub fn near_laws()
-    ensures within { (n : ℕ) (key : List Value) (es : List Entry) → All (λ e. e.object < n) es →
-        All (λ k. k < n) (places_near key es) }
-    ensures found { (p : ℕ → Bool) (key : List Value) (es : List Entry) → AreUnder key p es →
-        find p (places_near key es) ≡ works.object_in (find (λ e. p e.object) es) }
+    ensures within { (n : ℕ) (key : List Value) (es : List Entry) →
+        All (λ e. e.object < n) es → All (λ k. k < n) (places_near key es) }
+    ensures found { (p : ℕ → Bool) (key : List Value) (es : List Entry) →
+        AreUnder key p es → find p (places_near key es)
+        ≡ works.object_in (find (λ e. p e.object) es) }
     ensures instance { (m : PersistenceUnit) (w : works.Work) (id : Identity) →
         All (IsKeyed w.objects) w.context →
         find (λ n. works.has_identity (works.identity_at m w n) id) (places_near id.key w.context)

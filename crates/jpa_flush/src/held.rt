@@ -89,7 +89,8 @@ pub(crate) fn held_now(
 ) -> Result<Option<Seq<Identity>>, Cause>
     requires placed { IsPlaced metamodel.now (now work.now) }
     requires within { All (λ k. k < length work.now.objects.now) (objects_held held.now) }
-    ensures ok { IfOk result (λ it. it ≡ flushes.held_now metamodel.now (now work.now) held.now) }
+    ensures ok { IfOk result (λ it. it ≡ flushes.held_now metamodel.now (now work.now)
+        held.now) }
     ensures err { IfErr result (λ cause. cause ≡ Cause.OutOfMemory) }
 {
     let alloc = work.view.allocator();

@@ -79,8 +79,8 @@ fn replacement<B: Behaviour>(
 ) -> Result<Planned, Cause>
     requires ready { IsReady unit.now.metamodel (now work.now) }
     requires object { object < length work.now.objects.now }
-    ensures planned { IfOk result
-        (λ planned. planned ≡ plans.replacement unit.now.metamodel (now work.now) object version) }
+    ensures planned { IfOk result (λ planned. planned
+        ≡ plans.replacement unit.now.metamodel (now work.now) object version) }
     ensures ends { let world = world_of_unit B.meaning unit.now in
         Ends result (now work.now) (plans.check_replacement world object version (now work.now)) }
 {
@@ -164,8 +164,10 @@ pub fn plan<B: Behaviour>(
     work: &UnitOfWork,
 ) -> Result<Seq<Planned>, Cause>
     requires ready { IsReady unit.now.metamodel (now work.now) }
-    ensures planned { IfOk result (λ plan. plan ≡ plans.plan_of unit.now.metamodel (now work.now)) }
-    ensures objects { IfOk result (λ plan. All (λ p. p.object < length work.now.objects.now) plan) }
+    ensures planned { IfOk result (λ plan. plan ≡ plans.plan_of unit.now.metamodel
+        (now work.now)) }
+    ensures objects { IfOk result (λ plan. All (λ p. p.object < length work.now.objects.now)
+        plan) }
     ensures ends { let world = world_of_unit B.meaning unit.now in
         Ends result (now work.now) (flushes.check_actions world (now work.now)) }
 {

@@ -56,8 +56,8 @@ fn owned_of(
     requires object { object < length work.now.objects.now }
     ensures ok { let relations = relations_of metamodel.now
         (works.object (now work.now) object).class in
-        IfOk result (λ owned. owned ≡ map (flushes.owned_along metamodel.now (now work.now) object)
-        (enumerate_from 0 relations)) }
+        IfOk result (λ owned. owned ≡ map
+        (flushes.owned_along metamodel.now (now work.now) object) (enumerate_from 0 relations)) }
     ensures err { IfErr result (λ cause. cause ≡ Cause.OutOfMemory) }
 {
     let class = work.objects.as_slice()[object].class;

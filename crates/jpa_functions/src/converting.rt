@@ -132,7 +132,8 @@ pub(crate) fn to_attribute(
     converter: &Converter,
     value: &Value,
 ) -> Result<Option<Value>, Cause>
-    ensures attribute { IfOk result (λ answer. answer ≡ spec.attribute_by converter.now value.now) }
+    ensures attribute { IfOk result (λ answer. answer
+        ≡ spec.attribute_by converter.now value.now) }
     ensures refused { IfErr result (λ cause. cause ≡ Cause.OutOfMemory) }
 {
     match converter {

@@ -49,7 +49,8 @@ fn assign(alloc: Global, name: &Text, value: Value) -> Result<Heard, Cause>
 
 /// Gives an attribute a text.
 fn set_text(alloc: Global, attribute: &Text, text: &Text) -> Result<Heard, Cause>
-    ensures heard { IfOk result (λ heard. heard ≡ spec.assign attribute.now (TextValue text.now)) }
+    ensures heard { IfOk result (λ heard. heard
+        ≡ spec.assign attribute.now (TextValue text.now)) }
     ensures refused { IfErr result (λ cause. cause ≡ Cause.OutOfMemory) }
 {
     assign(alloc, attribute, Value::Text(text.try_copy()?))

@@ -209,8 +209,8 @@ pub fn decode_pair(
     bytes: &[u8],
 ) -> Result<Option<(Key, Key)>, Cause>
     ensures spelled { IfOk result (λ found. (owner target : List Value) →
-        (found ≡ Some (owner, target)) ↔ SpellsPair owner_kinds.now target_kinds.now bytes.now owner
-        target) }
+        (found ≡ Some (owner, target)) ↔ SpellsPair owner_kinds.now target_kinds.now bytes.now
+        owner target) }
     ensures refused { IfErr result (λ cause. cause ≡ Cause.OutOfMemory) }
 {
     Ok(read_pair(alloc, owner_kinds, target_kinds, bytes)?)

@@ -39,7 +39,8 @@ fn push_escaped(out: &mut Vec<u8>, bytes: &[u8]) -> Result<(), Cause>
 
 /// Appends an integer part.
 fn push_int(out: &mut Vec<u8>, number: i64) -> Result<(), Cause>
-    ensures ok { OnOk result (out.new.items ≡ out.old.items ++ keys.part_bytes (Value.Int number)) }
+    ensures ok { OnOk result (out.new.items ≡ out.old.items
+        ++ keys.part_bytes (Value.Int number)) }
     ensures representable { OnOk result (is_representable (Value.Int number) ≡ true) }
     ensures err { IfErr result (λ cause. cause ≡ Cause.OutOfMemory) }
 {

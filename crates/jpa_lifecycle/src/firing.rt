@@ -32,7 +32,8 @@ fn answer<B: Behaviour>(
     name: &str,
     image: &Image,
 ) -> Result<Heard, Cause>
-    ensures ok { IfOk result (λ heard. heard ≡ heard_in B.meaning registry.now name.now image.now) }
+    ensures ok { IfOk result (λ heard. heard ≡ heard_in B.meaning registry.now name.now
+        image.now) }
     ensures err { IfErr result (λ cause. cause ≡ Cause.OutOfMemory) }
 {
     if !registry.has_listener(name) {

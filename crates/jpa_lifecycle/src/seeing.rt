@@ -91,7 +91,8 @@ pub(crate) fn image_of(
     object: &LiveObject,
 ) -> Result<Image, Cause>
     requires { HasShape metamodel.now object.now }
-    ensures ok { IfOk result (λ image. image ≡ callbacks.image_of metamodel.now event object.now) }
+    ensures ok { IfOk result (λ image. image ≡ callbacks.image_of metamodel.now event
+        object.now) }
     ensures err { IfErr result (λ cause. cause ≡ Cause.OutOfMemory) }
 {
     let root = metamodel.root_of(object.class);

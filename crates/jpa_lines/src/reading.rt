@@ -51,7 +51,8 @@ enum Word {
 /// another one that is no call as `BadLine`. Whether its numbers and names name anything is not asked here.
 pub fn read_call(alloc: Global, line: &[u8]) -> Result<Call, Cause>
     ensures ok { IfOk result (λ call. meaning line.now ≡ Ok call) }
-    ensures err { IfErr result (λ cause. (cause ≡ OutOfMemory) ⊎ (meaning line.now ≡ Err cause)) }
+    ensures err { IfErr result (λ cause. (cause ≡ OutOfMemory)
+        ⊎ (meaning line.now ≡ Err cause)) }
 {
     if line.len() > MOST_LINE_BYTES {
         return Err(Cause::Limit);

@@ -118,8 +118,8 @@ fn serve_last<W: Write, P: PersistenceProvider>(
 ) -> Result<(), RunFault>
     ensures ok { OnOk result (ServesLine P.steps provider.old provider.new line.now
         (W.contents writer.old) (W.contents writer.new)) }
-    ensures err { IfErr result (λ fault. BreaksLine P.steps provider.old provider.new fault line.now
-        (W.contents writer.old) (W.contents writer.new)) }
+    ensures err { IfErr result (λ fault. BreaksLine P.steps provider.old provider.new fault
+        line.now (W.contents writer.old) (W.contents writer.new)) }
     ensures no_read { IfErr result IsNoRead }
 {
     serve(alloc, line, writer, provider)?;
@@ -193,8 +193,8 @@ fn serve<W: Write, P: PersistenceProvider>(
 ) -> Result<(), RunFault>
     ensures ok { OnOk result (ServesLine P.steps provider.old provider.new line.now
         (W.contents writer.old) (W.contents writer.new)) }
-    ensures err { IfErr result (λ fault. BreaksLine P.steps provider.old provider.new fault line.now
-        (W.contents writer.old) (W.contents writer.new)) }
+    ensures err { IfErr result (λ fault. BreaksLine P.steps provider.old provider.new fault
+        line.now (W.contents writer.old) (W.contents writer.new)) }
     ensures no_read { IfErr result IsNoRead }
 {
     let reply = answer(alloc, line, provider)?;
@@ -210,7 +210,8 @@ fn answer<P: PersistenceProvider>(
     provider: &mut P,
 ) -> Result<Reply, RunFault>
     ensures ok { IfOk result (λ reply. Answers P.steps provider.old line.now reply provider.new) }
-    ensures err { IfErr result (λ fault. (fault ≡ memory_fault) × (provider.new ≡ provider.old)) }
+    ensures err { IfErr result (λ fault. (fault ≡ memory_fault)
+        × (provider.new ≡ provider.old)) }
 {
     match read_call(alloc, line) {
         Ok(call) => Ok(provider.call(call)),

@@ -14,8 +14,8 @@ use jpa_value::{Cause, Seq, Text};
 use std::alloc::Global;
 
 fn push_root_names<'a>(names: &mut Vec<&'a Text>, origin: &'a DraftOrigin) -> Result<(), Cause>
-    ensures added { OnOk result (map (λ n. n.now) names.new.items ≡ map (λ n. n.now) names.old.items
-        ++ drafted.root_names origin.now) }
+    ensures added { OnOk result (map (λ n. n.now) names.new.items
+        ≡ map (λ n. n.now) names.old.items ++ drafted.root_names origin.now) }
     ensures refused { IfErr result (λ cause. cause ≡ Cause.OutOfMemory) }
 {
     if let DraftOrigin::Root(root) = origin {
@@ -31,8 +31,8 @@ fn push_root_names<'a>(names: &mut Vec<&'a Text>, origin: &'a DraftOrigin) -> Re
 }
 
 fn push_member_names<'a>(names: &mut Vec<&'a Text>, entity: &'a DraftEntity) -> Result<(), Cause>
-    ensures added { OnOk result (map (λ n. n.now) names.new.items ≡ map (λ n. n.now) names.old.items
-        ++ drafted.member_names entity.now) }
+    ensures added { OnOk result (map (λ n. n.now) names.new.items
+        ≡ map (λ n. n.now) names.old.items ++ drafted.member_names entity.now) }
     ensures refused { IfErr result (λ cause. cause ≡ Cause.OutOfMemory) }
 {
     push_root_names(names, &entity.origin)?;
@@ -56,8 +56,8 @@ fn names_along<'a>(alloc: Global, draft: &'a Draft, chain: &[usize]) -> Result<V
 
 fn are_few_along(draft: &Draft, chain: &[usize]) -> bool
     ensures { result
-        ≡ nat_le (sum_by (λ class. well.member_count (drafted.entity_at draft.now class)) chain.now)
-        64 }
+        ≡ nat_le (sum_by (λ class. well.member_count (drafted.entity_at draft.now class))
+        chain.now) 64 }
 {
     let mut room: usize = 64;
     for class in chain {
@@ -91,7 +91,8 @@ pub(crate) fn are_distinct_along(
     draft: &Draft,
     chains: &[Seq<usize>],
 ) -> Result<bool, Cause>
-    ensures judged { IfOk result (λ b. b ≡ list_all (well.is_distinct_along draft.now) chains.now) }
+    ensures judged { IfOk result (λ b. b ≡ list_all (well.is_distinct_along draft.now)
+        chains.now) }
     ensures refused { IfErr result (λ cause. cause ≡ Cause.OutOfMemory) }
 {
     for chain in chains {

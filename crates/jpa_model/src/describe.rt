@@ -151,7 +151,8 @@ fn owner_place(
 ) -> Result<usize, Cause>
     requires chained { chains.now ≡ drafted.chains draft.now }
     requires within { ForSome target (λ i. i < length draft.now.entities) }
-    ensures found { IfOk result (λ place. place ≡ described.owner_place draft.now target name.now) }
+    ensures found { IfOk result (λ place. place
+        ≡ described.owner_place draft.now target name.now) }
     ensures refused { IfErr result (λ cause. cause ≡ Cause.OutOfMemory) }
 {
     match target {

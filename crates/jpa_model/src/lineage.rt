@@ -158,7 +158,8 @@ fn push_declarer(
     relations: &[Relation],
     class: usize,
 ) -> Result<(), Cause>
-    ensures added { OnOk result (declarers.new ≡ declarers.old ++ map (λ r. class) relations.now) }
+    ensures added { OnOk result (declarers.new ≡ declarers.old
+        ++ map (λ r. class) relations.now) }
     ensures refused { IfErr result (λ cause. cause ≡ Cause.OutOfMemory) }
 {
     for _relation in relations {

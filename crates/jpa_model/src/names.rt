@@ -168,7 +168,8 @@ pub(crate) fn place_by_name<T: Named>(items: &[T], name: &Text) -> Option<usize>
 
 /// The first item of this name.
 pub(crate) fn find_by_name<'a, T: Named>(items: &'a [T], name: &Text) -> Option<&'a T>
-    ensures { option_copied result ≡ find (λ item. same_name (T.name_of item) name.now) items.now }
+    ensures { option_copied result ≡ find (λ item. same_name (T.name_of item) name.now)
+        items.now }
 {
     for item in items {
         if is_same_name(item.name(), name) {
@@ -183,8 +184,8 @@ pub(crate) fn push_names<'a, T: Named>(
     names: &mut Vec<&'a Text>,
     items: &'a [T],
 ) -> Result<(), Cause>
-    ensures added { OnOk result (map (λ n. n.now) names.new.items ≡ map (λ n. n.now) names.old.items
-        ++ map T.name_of items.now) }
+    ensures added { OnOk result (map (λ n. n.now) names.new.items
+        ≡ map (λ n. n.now) names.old.items ++ map T.name_of items.now) }
     ensures refused { IfErr result (λ cause. cause ≡ Cause.OutOfMemory) }
 {
     for item in items {

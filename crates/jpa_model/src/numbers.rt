@@ -116,7 +116,8 @@ fn push_join_tables(tables: &mut Vec<i64>, relations: &[DraftRelation]) -> Resul
 }
 
 fn push_tables(tables: &mut Vec<i64>, entity: &DraftEntity) -> Result<(), Cause>
-    ensures added { OnOk result (tables.new.items ≡ tables.old.items ++ drafted.tables entity.now) }
+    ensures added { OnOk result (tables.new.items ≡ tables.old.items
+        ++ drafted.tables entity.now) }
     ensures refused { IfErr result (λ cause. cause ≡ Cause.OutOfMemory) }
 {
     if let DraftOrigin::Root(root) = &entity.origin {

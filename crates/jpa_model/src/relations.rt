@@ -129,7 +129,8 @@ fn have_targets_and_owners(draft: &Draft, chains: &[Seq<usize>], declaring: &Dra
 
 fn all_have_targets_and_owners(draft: &Draft, chains: &[Seq<usize>]) -> bool
     requires { chains.now ≡ drafted.chains draft.now }
-    ensures { result ≡ list_all (λ e. list_all (well.has_target_and_owner draft.now e) e.relations)
+    ensures { result
+        ≡ list_all (λ e. list_all (well.has_target_and_owner draft.now e) e.relations)
         draft.now.entities }
 {
     for entity in draft.entities.as_slice() {

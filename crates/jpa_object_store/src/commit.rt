@@ -94,7 +94,8 @@ fn write_changes<R: RowSource, B: Behaviour>(
         OnOk result (R.holds source.old (rows_of world view.now.committed before.now)
         → R.holds source.new (rows_of world
         (set_after (entries_in objects.now) view.now.committed) next.now)) }
-    ensures err { OnErr result ((rows : Rows) → R.holds source.old rows → R.holds source.new rows) }
+    ensures err { OnErr result ((rows : Rows) → R.holds source.old rows →
+        R.holds source.new rows) }
     ensures cause { IfErr result
         (λ cause. (cause ≡ Cause.OutOfMemory) ⊎ (cause ≡ Cause.StoreFault)) }
     ensures told { R.faults source.new ≡ faults_after result (R.faults source.old) }
@@ -154,7 +155,8 @@ pub fn write<R: RowSource, B: Behaviour>(
     ensures ok { let world = world_of B.meaning metamodel.now registry.now in
         OnOk result (R.holds source.old (rows_of world view.now.committed before.now)
         → R.holds source.new (rows_of world view.now.seen next.now)) }
-    ensures err { OnErr result ((rows : Rows) → R.holds source.old rows → R.holds source.new rows) }
+    ensures err { OnErr result ((rows : Rows) → R.holds source.old rows →
+        R.holds source.new rows) }
     ensures cause { IfErr result
         (λ cause. (cause ≡ Cause.OutOfMemory) ⊎ (cause ≡ Cause.StoreFault)) }
     ensures told { R.faults source.new ≡ faults_after result (R.faults source.old) }
@@ -162,8 +164,8 @@ pub fn write<R: RowSource, B: Behaviour>(
     ensures schema { R.schema source.new ≡ R.schema source.old }
     ensures unread { R.reads source.new ≡ R.reads source.old }
     ensures crash { let world = world_of B.meaning metamodel.now registry.now in
-        R.holds source.old (rows_of world view.now.committed before.now)
-        → R.endures source.old source.new (λ left. left ≡ rows_of world view.now.seen next.now) }
+        R.holds source.old (rows_of world view.now.committed before.now) →
+        R.endures source.old source.new (λ left. left ≡ rows_of world view.now.seen next.now) }
     ensures counted { let world = world_of B.meaning metamodel.now registry.now in
         OnOk result (RunsDifference (rows_of world view.now.committed before.now)
         (rows_of world view.now.seen next.now) (R.writes source.old) (R.writes source.new)) }

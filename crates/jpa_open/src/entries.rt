@@ -82,7 +82,8 @@ pub(crate) fn take_entry(entries: &mut Vec<Boxed<(Identity, Stored)>>, id: &Iden
 /// Takes identities out of entries in rising order. Takes no memory.
 fn take_each(entries: &mut Vec<Boxed<(Identity, Stored)>>, drops: &[(Identity, ())])
     requires rising { T (is_sorted identity_cmp entries.old.items) }
-    ensures taken { entries.new.items ≡ sets.without (map (λ e. e.0) drops.now) entries.old.items }
+    ensures taken { entries.new.items ≡ sets.without (map (λ e. e.0) drops.now)
+        entries.old.items }
     ensures rising { T (is_sorted identity_cmp entries.new.items) }
     ensures len { vec_len entries.new ≤ vec_len entries.old }
     ensures capacity { vec_capacity entries.new ≡ vec_capacity entries.old }

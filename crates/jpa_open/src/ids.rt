@@ -100,7 +100,8 @@ pub(crate) fn insert_each(
 ) -> Result<(), Cause>
     requires { T (is_sorted identity_cmp ids.old.items) }
     ensures ok { OnOk result ((q : Identity) → is_some (find identity_cmp q ids.new.items)
-        ≡ (is_some (find identity_cmp q more.now) || is_some (find identity_cmp q ids.old.items))) }
+        ≡ (is_some (find identity_cmp q more.now)
+        || is_some (find identity_cmp q ids.old.items))) }
     ensures rising { OnOk result (T (is_sorted identity_cmp ids.new.items)) }
     ensures err { IfErr result (λ cause. cause ≡ Cause.OutOfMemory) }
 {
@@ -117,7 +118,8 @@ pub(crate) fn insert_keys(
 ) -> Result<(), Cause>
     requires { T (is_sorted identity_cmp ids.old.items) }
     ensures ok { OnOk result ((q : Identity) → is_some (find identity_cmp q ids.new.items)
-        ≡ (is_some (sets.stored_at entries.now q) || is_some (find identity_cmp q ids.old.items))) }
+        ≡ (is_some (sets.stored_at entries.now q)
+        || is_some (find identity_cmp q ids.old.items))) }
     ensures rising { OnOk result (T (is_sorted identity_cmp ids.new.items)) }
     ensures err { IfErr result (λ cause. cause ≡ Cause.OutOfMemory) }
 {

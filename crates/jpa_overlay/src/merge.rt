@@ -19,8 +19,8 @@ pub fn merge(
     rows: Seq<(RowId, Row)>,
     changes: &[Change],
 ) -> Result<Seq<(RowId, Row)>, Cause>
-    ensures ok { IfOk result (λ merged. AreRising rows → T (is_sorted identity_cmp changes.now) →
-        merged ≡ rows_under changes.now rows) }
+    ensures ok { IfOk result (λ merged. AreRising rows →
+        T (is_sorted identity_cmp changes.now) → merged ≡ rows_under changes.now rows) }
     ensures refused { IfErr result (λ cause. cause ≡ Cause.OutOfMemory) }
 {
     let mut merged = Seq::new(alloc);

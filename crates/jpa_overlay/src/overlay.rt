@@ -156,7 +156,8 @@ impl Overlay {
     /// their ids, without those that leave a row as it stood. Made in a store of such rows, they give the rows that are seen here.
     /// It reads no store and copies no row, and refuses with `OutOfMemory` alone.
     pub fn into_difference(self, stood: &Overlay) -> Result<Seq<RowChange>, Cause>
-        ensures difference { IfOk result (λ changes. (rows : Rows) → Recalls stood.now self rows →
+        ensures difference { IfOk result (λ changes. (rows : Rows) →
+            Recalls stood.now self rows →
             AreDifference identity_cmp rows (map entry_of changes)) }
         ensures seen { IfOk result (λ changes. (rows : Rows) → AreRising rows →
             Recalls stood.now self rows → rows_after changes rows ≡ rows_under self rows) }

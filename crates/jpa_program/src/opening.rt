@@ -126,15 +126,16 @@ pub fn open<S: Alter + Drop, B: Behaviour>(
     ensures cells { IfOk result (HoldsCommitted S.Store B.meaning) }
     ensures live { IfOk result (λ provider. IsClean S.Store (provider.rows).store.conn →
         IsOpen S.Store (provider.rows).store.conn) }
-    ensures opens { IfOk result (λ provider. KeepsOrMakes S.Store conn (provider.rows).store.conn) }
+    ensures opens { IfOk result (λ provider. KeepsOrMakes S.Store conn
+        (provider.rows).store.conn) }
     ensures crash { IfOk result (λ provider. EnduresMaking S.Store conn
         (provider.rows).store.conn) }
     ensures counted { IfOk result (λ provider. OpensReading S.Store conn (provider.rows).store
         (length (schema_of unit.metamodel).tables)) }
     ensures unknown { known.names_are_known unit.registry unit.metamodel ≡ false
         → result ≡ Err (Cause.Mapping MappingFault.Function, conn) }
-    ensures refused { IfErr result (λ e. known.names_are_known unit.registry unit.metamodel ≡ true
-        → IsOpenCause S.Store (world_of_unit B.meaning unit) e.1 e.0) }
+    ensures refused { IfErr result (λ e. known.names_are_known unit.registry unit.metamodel
+        ≡ true → IsOpenCause S.Store (world_of_unit B.meaning unit) e.1 e.0) }
     ensures cause { IfErr result (λ e. e.0 ≡ Cause.StoreFault → IsClean S.Store e.1 →
         conn.in_transaction ≡ false → HoldsTable S.Store conn → HasFault S.Store conn e.1) }
     ensures kept { IfErr result (λ e. KeepsOrMakes S.Store conn e.1) }

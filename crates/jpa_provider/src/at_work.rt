@@ -61,7 +61,8 @@ pub(crate) fn keep_work(session: &mut Session, manager: usize)
 /// The manager's context goes back to it, and what its work changed is undone. Takes no memory.
 pub(crate) fn restore(alloc: Global, session: &mut Session, manager: usize)
     requires within { manager < length session.old.managers.items }
-    ensures back { (M : Machine) → IsWorking M manager session.old → machine_of session.new ≡ M }
+    ensures back { (M : Machine) → IsWorking M manager session.old → machine_of session.new
+        ≡ M }
     ensures count { length session.new.managers.items ≡ length session.old.managers.items }
     ensures objects { session.new.work.objects.now ≡ (since session.old.work).objects }
     ensures context { (manager_in session.new.managers.items manager).context.now ≡
@@ -103,9 +104,9 @@ pub(crate) fn conclude(
     rule: Rule,
 ) -> Reply
     requires within { manager < length session.old.managers.items }
-    ensures concludes { (M : Machine) → HasOneTransaction M → IsAway M manager session.old
-        → OnErr answered (IsWorking M manager session.old)
-        → Concludes rule M manager (now session.old.work) answered result (machine_of session.new) }
+    ensures concludes { (M : Machine) → HasOneTransaction M → IsAway M manager session.old →
+        OnErr answered (IsWorking M manager session.old) →
+        Concludes rule M manager (now session.old.work) answered result (machine_of session.new) }
     ensures settled { (M : Machine) → IsAway M manager session.old → IsSettled session.new }
     ensures untold { IfErr answered (λ cause. is_store_fault cause ≡ false)
         → tells_fault result ≡ false }

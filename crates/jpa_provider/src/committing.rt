@@ -51,9 +51,10 @@ fn refuse_commit(alloc: Global, session: &mut Session, manager: usize, cause: Ca
     requires within { manager < length session.old.managers.items }
     requires entries { All (λ e. e.object < length (since session.old.work).objects)
         (since session.old.work).context }
-    ensures refuses { (M : Machine) → IsCommitting M manager session.old
-        → serving.Refuses M manager session.old.work.events cause result (machine_of session.new) }
-    ensures settled { (M : Machine) → IsCommitting M manager session.old → IsSettled session.new }
+    ensures refuses { (M : Machine) → IsCommitting M manager session.old →
+        serving.Refuses M manager session.old.work.events cause result (machine_of session.new) }
+    ensures settled { (M : Machine) → IsCommitting M manager session.old →
+        IsSettled session.new }
     ensures untold { is_store_fault cause ≡ false → tells_fault result ≡ false }
 {
     let events = mem::replace(&mut session.work.events, Seq::new(alloc));
@@ -154,7 +155,8 @@ fn store_commit<R: RowSource, B: Behaviour>(
         session.old.work.context.now }
     ensures stores { (M : Machine) → IsCommitting M manager session.old
         → serving.Stores M manager (now session.old.work) result (machine_of session.new) }
-    ensures settled { (M : Machine) → IsCommitting M manager session.old → IsSettled session.new }
+    ensures settled { (M : Machine) → IsCommitting M manager session.old →
+        IsSettled session.new }
     ensures holds { (M : Machine) → IsCommitting M manager session.old
         → let world = world_of_unit B.meaning unit.now in
         R.holds rows.old (rows_kept world M)
@@ -167,8 +169,8 @@ fn store_commit<R: RowSource, B: Behaviour>(
     ensures counted { let world = world_of_unit B.meaning unit.now in
         OnOk result.answer (RunsDifference (rows_before world session.old)
         (rows_seen world session.old) (R.writes rows.old) (R.writes rows.new)) }
-    ensures bounded { let world = world_of_unit B.meaning unit.now in
-        IsErr result.answer → (rows.new ≡ rows.old) ⊎ RunsAtMost (rows_before world session.old)
+    ensures bounded { let world = world_of_unit B.meaning unit.now in IsErr result.answer →
+        (rows.new ≡ rows.old) ⊎ RunsAtMost (rows_before world session.old)
         (rows_seen world session.old) (R.writes rows.old) (R.writes rows.new) }
     ensures unread { R.reads rows.new ≡ R.reads rows.old }
     ensures told { R.faults rows.new ≡ faults_after_reply result (R.faults rows.old) }

@@ -145,7 +145,8 @@ fn shut(alloc: Global, session: &mut Session, manager: usize)
     requires entries { All (λ e. e.object < length session.old.work.objects.now)
         (manager_in session.old.managers.items manager).context.now }
     requires open { is_open_status (manager_in session.old.managers.items manager).status ≡ true }
-    requires idle { is_begun_status (manager_in session.old.managers.items manager).status ≡ false }
+    requires idle { is_begun_status (manager_in session.old.managers.items manager).status
+        ≡ false }
     ensures closed { machine_of session.new ≡ closed (machine_of session.old) manager }
     ensures settled { IsSettled session.new }
 {

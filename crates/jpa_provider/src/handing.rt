@@ -53,10 +53,12 @@ pub(crate) fn are_short(given: &[Given]) -> bool
 /// What is handed in as a value, in a heap of so many objects: `Limit` for a value that is too long, `NoSuchObject` for a
 /// number that names none.
 pub(crate) fn handed(count: usize, given: Given) -> Result<Handed, Cause>
-    ensures meets { (w : Work) → length w.objects ≡ count → Meets result w (calls.handed given w) }
+    ensures meets { (w : Work) → length w.objects ≡ count →
+        Meets result w (calls.handed given w) }
     ensures within { IfOk result
         (λ h. (w : Work) → length w.objects ≡ count → IsInHeap w.objects h) }
-    ensures refused { IfErr result (λ cause. (cause ≡ Cause.Limit) ⊎ (cause ≡ Cause.NoSuchObject)) }
+    ensures refused { IfErr result (λ cause. (cause ≡ Cause.Limit)
+        ⊎ (cause ≡ Cause.NoSuchObject)) }
 {
     match given {
         Given::Plain(value) => {

@@ -142,8 +142,8 @@ impl<R: RowSource, B: Behaviour> Provider<R, B> {
         ensures machine { IsMachine (world_in B.meaning self.now) self.now.machine }
         ensures one { HasOneTransaction self.now.machine }
         ensures described { IsDescribed self.now.model }
-        ensures discriminators { let m = self.now.model in
-            (class : ℕ) → is_class m class ≡ true → is_discriminator (entity_at m class) ≡ true }
+        ensures discriminators { let m = self.now.model in (class : ℕ) → is_class m class
+            ≡ true → is_discriminator (entity_at m class) ≡ true }
     {
         self.unit.metamodel.unit();
         discriminator_law(&self.unit.metamodel);
@@ -164,10 +164,10 @@ fn noted(alloc: Global, numbers: &[u64]) -> Result<UndoList<u64>, AllocError>
 
 /// A session without objects and managers, over a set over which nothing is written.
 fn opened(alloc: Global, view: OpenSet, next: UndoList<u64>, numbers: Seq<u64>) -> Session
-    ensures machine { (committed : StoredSet) → view ≡ unwritten committed → next.now ≡ numbers
-        → machine_of result ≡ opened committed numbers }
-    ensures settled { (committed : StoredSet) → view ≡ unwritten committed → next.since ≡ next.now
-        → IsSettled result }
+    ensures machine { (committed : StoredSet) → view ≡ unwritten committed → next.now
+        ≡ numbers → machine_of result ≡ opened committed numbers }
+    ensures settled { (committed : StoredSet) → view ≡ unwritten committed → next.since
+        ≡ next.now → IsSettled result }
 {
     Session {
         managers: Vec::new(alloc),

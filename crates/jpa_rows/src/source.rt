@@ -44,7 +44,8 @@ pub trait RowSource {
     /// The row under an id, by one statement at most. While the store holds rows, it refuses with `OutOfMemory` and `StoreFault` alone.
     fn get(&mut self, id: &RowId) -> Result<Option<Row>, Cause>
         ensures ok { clean self.new → IfOk result
-            (λ row. (rows : Rows) → holds self.old rows → row ≡ find identity_cmp id.now rows) }
+            (λ row. (rows : Rows) → holds self.old rows → row
+            ≡ find identity_cmp id.now rows) }
         ensures err { clean self.new → IfErr result
             (λ cause. (rows : Rows) → holds self.old rows → (cause ≡ Cause.OutOfMemory)
             ⊎ (cause ≡ Cause.StoreFault)) }

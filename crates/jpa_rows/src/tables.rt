@@ -247,7 +247,8 @@ fn pair_kinds(
 ) -> Result<Seq<Kind>, Cause>
     requires owner { owner < length metamodel.now.entities }
     requires target { target < length metamodel.now.entities }
-    ensures ok { IfOk result (λ kinds. kinds ≡ tables.kinds_of (chains.root_of metamodel.now owner)
+    ensures ok { IfOk result (λ kinds. kinds ≡ tables.kinds_of
+        (chains.root_of metamodel.now owner)
         ++ tables.kinds_of (chains.root_of metamodel.now target)) }
     ensures err { IfErr result (λ cause. cause ≡ Cause.OutOfMemory) }
 {
@@ -300,7 +301,8 @@ fn push_join_tables(
 
 fn push_tables(found: &mut Seq<TableRule>, metamodel: &Metamodel, class: usize) -> Result<(), Cause>
     requires { class < length metamodel.now.entities }
-    ensures ok { OnOk result (found.new ≡ found.old ++ tables.tables_of_class metamodel.now class) }
+    ensures ok { OnOk result (found.new ≡ found.old
+        ++ tables.tables_of_class metamodel.now class) }
     ensures err { IfErr result (λ cause. cause ≡ Cause.OutOfMemory) }
 {
     let entity = entity_at(metamodel, class);

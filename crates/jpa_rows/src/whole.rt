@@ -80,8 +80,8 @@ fn is_field_of(table: &TableRule, field: &Field) -> bool
 }
 
 fn are_fields_of(table: &TableRule, row: &[Field]) -> bool
-    ensures { result ≡ list_all (λ f. rows.is_field_by f.content (rows.rule_of table.now f.column))
-        row.now }
+    ensures { result
+        ≡ list_all (λ f. rows.is_field_by f.content (rows.rule_of table.now f.column)) row.now }
 {
     row.iter().all(|field| is_field_of(table, field))
 }

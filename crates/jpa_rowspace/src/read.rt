@@ -40,7 +40,8 @@ pub(crate) fn found_row(
 ) -> Result<Option<Row>, Cause>
     ensures found { IfOk result (reading.IsFound table.now cells) }
     ensures err { IfErr result (λ cause. (cause ≡ Cause.OutOfMemory)
-        ⊎ ((cause ≡ Cause.Damaged table.now.table bytes) × reading.IsIllFormed table.now cells)) }
+        ⊎ ((cause ≡ Cause.Damaged table.now.table bytes)
+        × reading.IsIllFormed table.now cells)) }
 {
     if cells.is_empty() {
         return Ok(None);

@@ -204,7 +204,8 @@ impl<S: Alter> RowSpace<S> {
         ensures holds { OnOk result ((rows : Rows) →
             HoldsRows S.Store self.old.schema self.old.store.conn rows →
             HoldsRows S.Store self.old.schema self.new.store.conn (rows_after changes.now rows)) }
-        ensures nothing { length changes.now ≡ 0 → (result ≡ Ok tt) × (self.new ≡ self.old) }
+        ensures nothing { length changes.now ≡ 0 → (result ≡ Ok tt)
+            × (self.new ≡ self.old) }
         ensures kept { OnErr result (Keeps S.Store self.old.store.conn self.new.store.conn) }
         ensures counted { Counts result self.old.store.writes self.new.store.writes
             (sum_by statements_of changes.now) }

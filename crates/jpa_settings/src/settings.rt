@@ -60,7 +60,8 @@ fn stop_of(alloc: Global, error: Error) -> Stop
 /// A text of its own for a value; none for none.
 fn copied(alloc: Global, value: Option<&str>) -> Result<Option<Text>, Stop>
     ensures ok { IfOk result (λ text. text ≡ option_map (λ v. v.now) value.entry) }
-    ensures err { IfErr result (λ stop. stop ≡ Stop.Refused (Refusal.Because Cause.OutOfMemory)) }
+    ensures err { IfErr result (λ stop. stop ≡ Stop.Refused
+        (Refusal.Because Cause.OutOfMemory)) }
 {
     match value {
         Some(value) => match Text::of(alloc, value) {

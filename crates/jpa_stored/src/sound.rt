@@ -99,8 +99,8 @@ fn leads(metamodel: &Metamodel, set: &StoredSet, target: usize, id: &Identity) -
 
 /// Whether an object of the class or below it stands under each of these identities.
 fn ids_lead(metamodel: &Metamodel, set: &StoredSet, target: usize, ids: &[Identity]) -> bool
-    ensures { result ≡ list_all (λ id. sets.is_of metamodel.now (sets.stored_at set.now id) target)
-        ids.now }
+    ensures { result
+        ≡ list_all (λ id. sets.is_of metamodel.now (sets.stored_at set.now id) target) ids.now }
 {
     for id in ids {
         if !leads(metamodel, set, target, id) {

@@ -249,7 +249,8 @@ fn block(alloc: Global, depth: usize, tokens: &[Token]) -> Result<(Block, &[Toke
 #[cycle(cond)]
 #[tactic(auto, unfolding(jpql_tree::specs::Conditions::exists_at, jpql_tree::specs::Values::closed))]
 fn exists(alloc: Global, depth: usize, tokens: &[Token]) -> Result<(Condition, &[Token]), ReadError>
-    ensures { Gives (λ r. (r.0, r.1.now)) result (spec.exists_at depth (cond_at depth) tokens.now) }
+    ensures { Gives (λ r. (r.0, r.1.now)) result
+        (spec.exists_at depth (cond_at depth) tokens.now) }
 {
     let rest = after_word(Keyword::Select, after(Mark::Open, tokens)?)?;
     let (block, rest) = block(alloc, depth, rest)?;

@@ -107,7 +107,8 @@ fn coalesce<'a>(alloc: Global, all: &[Seen<'a>]) -> Result<Seen<'a>, AllocError>
 }
 
 fn null_if<'a>(alloc: Global, left: &Seen<'a>, right: &Seen<'a>) -> Result<Seen<'a>, AllocError>
-    ensures { IfOk result (λ found. seen found ≡ calls.null_if (seen left.now) (seen right.now)) }
+    ensures { IfOk result (λ found. seen found
+        ≡ calls.null_if (seen left.now) (seen right.now)) }
 {
     match compared(Comparison::Equal, left, right) {
         Truth::Yes => Ok(Seen::Null),

@@ -64,7 +64,8 @@ fn digits(text: &str) -> Result<(Token, &str), ReadError>
 fn until_quote(text: &str) -> Option<(&str, &str)>
     ensures { MatchOption result (spec.quoted_at false text.now ≡ None)
         (λ r. (length r.1.now < length text.now)
-        × (spec.quoted_at false text.now ≡ spec.with_front r.0.now (spec.quoted_at true r.1.now))) }
+        × (spec.quoted_at false text.now
+        ≡ spec.with_front r.0.now (spec.quoted_at true r.1.now))) }
 {
     let (plain, rest) = split_run(Class::Unquoted, text);
     if rest.is_empty() {
@@ -78,7 +79,8 @@ fn until_quote(text: &str) -> Option<(&str, &str)>
 fn after_second(text: &str) -> Option<&str>
     ensures { MatchOption result (spec.quoted_at true text.now ≡ Some ([], text.now))
         (λ r. (length r.now < length text.now)
-        × (spec.quoted_at true text.now ≡ spec.with_front (39 ∷ []) (spec.quoted_at false r.now))) }
+        × (spec.quoted_at true text.now ≡ spec.with_front (39 ∷ [])
+        (spec.quoted_at false r.now))) }
 {
     if first(text) == b'\'' {
         Some(skip_one(text))
@@ -294,13 +296,14 @@ pub fn tokens(alloc: Global, text: &str) -> Result<Vec<Token>, ReadError>
     ensures found { IfOk result (λ found. IsText text.now found.items) }
     ensures only { (tokens : List Token) → IsText text.now tokens →
         Gives (λ found. found.items) result (Some tokens) }
-    ensures none { result ≡ Err Syntax → (tokens : List Token) → IsText text.now tokens → ⊥ }
+    ensures none { result ≡ Err Syntax → (tokens : List Token) → IsText text.now tokens →
+        ⊥ }
 {
     cut(alloc, text)
 }
 
 /// A text has at most one list of tokens.
 pub fn at_most_one_list()
-    ensures { (text : List ℕ) (one other : List Token) → IsText text one → IsText text other → one
-        ≡ other }
+    ensures { (text : List ℕ) (one other : List Token) → IsText text one →
+        IsText text other → one ≡ other }
 {}

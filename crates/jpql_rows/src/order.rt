@@ -68,7 +68,8 @@ pub(crate) fn in_order<'a>(
     keys: &[TypedKey],
     rows: Vec<Row<'a>>,
 ) -> Result<Vec<Row<'a>>, AllocError>
-    ensures { IfOk result (λ sorted. sorted.items ≡ selection.in_order keys.now rows.entry.items) }
+    ensures { IfOk result (λ sorted. sorted.items
+        ≡ selection.in_order keys.now rows.entry.items) }
 {
     let mut sorted = rows;
     sorted.sort_by(|left, right| by_rows(keys, left, right))?;

@@ -79,8 +79,8 @@ fn is_at<'a>(
     place: usize,
     tuple: &Tuple<'a>,
 ) -> bool
-    ensures { let key = selects.group_key run.now paths.now in
-        result ≡ begins_with key (key tuple.now) (slice_index_or (groups_in groups.now) place []) }
+    ensures { let key = selects.group_key run.now paths.now in result
+        ≡ begins_with key (key tuple.now) (slice_index_or (groups_in groups.now) place []) }
 {
     match groups.get(place) {
         None => false,

@@ -116,7 +116,8 @@ fn group_by(alloc: Global, tokens: &[Token]) -> Result<(Seq<Path>, &[Token]), Re
 
 #[tactic(auto, unfolding(jpql_tree::specs::Statements::by_at))]
 fn order_by(alloc: Global, tokens: &[Token]) -> Result<(Seq<SortKey>, &[Token]), ReadError>
-    ensures { Gives (λ r. (r.0, r.1.now)) result (spec.by_at Keyword.Order spec.key_at tokens.now) }
+    ensures { Gives (λ r. (r.0, r.1.now)) result
+        (spec.by_at Keyword.Order spec.key_at tokens.now) }
 {
     if is_word(Keyword::Order, tokens) {
         keys(alloc, after_word(Keyword::By, &tokens[1..])?)

@@ -136,8 +136,8 @@ fn typed_statement(
 ) -> Result<Typed, TypingError>
     ensures typed { IsJudged result (spec.is_statement_typed metamodel.now parameters.now
         query.now) }
-    ensures tree { IfOk result (λ found. found ≡ trees.typed_statement metamodel.now parameters.now
-        query.now) }
+    ensures tree { IfOk result (λ found. found ≡ trees.typed_statement metamodel.now
+        parameters.now query.now) }
 {
     let no_groups: &[Path] = &[];
     let groups = Groups::of(alloc, no_groups)?;
@@ -179,8 +179,8 @@ fn typed_query(
     query: &Query,
 ) -> Result<Typed, TypingError>
     ensures typed { IsJudged result (spec.is_typed metamodel.now parameters.now query.now) }
-    ensures tree { IfOk result (λ found. found ≡ trees.typed_statement metamodel.now parameters.now
-        query.now) }
+    ensures tree { IfOk result (λ found. found ≡ trees.typed_statement metamodel.now
+        parameters.now query.now) }
 {
     if !has_distinct_names(alloc, query)? {
         return Err(TypingError::Typing);

@@ -233,7 +233,8 @@ fn add_in_assignments(
 }
 
 fn add_in_select(names: &mut Seq<Text>, which: Names, select: &Select) -> Result<(), AllocError>
-    ensures { OnOk result (names.new ≡ names.old ++ spec.names_in which (Query.Select select.now)) }
+    ensures { OnOk result (names.new ≡ names.old
+        ++ spec.names_in which (Query.Select select.now)) }
 {
     add_in_items(names, which, select.items.as_slice())?;
     add_in_sources(names, which, select.sources.as_slice())?;

@@ -29,8 +29,10 @@ pub(crate) fn arithmetic(
     left: (TypedValue, Sort),
     right: (TypedValue, Sort),
 ) -> Result<(TypedValue, Sort), TypingError>
-    ensures sort { Gives (λ found. found.1) result (sorts.arithmetic_sort (left.1 ∷ right.1 ∷ [])) }
-    ensures tree { IfOk result (λ found. found.0 ≡ TypedValue.Arithmetic operation left.0 right.0) }
+    ensures sort { Gives (λ found. found.1) result
+        (sorts.arithmetic_sort (left.1 ∷ right.1 ∷ [])) }
+    ensures tree { IfOk result (λ found. found.0
+        ≡ TypedValue.Arithmetic operation left.0 right.0) }
 {
     let sort = arithmetic_sort(&[left.1, right.1]);
     let (left, right) = boxed(alloc, left.0, right.0)?;

@@ -214,7 +214,8 @@ fn path_of(
     path: &Path,
 ) -> Result<TypedPath, TypingError>
     requires { IsScope metamodel.now scope.now }
-    ensures path { Gives (λ found. found) result (scopes.path_of metamodel.now scope.now path.now) }
+    ensures path { Gives (λ found. found) result
+        (scopes.path_of metamodel.now scope.now path.now) }
     ensures within { IfOk result (λ p. IsPath metamodel.now p) }
 {
     let variable = place_of(scope, &path.variable).ok_or(TypingError::Typing)?;

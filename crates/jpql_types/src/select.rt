@@ -61,8 +61,8 @@ fn typed_items(
         (map (spec.item_sort context.now.metamodel.now context.now.parameters.now select.now
         scope.now) select.now.items) ≡ Some found.1) }
     ensures trees { IfOk result (λ found. found.0
-        ≡ map (λ i. trees.typed_value context.now.metamodel.now context.now.parameters.now scope.now
-        i.value) select.now.items) }
+        ≡ map (λ i. trees.typed_value context.now.metamodel.now context.now.parameters.now
+        scope.now i.value) select.now.items) }
 {
     let mut found = Seq::new(alloc);
     let mut sorts = Seq::new(alloc);

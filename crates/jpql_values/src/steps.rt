@@ -101,7 +101,8 @@ pub fn variable(alloc: Global, tokens: &[Token]) -> Result<(Text, &[Token]), Rea
 
 #[tactic(auto, unfolding(jpql_tree::specs::Values::names_at))]
 fn names(alloc: Global, tokens: &[Token]) -> Result<(Seq<Text>, &[Token]), ReadError>
-    ensures { Gives (λ r. (r.0, r.1.now)) result (spec.names_at (length tokens.now) [] tokens.now) }
+    ensures { Gives (λ r. (r.0, r.1.now)) result
+        (spec.names_at (length tokens.now) [] tokens.now) }
 {
     let mut found = Seq::new(alloc);
     let mut rest = tokens;

@@ -151,7 +151,8 @@ fn call(
     callee: Callee,
     tokens: &[Token],
 ) -> Result<(Value, &[Token]), ReadError>
-    ensures { Gives (λ r. (r.0, r.1.now)) result (spec.call_at (value_at depth) callee tokens.now) }
+    ensures { Gives (λ r. (r.0, r.1.now)) result
+        (spec.call_at (value_at depth) callee tokens.now) }
 {
     match callee {
         Callee::Function(function) => {

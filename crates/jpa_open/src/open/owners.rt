@@ -85,8 +85,8 @@ impl OpenSet {
         place: usize,
         id: &Identity,
     ) -> Option<&'a Identity>
-        ensures { option_copied result
-            ≡ slice_get (sets.leading_to metamodel.now (opened.now self.now) class place id.now) 0 }
+        ensures { option_copied result ≡ slice_get
+            (sets.leading_to metamodel.now (opened.now self.now) class place id.now) 0 }
     {
         if class < metamodel.unit().entities.len() {
             return self.first_of_kind(metamodel, class, place, id);
