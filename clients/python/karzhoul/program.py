@@ -43,7 +43,11 @@ class Program:
     def __init__(self, words: Sequence[Words]) -> None:
         self._name, self._errors = words[0], tempfile.TemporaryFile()
         # In a group of its own, so that Ctrl-C at a terminal interrupts a call and doesn't end the program.
-        self._process = Popen(words, bufsize=0, stdin=PIPE, stdout=PIPE, stderr=self._errors, start_new_session=True)
+        try:
+            self._process = Popen(words, bufsize=0, stdin=PIPE, stdout=PIPE, stderr=self._errors, start_new_session=True)
+        except OSError as fault:
+            self._errors.close()
+            raise ProgramNotFound(f"{words[0]!r} can't be started: {fault.strerror}") from fault
         assert self._process.stdin is not None and self._process.stdout is not None
         self._in, self._out = self._process.stdin.fileno(), self._process.stdout.fileno()
         self._end = weakref.finalize(self, _end, self._process, self._process.stdin, self._process.stdout, self._errors)

@@ -62,6 +62,9 @@ class Finding(unittest.TestCase):
             other.chmod(0o755)
             with self.assertRaises(karzhoul.ProgramNotFound):
                 karzhoul.open(PERSONS, program=other)
+            other.write_bytes(b"\0")
+            with self.assertRaises(karzhoul.ProgramNotFound):
+                karzhoul.open(PERSONS, program=other)
 
 
 class Ends(unittest.TestCase):

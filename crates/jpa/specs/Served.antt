@@ -1,5 +1,5 @@
 -- Which unit the program serves, and what a store that was served holds.
-use Rattle.std.specs.Prelude.{◌≡◌, ◌⊎◌, ℕ, List, [], Option, Some, None, Result, Ok, true}
+use Rattle.std.specs.Prelude.{◌≡◌, ◌⊎◌, ℕ, List, [], Option, Some, None, Result, Ok, Err, IsErrAnd, true}
 use Rattle.sqlite_trees.specs.declared.store.Store.{Ghosts}
 use Rattle.sqlite.specs.Held.{Held}
 use Rattle.jpa_value.specs.declared.refusal.Cause.{Cause}
@@ -38,6 +38,10 @@ own_unit = record { metamodel = persons; registry = record { listeners = []; con
 abbrev pub unit_from : Option (List ℕ) → Result ProgramUnit Cause
 unit_from (Some bytes) = unit_in bytes
 unit_from None = Ok own_unit
+
+-- where the unit can't be made the first that is wrong is told, unless memory ran out
+abbrev pub RefusesUnit : {T : Type 0} → Option (List ℕ) → Result T Cause → Type 0
+RefusesUnit mapping result = (cause : Cause) → unit_from mapping ≡ Err cause → IsErrAnd result (λ told. (told ≡ Cause.OutOfMemory) ⊎ (told ≡ cause))
 
 -- want of memory, or a fault of the mapping
 abbrev pub IsMappingCause : Cause → Type 0

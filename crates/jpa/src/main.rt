@@ -175,9 +175,7 @@ fn serve_file(
 /// Serves the unit of a mapping's bytes over the store's file that is named, or without one over a store in memory.
 fn serve_mapping(rt: &HostRuntime, mapping: Option<&[u8]>, db: Option<&Text>) -> Result<Stop, Cause>
     ensures served { OnOk result (spec.GivesServable (option_copied mapping.entry)) }
-    ensures refused { (cause : Cause) → spec.unit_from (option_copied mapping.entry)
-        ≡ Err cause → IsErrAnd result
-        (λ told. (told ≡ Cause.OutOfMemory) ⊎ (told ≡ cause)) }
+    ensures refused { spec.RefusesUnit (option_copied mapping.entry) result }
 {
     let unit = unit_from(rt.alloc(), mapping)?;
     match db {

@@ -6,7 +6,7 @@ ghost use Rattle.sqlite.specs.Held.{state};
 ghost use Rattle.jpa_cells_meaning.specs.Content.{KeepsContent};
 ghost use Rattle.jpa_cells_meaning.specs.Schema.{no_schema};
 ghost use Rattle.jpa_cells_meaning.specs.Tables.{cells_at, tables_after, statements_of, AreRows, NameColumnsOnce, HandsOn, HandsSome};
-ghost use Rattle.jpa_cells_meaning.specs.Store.{up_to_greatest, Counts, Tells, TellsOf, faults_after, new_store, IsClean, IsOpen, tables_in, HoldsTable, IsOrderedIfFound, IsReady, Keeps, Becomes, Opens, Endures, Allows, HasFault};
+ghost use Rattle.jpa_cells_meaning.specs.Store.{up_to_greatest, Counts, Tells, TellsOf, faults_after, new_store, IsClean, IsOpen, tables_in, HoldsTable, IsOrderedIfFound, IsReady, Keeps, Becomes, Opens, Endures, Allows, HasFault, FaultHasCause, StaysOpen};
 
 use crate::found;
 use crate::make::create;
@@ -180,13 +180,11 @@ impl<S: Alter> CellStore<S> {
         ensures cells { IsClean S.Store self.new.conn →
             IfOk result (λ cells. cells ≡ cells_at row.now
             (tables_in S.Store self.old.conn table)) }
-        ensures open { IsClean S.Store self.new.conn →
-            OnOk result (IsOpen S.Store self.old.conn × IsOpen S.Store self.new.conn) }
+        ensures open { StaysOpen S.Store result self.old.conn self.new.conn }
         ensures kept { Keeps S.Store self.old.conn self.new.conn }
         ensures counted { self.new.row_selects ≡ up_to_greatest (self.old.row_selects + 1) }
         ensures told { Tells result self.old.faults self.new.faults }
-        ensures cause { IsClean S.Store self.new.conn → result ≡ Err Cause.StoreFault →
-            HasFault S.Store self.old.conn self.new.conn }
+        ensures cause { FaultHasCause S.Store result self.old.conn self.new.conn }
         ensures others { self.new
             ≡ record self.old {
               conn = self.new.conn;
@@ -208,13 +206,11 @@ impl<S: Alter> CellStore<S> {
         ensures rows { IsClean S.Store self.new.conn →
             IfOk result (λ rows. rows ≡ tables_in S.Store self.old.conn table) }
         ensures rise { IsClean S.Store self.new.conn → IfOk result AreRows }
-        ensures open { IsClean S.Store self.new.conn →
-            OnOk result (IsOpen S.Store self.old.conn × IsOpen S.Store self.new.conn) }
+        ensures open { StaysOpen S.Store result self.old.conn self.new.conn }
         ensures kept { Keeps S.Store self.old.conn self.new.conn }
         ensures counted { self.new.table_selects ≡ up_to_greatest (self.old.table_selects + 1) }
         ensures told { Tells result self.old.faults self.new.faults }
-        ensures cause { IsClean S.Store self.new.conn → result ≡ Err Cause.StoreFault →
-            HasFault S.Store self.old.conn self.new.conn }
+        ensures cause { FaultHasCause S.Store result self.old.conn self.new.conn }
         ensures others { self.new
             ≡ record self.old {
               conn = self.new.conn;
@@ -242,13 +238,11 @@ impl<S: Alter> CellStore<S> {
         ensures own { IfErr result (λ cause. (cause ≡ Cause.OutOfMemory)
             ⊎ (cause ≡ Cause.StoreFault) ⊎ K.refuses cause) }
         ensures steady { K.stops sink.new ≡ K.stops sink.old }
-        ensures open { IsClean S.Store self.new.conn →
-            OnOk result (IsOpen S.Store self.old.conn × IsOpen S.Store self.new.conn) }
+        ensures open { StaysOpen S.Store result self.old.conn self.new.conn }
         ensures kept { Keeps S.Store self.old.conn self.new.conn }
         ensures counted { self.new.table_selects ≡ up_to_greatest (self.old.table_selects + 1) }
         ensures told { self.new.faults ≡ faults_after result self.old.faults }
-        ensures cause { IsClean S.Store self.new.conn → result ≡ Err Cause.StoreFault →
-            HasFault S.Store self.old.conn self.new.conn }
+        ensures cause { FaultHasCause S.Store result self.old.conn self.new.conn }
         ensures others { self.new
             ≡ record self.old {
               conn = self.new.conn;

@@ -104,6 +104,14 @@ module _ {S : Type 0} (g : Ghosts S) where
   abbrev pub HasFault : Held S → Held S → Type 0
   HasFault old new = Faults (state g old) (state g new)
 
+  -- over a clean disk a StoreFault has a cause
+  abbrev pub FaultHasCause : {T : Type 0} → Result T Cause → Held S → Held S → Type 0
+  FaultHasCause result old new = IsClean new → result ≡ Err cause.StoreFault → HasFault old new
+
+  -- over a clean disk a call that is answered found the connection open, and leaves it open
+  abbrev pub StaysOpen : {T : Type 0} → Result T Cause → Held S → Held S → Type 0
+  StaysOpen result old new = IsClean new → OnOk result (IsOpen old × IsOpen new)
+
   -- nothing but a fault stands against these changes
   abbrev pub Allows : Held S → List CellChange → Type 0
   Allows conn changes = CanTake (state g conn).now changes

@@ -1,6 +1,7 @@
 -- What names mean in a description: superclasses, chains, hierarchies, and what the classes of these declare.
 use Rattle.std.specs.Prelude.{ℕ, zero, suc, ℤ, pos, false, ◌==◌, List, [], ◌∷◌, ◌++◌, map, filter, length, slice_index_or, Option, Some, None, unwrap_or, if◌then◌else◌, codes}
 use Rattle.std.specs.List.{flat_map, position_from, range_with_len}
+use Rattle.std.specs.Borrow.{Bor}
 use Rattle.jpa_model.specs.Chains.{same_name}
 use Rattle.jpa_value.specs.declared.event.LifecycleEvent.{LifecycleEvent}
 use Rattle.jpa_model.specs.declared.draft.Draft.{Draft}
@@ -9,6 +10,10 @@ use Rattle.jpa_model.specs.declared.draft.DraftOrigin.{DraftOrigin}
 use Rattle.jpa_model.specs.declared.draft.DraftRelation.{DraftRelation}
 use Rattle.jpa_model.specs.declared.draft.DraftRoot.{DraftRoot}
 use Rattle.jpa_model.specs.declared.draft.DraftSide.{DraftSide}
+
+-- what is borrowed, in its order
+abbrev pub names_in : {T : Type 0} → List (Bor T) → List T
+names_in names = map (λ n. n.now) names
 
 -- what an option gives a list
 abbrev pub listed : {A B : Type 0} → (A → B) → Option A → List B

@@ -14,8 +14,8 @@ use jpa_value::{Cause, Seq, Text};
 use std::alloc::Global;
 
 fn push_root_names<'a>(names: &mut Vec<&'a Text>, origin: &'a DraftOrigin) -> Result<(), Cause>
-    ensures added { OnOk result (map (λ n. n.now) names.new.items
-        ≡ map (λ n. n.now) names.old.items ++ drafted.root_names origin.now) }
+    ensures added { OnOk result (drafted.names_in names.new.items
+        ≡ drafted.names_in names.old.items ++ drafted.root_names origin.now) }
     ensures refused { IfErr result (λ cause. cause ≡ Cause.OutOfMemory) }
 {
     if let DraftOrigin::Root(root) = origin {
@@ -31,8 +31,8 @@ fn push_root_names<'a>(names: &mut Vec<&'a Text>, origin: &'a DraftOrigin) -> Re
 }
 
 fn push_member_names<'a>(names: &mut Vec<&'a Text>, entity: &'a DraftEntity) -> Result<(), Cause>
-    ensures added { OnOk result (map (λ n. n.now) names.new.items
-        ≡ map (λ n. n.now) names.old.items ++ drafted.member_names entity.now) }
+    ensures added { OnOk result (drafted.names_in names.new.items
+        ≡ drafted.names_in names.old.items ++ drafted.member_names entity.now) }
     ensures refused { IfErr result (λ cause. cause ≡ Cause.OutOfMemory) }
 {
     push_root_names(names, &entity.origin)?;
@@ -41,7 +41,7 @@ fn push_member_names<'a>(names: &mut Vec<&'a Text>, entity: &'a DraftEntity) -> 
 }
 
 fn names_along<'a>(alloc: Global, draft: &'a Draft, chain: &[usize]) -> Result<Vec<&'a Text>, Cause>
-    ensures found { IfOk result (λ names. map (λ n. n.now) names.items
+    ensures found { IfOk result (λ names. drafted.names_in names.items
         ≡ drafted.declared_by drafted.member_names draft.now chain.now) }
     ensures refused { IfErr result (λ cause. cause ≡ Cause.OutOfMemory) }
 {
@@ -119,7 +119,7 @@ fn discriminators_of<'a>(
     places: &[usize],
 ) -> Result<Vec<&'a Text>, Cause>
     requires { All (λ class. class < length draft.now.entities) places.now }
-    ensures found { IfOk result (λ texts. map (λ n. n.now) texts.items
+    ensures found { IfOk result (λ texts. drafted.names_in texts.items
         ≡ map (λ class. drafted.discriminator (drafted.entity_at draft.now class)) places.now) }
     ensures refused { IfErr result (λ cause. cause ≡ Cause.OutOfMemory) }
 {

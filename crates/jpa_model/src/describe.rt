@@ -119,7 +119,7 @@ fn relation_names<'a>(
     draft: &'a Draft,
     chain: &[usize],
 ) -> Result<Vec<&'a Text>, Cause>
-    ensures found { IfOk result (λ names. map (λ n. n.now) names.items
+    ensures found { IfOk result (λ names. drafted.names_in names.items
         ≡ map (λ r. r.name) (drafted.declared_by (λ e. e.relations) draft.now chain.now)) }
     ensures refused { IfErr result (λ cause. cause ≡ Cause.OutOfMemory) }
 {

@@ -61,7 +61,7 @@ fn all_hear(listeners: &[DraftListener]) -> bool
 
 #[tactic(auto, using(crate::proofs::SameName::same_texts))]
 fn events_of(alloc: Global, listeners: &[DraftListener]) -> Result<Vec<&Text>, Cause>
-    ensures heard { IfOk result (λ names. map (λ n. n.now) names.items
+    ensures heard { IfOk result (λ names. drafted.names_in names.items
         ≡ flat_map (λ l. l.events) listeners.now) }
     ensures refused { IfErr result (λ cause. cause ≡ Cause.OutOfMemory) }
 {

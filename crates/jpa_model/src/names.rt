@@ -1,6 +1,7 @@
 //! Names: their form, finding them, and whether they are distinct.
 ghost use Rattle.std.specs.Prelude.{◌≡◌, ◌<◌, ◌++◌, List, ℕ, length, map, find, option_copied, OnOk, IfErr, IfSome};
 ghost use Rattle.std.specs.List.{list_any, list_all, position_from};
+ghost use Rattle.jpa_model.specs.Drafted as drafted;
 ghost use Rattle.jpa_model.specs.Chains.{same_name};
 ghost use Rattle.jpa_model.specs.WellFormed.{is_letter, is_letter_or_digit, begins_with_letter, is_name, if_some, are_distinct_by};
 ghost use Rattle.jpa_value.specs.declared.refusal.Cause.{Cause};
@@ -184,8 +185,8 @@ pub(crate) fn push_names<'a, T: Named>(
     names: &mut Vec<&'a Text>,
     items: &'a [T],
 ) -> Result<(), Cause>
-    ensures added { OnOk result (map (λ n. n.now) names.new.items
-        ≡ map (λ n. n.now) names.old.items ++ map T.name_of items.now) }
+    ensures added { OnOk result (drafted.names_in names.new.items
+        ≡ drafted.names_in names.old.items ++ map T.name_of items.now) }
     ensures refused { IfErr result (λ cause. cause ≡ Cause.OutOfMemory) }
 {
     for item in items {
