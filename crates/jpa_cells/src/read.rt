@@ -100,14 +100,15 @@ fn add_entry(
     }
 }
 
-fn rows_of(alloc: Global, shown: &[Row]) -> Result<Seq<CellRow>, Error>
-    ensures rows { IfOk result (λ rows. rows ≡ grouped (map shown_entry shown.now)) }
-    ensures whole { All IsShownEntry shown.now →
+/// The rows of shown cells. Each is dropped as it was taken, so that what is made of it finds its room again.
+fn rows_of(alloc: Global, shown: Vec<Row>) -> Result<Seq<CellRow>, Error>
+    ensures rows { IfOk result (λ rows. rows ≡ grouped (map shown_entry shown.items)) }
+    ensures whole { All IsShownEntry shown.items →
         IfErr result (λ e. e ≡ Error.SqliteFailure ErrorCode.OutOfMemory) }
 {
     let mut rows = Vec::new(alloc);
     'entries: for entry in shown {
-        let (row, cell) = entry_of(entry)?;
+        let (row, cell) = entry_of(&entry)?;
         add_entry(alloc, &mut rows, row, cell)?;
     }
     Ok(Seq::of(rows))
@@ -195,5 +196,5 @@ pub fn read_table<S: Alter>(
         (Leaves (λ _. ⊥)) }
 {
     let rows = select_table(conn, table)?;
-    rows_of(alloc, rows.as_slice())
+    rows_of(alloc, rows)
 }

@@ -410,3 +410,8 @@ read_holds m w e = not (is_read_lock e.lock && is_managed (state_of w e.object))
 
 abbrev pub reads_hold : PersistenceUnit → Work → Bool
 reads_hold m w = list_all (read_holds m w) w.context
+
+-- the flush before a query or a bulk statement, in a transaction under flush mode AUTO (chapter 3.10.8)
+abbrev pub flush_if : Bool → World → Op (Unit {0})
+flush_if true world = flush world
+flush_if false world = done

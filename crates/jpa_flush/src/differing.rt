@@ -6,11 +6,11 @@ ghost use Rattle.jpa_context.specs.Undo.{now, IsPlaced};
 ghost use Rattle.jpa_fetch.specs.Grown.{IsReady, objects_held};
 ghost use Rattle.jpa_flush.specs.Flush as flushes;
 
-use crate::held::held_now;
+use crate::still::holds_still;
 use jpa_context::{Base, UnitOfWork};
 use jpa_heap::Held;
 use jpa_model::{Metamodel, Relation, Side};
-use jpa_value::{Cause, Identity, Seq, Value, is_same_identity, order_keys};
+use jpa_value::{Cause, Identity, Seq, Value, order_keys};
 use std::cmp::Ordering;
 
 /// Whether two lists hold the same values.
@@ -18,21 +18,6 @@ fn are_same_values(a: &[Value], b: &[Value]) -> bool
     ensures { result ≡ flushes.same_values a.now b.now }
 {
     matches!(order_keys(a, b), Ordering::Equal)
-}
-
-/// Whether two lists hold the same identities.
-pub(crate) fn are_same_identities(a: &[Identity], b: &[Identity]) -> bool
-    ensures { result ≡ flushes.same_identities a.now b.now }
-{
-    if a.len() != b.len() {
-        return false;
-    }
-    for (i, id) in a.iter().enumerate() {
-        if !is_same_identity(id, &b[i]) {
-            return false;
-        }
-    }
-    true
 }
 
 /// Whether a side of a relation is the owner's, which is written (chapter 2.9).
@@ -74,16 +59,13 @@ fn is_same_along(
     if !is_owner(relation.side) {
         return Ok(true);
     }
-    match held_now(metamodel, work, held)? {
-        None => Ok(true),
-        Some(now) => Ok(are_same_identities(before.as_slice(), now.as_slice())),
-    }
+    holds_still(metamodel, work, held, before.as_slice())
 }
 
 /// Whether an object has another value than its base, or holds others in a relation that it owns and that was read: whether a
 /// flush is to write it (Jakarta Persistence 3.1, chapter 3.2.4). Fails for want of memory alone, with `OutOfMemory`.
 ///
-/// It looks at values first, and builds what a relation holds only of those that are compared.
+/// It looks at values first, and gathers only the members of a collection that is compared.
 pub(crate) fn differs(
     metamodel: &Metamodel,
     work: &UnitOfWork,

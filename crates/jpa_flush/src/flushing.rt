@@ -87,3 +87,28 @@ pub fn flush<B: Behaviour>(
     tell_updates(alloc, unit, work)?;
     write_changes(alloc, unit, work)
 }
+
+/// The flush before a query or a bulk statement, where there is one: in a transaction under flush mode AUTO (chapter 3.10.8).
+/// Refused as `flush` is.
+pub fn flush_if<B: Behaviour>(
+    alloc: Global,
+    unit: &ServedUnit<B>,
+    work: &mut UnitOfWork,
+    is_due: bool,
+) -> Result<(), Cause>
+    requires orderly { IsOrderly unit.now.metamodel }
+    requires ready { IsReady unit.now.metamodel (now work.old) }
+    requires shown { is_due ≡ true → work.old.view.is_shown ≡ true }
+    requires sound { IsSound unit.now.metamodel (now work.old).view }
+    requires rising { T (is_sorted identity_cmp (now work.old).view) }
+    requires distinct { has_distinct_entries unit.now.metamodel (now work.old) ≡ true }
+    ensures meets { let world = world_of_unit B.meaning unit.now in
+        Meets result (now work.new) (flushes.flush_if is_due world (now work.old)) }
+    ensures since { since work.new ≡ since work.old }
+{
+    if is_due {
+        flush(alloc, unit, work)
+    } else {
+        Ok(())
+    }
+}

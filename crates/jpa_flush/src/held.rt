@@ -44,7 +44,7 @@ fn put_in(ids: &mut Vec<Identity>, id: Identity) -> Result<(), Cause>
 
 /// The identities of objects in rising order, each once. Where the objects come in that order already, as the members of an
 /// inverse side do, each identity is put at the end.
-fn rising(
+pub(crate) fn rising(
     alloc: Global,
     metamodel: &Metamodel,
     work: &UnitOfWork,

@@ -17,9 +17,10 @@ mod reaching;
 mod remembering;
 mod settling;
 mod steps;
+mod still;
 mod storing;
 mod telling;
 mod writing;
 
-pub use flushing::flush;
+pub use flushing::{flush, flush_if};
 pub use locks::reads_hold;

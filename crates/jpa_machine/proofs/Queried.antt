@@ -21,11 +21,12 @@ use Rattle.jpql_types.specs.declared.typed.TypedSelect.{TypedSelect}
 use Rattle.jpql_eval.specs.declared.datum.Datum.{Datum}
 use Rattle.jpql_eval.specs.Answers as answers
 use Rattle.jpql_plan.specs.Selection.{selected}
-use Rattle.jpa_queries.specs.declared.asked.Asked.{Asked}
-use Rattle.jpa_queries.specs.declared.asked.Binding.{Binding}
-use Rattle.jpa_queries.specs.Asking.{give_or, given, read_of, statement_of, sorts_of, arguments_of, select_in}
-use Rattle.jpa_queries.specs.Reading.{query_of, is_within, declares_few}
-use Rattle.jpa_queries.specs.Queries.{answer, flush_if, judged, table_of, rows_found, rows_asked, item_of, row_of, query, the_one, query_single, is_count}
+use Rattle.jpa_asked.specs.declared.asked.Asked.{Asked}
+use Rattle.jpa_asked.specs.declared.asked.Binding.{Binding}
+use Rattle.jpa_asked.specs.Asking.{give_or, given, read_of, statement_of, sorts_of, arguments_of, select_in}
+use Rattle.jpa_asked.specs.Reading.{query_of, is_within, declares_few}
+use Rattle.jpa_flush.specs.Flush.{flush_if}
+use Rattle.jpa_queries.specs.Queries.{answer, judged, table_of, rows_found, rows_asked, item_of, row_of, query, the_one, query_single, is_count}
 use Rattle.jpa_machine.specs.Calls as calls
 use Rattle.jpa_machine.specs.Querying.{are_short, asked_of, bindings_in, bound, query_call, query_single_call}
 use Rattle.jpa_consistent.specs.Going.{HoldsAfter}

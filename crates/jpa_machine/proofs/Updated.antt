@@ -21,10 +21,10 @@ use Rattle.jpa_context.specs.Steps.{Outcome, Done, Refused, Meets, after, requir
 use Rattle.jpa_flush.specs.Flush.{flush}
 use Rattle.jpql_tree.specs.Grammar.{Text}
 use Rattle.jpql_kept.specs.Fits.{AreInherited}
-use Rattle.jpa_queries.specs.declared.asked.Binding.{Binding}
-use Rattle.jpa_queries.specs.Asking.{read_of, statement_of}
-use Rattle.jpa_queries.specs.Premises.{AreInHeap}
-use Rattle.jpa_queries.specs.Queries.{flush_if}
+use Rattle.jpa_asked.specs.declared.asked.Binding.{Binding}
+use Rattle.jpa_asked.specs.Asking.{read_of, statement_of}
+use Rattle.jpa_asked.specs.Premises.{AreInHeap}
+use Rattle.jpa_flush.specs.Flush.{flush_if}
 use Rattle.jpa_updates.specs.Held.{HaveKeys}
 use Rattle.jpa_updates.specs.Updates.{is_bulk, judged_bulk, with_view, run_bulk, execute_update}
 use Rattle.jpa_updates.proofs.Executed.{executed}

@@ -10,8 +10,8 @@ use Rattle.jpa_context.specs.Steps.{◌>>=◌, ◌>>◌, Op, give, read, require
 use Rattle.jpa_protocol.specs.declared.call.Given.{Given}
 use Rattle.jpa_protocol.specs.declared.call.Parameter.{Parameter}
 use Rattle.jpa_protocol.specs.declared.reply.Answer.{Answer}
-use Rattle.jpa_queries.specs.declared.asked.Asked.{Asked}
-use Rattle.jpa_queries.specs.declared.asked.Binding.{Binding}
+use Rattle.jpa_asked.specs.declared.asked.Asked.{Asked}
+use Rattle.jpa_asked.specs.declared.asked.Binding.{Binding}
 use Rattle.jpa_queries.specs.Queries.{query, query_single}
 use Rattle.jpa_updates.specs.Updates.{execute_update}
 use Rattle.jpa_machine.specs.Calls.{give_or, is_short_given, told_as}

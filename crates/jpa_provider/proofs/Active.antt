@@ -11,7 +11,7 @@ use Rattle.jpa_context.specs.declared.Entry.{Entry}
 use Rattle.jpa_context.specs.Work.{Work}
 use Rattle.jpa_context.specs.Steps.{Outcome, Done, Refused}
 use Rattle.jpa_queries.specs.Premises.{StaysReady}
-use Rattle.jpa_queries.specs.Queries.{flush_if}
+use Rattle.jpa_flush.specs.Flush.{flush_if}
 use Rattle.jpa_updates.specs.Updates.{StaysSound}
 use Rattle.jpa_context.specs.Undo.{Since}
 use Rattle.jpa_fetch.specs.Grown.{IsReady}

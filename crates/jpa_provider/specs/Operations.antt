@@ -9,7 +9,7 @@ use Rattle.jpa_protocol.specs.declared.reply.Reply.{Reply}
 use Rattle.jpa_heap.specs.declared.Life.{Life}
 use Rattle.jpa_context.specs.Work.{Work}
 use Rattle.jpa_context.specs.Steps.{◌>>=◌, Outcome, Op}
-use Rattle.jpa_queries.specs.declared.asked.Asked.{Asked}
+use Rattle.jpa_asked.specs.declared.asked.Asked.{Asked}
 use Rattle.jpa_provider.specs.declared.operating.Operation.{Operation}
 use Rattle.jpa_provider.specs.declared.querying.Told as rows
 use Rattle.jpa_provider.specs.declared.querying.Wanted.{Wanted}

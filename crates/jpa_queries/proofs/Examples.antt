@@ -22,8 +22,8 @@ use Rattle.jpa_context.specs.Work.{Work}
 use Rattle.jpa_fetch.specs.Members.{collect}
 use Rattle.jpql_types.specs.declared.sort.Sort.{Sort}
 use Rattle.jpql_eval.specs.declared.datum.Datum.{Datum}
-use Rattle.jpa_queries.specs.declared.asked.Binding.{Binding}
-use Rattle.jpa_queries.specs.Asking.{sorts_of, arguments_of}
+use Rattle.jpa_asked.specs.declared.asked.Binding.{Binding}
+use Rattle.jpa_asked.specs.Asking.{sorts_of, arguments_of}
 use Rattle.jpa_queries.specs.Queries.{cut, row_of, single_row}
 
 -- persons with a name

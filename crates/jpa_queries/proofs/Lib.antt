@@ -1,6 +1,4 @@
-mod Bound
 mod Examples
-mod Read
 mod Rows
 mod Steps
 mod Viewed

@@ -6,8 +6,9 @@ use Rattle.jpa_context.specs.Steps.{◌>>◌, Outcome, Done, after}
 use Rattle.jpa_context.specs.Work.{Work}
 use Rattle.jpql_types.specs.declared.typed.TypedSelect.{TypedSelect}
 use Rattle.jpql_eval.specs.declared.datum.Datum.{Datum}
-use Rattle.jpa_queries.specs.declared.asked.Asked.{Asked}
-use Rattle.jpa_queries.specs.Queries.{flush_if, judged, rows_found, rows_asked}
+use Rattle.jpa_asked.specs.declared.asked.Asked.{Asked}
+use Rattle.jpa_flush.specs.Flush.{flush_if}
+use Rattle.jpa_queries.specs.Queries.{judged, rows_found, rows_asked}
 
 pub rows_so : (world : World) (flushes : Bool) (call : Asked) (select : TypedSelect) (arguments : List Datum) (w v : Work) →
     judged world.model call w ≡ Done (select, arguments) w → flush_if flushes world w ≡ Done tt v →

@@ -1,4 +1,2 @@
-pub mod Reading
-pub mod Asking
 pub mod Queries
 pub mod Premises

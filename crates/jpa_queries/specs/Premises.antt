@@ -1,21 +1,13 @@
 -- What code stands on.
-use Rattle.std.specs.Prelude.{◌≡◌, Bool, T, List}
+use Rattle.std.specs.Prelude.{◌≡◌, Bool, T}
 use Rattle.std.specs.FinMap.Entries.{is_sorted}
-use Rattle.std.specs.List.{All}
 use Rattle.jpa_value.specs.Value.{identity_cmp}
 use Rattle.jpa_model.specs.declared.unit.PersistenceUnit.{PersistenceUnit}
 use Rattle.jpa_behaviour.specs.Behaviour.{World}
-use Rattle.jpa_heap.specs.declared.LiveObject.{LiveObject}
-use Rattle.jpa_heap.specs.Shape.{IsInHeap}
 use Rattle.jpa_context.specs.Steps.{Done}
 use Rattle.jpa_context.specs.Work.{Work}
 use Rattle.jpa_fetch.specs.Grown.{IsReady}
-use Rattle.jpa_queries.specs.declared.asked.Binding.{Binding}
-use Rattle.jpa_queries.specs.Queries.{flush_if}
-
--- the objects that are bound stand in the heap
-abbrev pub AreInHeap : List LiveObject → List Binding → Type 0
-AreInHeap objects = All (λ (b : Binding). IsInHeap objects b.value)
+use Rattle.jpa_flush.specs.Flush.{flush_if}
 
 -- operations may go on, and what is seen stands in rising order
 pub record IsReadyToAsk (m : PersistenceUnit) (w : Work) : Type 0 where

@@ -7,16 +7,16 @@ use Rattle.jpa_value.specs.declared.refusal.State.{State}
 use Rattle.jpa_model.specs.declared.unit.PersistenceUnit.{PersistenceUnit}
 use Rattle.jpa_behaviour.specs.Behaviour.{World}
 use Rattle.jpa_protocol.specs.declared.reply.Item.{Item}
-use Rattle.jpa_context.specs.Steps.{◌>>=◌, ◌>>◌, Op, done, give, refuse, require}
+use Rattle.jpa_context.specs.Steps.{◌>>=◌, ◌>>◌, Op, give, refuse, require}
 use Rattle.jpa_fetch.specs.Load.{reach}
 use Rattle.jpa_fetch.specs.Members.{collect}
-use Rattle.jpa_flush.specs.Flush.{flush}
+use Rattle.jpa_flush.specs.Flush.{flush_if}
 use Rattle.jpql_types.specs.declared.typed.TypedSelect.{TypedSelect}
 use Rattle.jpql_eval.specs.declared.datum.Datum.{Datum}
 use Rattle.jpql_eval.specs.Answers.{Answer, gives, overflows}
 use Rattle.jpql_plan.specs.Selection.{selected}
-use Rattle.jpa_queries.specs.declared.asked.Asked.{Asked}
-use Rattle.jpa_queries.specs.Asking.{give_or, read_of, statement_of, select_in}
+use Rattle.jpa_asked.specs.declared.asked.Asked.{Asked}
+use Rattle.jpa_asked.specs.Asking.{give_or, read_of, statement_of, select_in}
 
 -- ---- the cut
 
@@ -41,11 +41,6 @@ abbrev pub cut : {A : Type 0} → Option ℤ → Option ℤ → List A → List 
 cut first max rows = limited max (skipped first rows)
 
 -- ---- the rows
-
--- in a transaction under flush mode AUTO
-abbrev pub flush_if : Bool → World → Op (Unit {0})
-flush_if true world = flush world
-flush_if false world = done
 
 abbrev pub answer : {A : Type 0} → Answer A → Op A
 answer (gives x) = give x

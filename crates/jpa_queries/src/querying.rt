@@ -7,18 +7,18 @@ ghost use Rattle.jpa_context.specs.Undo.{now, since};
 ghost use Rattle.jpa_fetch.specs.Grown.{IsReady};
 ghost use Rattle.jpa_fetch.specs.Orderly.{IsOrderly};
 ghost use Rattle.jpa_ops.specs.Names.{has_distinct_entries};
-ghost use Rattle.jpa_queries.specs.Premises.{AreInHeap, IsReadyToAsk, StaysReady};
+ghost use Rattle.jpa_asked.specs.Premises.{AreInHeap};
+ghost use Rattle.jpa_queries.specs.Premises.{IsReadyToAsk, StaysReady};
 ghost use Rattle.jpa_queries.specs.Queries as queries;
 ghost use Rattle.jpa_stored.specs.Sets.{IsSound};
 ghost use Rattle.jpa_value.specs.Value.{identity_cmp};
 
-use crate::asked::{Asked, Statement};
 use crate::cut::{cut, is_count};
 use crate::results::{row_of, rows_of};
-use crate::statement::{read_of, statement_of};
+use jpa_asked::{Asked, Statement, read_of, statement_of};
 use jpa_behaviour::{Behaviour, ServedUnit};
 use jpa_context::UnitOfWork;
-use jpa_flush::flush;
+use jpa_flush::flush_if;
 use jpa_model::Metamodel;
 use jpa_protocol::Item;
 use jpa_value::{Argument, Cause, Seq, State};
@@ -51,30 +51,6 @@ fn judged(
     match typed {
         Typed::Select(select) => Ok((select, arguments)),
         Typed::Update { .. } | Typed::Delete { .. } => Err(Cause::IllegalState(State::Statement)),
-    }
-}
-
-/// The flush before a query, where there is one. Refused as `flush` is.
-fn flush_if<B: Behaviour>(
-    alloc: Global,
-    unit: &ServedUnit<B>,
-    work: &mut UnitOfWork,
-    flushes: bool,
-) -> Result<(), Cause>
-    requires orderly { IsOrderly unit.now.metamodel }
-    requires ready { IsReady unit.now.metamodel (now work.old) }
-    requires shown { flushes ≡ true → work.old.view.is_shown ≡ true }
-    requires sound { IsSound unit.now.metamodel (now work.old).view }
-    requires rising { T (is_sorted identity_cmp (now work.old).view) }
-    requires distinct { has_distinct_entries unit.now.metamodel (now work.old) ≡ true }
-    ensures meets { let world = world_of_unit B.meaning unit.now in
-        Meets result (now work.new) (queries.flush_if flushes world (now work.old)) }
-    ensures since { since work.new ≡ since work.old }
-{
-    if flushes {
-        flush(alloc, unit, work)
-    } else {
-        Ok(())
     }
 }
 

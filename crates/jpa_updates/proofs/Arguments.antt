@@ -18,9 +18,9 @@ use Rattle.jpa_heap.specs.Shape.{IsInHeap}
 use Rattle.jpa_context.specs.Work.{Work, object, identity_at}
 use Rattle.jpql_eval.specs.declared.datum.Datum.{Datum}
 use Rattle.jpql_kept.specs.Fits.{is_of, are_of}
-use Rattle.jpa_queries.specs.declared.asked.Binding.{Binding}
-use Rattle.jpa_queries.specs.Asking.{sort_of_value, sort_of, datum_of, datum_of_identity, sorts_of, onto, arguments_of}
-use Rattle.jpa_queries.specs.Premises.{AreInHeap}
+use Rattle.jpa_asked.specs.declared.asked.Binding.{Binding}
+use Rattle.jpa_asked.specs.Asking.{sort_of_value, sort_of, datum_of, datum_of_identity, sorts_of, onto, arguments_of}
+use Rattle.jpa_asked.specs.Premises.{AreInHeap}
 use Rattle.jpa_updates.specs.Held.{HaveKeys}
 
 none_some : {A : Type 0} (x : A) → None ≡ Some x → ⊥

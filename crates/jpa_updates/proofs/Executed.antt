@@ -16,12 +16,12 @@ use Rattle.jpql_types.specs.declared.typed.Typed.{Typed}
 use Rattle.jpql_types.specs.Statements.{checked}
 use Rattle.jpql_eval.specs.declared.datum.Datum.{Datum}
 use Rattle.jpql_kept.specs.Fits.{AreInherited}
-use Rattle.jpa_queries.specs.declared.asked.Binding.{Binding}
-use Rattle.jpa_queries.specs.declared.asked.Statement.{Statement}
-use Rattle.jpa_queries.specs.Asking.{give_or, given, read_of, sorts_of, arguments_of, statement_of}
-use Rattle.jpa_queries.specs.Premises.{AreInHeap}
-use Rattle.jpa_queries.specs.Queries.{flush_if}
-use Rattle.jpa_queries.specs.Reading.{query_of, is_within, declares_few}
+use Rattle.jpa_asked.specs.declared.asked.Binding.{Binding}
+use Rattle.jpa_asked.specs.declared.asked.Statement.{Statement}
+use Rattle.jpa_asked.specs.Asking.{give_or, given, read_of, sorts_of, arguments_of, statement_of}
+use Rattle.jpa_asked.specs.Premises.{AreInHeap}
+use Rattle.jpa_flush.specs.Flush.{flush_if}
+use Rattle.jpa_asked.specs.Reading.{query_of, is_within, declares_few}
 use Rattle.jpa_updates.specs.Held.{HaveKeys, IsExecuted}
 use Rattle.jpa_updates.specs.Updates.{is_bulk, judged_bulk, run_bulk, execute_update}
 use Rattle.jpa_updates.proofs.Arguments.{arguments_are}

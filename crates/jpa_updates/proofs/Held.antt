@@ -19,7 +19,7 @@ use Rattle.jpql_eval.specs.declared.datum.Datum.{Datum}
 use Rattle.jpql_plan.specs.Bulk.{Changed, updated, deleted}
 use Rattle.jpql_kept.specs.Fits.{are_of, throws_in, AreInherited}
 use Rattle.jpql_kept.proofs.Kept.{update_keeps, delete_keeps}
-use Rattle.jpa_queries.specs.declared.asked.Statement.{Statement}
+use Rattle.jpa_asked.specs.declared.asked.Statement.{Statement}
 use Rattle.jpa_updates.specs.Held.{IsAsked, IsHeld}
 use Rattle.jpa_updates.specs.Updates.{changed_by, settle, settled, with_view, run_bulk}
 

@@ -16,11 +16,11 @@ use Rattle.jpql_types.specs.declared.typed.Typed.{Typed}
 use Rattle.jpql_types.specs.Statements.{checked}
 use Rattle.jpql_eval.specs.declared.datum.Datum.{Datum}
 use Rattle.jpql_kept.specs.Fits.{are_of, AreInherited}
-use Rattle.jpa_queries.specs.declared.asked.Binding.{Binding}
-use Rattle.jpa_queries.specs.declared.asked.Statement.{Statement}
-use Rattle.jpa_queries.specs.Asking.{sorts_of, arguments_of}
-use Rattle.jpa_queries.specs.Premises.{AreInHeap}
-use Rattle.jpa_queries.specs.Queries.{flush_if}
+use Rattle.jpa_asked.specs.declared.asked.Binding.{Binding}
+use Rattle.jpa_asked.specs.declared.asked.Statement.{Statement}
+use Rattle.jpa_asked.specs.Asking.{sorts_of, arguments_of}
+use Rattle.jpa_asked.specs.Premises.{AreInHeap}
+use Rattle.jpa_flush.specs.Flush.{flush_if}
 use Rattle.jpa_updates.specs.Updates.{with_view, run_bulk, execute_update}
 
 -- a statement that was checked for arguments of these sorts, asked of a work that sees a set which a store can hold

@@ -15,10 +15,10 @@ use Rattle.jpql_types.specs.declared.typed.Typed.{Typed}
 use Rattle.jpql_eval.specs.declared.datum.Datum.{Datum}
 use Rattle.jpql_plan.specs.Bulk.{Changed, updated, deleted}
 use Rattle.jpql_kept.specs.Fits.{throws_in}
-use Rattle.jpa_queries.specs.declared.asked.Binding.{Binding}
-use Rattle.jpa_queries.specs.declared.asked.Statement.{Statement}
-use Rattle.jpa_queries.specs.Asking.{given, read_of, statement_of}
-use Rattle.jpa_queries.specs.Queries.{flush_if}
+use Rattle.jpa_asked.specs.declared.asked.Binding.{Binding}
+use Rattle.jpa_asked.specs.declared.asked.Statement.{Statement}
+use Rattle.jpa_asked.specs.Asking.{given, read_of, statement_of}
+use Rattle.jpa_flush.specs.Flush.{flush_if}
 
 -- ---- what is asked
 

@@ -8,8 +8,8 @@ ghost use Rattle.jpa_context.specs.Work.{Work};
 ghost use Rattle.jpa_fetch.specs.Grown.{IsReady};
 ghost use Rattle.jpa_fetch.specs.Orderly.{IsOrderly};
 ghost use Rattle.jpa_ops.specs.Names.{has_distinct_entries};
-ghost use Rattle.jpa_queries.specs.Premises.{AreInHeap};
-ghost use Rattle.jpa_queries.specs.Queries as queries;
+ghost use Rattle.jpa_asked.specs.Premises.{AreInHeap};
+ghost use Rattle.jpa_flush.specs.Flush.{flush_if};
 ghost use Rattle.jpa_updates.specs.Updates as updates;
 ghost use Rattle.jpa_rows.specs.Cells.{all_representable};
 ghost use Rattle.jpa_stored.specs.Sets.{IsSound};
@@ -18,11 +18,11 @@ ghost use Rattle.jpql_types.specs.declared.typed.Typed.{Typed};
 
 use crate::finding::{made_by_update, taken_by_delete};
 use crate::settling::{put_sound, take_sound};
+use jpa_asked::{Binding, Statement, read_of, statement_of};
 use jpa_behaviour::{Behaviour, ServedUnit};
 use jpa_context::UnitOfWork;
-use jpa_flush::flush;
+use jpa_flush::flush_if;
 use jpa_model::Metamodel;
-use jpa_queries::{Binding, Statement, read_of, statement_of};
 use jpa_value::{Boxed, Cause, State};
 use jpql_eval::Datum;
 use jpql_types::{Typed, TypedAssignment, TypedCondition};
@@ -64,30 +64,6 @@ fn judged(
         return Err(Cause::IllegalState(State::Statement));
     }
     Ok(statement)
-}
-
-/// The flush before a statement, where there is one. Refused as `flush` is.
-fn flush_if<B: Behaviour>(
-    alloc: Global,
-    unit: &ServedUnit<B>,
-    work: &mut UnitOfWork,
-    flushes: bool,
-) -> Result<(), Cause>
-    requires orderly { IsOrderly unit.now.metamodel }
-    requires ready { IsReady unit.now.metamodel (now work.old) }
-    requires shown { flushes ≡ true → work.old.view.is_shown ≡ true }
-    requires sound { IsSound unit.now.metamodel (now work.old).view }
-    requires rising { T (is_sorted identity_cmp (now work.old).view) }
-    requires distinct { has_distinct_entries unit.now.metamodel (now work.old) ≡ true }
-    ensures meets { let world = world_of_unit B.meaning unit.now in
-        Meets result (now work.new) (queries.flush_if flushes world (now work.old)) }
-    ensures since { since work.new ≡ since work.old }
-{
-    if flushes {
-        flush(alloc, unit, work)
-    } else {
-        Ok(())
-    }
 }
 
 /// An UPDATE of a class over the set that a manager sees; how many objects it concerned.
@@ -229,7 +205,7 @@ pub fn execute_update<B: Behaviour>(
         Meets result (now work.new)
         (updates.execute_update world is_active flushes text.now bindings.now (now work.old)) }
     ensures representable { OnOk result ((v : Work)
-        → queries.flush_if flushes (world_of_unit B.meaning unit.now) (now work.old)
+        → flush_if flushes (world_of_unit B.meaning unit.now) (now work.old)
         ≡ Done tt v → all_representable v.view ≡ true
         → all_representable (now work.new).view ≡ true) }
     ensures since { since work.new ≡ since work.old }

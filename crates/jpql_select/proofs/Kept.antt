@@ -45,3 +45,8 @@ module _ {A B : Type 0} (test : B → Answer Truth) (view : A → B) where
 
   pub kept_all : (all : Answer (List B)) (left rest : List A) → rest ≡ [] → all ≡ after left rest → all ≡ gives (map view left)
   kept_all all left rest at h = h ∙ ap (after left) at ∙ ap gives (append-nil (map view left))
+
+-- where each passes, all are left
+pub none_left_out : {B : Type 0} (test : B → Answer Truth) → ((x : B) → test x ≡ gives Truth.Yes) → (all : List B) → kept test all ≡ gives all
+none_left_out test passes [] = refl
+none_left_out test passes (x ∷ all) = λ i. both (λ t more. cond (is_yes t) (x ∷ more) more) (passes x i) (none_left_out test passes all i)

@@ -1,6 +1,6 @@
 use Rattle.std.proofs.Common.{◌≡◌, ◌++◌, drop, length}
 use Rattle.std.specs.Option.{option_map}
-use Rattle.jpa_queries.specs.Premises.{AreInHeap}
+use Rattle.jpa_asked.specs.Premises.{AreInHeap}
 use Rattle.jpa_machine.specs.Querying.{bindings_in}
 use Rattle.jpa_provider.proofs.querying.bindings_in.Given as goal
 

@@ -12,7 +12,7 @@ use Rattle.jpa_context.specs.Undo.{now}
 use Rattle.jpa_fetch.specs.Grown.{IsReady}
 use Rattle.jpa_ops.specs.Names.{has_distinct_entries}
 use Rattle.jpa_protocol.specs.declared.call.FlushMode.{FlushMode}
-use Rattle.jpa_queries.specs.Queries.{flush_if}
+use Rattle.jpa_flush.specs.Flush.{flush_if}
 use Rattle.jpa_updates.specs.Updates.{StaysSound}
 use Rattle.jpa_rows.specs.Cells.{all_representable}
 use Rattle.jpa_consistent.specs.Going.{HoldsAfter}

@@ -1,0 +1,2 @@
+mod Bound
+mod Read

@@ -1,0 +1,91 @@
+-- What a call asks, judged before anything is done: the text, what is bound to its parameters, and the sort of the statement
+-- (Jakarta Persistence 3.1, chapters 3.10.1 queries, 3.10.12 parameters, 4.6.4 input parameters).
+use Rattle.std.specs.Prelude.{List, [], ◌∷◌, map, Option, Some, None, Result, Ok, Err}
+use Rattle.jpa_value.specs.declared.value.Kind.{Kind}
+use Rattle.jpa_value.specs.declared.value.Value.{Value}
+use Rattle.jpa_value.specs.declared.value.Identity.{Identity}
+use Rattle.jpa_value.specs.declared.refusal.Cause.{Cause}
+use Rattle.jpa_value.specs.declared.refusal.Argument.{Argument}
+use Rattle.jpa_model.specs.declared.unit.PersistenceUnit.{PersistenceUnit}
+use Rattle.jpa_model.specs.Chains.{root_class}
+use Rattle.jpa_heap.specs.declared.Handed.{Handed}
+use Rattle.jpa_context.specs.Work.{Work, object, identity_at}
+use Rattle.jpa_context.specs.Steps.{◌>>=◌, ◌>>◌, Op, give, refuse, require, read}
+use Rattle.jpql_tree.specs.declared.Query.{Query}
+use Rattle.jpql_tree.specs.Grammar.{Text}
+use Rattle.jpql_types.specs.declared.sort.Sort.{Sort}
+use Rattle.jpql_types.specs.declared.typed.Typed.{Typed}
+use Rattle.jpql_types.specs.declared.typed.TypedSelect.{TypedSelect}
+use Rattle.jpql_types.specs.Statements.{checked}
+use Rattle.jpql_eval.specs.declared.datum.Datum.{Datum}
+use Rattle.jpa_asked.specs.declared.asked.Binding.{Binding}
+use Rattle.jpa_asked.specs.declared.asked.Statement.{Statement}
+use Rattle.jpa_asked.specs.Reading.{query_of, is_within, declares_few}
+
+abbrev pub give_or : {A : Type 0} → Cause → Option A → Op A
+give_or r (Some x) = give x
+give_or r None = refuse r
+
+abbrev pub given : {A : Type 0} → Result A Cause → Op A
+given (Ok x) = give x
+given (Err r) = refuse r
+
+-- the tree of a text; none where it is outside the grammar, which is told later. Limit is told at once
+abbrev pub read_of : Text → Op (Option Query)
+read_of text = do
+  require (is_within text) Cause.Limit
+  require (declares_few (query_of text)) Cause.Limit
+  give (query_of text)
+
+-- ---- what is bound to a parameter
+
+abbrev pub sort_of_value : Value → Sort
+sort_of_value Value.Null = Sort.Null
+sort_of_value (Value.Int n) = Sort.Basic Kind.Int
+sort_of_value (Value.Text bytes) = Sort.Basic Kind.Text
+sort_of_value (Value.Bytes bytes) = Sort.Basic Kind.Bytes
+
+-- a value is of its kind, an object of its hierarchy
+abbrev pub sort_of : PersistenceUnit → Work → Handed → Sort
+sort_of m w (Handed.Plain v) = sort_of_value v
+sort_of m w (Handed.Object n) = Sort.Entity (root_class m (object w n).class)
+
+-- an object stands for its identity, where its key is whole
+abbrev pub datum_of_identity : Option Identity → Option Datum
+datum_of_identity None = None
+datum_of_identity (Some id) = Some (Datum.Entity id)
+
+abbrev pub datum_of : PersistenceUnit → Work → Handed → Option Datum
+datum_of m w (Handed.Plain v) = Some (Datum.Plain v)
+datum_of m w (Handed.Object n) = datum_of_identity (identity_at m w n)
+
+abbrev pub sorts_of : PersistenceUnit → List Binding → Work → List (Text × Sort)
+sorts_of m bindings w = map (λ (b : Binding). (b.name, sort_of m w b.value)) bindings
+
+-- a datum before the others
+abbrev pub onto : Option Datum → Option (List Datum) → Option (List Datum)
+onto None ds = None
+onto (Some d) None = None
+onto (Some d) (Some ds) = Some (d ∷ ds)
+
+-- what stands for the parameters, where each object has an identity
+abbrev pub arguments_of : PersistenceUnit → List Binding → Work → Option (List Datum)
+arguments_of m [] w = Some []
+arguments_of m (b ∷ bs) w = onto (datum_of m w b.value) (arguments_of m bs w)
+
+-- ---- the statement
+
+-- a statement, typed, with what stands for its parameters by place: objects stand for what they are before a flush
+abbrev pub statement_of : PersistenceUnit → Option Query → List Binding → Op Statement
+statement_of m tree bindings = do
+  query ← give_or (Cause.IllegalArgument Argument.Syntax) tree
+  sorts ← read (sorts_of m bindings)
+  typed ← given (checked m query sorts)
+  found ← read (arguments_of m bindings)
+  arguments ← give_or (Cause.IllegalArgument Argument.Parameter) found
+  give (record { typed = typed; arguments = arguments })
+
+abbrev pub select_in : Typed → Option TypedSelect
+select_in (Typed.Select q) = Some q
+select_in (Typed.Update class assignments filter) = None
+select_in (Typed.Delete class is_named filter) = None

@@ -1,5 +1,0 @@
-use Rattle.jpa_queries.proofs.Read.{read_tree, tree_read}
-use Rattle.jpa_queries.proofs.laws.read_laws.Goals as goal
-
-pub returns : goal.returns
-returns c = record { found = tree_read; only = read_tree }

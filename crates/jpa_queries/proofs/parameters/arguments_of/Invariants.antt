@@ -1,9 +1,0 @@
-use Rattle.std.proofs.Common.{◌≡◌, drop}
-use Rattle.jpa_context.specs.Undo.{now}
-use Rattle.jpa_queries.specs.Asking.{arguments_of}
-use Rattle.jpa_queries.proofs.Bound.{before}
-use Rattle.jpa_queries.proofs.parameters.arguments_of.Given as goal
-
--- what stands for those so far, and for those that are left
-abbrev pub invariant-loop-binding : goal.invariant-loop-binding
-invariant-loop-binding l = before l.arguments (arguments_of l.metamodel (drop l.binding-index l.bindings) (now l.work)) ≡ arguments_of l.metamodel l.bindings (now l.work)

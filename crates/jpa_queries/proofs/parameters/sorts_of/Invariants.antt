@@ -1,8 +1,0 @@
-use Rattle.std.proofs.Common.{◌≡◌, ◌++◌, drop}
-use Rattle.jpa_context.specs.Undo.{now}
-use Rattle.jpa_queries.specs.Asking.{sorts_of}
-use Rattle.jpa_queries.proofs.parameters.sorts_of.Given as goal
-
--- the sorts of those so far, and of those that are left
-abbrev pub invariant-loop-binding : goal.invariant-loop-binding
-invariant-loop-binding l = l.sorts ++ sorts_of l.metamodel (drop l.binding-index l.bindings) (now l.work) ≡ sorts_of l.metamodel l.bindings (now l.work)
