@@ -2,3 +2,4 @@ pub mod Calls
 pub mod Grouping
 pub mod Kept
 pub mod Placed
+mod Shortness

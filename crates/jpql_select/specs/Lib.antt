@@ -1,3 +1,4 @@
 pub mod Cases
 pub mod Groups
 pub mod Selects
+pub mod Short

@@ -9,6 +9,7 @@
 mod case;
 mod groups;
 mod rows;
+mod short;
 mod statement;
 mod tuples;
 
