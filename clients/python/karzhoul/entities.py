@@ -6,7 +6,7 @@ from collections.abc import Callable, Iterable, Iterator, Mapping, MutableSequen
 from functools import partial
 from typing import TYPE_CHECKING, Any, ClassVar, List, NamedTuple, Optional, Tuple, Type, TypeVar, Union
 
-from .lines import LifecycleEvent, text_spelled
+from .lines import LifecycleEvent, line_of, text_spelled
 from .refusals import IllegalArgument
 
 if TYPE_CHECKING:
@@ -25,9 +25,11 @@ class Entity:
     __slots__ = ("__number__", "__weakref__")
     __number__: int
     __factory__: ClassVar[EntityManagerFactory]
+    # The line that makes one.
+    __line__: ClassVar[bytes]
 
     def __new__(cls: Type[E], /, **values: Any) -> E:
-        return cls.__factory__.ask("new", cls.__name__, entity=text_spelled(cls.__name__))  # type: ignore[no-any-return]
+        return cls.__factory__.ask_lines([cls.__line__], cls.__name__)[0]  # type: ignore[no-any-return]
 
     def __init__(self, /, **values: Any) -> None:
         for name, value in values.items():
@@ -157,7 +159,8 @@ class Attribute(property):
 def class_of(factory: EntityManagerFactory, declared: Mapping[str, Any], name: str) -> Type[Entity]:
     """The class of an entity's objects."""
     attributes = {attribute.name: attribute for attribute in _attributes(declared, declared[name])}
-    return type(name, (Entity,), {**attributes, "__slots__": (), "__factory__": factory, "__doc__": f"An object of the entity {name}."})
+    own = {"__slots__": (), "__factory__": factory, "__line__": line_of("new", {"entity": text_spelled(name)})}
+    return type(name, (Entity,), {**attributes, **own, "__doc__": f"An object of the entity {name}."})
 
 
 def _attributes(declared: Mapping[str, Any], entity: Mapping[str, Any]) -> List[Attribute]:

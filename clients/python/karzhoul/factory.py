@@ -26,7 +26,7 @@ Result = Optional[Type[Entity]]
 _decode = json.JSONDecoder().raw_decode
 # Whether a reply answers null: no other one has this end, since of a refusal's its events stand last.
 _is_null = methodcaller("endswith", b',"ok":null}')
-_OBJECT = re.compile(rb'\{"events":\[\],"ok":\{"object":([1-9][0-9]*)\}\}')
+_OBJECT = re.compile(rb'\{"events":\[\],"ok":\{"object":([1-9][0-9]*)\}\}').fullmatch
 
 
 def open(mapping: Union[Words, Mapping[str, Any]], db: Optional[Words] = None, *, program: Optional[Words] = None) -> EntityManagerFactory:
@@ -102,11 +102,12 @@ class EntityManagerFactory(AbstractContextManager["EntityManagerFactory"]):
 
     def new_many(self, entity: Union[str, Type[E]], rows: Iterable[Mapping[str, Any]]) -> List[E]:
         """A new object for each row of values, sent without waiting for each."""
-        rows, name = list(rows), self.entity(entity).__name__
+        rows, kind = list(rows), self.entity(entity)
         with self.pipeline():
-            made = self.ask_lines([line_of("new", {"entity": text_spelled(name)})] * len(rows), name)
+            made = self.ask_lines([kind.__line__] * len(rows), kind.__name__)
             for each, row in zip(made, rows):
-                Entity.__init__(each, **row)
+                for member, value in row.items():
+                    setattr(each, member, value)
         return made
 
     def get(self, entity: Entity, name: str) -> Any:
@@ -134,12 +135,12 @@ class EntityManagerFactory(AbstractContextManager["EntityManagerFactory"]):
     def number(self, entity: Entity) -> str:
         """The number of an object of this factory, as JSON."""
         if isinstance(entity, Entity) and entity.__factory__ is self:
-            return str(entity.__number__)
+            return f"{entity.__number__}"
         raise ValueError(f"{entity!r} is no object of this factory")
 
     def given(self, value: Any) -> str:
         """A value or an object as JSON."""
-        return f'{{"object":{self.number(value)}}}' if isinstance(value, Entity) else spelled(value)
+        return spelled(value) if type(value) is int or not isinstance(value, Entity) else f'{{"object":{self.number(value)}}}'
 
     # ---- calls
 
@@ -150,16 +151,19 @@ class EntityManagerFactory(AbstractContextManager["EntityManagerFactory"]):
     def ask_lines(self, lines: Sequence[bytes], entity: str = "", bad_line: Type[BadLine] = NotServed) -> List[Any]:
         """Does the calls of lines without waiting for each, and gives the answers. A line that is taken for no call is a `bad_line`."""
         with self._lock:
-            self._settle()
+            if self._told:
+                self._settle()
             return self._answers(lines, entity, bad_line)
 
     def tell(self, line: bytes) -> None:
         """Does the call of a line, which answers null; within a pipeline it is kept."""
         with self._lock:
-            self.program.raise_fault()
-            self._told.append(line)
-            if not self._pipelines:
-                self._settle()
+            if self.program.fault:
+                raise self.program.fault
+            if self._pipelines:
+                self._told.append(line)
+            else:
+                self._answers([line])
 
     def send_line(self, line: str) -> Any:
         """Sends any line as it is, and gives its answer; where it is no call, that is a `BadLine`."""
@@ -194,6 +198,10 @@ class EntityManagerFactory(AbstractContextManager["EntityManagerFactory"]):
         if not self._callbacks and all(map(_is_null, replies)):
             return [None] * len(replies)
         kind = self._classes.get(entity)
+        # What most calls answer: an object each, and no event.
+        found = [_OBJECT(reply) for reply in replies]
+        if all(found) and not self._untold:
+            return [self._object(int(it[1]), kind) for it in found if it]
         answers = [self._answer(line, reply, kind, bad_line) for line, reply in zip(lines, replies)]
         refused = [answer for answer in answers if isinstance(answer, Refused)]
         raised = [*refused, *self._tell_events()] if refused or self._untold else []
@@ -205,8 +213,6 @@ class EntityManagerFactory(AbstractContextManager["EntityManagerFactory"]):
 
     def _answer(self, line: bytes, reply: bytes, kind: Optional[Type[Entity]], bad_line: Type[BadLine]) -> Any:
         """The answer to a line, or its refusal. The events of its reply are kept to be told."""
-        if found := _OBJECT.fullmatch(reply):
-            return self._object(int(found[1]), kind)
         said = _decode(reply.decode())[0]
         answer = self._found(said.get("ok"), kind)
         # After the answer, which knows the classes of its objects better.
@@ -295,6 +301,8 @@ class EntityManager(AbstractContextManager["EntityManager"]):
         return self.factory.ask_lines([f"{front}{self._key(key)}}}".encode() for key in keys], name)
 
     def _key(self, key: Any) -> str:
+        if type(key) is int:
+            return f"[{spelled(key)}]"
         parts = key if isinstance(key, (tuple, list, EmbeddedId)) else (key,)
         return f"[{','.join(map(self.factory.given, parts))}]"
 

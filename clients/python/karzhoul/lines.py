@@ -41,6 +41,8 @@ text_spelled: Callable[[str], str] = json.encoder.encode_basestring
 
 def spelled(value: Any) -> str:
     """A value as JSON: None, an int of 64 bits, a str or bytes; anything else is a `TypeError` or an `OverflowError`."""
+    if type(value) is int and -(2**63) <= value < 2**63:
+        return str(value)
     if isinstance(value, str):
         return text_spelled(value)
     if isinstance(value, (bytes, bytearray, memoryview)):

@@ -11,7 +11,7 @@ import tempfile
 import weakref
 from contextlib import suppress
 from subprocess import PIPE, Popen, TimeoutExpired
-from typing import IO, Iterable, List, Optional, Sequence, Union
+from typing import IO, List, Optional, Sequence, Union
 
 from .refusals import KarzhoulError, ProgramEnded, ProgramNotFound, refusal_of
 
@@ -61,19 +61,26 @@ class Program:
         # Whether bytes are on their way; where a call finds them so, an interrupt may have lost some of them.
         self._is_moving = False
 
-    def replies(self, lines: Iterable[bytes]) -> List[bytes]:
+    def replies(self, lines: Sequence[bytes]) -> List[bytes]:
         """Writes lines, and gives their replies. The program's end is a `ProgramEnded`, or the refusal that it ended with."""
-        self._read_all()  # What a call that was interrupted left.
-        self._replies, together = [], b""
+        if self._unanswered:
+            self._read_all()  # What a call that was interrupted left.
+        self._replies, together, size = [], [], 0
+        if len(lines) == 1:
+            self._exchange(lines)
+            return self._replies
         for line in lines:
-            if len(together) + len(line) >= select.PIPE_BUF:
-                self._write(together)
-                self._read_all()
-                together = b""
-            together += line + b"\n"
-        self._write(together)
-        self._read_all()
+            size += len(line) + 1
+            if size > select.PIPE_BUF:
+                self._exchange(together)
+                together, size = [], len(line) + 1
+            together.append(line)
+        self._exchange(together)
         return self._replies
+
+    def _exchange(self, lines: Sequence[bytes]) -> None:
+        self._write(b"%b\n" % b"\n".join(lines) if lines else b"")
+        self._read_all()
 
     def start(self) -> None:
         """Waits for the program to answer at all, by an empty line, which is no call. What it tells meanwhile, as where it is being
@@ -101,7 +108,8 @@ class Program:
         self.close()
 
     def _write(self, lines: bytes) -> None:
-        self.raise_fault()
+        if self.fault or self._is_moving or self._unanswered < 0:
+            self.raise_fault()
         self._is_moving = True
         self._unanswered += lines.count(b"\n")
         try:
@@ -113,7 +121,8 @@ class Program:
 
     def _read_all(self) -> None:
         while self._unanswered > 0:
-            self.raise_fault()
+            if self.fault or self._is_moving:
+                self.raise_fault()
             self._reading.poll()  # An interrupt of this loses nothing.
             self._is_moving = True
             chunk = os.read(self._out, 1 << 16)
