@@ -1,5 +1,4 @@
 use Rattle.std.proofs.Common.{◌≡◌, ◌∙◌, ap, sym, true}
-use Rattle.jpa_value.specs.declared.value.Identity.{Identity}
 use Rattle.jpa_model.specs.Chains.{root_of}
 use Rattle.jpa_heap.specs.Objects.{identity_of, is_whole}
 use Rattle.jpa_flush.specs.Flush.{listed}
