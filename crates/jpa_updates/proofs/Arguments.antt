@@ -1,7 +1,6 @@
 -- What stands for parameters is of their sorts.
-use Rattle.std.proofs.Common.{◌≡◌, ◌∙◌, refl, ap, sym, subst, ℕ, ◌<◌, Bool, true, false, List, [], ◌∷◌, length}
-use Rattle.std.specs.Prelude.{All, ◌&&◌, ◌==◌, not, if◌then◌else◌, Option, Some, None}
-use Rattle.std.specs.List.{list_all}
+use Rattle.std.proofs.Common.{◌≡◌, refl, subst, ℕ, ◌<◌, Bool, true, false, List, [], ◌∷◌, length}
+use Rattle.std.specs.Prelude.{◌&&◌, ◌==◌, not, if◌then◌else◌, Option, Some, None}
 use Rattle.std.proofs.lemmas.Bool.{and_from, and_parts, eq-eqb, false≢true}
 use Rattle.std.proofs.lemmas.List.Elements.{All-head, All-tail}
 use Rattle.jpa_value.specs.declared.value.Value.{Value}
@@ -12,10 +11,9 @@ use Rattle.jpa_model.specs.declared.unit.Part.{Part}
 use Rattle.jpa_model.specs.Chains.{root_of}
 use Rattle.jpa_stored.specs.Sets.{each_fits, is_key_of}
 use Rattle.jpa_heap.specs.declared.Handed.{Handed}
-use Rattle.jpa_heap.specs.declared.LiveObject.{LiveObject}
 use Rattle.jpa_heap.specs.Objects.{is_whole}
 use Rattle.jpa_heap.specs.Shape.{IsInHeap}
-use Rattle.jpa_context.specs.Work.{Work, object, identity_at}
+use Rattle.jpa_context.specs.Work.{Work, object}
 use Rattle.jpql_eval.specs.declared.datum.Datum.{Datum}
 use Rattle.jpql_kept.specs.Fits.{is_of, are_of}
 use Rattle.jpa_asked.specs.declared.asked.Binding.{Binding}

@@ -6,15 +6,11 @@ use Rattle.jpa_value.specs.declared.refusal.Argument.{Argument}
 use Rattle.jpa_value.specs.declared.refusal.State.{State}
 use Rattle.jpa_model.specs.declared.unit.PersistenceUnit.{PersistenceUnit}
 use Rattle.jpa_behaviour.specs.Behaviour.{World, AnswersConvertible}
-use Rattle.jpa_rows.specs.Cells.{CanBeHeld, all_representable}
 use Rattle.jpa_context.specs.Work.{Work}
-use Rattle.jpa_context.specs.Steps.{◌>>=◌, ◌>>◌, Outcome, Done, Refused, Op, after, give, require, read}
+use Rattle.jpa_context.specs.Steps.{Outcome, Done, Refused, Op, after, give, require}
 use Rattle.jpql_tree.specs.declared.Query.{Query}
 use Rattle.jpql_tree.specs.Grammar.{Text}
-use Rattle.jpql_types.specs.declared.sort.Sort.{Sort}
-use Rattle.jpql_types.specs.declared.typed.Typed.{Typed}
 use Rattle.jpql_types.specs.Statements.{checked}
-use Rattle.jpql_eval.specs.declared.datum.Datum.{Datum}
 use Rattle.jpql_kept.specs.Fits.{AreInherited}
 use Rattle.jpa_asked.specs.declared.asked.Binding.{Binding}
 use Rattle.jpa_asked.specs.declared.asked.Statement.{Statement}
@@ -23,7 +19,7 @@ use Rattle.jpa_asked.specs.Premises.{AreInHeap}
 use Rattle.jpa_flush.specs.Flush.{flush_if}
 use Rattle.jpa_asked.specs.Reading.{query_of, is_within, declares_few}
 use Rattle.jpa_updates.specs.Held.{HaveKeys, IsExecuted}
-use Rattle.jpa_updates.specs.Updates.{is_bulk, judged_bulk, run_bulk, execute_update}
+use Rattle.jpa_updates.specs.Updates.{is_bulk, judged_bulk, execute_update}
 use Rattle.jpa_updates.proofs.Arguments.{arguments_are}
 use Rattle.jpa_updates.proofs.Held.{bulk_held}
 

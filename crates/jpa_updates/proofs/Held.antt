@@ -1,23 +1,22 @@
 -- What a statement that was done leaves a store can hold.
-use Rattle.std.proofs.Common.{◌≡◌, ◌∙◌, refl, ap, sym, subst, ℕ, true, List, [], ◌∷◌}
+use Rattle.std.proofs.Common.{◌≡◌, ◌∙◌, refl, ap, sym, subst, ℕ, true, List}
 use Rattle.std.specs.Prelude.{Option, Some, None, Result, Ok, Err}
 use Rattle.jpa_value.specs.declared.refusal.Cause.{Cause}
 use Rattle.jpa_value.specs.declared.refusal.Persist.{Persist}
 use Rattle.jpa_model.specs.declared.unit.PersistenceUnit.{PersistenceUnit}
-use Rattle.jpa_behaviour.specs.Behaviour.{World, AnswersConvertible}
+use Rattle.jpa_behaviour.specs.Behaviour.{World}
 use Rattle.jpa_stored.specs.Sets.{StoredSet, fault_of, IsSound}
 use Rattle.jpa_rows.specs.Cells.{CanBeHeld, all_representable}
 use Rattle.jpa_context.specs.Work.{Work}
-use Rattle.jpa_context.specs.Steps.{Outcome, Done, Refused, after}
+use Rattle.jpa_context.specs.Steps.{Done, Refused, after}
 use Rattle.jpa_flush.specs.Flush.{sound_or}
 use Rattle.jpql_tree.specs.declared.Query.{Query}
 use Rattle.jpql_tree.specs.Grammar.{Text}
 use Rattle.jpql_types.specs.declared.sort.Sort.{Sort}
 use Rattle.jpql_types.specs.declared.typed.Typed.{Typed}
-use Rattle.jpql_types.specs.Statements.{checked}
 use Rattle.jpql_eval.specs.declared.datum.Datum.{Datum}
 use Rattle.jpql_plan.specs.Bulk.{Changed, updated, deleted}
-use Rattle.jpql_kept.specs.Fits.{are_of, throws_in, AreInherited}
+use Rattle.jpql_kept.specs.Fits.{throws_in}
 use Rattle.jpql_kept.proofs.Kept.{update_keeps, delete_keeps}
 use Rattle.jpa_asked.specs.declared.asked.Statement.{Statement}
 use Rattle.jpa_updates.specs.Held.{IsAsked, IsHeld}

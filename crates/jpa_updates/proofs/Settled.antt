@@ -1,12 +1,10 @@
 -- A set that a statement changes: what its changes name, its order, and how it is judged.
-use Rattle.std.proofs.Common.{◌≡◌, ◌∙◌, refl, ap, sym, subst, ℕ, Bool, true, false, not, ◌||◌, cond, T, List, [], ◌∷◌, map, length}
-use Rattle.std.specs.Prelude.{All, ◌&&◌, Option, Some, None, option_map, Result, Ok, Err, OnOk, IfErr}
-use Rattle.std.specs.List.{filter, list_any, list_all}
-use Rattle.std.specs.FinMap.Entries.{find, find-put, find-where_key, is_sorted, is_sorted-where_key}
-use Rattle.std.specs.Ordering.{eq_by_cmp}
-use Rattle.std.specs.declared.cmp.Ordering.{Ordering}
+use Rattle.std.proofs.Common.{◌≡◌, ◌∙◌, refl, ap, sym, subst, ℕ, Bool, true, false, not, ◌||◌, cond, T, List, [], ◌∷◌, map}
+use Rattle.std.specs.Prelude.{All, Option, Some, None, option_map, Result, Ok, Err, OnOk, IfErr}
+use Rattle.std.specs.List.{list_any}
+use Rattle.std.specs.FinMap.Entries.{find-put, find-where_key, is_sorted, is_sorted-where_key}
 use Rattle.std.specs.declared.cmp.Ordering.TheVariants.{Equal}
-use Rattle.std.proofs.lemmas.Bool.{and_from, and_parts, false≢true}
+use Rattle.std.proofs.lemmas.Bool.{false≢true}
 use Rattle.std.proofs.lemmas.List.Elements.{All-nil, All-cons, All-head, All-tail}
 use Rattle.jpa_value.specs.declared.value.Identity.{Identity}
 use Rattle.jpa_value.specs.declared.refusal.Cause.{Cause}
@@ -18,7 +16,7 @@ use Rattle.jpa_stored.specs.declared.stored.Stored.{Stored}
 use Rattle.jpa_stored.specs.Sets.{StoredSet, stored_at, with_stored, put_all, without, fault_of, IsSound}
 use Rattle.jpa_stored.proofs.Puts.{rises}
 use Rattle.jpa_judge.specs.declared.change.Change.{Change}
-use Rattle.jpa_judge.specs.Changed.{class_at, is_changed, IsChangedFrom, IsChanged}
+use Rattle.jpa_judge.specs.Changed.{class_at, is_changed, IsChanged}
 use Rattle.jpa_context.specs.Work.{Work}
 use Rattle.jpa_context.specs.Steps.{Done, Refused, Meets, IsRefusedAs, after}
 use Rattle.jpa_flush.specs.Flush.{sound_or}

@@ -1,5 +1,5 @@
 -- What executeUpdate does, step by step.
-use Rattle.std.proofs.Common.{◌≡◌, ◌∙◌, refl, ap, sym, subst, ℕ, Bool, true, false, T, List, [], ◌∷◌, map, length}
+use Rattle.std.proofs.Common.{◌≡◌, ap, ℕ, true, List}
 use Rattle.std.specs.Prelude.{◌&&◌, not, Result, Ok, Err, OnOk}
 use Rattle.std.specs.List.{list_any}
 use Rattle.jpa_value.specs.declared.refusal.Cause.{Cause}
@@ -8,7 +8,7 @@ use Rattle.jpa_value.specs.Value.{same_identity}
 use Rattle.jpa_stored.specs.Sets.{StoredSet, put_all, without}
 use Rattle.jpa_rows.specs.Cells.{all_representable, names_representable, holds_representable}
 use Rattle.jpa_context.specs.Work.{Work}
-use Rattle.jpa_context.specs.Steps.{Outcome, Done, Refused, Op, after, IsRefusedAs, Meets}
+use Rattle.jpa_context.specs.Steps.{Outcome, Done, Op, after, IsRefusedAs, Meets}
 use Rattle.jpa_protocol.specs.declared.event.Told.{Told}
 use Rattle.jpql_plan.specs.Paths.{Entry}
 use Rattle.jpql_kept.proofs.Items.{all_filtered}

@@ -1,5 +1,5 @@
 -- executeUpdate of a manager (Jakarta Persistence 3.1, chapters 3.10.1 and 4.10 bulk UPDATE and DELETE).
-use Rattle.std.specs.Prelude.{◌≡◌, ℕ, Bool, true, false, T, List, Result, Ok, Err}
+use Rattle.std.specs.Prelude.{◌≡◌, ℕ, Bool, true, false, T, List, Result, Err}
 use Rattle.std.specs.FinMap.Entries.{is_sorted}
 use Rattle.jpa_value.specs.declared.refusal.Cause.{Cause}
 use Rattle.jpa_value.specs.declared.refusal.State.{State}

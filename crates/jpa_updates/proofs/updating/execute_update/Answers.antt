@@ -1,4 +1,3 @@
-use Rattle.std.proofs.Common.{◌≡◌, ◌∙◌, ap, sym, subst}
 use Rattle.jpa_context.specs.Undo.{now}
 use Rattle.jpa_updates.proofs.updating.execute_update.Goals as goal
 

@@ -1,5 +1,4 @@
-use Rattle.std.proofs.Common.{◌≡◌, ◌∙◌, ap, sym, subst, true, length}
-use Rattle.jpa_behaviour.specs.Registered.{world_of}
+use Rattle.std.proofs.Common.{◌≡◌, sym, subst, true, length}
 use Rattle.jpa_stored.specs.Sets as sets
 use Rattle.jpa_rows.specs.Cells.{all_representable}
 use Rattle.jpa_context.specs.Undo.{now}
