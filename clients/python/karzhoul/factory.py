@@ -163,6 +163,9 @@ class EntityManagerFactory(AbstractContextManager["EntityManagerFactory"]):
             if self._pipelines:
                 self._told.append(line)
             else:
+                # An interrupt at the end of a pipeline may have left some.
+                if self._told:
+                    self._settle()
                 self._answers([line])
 
     def send_line(self, line: str) -> Any:

@@ -1,12 +1,10 @@
 -- The rows of the entries so far, with one more entry.
-use Rattle.std.proofs.Common.{inl, inr, ◌≡◌, ℕ, Bool, true, false, cond, List, [], ◌∷◌, ◌++◌, map, take, get_or, ◌+◌, ◌<◌, length, refl, sym, ap, ◌∙◌, subst, is_eq}
+use Rattle.std.proofs.Common.{inl, inr, ◌≡◌, ℕ, Bool, true, false, cond, List, [], ◌∷◌, ◌++◌, refl, sym, ap, ◌∙◌, subst, is_eq}
 use Rattle.std.proofs.lemmas.Bool.{cases_Bool}
-use Rattle.std.proofs.lemmas.List.{map_more}
-use Rattle.sqlite.specs.Order.{Row}
 use Rattle.jpa_cells_meaning.specs.declared.Cell.{Cell}
 use Rattle.jpa_cells_meaning.specs.declared.CellRow.{CellRow}
 use Rattle.jpa_cells_meaning.specs.Tables.{row_of, key_cmp}
-use Rattle.jpa_cells_meaning.specs.Content.{Entry, joined, grouped, added, shown_entry}
+use Rattle.jpa_cells_meaning.specs.Content.{Entry, joined, grouped, added}
 use Rattle.jpa_cells_meaning.proofs.Rows.{equal, itself}
 
 abbrev same : List ℕ → List ℕ → Bool
@@ -53,10 +51,3 @@ pub added_after : (front : List CellRow) (last : CellRow) (key : List ℕ) (cell
 added_after front last key cell other =
     added_last front last (key, cell)
     ∙ elim (cases_Bool (same last.row key)) [ inl is ↦ absurd (other (equal last.row key is)) | inr not ↦ ap (λ b. front ++ Last b last (key, cell)) not ]
-
--- the rows of one entry more
-pub one_entry_more : (shown : List Row) (at : ℕ) (row : Row) (before after : List CellRow) → at < length shown → row ≡ get_or shown at row → before ≡ grouped (map shown_entry (take at shown)) → after ≡ added before (shown_entry row)
-    → after ≡ grouped (map shown_entry (take (at + 1) shown))
-one_entry_more shown at row before after within is so_far next =
-    next ∙ ap (λ l. added l (shown_entry row)) so_far ∙ sym (grouped_added (map shown_entry (take at shown)) (shown_entry row))
-    ∙ ap grouped (sym (map_more shown_entry shown at row within ∙ ap (λ r. map shown_entry (take at shown) ++ shown_entry r ∷ []) (sym is)))

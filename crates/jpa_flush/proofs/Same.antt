@@ -1,7 +1,8 @@
 -- Lists of identities, and what is known of relations, that are the same.
-use Rattle.std.proofs.Common.{◌≡◌, ◌∙◌, suc, Bool, true, false, List, [], ◌∷◌, length, get_or, arith, refl, ap, Equal, Less, Greater, Ordering}
+use Rattle.std.proofs.Common.{◌≡◌, ◌∙◌, suc, Bool, true, false, List, [], ◌∷◌, length, get_or, arith, refl, ap, sym, Equal, Less, Greater, Ordering}
 use Rattle.std.specs.Prelude.{◌&&◌, Option, Some, None, if◌then◌else◌}
 use Rattle.std.specs.Ordering.{is_eq}
+use Rattle.std.proofs.Math.Bool.{and-false, and-true}
 use Rattle.std.proofs.lemmas.Bool.{false≢true, and_parts}
 use Rattle.jpa_value.specs.declared.value.Identity.{Identity}
 use Rattle.jpa_value.specs.Value.{identity_cmp, same_identity}
@@ -40,31 +41,23 @@ members_are_one (x ∷ xs) (y ∷ ys) h =
 
 -- ---- lists of other lengths are not
 
-not_both : (b : Bool) → false ≡ (b && false)
-not_both true = refl
-not_both false = refl
-
 pub members_of_lengths : (xs ys : List (Option (List Identity))) → (length xs ≡ length ys → ⊥) → false ≡ same_members xs ys
 members_of_lengths [] [] h = absurd (h refl)
 members_of_lengths [] (y ∷ ys) h = refl
 members_of_lengths (x ∷ xs) [] h = refl
-members_of_lengths (x ∷ xs) (y ∷ ys) h = not_both (same_member x y) ∙ ap (λ b. same_member x y && b) (members_of_lengths xs ys (λ e. h (ap suc e)))
+members_of_lengths (x ∷ xs) (y ∷ ys) h = sym (and-false (same_member x y)) ∙ ap (λ b. same_member x y && b) (members_of_lengths xs ys (λ e. h (ap suc e)))
 
 pub identities_of_lengths : (xs ys : List Identity) → (length xs ≡ length ys → ⊥) → false ≡ same_identities xs ys
 identities_of_lengths [] [] h = absurd (h refl)
 identities_of_lengths [] (y ∷ ys) h = refl
 identities_of_lengths (x ∷ xs) [] h = refl
-identities_of_lengths (x ∷ xs) (y ∷ ys) h = not_both (same_identity x y) ∙ ap (λ b. same_identity x y && b) (identities_of_lengths xs ys (λ e. h (ap suc e)))
+identities_of_lengths (x ∷ xs) (y ∷ ys) h = sym (and-false (same_identity x y)) ∙ ap (λ b. same_identity x y && b) (identities_of_lengths xs ys (λ e. h (ap suc e)))
 
 -- ---- a list of one
 
-and_true : (b : Bool) → b ≡ (b && true)
-and_true true = refl
-and_true false = refl
-
 pub one_same : (xs : List Identity) (x y : Identity) → length xs ≡ 1 → x ≡ get_or xs 0 x → same_identity x y ≡ same_identities xs (y ∷ [])
 one_same [] x y l e = absurd (omega (arith, l))
-one_same (z ∷ []) x y l e = ap (λ v. same_identity v y) e ∙ and_true (same_identity z y)
+one_same (z ∷ []) x y l e = ap (λ v. same_identity v y) e ∙ sym (and-true (same_identity z y))
 one_same (z ∷ w ∷ xs) x y l e = absurd (omega (arith, l))
 
 pub one_listed : (b : Bool) (x : Identity) → b ≡ true → length (listed (if b then Some x else None)) ≡ 1

@@ -1,4 +1,3 @@
 mod Examples
 mod Rows
-mod Steps
 mod Viewed

@@ -1,13 +1,12 @@
 //! GROUP BY (chapter 4.8): tuples with the same key stand in one group, and groups in the order of
 //! their first tuples.
 ghost use Rattle.std.specs.Prelude.{◌≡◌, ◌<◌, ◌++◌, ◌∷◌, [], length, slice_index_or, OnOk, IfOk};
-ghost use Rattle.jpql_eval.specs.Data.{same_data, same_datum};
-ghost use Rattle.jpql_eval.specs.Seen.{seen};
+ghost use Rattle.jpql_eval.specs.Data.{same_data};
 ghost use Rattle.jpql_plan.specs.Selection.{put_tuples};
 ghost use Rattle.jpql_select.specs.Groups.{groups_in, add_at, begins_with};
 ghost use Rattle.jpql_select.specs.Selects as selects;
 
-use jpql_eval::{Seen, is_same};
+use jpql_eval::is_same;
 use jpql_rows::Key;
 use jpql_run::{Run, Tuple, path};
 use jpql_types::TypedPath;
@@ -59,23 +58,13 @@ fn begin<'a>(
     Ok(())
 }
 
-/// Whether two data are one. Most keys are numbers, which are told apart at once.
-fn are_one<'a>(one: &Seen<'a>, other: &Seen<'a>) -> bool
-    ensures { result ≡ same_datum (seen one.now) (seen other.now) }
-{
-    match (one, other) {
-        (Seen::Int(m), Seen::Int(n)) => m == n,
-        _ => is_same(one, other),
-    }
-}
-
 /// Whether two tuples are grouped by the same.
 fn are_alike<'a>(run: &Run<'a>, paths: &[TypedPath], one: &Tuple<'a>, other: &Tuple<'a>) -> bool
     ensures { result ≡ same_data (selects.group_key run.now paths.now one.now)
         (selects.group_key run.now paths.now other.now) }
 {
     for by in paths {
-        if !are_one(&path(run, one, by), &path(run, other, by)) {
+        if !is_same(&path(run, one, by), &path(run, other, by)) {
             return false;
         }
     }
