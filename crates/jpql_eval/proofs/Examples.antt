@@ -2,7 +2,6 @@
 use Rattle.std.proofs.Common.{◌≡◌, pos, negsuc, true, false, [], ◌∷◌, Some, None, refl, codes}
 use Rattle.std.specs.Str.{chars}
 use Rattle.jpql_tree.specs.declared.Aggregate.{Aggregate}
-use Rattle.jpql_tree.specs.declared.Comparison.{Comparison}
 use Rattle.jpql_tree.specs.declared.Function.{Function}
 use Rattle.jpql_tree.specs.declared.Arithmetic.{Arithmetic}
 use Rattle.jpql_eval.specs.declared.datum.Truth.{Truth}

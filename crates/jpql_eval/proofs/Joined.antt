@@ -1,5 +1,5 @@
 -- Texts that are joined one by one.
-use Rattle.std.proofs.Common.{◌≡◌, List, ◌++◌, Option, Some, None, option_map, refl, sym, ap, append_assoc}
+use Rattle.std.proofs.Common.{◌≡◌, ◌++◌, Option, Some, None, option_map, refl, sym, ap, append_assoc}
 use Rattle.jpql_eval.specs.Texts.{Text}
 use Rattle.jpql_eval.specs.Calls.{put_text}
 

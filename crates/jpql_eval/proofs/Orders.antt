@@ -1,8 +1,8 @@
 -- What is the same is what ties in the order of what expressions give.
-use Rattle.std.proofs.Common.{◌≡◌, refl, ap, sym, ◌∙◌, Less, Equal, Greater}
+use Rattle.std.proofs.Common.{◌≡◌, refl, ap, Less, Equal, Greater}
 use Rattle.std.specs.Ordering.{ordering_then, is_eq}
 use Rattle.std.specs.declared.cmp.Ordering.{Ordering}
-use Rattle.jpa_value.specs.Value.{value_cmp, identity_cmp}
+use Rattle.jpa_value.specs.Value.{value_cmp}
 use Rattle.jpql_eval.specs.declared.datum.Datum.{Datum}
 use Rattle.jpql_eval.specs.declared.datum.Datum.TheVariants as d
 use Rattle.jpql_eval.specs.Data.{same_datum, datum_cmp}

@@ -1,5 +1,5 @@
 -- One place further in a text.
-use Rattle.std.proofs.Common.{◌≡◌, ℕ, ◌+◌, ◌<◌, ℤ, pos, Bool, true, false, cond, ◌&&◌, nat_eq, nat_le, int_le, List, [], ◌∷◌, ◌++◌, length, drop, get_or, Option, encode_utf8_all, sym, ap, ◌∙◌, refl, arith, append_assoc}
+use Rattle.std.proofs.Common.{◌≡◌, ℕ, ◌+◌, ◌<◌, ℤ, pos, Bool, true, false, cond, ◌&&◌, nat_eq, nat_le, int_le, List, ◌∷◌, ◌++◌, length, drop, get_or, Option, encode_utf8_all, sym, ap, ◌∙◌, refl, arith, append_assoc}
 use Rattle.std.proofs.Math.Utf8.{encode}
 use Rattle.std.specs.List.{starts_with}
 use Rattle.std.proofs.lemmas.List.{drop_more}

@@ -15,17 +15,13 @@ use std::alloc::{AllocError, Global};
 use std::collections::BTreeSet;
 
 /// Those that aren't null.
-fn there<'a>(alloc: Global, all: &[Seen<'a>]) -> Result<Vec<Seen<'a>>, AllocError>
-    ensures { IfOk result (λ found. map seen found.items
-        ≡ filter (λ a. not (data_.is_nothing a)) (map seen all.now)) }
+fn there<'a>(all: Vec<Seen<'a>>) -> Vec<Seen<'a>>
+    ensures { map seen result.items
+        ≡ filter (λ a. not (data_.is_nothing a)) (map seen all.entry.items) }
 {
-    let mut found = Vec::new(alloc);
-    for one in all {
-        if !one.is_nothing() {
-            found.push(one.again(alloc)?)?;
-        }
-    }
-    Ok(found)
+    let mut found = all;
+    found.retain(|one| !one.is_nothing());
+    found
 }
 
 /// Without those that are the same as one before.
@@ -46,12 +42,12 @@ fn once<'a>(alloc: Global, all: &[Seen<'a>]) -> Result<Vec<Seen<'a>>, AllocError
 fn counted<'a>(
     alloc: Global,
     is_distinct: bool,
-    all: &[Seen<'a>],
+    all: Vec<Seen<'a>>,
 ) -> Result<Vec<Seen<'a>>, AllocError>
     ensures { IfOk result (λ found. map seen found.items
-        ≡ aggregates.counted is_distinct (map seen all.now)) }
+        ≡ aggregates.counted is_distinct (map seen all.entry.items)) }
 {
-    let found = there(alloc, all)?;
+    let found = there(all);
     if is_distinct {
         once(alloc, &found)
     } else {
@@ -117,10 +113,10 @@ pub fn aggregated<'a>(
     alloc: Global,
     aggregate: Aggregate,
     is_distinct: bool,
-    all: &[Seen<'a>],
+    all: Vec<Seen<'a>>,
 ) -> Result<Seen<'a>, Failure>
     ensures { Finds seen result (aggregates.aggregated aggregate
-        (aggregates.counted is_distinct (map seen all.now))) }
+        (aggregates.counted is_distinct (map seen all.entry.items))) }
 {
     let all = counted(alloc, is_distinct, all)?;
     match aggregate {

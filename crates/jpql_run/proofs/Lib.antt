@@ -8,3 +8,4 @@ pub mod Calls
 pub mod Dropped
 pub mod Truths
 pub mod Turns
+pub mod Yielded

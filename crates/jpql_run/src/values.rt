@@ -96,5 +96,5 @@ fn over_group<'a>(
     for other in group {
         found.push(value(alloc, run, other, &[], operand)?)?;
     }
-    aggregated(alloc, aggregate, is_distinct, &found)
+    aggregated(alloc, aggregate, is_distinct, found)
 }

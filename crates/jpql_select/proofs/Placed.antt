@@ -1,5 +1,5 @@
 -- Where groups stand, and one more tuple among them.
-use Rattle.std.proofs.Common.{◌≡◌, ◌∙◌, ap, sym, refl, ℕ, zero, suc, ◌<◌, Bool, true, false, cond, List, [], ◌∷◌, ◌++◌, length, Option, Some, None, option_map, slice_index_or, slice_set, subst, arith}
+use Rattle.std.proofs.Common.{◌≡◌, ◌∙◌, ap, sym, refl, ℕ, zero, suc, ◌<◌, ◌≤◌, Bool, true, false, cond, List, [], ◌∷◌, ◌++◌, length, Option, Some, None, option_map, unwrap_or, slice_index_or, slice_set, subst, arith}
 use Rattle.std.specs.Cmp.{IsEquivalence, eq_by_cmp_equiv}
 use Rattle.std.specs.Global.{Vec}
 use Rattle.std.proofs.lemmas.Bool.{false≢true}
@@ -144,6 +144,14 @@ module _ (key : Tuple → List Datum) where
   same_place k q [] e = refl
   same_place k q (g ∷ gs) e = by_key _ _ _ _ (same_begin k q g e) (same_place k q gs e)
 
+  -- the place that was found stands under each key that is the same
+  pub place_again : (k q : List Datum) (gs : List (List Tuple)) (i : ℕ) → place_of key k gs ≡ Some i → cond (same_data k q) (Some i) (place_of key q gs) ≡ place_of key q gs
+  place_again k q gs i p = by (same_data k q) refl
+    where
+      by : (b : Bool) → same_data k q ≡ b → cond b (Some i) (place_of key q gs) ≡ place_of key q gs
+      by true e = sym p ∙ same_place k q gs e
+      by false e = refl
+
   none_begins : (q : List Datum) (g : List Tuple) (gs : List (List Tuple)) (i : ℕ) → AreApart key (g ∷ gs) → place_of key q gs ≡ Some i → (b : Bool) → begins_with key q g ≡ b → b ≡ false
   unfolding is_none_of
   none_begins q g gs i h p false e = refl
@@ -186,3 +194,13 @@ module _ (key : Tuple → List Datum) where
       → place_of key (key t) gs ≡ None → hs ≡ gs ++ (t ∷ []) ∷ [] → all ≡ put_tuples key gs rest → all ≡ put_tuples key hs later
   joined_new all gs hs rest later t at s p e h =
       h ∙ ap (put_tuples key gs) at ∙ ap (λ groups. put_tuples key groups later) (put_new t gs s p ∙ sym e)
+
+-- ---- a place that was found, or a free one
+
+pub was_found : (o : Option ℕ) (free i : ℕ) → i ≡ unwrap_or o free → i < free → o ≡ Some i
+was_found None free i e l = absurd (omega (arith, e, l))
+was_found (Some n) free i e l = ap Some (sym e)
+
+pub was_free : (o : Option ℕ) (free i : ℕ) → i ≡ unwrap_or o free → free ≤ i → ((n : ℕ) → o ≡ Some n → n < free) → o ≡ None
+was_free None free i e l below = refl
+was_free (Some n) free i e l below = let under = below n refl in absurd (omega (arith, e, l, under))

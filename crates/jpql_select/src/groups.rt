@@ -1,8 +1,10 @@
 //! GROUP BY (chapter 4.8): tuples with the same key stand in one group, and groups in the order of
 //! their first tuples.
-ghost use Rattle.std.specs.Prelude.{◌≡◌, ◌<◌, ◌++◌, ◌∷◌, [], length, slice_index_or, OnOk, IfOk};
+ghost use Rattle.std.specs.BTreeMap.{get, Updates};
+ghost use Rattle.std.specs.Prelude.{◌≡◌, ◌<◌, ◌++◌, ◌∷◌, [], length, slice_index_or, unwrap_or, Some, OnOk, IfOk};
 ghost use Rattle.jpql_eval.specs.Data.{same_data};
 ghost use Rattle.jpql_plan.specs.Selection.{put_tuples};
+ghost use Rattle.jpql_rows.specs.Keys.{data_cmp};
 ghost use Rattle.jpql_select.specs.Groups.{groups_in, add_at, begins_with};
 ghost use Rattle.jpql_select.specs.Selects as selects;
 
@@ -91,6 +93,20 @@ fn is_at<'a>(
     }
 }
 
+/// The place of a key's group, which is this one where none is there yet; it is found by one walk.
+fn place_or<'a>(
+    places: &mut BTreeMap<Key<'a>, usize>,
+    key: Key<'a>,
+    free: usize,
+) -> Result<usize, AllocError>
+    ensures place { IfOk result (λ place.
+        place ≡ unwrap_or (get data_cmp places.old key.entry) free) }
+    ensures kept { IfOk result (λ place.
+        Updates data_cmp places.old places.new key.entry (Some place)) }
+{
+    Ok(*places.entry(key)?.or_insert(free))
+}
+
 /// The groups of tuples by these paths. The group of the tuple before is tried first.
 pub(crate) fn grouped<'a>(
     alloc: Global,
@@ -110,16 +126,11 @@ pub(crate) fn grouped<'a>(
             continue;
         }
         let key = key_at(alloc, run, paths, &tuple)?;
-        match places.get(&key) {
-            Some(place) => {
-                last = *place;
-                add(&mut groups, last, tuple)?;
-            }
-            None => {
-                last = groups.len();
-                places.insert(key, last)?;
-                begin(alloc, &mut groups, tuple)?;
-            }
+        last = place_or(&mut places, key, groups.len())?;
+        if last < groups.len() {
+            add(&mut groups, last, tuple)?;
+        } else {
+            begin(alloc, &mut groups, tuple)?;
         }
     }
     Ok(groups)
