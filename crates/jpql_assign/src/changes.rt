@@ -48,9 +48,9 @@ pub fn assign<'a, B: Behaviour>(
 {
     let mut made = Vec::new(alloc);
     for change in changes {
-        let old = copied(change.object.stored)?;
+        let old = copied(&change.object.at.1)?;
         let new = all_assigned(alloc, unit, old, &change.members)?;
-        made.push((copied(change.object.id)?, new))?;
+        made.push((copied(&change.object.at.0)?, new))?;
     }
     Ok(made)
 }

@@ -21,7 +21,7 @@ fn identities_of<'a>(alloc: Global, objects: &[Object<'a>]) -> Result<Vec<&'a Id
 {
     let mut ids = Vec::new(alloc);
     for object in objects {
-        ids.push(object.id)?;
+        ids.push(&object.at.0)?;
     }
     Ok(ids)
 }

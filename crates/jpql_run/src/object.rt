@@ -8,13 +8,11 @@ use jpa_open::OpenSet;
 use jpa_stored::Stored;
 use jpa_value::Identity;
 
-/// An object of a set, with its identity.
+/// An object of a set, where it stands.
 #[derive(Clone, Copy)]
 pub struct Object<'a> {
-    /// Its identity.
-    pub id: &'a Identity,
-    /// What is stored of it.
-    pub stored: &'a Stored,
+    /// Its identity, and what is stored of it.
+    pub at: &'a (Identity, Stored),
 }
 
 /// The object under an identity, if one stands there.
@@ -22,8 +20,8 @@ pub(crate) fn object_of<'a>(set: &'a OpenSet, id: &'a Identity) -> Option<Object
     ensures { option_map entry result
         ≡ option_map (λ x. (id.now, x)) (stored_at (opened.now set.now) id.now) }
 {
-    match set.get(id) {
+    match set.entry_of(id) {
         None => None,
-        Some(stored) => Some(Object { id, stored }),
+        Some(at) => Some(Object { at }),
     }
 }

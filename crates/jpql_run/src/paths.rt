@@ -51,7 +51,7 @@ fn entity<'a>(object: Option<Object<'a>>) -> Seen<'a>
 {
     match object {
         None => Seen::Null,
-        Some(object) => Seen::Entity(object.id),
+        Some(object) => Seen::Entity(&object.at.0),
     }
 }
 
@@ -61,9 +61,9 @@ fn member<'a>(run: &Run<'a>, object: &Object<'a>, step: Step) -> Seen<'a>
         ≡ runs.member_datum run.now (entry object.now) step.class step.member }
 {
     match step.member {
-        Member::KeyPart(place) => part(object.id.key.as_slice(), place),
-        Member::Version => version(object.stored.version),
-        Member::Attribute(place) => part(object.stored.values.as_slice(), place),
+        Member::KeyPart(place) => part(object.at.0.key.as_slice(), place),
+        Member::Version => version(object.at.1.version),
+        Member::Attribute(place) => part(object.at.1.values.as_slice(), place),
         Member::Relation(place) => { identity(first_related(run, step.class, object, place)) }
     }
 }
