@@ -1,15 +1,15 @@
 #!/usr/bin/env bash
-# The tests of the Python client, clients/python: over the program that stands built, or that KARZHOUL_PROGRAM names. The program is
-# not built here.
+# The tests of the Python client, clients/python: over the program that stands built, or in `./test --quick` the one that ./jpa
+# runs, or the one that KARZHOUL_PROGRAM names. The program is not built here.
 set -u
 cd "$(dirname "$0")/.." || exit 1
 if ! command -v python3 >/dev/null 2>&1 || ! python3 -c 'import sys; sys.exit(sys.version_info < (3, 9))'; then
     echo "there is no python3 of version 3.9 or later on this machine, so the Python client isn't tried"
     exit 77
 fi
-program=${KARZHOUL_PROGRAM:-$PWD/crates/jpa/out/jpa}
-if [ ! -x "$program" ]; then
-    echo "the program isn't built (./jpa builds it), so the Python client isn't tried"
-    exit 77
+program=${KARZHOUL_PROGRAM-}
+if [ -z "$program" ]; then
+    programs=$(bash tests/built) || exit $?
+    program=${programs%%$'\n'*}
 fi
 cd clients/python && KARZHOUL_PROGRAM=$program PYTHONDONTWRITEBYTECODE=1 timeout 600 python3 -m unittest discover -s tests -t . 2>&1
