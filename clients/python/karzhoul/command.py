@@ -8,8 +8,9 @@ from pathlib import Path
 from typing import List, Optional
 
 from . import factory, show
+from .finding import find_program
 from .linter import lint
-from .program import Program, find_program
+from .program import Program
 from .refusals import KarzhoulError, ProgramNotFound, Refused
 from .unit import entities_of
 
@@ -33,7 +34,7 @@ def _parser() -> argparse.ArgumentParser:
     parser = argparse.ArgumentParser(prog="karzhoul", description="A client of Karzhoul.")
     commands = parser.add_subparsers(required=True, metavar="COMMAND")
     common = argparse.ArgumentParser(add_help=False)
-    common.add_argument("--program", help="the program to start (else KARZHOUL_PROGRAM, ./jpa of the repository, jpa on the PATH)")
+    common.add_argument("--program", help="the program to start (else the one that was installed with the client or stands in its clone, else KARZHOUL_PROGRAM)")
 
     check = commands.add_parser("check", parents=[common], help="tell what is wrong with a mapping, and where")
     check.add_argument("mapping")

@@ -14,8 +14,9 @@ from typing import Any, Callable, Deque, Dict, FrozenSet, Iterable, Iterator, Li
 from weakref import ref
 
 from .entities import E, EmbeddedId, Entity, Event, class_of
+from .finding import find_program
 from .lines import FlushModeType, LifecycleEvent, LockModeType, line_of, spelled, text_spelled
-from .program import Program, Words, find_program
+from .program import Program, Words
 from .refusals import REFUSALS, BadLine, KarzhoulError, NotServed, ProgramEnded, Refused, Rollback
 from .refusals import Mapping as MappingRefused
 
@@ -33,7 +34,7 @@ def open(mapping: Union[Words, Mapping[str, Any]], db: Optional[Words] = None, *
     """Starts the program over a mapping (a file, or what such a file says) and a database file; without one the store is in memory.
 
     A mapping that is refused is a `refusals.Mapping` that says where it is wrong, a store a `Damaged` or a `StoreFault`. `program`
-    names the program to start (`program.find_program` tells where it is looked for else).
+    names the program to start (`finding.find_program` tells where it is looked for else).
     """
     if isinstance(mapping, Mapping):
         with tempfile.NamedTemporaryFile(prefix="karzhoul-", suffix=".json") as file:

@@ -4,7 +4,6 @@ from __future__ import annotations
 
 import os
 import select
-import shutil
 import signal
 import sys
 import tempfile
@@ -18,18 +17,6 @@ from .refusals import KarzhoulError, ProgramEnded, ProgramNotFound, refusal_of
 _PATIENCE = 2.0
 
 Words = Union[str, "os.PathLike[str]"]
-
-
-def find_program(given: Optional[Words] = None) -> str:
-    """The program to start: the one that is given, else that of the variable KARZHOUL_PROGRAM, else `jpa` at the top of the
-    repository that this package lies in, else `jpa` on the PATH."""
-    top = os.path.realpath(os.path.join(__file__, "../../../.."))
-    own = os.path.join(top, "jpa") if os.path.isdir(os.path.join(top, "crates", "jpa")) else "jpa"
-    named = os.fspath(given or os.environ.get("KARZHOUL_PROGRAM") or own)
-    found = shutil.which(named)
-    if found is None:
-        raise ProgramNotFound(f"{named!r} is no program that can be started: name one by program=.. or by KARZHOUL_PROGRAM")
-    return os.path.abspath(found)
 
 
 class Program:

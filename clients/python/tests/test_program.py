@@ -1,4 +1,4 @@
-"""The program as a process: how it is found, and what is told where it ends, is ended or is interrupted."""
+"""The program as a process: how it is started, and what is told where it ends, is ended or is interrupted."""
 
 from __future__ import annotations
 
@@ -17,40 +17,14 @@ from pathlib import Path
 from unittest import mock
 
 import karzhoul
-from karzhoul.program import Program, find_program
+from karzhoul.program import Program
 
 from .support import FLAT, HERE, PERSONS, PROGRAM, STUB, ProgramTest, needs_program, played
 
 PACKAGE = HERE.parent
 
 
-class Finding(unittest.TestCase):
-    def test_the_argument_comes_first(self) -> None:
-        with mock.patch.dict(os.environ, KARZHOUL_PROGRAM="/nowhere/jpa"):
-            self.assertEqual(find_program(STUB), str(STUB))
-
-    def test_the_variable_comes_next(self) -> None:
-        with mock.patch.dict(os.environ, KARZHOUL_PROGRAM=str(STUB)):
-            self.assertEqual(find_program(), str(STUB))
-        with mock.patch.dict(os.environ, KARZHOUL_PROGRAM="/nowhere/jpa"):
-            with self.assertRaises(karzhoul.ProgramNotFound):
-                find_program()
-
-    def test_the_repository_s_own_program_and_then_the_path(self) -> None:
-        with tempfile.TemporaryDirectory() as place, mock.patch.dict(os.environ, PATH=place):
-            os.environ.pop("KARZHOUL_PROGRAM", None)
-            on_path, top = Path(place, "jpa"), Path(place, "top")
-            on_path.symlink_to(STUB)
-            module = top / "clients" / "python" / "karzhoul" / "program.py"
-            with mock.patch("karzhoul.program.__file__", str(module)):
-                self.assertEqual(find_program(), str(on_path))
-                (top / "crates" / "jpa").mkdir(parents=True)
-                (top / "jpa").symlink_to(STUB)
-                self.assertEqual(find_program(), os.path.join(os.path.realpath(top), "jpa"))
-            on_path.unlink()
-            with mock.patch("karzhoul.program.__file__", "/karzhoul/program.py"), self.assertRaises(karzhoul.ProgramNotFound):
-                find_program()
-
+class Starting(unittest.TestCase):
     def test_what_is_no_program_of_this_kind(self) -> None:
         with self.assertRaises(karzhoul.KarzhoulError):
             karzhoul.open(PERSONS, program="/bin/cat")
