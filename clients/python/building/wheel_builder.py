@@ -1,4 +1,4 @@
-"""Builds the package for pip (PEP 517 and 660) by Python's own library."""
+"""Builds the package for pip (PEP 517 and 660) by Python's own library, and the wheel that brings the program."""
 
 from __future__ import annotations
 
@@ -8,29 +8,37 @@ import re
 import tarfile
 import zipfile
 from pathlib import Path
-from typing import Any, Dict, Optional
+from typing import Any, Dict, List, Optional
 
 TOP = Path(__file__).resolve().parents[1]
 NAME = "karzhoul"
 VERSION = re.findall(r'^__version__ = "(.+)"$', (TOP / NAME / "__init__.py").read_text(encoding="utf-8"), re.MULTILINE)[0]
 RELEASE = f"{NAME}-{VERSION}"
 INFO = f"{RELEASE}.dist-info"
+SCRIPTS = f"{RELEASE}.data/scripts/"
 METADATA = f"""Metadata-Version: 2.1
 Name: {NAME}
 Version: {VERSION}
 Summary: A client of Karzhoul, a provider with the behaviour of Jakarta Persistence 3.1
 Requires-Python: >=3.9
 """
-WHEEL = "Wheel-Version: 1.0\nGenerator: wheel_builder\nRoot-Is-Purelib: true\nTag: py3-none-any\n"
+PLAIN_TAG, PROGRAM_TAG = "py3-none-any", "py3-none-manylinux_2_34_x86_64"
 ENTRY_POINTS = f"[console_scripts]\n{NAME} = {NAME}.command:main\n"
 
 Settings = Optional[Dict[str, Any]]
 
 
 def build_wheel(wheel_directory: str, config_settings: Settings = None, metadata_directory: Optional[str] = None) -> str:
-    """Writes a wheel with the package, and gives its name."""
-    files = {f"{NAME}/{path.name}": path.read_bytes() for path in sorted((TOP / NAME).iterdir()) if path.suffix in (".py", ".typed")}
-    return _write_wheel(wheel_directory, files)
+    """Writes a wheel with the package alone, for any system, and gives its name."""
+    return _write_wheel(wheel_directory, {f"{NAME}/{path.name}": path.read_bytes() for path in _modules()})
+
+
+def build_program_wheel(wheel_directory: str, program: bytes, notices: bytes) -> str:
+    """Writes a wheel that brings the program with the package, as the command `jpa`, and gives its name."""
+    files = {f"{NAME}/{path.name}": path.read_bytes() for path in _modules()}
+    files[f"{SCRIPTS}jpa"] = program
+    files[f"{INFO}/NOTICES"] = notices
+    return _write_wheel(wheel_directory, files, PROGRAM_TAG)
 
 
 def build_editable(wheel_directory: str, config_settings: Settings = None, metadata_directory: Optional[str] = None) -> str:
@@ -44,21 +52,30 @@ def build_sdist(sdist_directory: str, config_settings: Settings = None) -> str:
     with tarfile.open(Path(sdist_directory, archive), "w:gz") as out:
         for name in ("pyproject.toml", "README.md", "building/wheel_builder.py"):
             out.add(TOP / name, f"{RELEASE}/{name}")
-        for path in sorted((TOP / NAME).iterdir()):
-            if path.suffix in (".py", ".typed"):
-                out.add(path, f"{RELEASE}/{NAME}/{path.name}")
+        for path in _modules():
+            out.add(path, f"{RELEASE}/{NAME}/{path.name}")
     return archive
 
 
-def _write_wheel(folder: str, files: Dict[str, bytes]) -> str:
-    told = {"METADATA": METADATA, "WHEEL": WHEEL, "entry_points.txt": ENTRY_POINTS}
+def _modules() -> List[Path]:
+    return sorted(path for path in (TOP / NAME).iterdir() if path.suffix in (".py", ".typed"))
+
+
+def _write_wheel(folder: str, files: Dict[str, bytes], tag: str = PLAIN_TAG) -> str:
+    is_plain = str(tag == PLAIN_TAG).lower()
+    wheel = f"Wheel-Version: 1.0\nGenerator: wheel_builder\nRoot-Is-Purelib: {is_plain}\nTag: {tag}\n"
+    told = {"METADATA": METADATA, "WHEEL": wheel, "entry_points.txt": ENTRY_POINTS}
     files = {**files, **{f"{INFO}/{name}": text.encode() for name, text in told.items()}}
     record = "".join(f"{name},sha256={_sum(data)},{len(data)}\n" for name, data in files.items()) + f"{INFO}/RECORD,,\n"
-    wheel = f"{RELEASE}-py3-none-any.whl"
-    with zipfile.ZipFile(Path(folder, wheel), "w", zipfile.ZIP_DEFLATED) as out:
+    archive = f"{RELEASE}-{tag}.whl"
+    with zipfile.ZipFile(Path(folder, archive), "w", zipfile.ZIP_DEFLATED, compresslevel=9) as out:
         for name, data in {**files, f"{INFO}/RECORD": record.encode()}.items():
-            out.writestr(name, data)
-    return wheel
+            # Of one time, so that the same files are the same wheel.
+            entry = zipfile.ZipInfo(name, (2026, 1, 1, 0, 0, 0))
+            entry.compress_type = zipfile.ZIP_DEFLATED
+            entry.external_attr = (0o100755 if name.startswith(SCRIPTS) else 0o100644) << 16
+            out.writestr(entry, data)
+    return archive
 
 
 def _sum(data: bytes) -> str:

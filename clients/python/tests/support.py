@@ -20,8 +20,9 @@ FLAT = TOP / "tests" / "flat.json"
 STUB = HERE / "stub.py"
 
 
-def built_program() -> Optional[str]:
-    """The program that stands built; it is never built here, since that proves it."""
+def tested_program() -> Optional[str]:
+    """The program that is tested: the one that KARZHOUL_PROGRAM names, else the one that stands built. It is never built here, since
+    that proves it."""
     named = os.environ.get("KARZHOUL_PROGRAM")
     if named:
         return shutil.which(named)
@@ -29,8 +30,16 @@ def built_program() -> Optional[str]:
     return str(built) if os.access(built, os.X_OK) else None
 
 
-PROGRAM = built_program()
-needs_program = unittest.skipUnless(PROGRAM, "the program isn't built: run ./jpa once, or set KARZHOUL_PROGRAM")
+PROGRAM = tested_program()
+needs_program = unittest.skipUnless(PROGRAM, "the program isn't built: run ./jpa --proved once, or set KARZHOUL_PROGRAM")
+
+
+def package_elsewhere(place: str) -> Path:
+    """A copy of the package in this folder, as a clone has it, but in no clone: so it starts the program that KARZHOUL_PROGRAM names."""
+    folder = Path(place, "clients", "python")
+    shutil.copytree(HERE.parent / "karzhoul", folder / "karzhoul", ignore=shutil.ignore_patterns("__pycache__"))
+    return folder
+
 
 PERSONS: Dict[str, Any] = {
     "revision": 1,

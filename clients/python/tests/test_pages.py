@@ -6,11 +6,12 @@ import os
 import re
 import subprocess
 import sys
+import tempfile
 import unittest
 from pathlib import Path
 from typing import List, Tuple
 
-from .support import HERE, PROGRAM, TOP, needs_program
+from .support import PROGRAM, TOP, needs_program, package_elsewhere
 
 PAGES = [TOP / "docs" / "OTHER-PROVIDERS.md", TOP / "docs" / "QUERIES.md"]
 
@@ -32,7 +33,10 @@ class Pages(unittest.TestCase):
 
     @needs_program
     def test_every_block_prints_what_follows_it(self) -> None:
-        env = {**os.environ, "KARZHOUL_PROGRAM": str(PROGRAM), "PYTHONPATH": str(HERE.parent), "PYTHONDONTWRITEBYTECODE": "1"}
+        place = tempfile.TemporaryDirectory()
+        self.addCleanup(place.cleanup)
+        own = {"KARZHOUL_PROGRAM": str(PROGRAM), "PYTHONPATH": str(package_elsewhere(place.name)), "PYTHONDONTWRITEBYTECODE": "1"}
+        env = {**os.environ, **own}
         for page in PAGES:
             (beginning, _), *rest = blocks(page)
             for block, printed in rest:

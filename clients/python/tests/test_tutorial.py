@@ -5,7 +5,6 @@ from __future__ import annotations
 import os
 import re
 import shlex
-import shutil
 import subprocess
 import sys
 import tempfile
@@ -13,7 +12,7 @@ import unittest
 from pathlib import Path
 from typing import Iterator, List, NamedTuple
 
-from .support import PROGRAM, TOP, needs_program
+from .support import PROGRAM, TOP, needs_program, package_elsewhere
 
 TUTORIAL = TOP / "docs" / "TUTORIAL.md"
 
@@ -43,36 +42,35 @@ def script() -> Iterator[str]:
         yield f"echo 'end of block {place}'\n"
 
 
-@needs_program
 class Tutorial(unittest.TestCase):
     def test_every_fence_is_a_block(self) -> None:
         self.assertEqual(TUTORIAL.read_text(encoding="utf-8").count("\n```"), 2 * len(blocks()))
         for block in blocks():
             self.assertEqual(bool(block.name), block.kind not in ("sh", "text"), block.kind)
 
-    @unittest.skipUnless(shutil.which("bash") and shutil.which("python3"), "there is no bash, or no python3")
+    @needs_program
     def test_every_block_does_what_it_says(self) -> None:
         with tempfile.TemporaryDirectory() as place:
-            bin_folder = Path(place, "bin")
-            bin_folder.mkdir()
-            python = bin_folder / "python3"
-            python.write_text(f'#!/bin/sh\nexec {shlex.quote(sys.executable)} "$@"\n', encoding="utf-8")
-            python.chmod(0o755)
-            own = {"KARZHOUL_PROGRAM": str(PROGRAM), "TMPDIR": place, "PATH": f"{bin_folder}:{os.environ['PATH']}"}
-            env = {**os.environ, **own, "PYTHONDONTWRITEBYTECODE": "1"}
-            ran = subprocess.run(["bash", "-c", "".join(script())], cwd=TOP, env=env, capture_output=True, text=True, timeout=100)
-            self.assertEqual((ran.returncode, ran.stderr), (0, ""))
-            self.check(ran.stdout)
-            self.assertIn("<svg", Path(place, "library", "library.html").read_text(encoding="utf-8"))
+            package_elsewhere(place)
+            follow(self, place, sys.executable, KARZHOUL_PROGRAM=str(PROGRAM))
 
-    def check(self, printed: str) -> None:
-        parts = re.split(r"^end of block (\d+)\n", printed, flags=re.MULTILINE)
-        outputs = {int(place): output for output, place in zip(parts[::2], parts[1::2])}
-        told = blocks()
-        for place, output in outputs.items():
-            following = told[place + 1] if place + 1 < len(told) else None
-            wanted = following.text if following is not None and following.kind == "text" else ""
-            self.assertEqual(output, wanted, told[place].text)
+
+def follow(test: unittest.TestCase, top: str, python: str, **env: str) -> None:
+    """Runs each block of the tutorial with this Python, at the top of a folder that may have the package as a clone has it."""
+    python3 = Path(top, "bin", "python3")
+    python3.parent.mkdir()
+    python3.write_text(f'#!/bin/sh\nexec {shlex.quote(python)} "$@"\n', encoding="utf-8")
+    python3.chmod(0o755)
+    own = {"TMPDIR": top, "PATH": f"{python3.parent}:{os.environ['PATH']}", "PYTHONDONTWRITEBYTECODE": "1"}
+    ran = subprocess.run(["bash", "-c", "".join(script())], cwd=top, env={**os.environ, **own, **env}, capture_output=True, text=True, timeout=100)
+    test.assertEqual((ran.returncode, ran.stderr), (0, ""))
+    parts = re.split(r"^end of block (\d+)\n", ran.stdout, flags=re.MULTILINE)
+    told = blocks()
+    for output, place in zip(parts[::2], map(int, parts[1::2])):
+        following = told[place + 1] if place + 1 < len(told) else None
+        wanted = following.text if following is not None and following.kind == "text" else ""
+        test.assertEqual(output, wanted, told[place].text)
+    test.assertIn("<svg", Path(top, "library", "library.html").read_text(encoding="utf-8"))
 
 
 if __name__ == "__main__":

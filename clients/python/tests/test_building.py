@@ -1,0 +1,63 @@
+"""The wheels: the plain one, and the one that brings the program, with a stand-in for it."""
+
+from __future__ import annotations
+
+import importlib.util
+import os
+import subprocess
+import sys
+import tempfile
+import unittest
+import zipfile
+from pathlib import Path
+from typing import Any
+
+from .support import HERE, STUB
+
+
+def builder() -> Any:
+    """The module that builds them."""
+    spec = importlib.util.spec_from_file_location("wheel_builder", HERE.parent / "building" / "wheel_builder.py")
+    assert spec is not None and spec.loader is not None
+    module = importlib.util.module_from_spec(spec)
+    spec.loader.exec_module(module)
+    return module
+
+
+class Wheels(unittest.TestCase):
+    def setUp(self) -> None:
+        place = tempfile.TemporaryDirectory()
+        self.addCleanup(place.cleanup)
+        self.place = place.name
+
+    def test_the_plain_one_is_for_any_system_and_brings_no_program(self) -> None:
+        name = builder().build_wheel(self.place)
+        self.assertTrue(name.endswith("-py3-none-any.whl"), name)
+        with zipfile.ZipFile(Path(self.place, name)) as wheel:
+            self.assertEqual([it for it in wheel.namelist() if "jpa" in it or "NOTICES" in it], [])
+
+    def test_the_same_files_are_the_same_wheel(self) -> None:
+        first, second = (tempfile.mkdtemp(dir=self.place) for _ in range(2))
+        names = [builder().build_program_wheel(it, b"a program", b"notices") for it in (first, second)]
+        self.assertTrue(names[0].endswith("-py3-none-manylinux_2_34_x86_64.whl"), names)
+        self.assertEqual(Path(first, names[0]).read_bytes(), Path(second, names[1]).read_bytes())
+
+    @unittest.skipUnless(importlib.util.find_spec("pip"), "there is no pip")
+    @unittest.skipUnless(os.uname().sysname == "Linux" and os.uname().machine == "x86_64", "the wheel is for Linux on x86-64 processors")
+    def test_the_program_is_installed_and_found(self) -> None:
+        program = STUB.read_bytes()
+        wheel = Path(self.place, builder().build_program_wheel(self.place, program, b"notices"))
+        there = Path(self.place, "there")
+        words = ["install", "--quiet", "--no-index", "--no-deps", "--target", str(there), str(wheel)]
+        made = subprocess.run([sys.executable, "-m", "pip", *words], capture_output=True, text=True, timeout=100)
+        self.assertEqual(made.returncode, 0, made.stderr)
+        self.assertEqual((there / "bin" / "jpa").read_bytes(), program)
+        self.assertTrue(os.access(there / "bin" / "jpa", os.X_OK))
+        env = {**os.environ, "PYTHONPATH": str(there), "KARZHOUL_PROGRAM": str(there / "bin" / "jpa")}
+        code = "from karzhoul.finding import find_program; print(find_program())"
+        found = subprocess.run([sys.executable, "-c", code], cwd=self.place, env=env, capture_output=True, text=True)
+        self.assertEqual((found.stdout, found.stderr), (f"{there / 'bin' / 'jpa'}\n", ""))
+
+
+if __name__ == "__main__":
+    unittest.main()
