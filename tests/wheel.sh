@@ -6,8 +6,8 @@ if ! command -v python3 >/dev/null 2>&1 || ! python3 -c 'import ensurepip, sys, 
     echo "there is no python3 of version 3.9 or later with venv and pip on this machine, so no wheel was tried"
     exit 77
 fi
-if ! tools/dist fits; then
-    echo "so no wheel was tried"
+if ! tools/dist fits || ! dist/jpa --version >/dev/null 2>&1; then
+    echo "dist/jpa doesn't fit these sources, or doesn't run on this machine, so no wheel was tried"
     exit 77
 fi
 cd clients/python && PYTHONDONTWRITEBYTECODE=1 timeout 100 python3 -m unittest tests.wheel 2>&1

@@ -4,6 +4,7 @@ from __future__ import annotations
 
 import importlib.util
 import os
+import platform
 import subprocess
 import sys
 import tempfile
@@ -22,6 +23,13 @@ def builder() -> Any:
     module = importlib.util.module_from_spec(spec)
     spec.loader.exec_module(module)
     return module
+
+
+def takes_the_program() -> bool:
+    """Whether pip installs the wheel on this machine."""
+    name, version = platform.libc_ver()
+    numbers = tuple(int(part) for part in version.split(".")[:2]) if name == "glibc" else (0,)
+    return os.uname()[0::4] == ("Linux", "x86_64") and numbers >= (2, 34)
 
 
 class Wheels(unittest.TestCase):
@@ -43,7 +51,7 @@ class Wheels(unittest.TestCase):
         self.assertEqual(Path(first, names[0]).read_bytes(), Path(second, names[1]).read_bytes())
 
     @unittest.skipUnless(importlib.util.find_spec("pip"), "there is no pip")
-    @unittest.skipUnless(os.uname().sysname == "Linux" and os.uname().machine == "x86_64", "the wheel is for Linux on x86-64 processors")
+    @unittest.skipUnless(takes_the_program(), "the wheel is for Linux on x86-64, with the GNU C library 2.34 or later")
     def test_the_program_is_installed_and_found(self) -> None:
         program = STUB.read_bytes()
         wheel = Path(self.place, builder().build_program_wheel(self.place, program, b"notices"))
