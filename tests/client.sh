@@ -1,6 +1,7 @@
 #!/usr/bin/env bash
-# The tests of the Python client, clients/python: over the program that stands built, or in `./test --quick` the one that ./jpa
-# runs, or the one that KARZHOUL_PROGRAM names. The program is not built here.
+# The tests of the Python client, clients/python: over the program that stands built, or in `./test
+# --quick` the one that ./jpa runs, or the one that KARZHOUL_PROGRAM names. The program is not built
+# here.
 set -u
 cd "$(dirname "$0")/.." || exit 1
 if ! command -v python3 >/dev/null 2>&1 || ! python3 -c 'import sys; sys.exit(sys.version_info < (3, 9))'; then

@@ -1,6 +1,6 @@
 #!/usr/bin/env bash
-# What ./jpa runs, and what tools/dist takes and tells, tried with a stand-in for the program; and where dist/jpa fits, that it
-# runs at once. No toolchain is needed, and nothing is built.
+# What ./jpa runs, and what tools/dist takes and tells, tried with a stand-in for the program; and
+# where dist/jpa fits, that it runs at once. No toolchain is needed, and nothing is built.
 set -u
 cd "$(dirname "$0")/.." || exit 1
 if ! command -v python3 >/dev/null 2>&1; then

@@ -1,5 +1,6 @@
 #!/usr/bin/env bash
-# The wheel that tools/wheel writes is installed into an empty environment, without a network, and the tutorial is followed there.
+# The wheel that tools/wheel writes is installed into an empty environment, without a network, and
+# the tutorial is followed there.
 set -u
 cd "$(dirname "$0")/.." || exit 1
 if ! command -v python3 >/dev/null 2>&1 || ! python3 -c 'import ensurepip, sys, venv; sys.exit(sys.version_info < (3, 9))' 2>/dev/null; then

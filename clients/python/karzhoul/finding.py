@@ -18,9 +18,9 @@ _said: Set[str] = set()
 
 
 def find_program(given: Optional[Words] = None) -> str:
-    """The program to start: the one that is given; else the one that was installed with this package; else, where the package lies in
-    a clone, the one that was built there, or `dist/jpa`; else the one that KARZHOUL_PROGRAM names; else, outside of a clone, `jpa`
-    on the PATH."""
+    """The program to start: the one that is given; else the one that was installed with this
+    package; else, where the package lies in a clone, the one that was built there, or `dist/jpa`;
+    else the one that KARZHOUL_PROGRAM names; else, outside of a clone, `jpa` on the PATH."""
     if given:
         return _startable(given)
     named = os.environ.get("KARZHOUL_PROGRAM")
@@ -28,15 +28,16 @@ def find_program(given: Optional[Words] = None) -> str:
     if not found:
         return _startable(named or "jpa")
     if named and not _is_same(named, found):
-        _say(f"{found} is started, and not {named}, which KARZHOUL_PROGRAM names: give that as program=..")
+        _say(f"{found} is started, and not {named}, which KARZHOUL_PROGRAM names: give it as program=..")
     return found
 
 
 def _startable(named: Words) -> str:
     found = shutil.which(os.fspath(named))
     if found is None:
-        words = f"{os.fspath(named)!r} is no program that can be started: name one by program=.. or by KARZHOUL_PROGRAM"
-        raise ProgramNotFound(f"{words}, or install the wheel that brings it")
+        words = f"{os.fspath(named)!r} is no program that can be started"
+        ways = "name one by program=.. or by KARZHOUL_PROGRAM, or install the wheel that brings it"
+        raise ProgramNotFound(f"{words}: {ways}")
     return os.path.abspath(found)
 
 
@@ -48,15 +49,18 @@ def _installed(package: Path) -> Optional[str]:
             if name.endswith("/bin/jpa"):
                 # (`pip install --target` moves it beside the package, and leaves the line as it was)
                 places = (package.parent / name, package.parent / "bin" / "jpa")
-                return next((os.path.abspath(place) for place in places if os.access(place, os.X_OK)), None)
+                found = (os.path.abspath(place) for place in places if os.access(place, os.X_OK))
+                return next(found, None)
     return None
 
 
 def _of_clone(top: Path, named: Optional[str]) -> Optional[str]:
-    """The program that runs in a clone without a build. Where there is none, and no other one is named, it is said what can be done."""
+    """The program that runs in a clone without a build. Where there is none, and no other one is
+    named, it is said what can be done."""
     if not (top / "crates" / "jpa").is_dir():
         return None
-    ran = subprocess.run([top / "tools" / "program", "--any"], stdin=subprocess.DEVNULL, capture_output=True, text=True)
+    words = [top / "tools" / "program", "--any"]
+    ran = subprocess.run(words, stdin=subprocess.DEVNULL, capture_output=True, text=True)
     if ran.returncode == 0:
         if ran.stderr:
             _say(ran.stderr.strip())
@@ -64,7 +68,7 @@ def _of_clone(top: Path, named: Optional[str]) -> Optional[str]:
     if named:
         return None
     why = "; ".join(line.partition(": ")[2] or line for line in ran.stderr.splitlines())
-    ways = f"'{top}/jpa --proved' proves and builds it, in an hour or more; program=.. or KARZHOUL_PROGRAM names another one"
+    ways = f"'{top}/jpa --proved' proves and builds it; program=.. or KARZHOUL_PROGRAM names another"
     raise ProgramNotFound(f"there is no program that runs without a build ({why}): {ways}")
 
 

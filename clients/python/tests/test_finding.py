@@ -38,7 +38,8 @@ class Finding(unittest.TestCase):
 
     def found(self, package: Path, given: Optional[Path] = None) -> Tuple[str, str]:
         """The program that is found twice, and what is said then."""
-        with mock.patch("karzhoul.finding._PACKAGE", package), contextlib.redirect_stderr(io.StringIO()) as said:
+        said = io.StringIO()
+        with mock.patch("karzhoul.finding._PACKAGE", package), contextlib.redirect_stderr(said):
             first = find_program(given)
             self.assertEqual(find_program(given), first)
         return first, said.getvalue()
@@ -75,12 +76,12 @@ class Finding(unittest.TestCase):
         folder = self.place / "lib" / "python3" / "site-packages"
         record = folder / "karzhoul-0.1.0.dist-info" / "RECORD"
         record.parent.mkdir(parents=True)
-        record.write_text("karzhoul/__init__.py,sha256=x,1\n../../../bin/jpa,sha256=x,1\n", encoding="utf-8")
+        record.write_text("karzhoul/__init__.py,x,1\n../../../bin/jpa,x,1\n", encoding="utf-8")
         named = os.environ["KARZHOUL_PROGRAM"] = self.started("named")
         # It was taken out by hand.
         self.assertEqual(self.found(folder / "karzhoul"), (named, ""))
         own = self.started("bin/jpa")
-        words = f"karzhoul: {own} is started, and not {named}, which KARZHOUL_PROGRAM names: give that as program=..\n"
+        words = f"karzhoul: {own} is started, and not {named}, which KARZHOUL_PROGRAM names: give it as program=..\n"
         self.assertEqual(self.found(folder / "karzhoul"), (own, words))
         os.environ["KARZHOUL_PROGRAM"] = own
         self.assertEqual(self.found(folder / "karzhoul"), (own, ""))
@@ -123,14 +124,15 @@ class Finding(unittest.TestCase):
     def test_a_clone_s_dist(self) -> None:
         package = self.clone()
         program = self.started("dist/jpa")
-        names = ("dist/jpa", "HANDLES", "crates.txt", *(f"crates/jpa/{part}/lib" for part in ("proofs", "specs", "src")))
+        sources = (f"crates/jpa/{part}/lib" for part in ("proofs", "specs", "src"))
+        names = ("dist/jpa", "HANDLES", "crates.txt", *sources)
         (self.place / "dist" / "SOURCES").write_text(sums(self.place, *names), encoding="utf-8")
         self.assertEqual(self.found(package)[0], program)
         self.assertEqual(self.found(package), (program, ""))
         (self.place / "crates" / "jpa" / "src" / "lib").write_text("changed", encoding="utf-8")
         with self.assertRaises(karzhoul.ProgramNotFound) as raised:
             self.found(package)
-        self.assertIn("dist/jpa is of other sources than these: crates/jpa/src/lib differs", str(raised.exception))
+        self.assertIn("of other sources than these: crates/jpa/src/lib differs", str(raised.exception))
 
 
 if __name__ == "__main__":

@@ -1,4 +1,7 @@
-"""The wheel that brings the program, installed into an empty environment without a network: tests/wheel.sh runs this."""
+"""The wheel that brings the program, installed into an empty environment without a network.
+
+tests/wheel.sh runs this.
+"""
 
 from __future__ import annotations
 
@@ -27,10 +30,10 @@ class Wheel(unittest.TestCase):
             wheel = ran(str(TOP / "tools" / "wheel"), place).rstrip("\n")
             ran(sys.executable, "-m", "venv", f"{place}/env")
             ran(f"{place}/env/bin/python", "-m", "pip", "install", "--quiet", "--no-index", wheel)
-            self.assertEqual(Path(place, "env/bin/jpa").read_bytes(), (TOP / "dist" / "jpa").read_bytes())
+            self.assertEqual(Path(place, "env/bin/jpa").read_bytes(), (TOP / "dist/jpa").read_bytes())
             self.assertIn("check", ran(f"{place}/env/bin/karzhoul", "--help"))
             os.environ.pop("KARZHOUL_PROGRAM", None)
-            test_tutorial.follow(self, place, f"{place}/env/bin/python", PATH=f"{place}/bin:{place}/env/bin:{os.environ['PATH']}")
+            test_tutorial.follow(self, place, f"{place}/env/bin/python")
 
 
 if __name__ == "__main__":
