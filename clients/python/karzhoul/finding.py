@@ -59,7 +59,7 @@ def _of_clone(top: Path, named: Optional[str]) -> Optional[str]:
     named, it is said what can be done."""
     if not (top / "crates" / "jpa").is_dir():
         return None
-    words = [top / "tools" / "program", "--any"]
+    words = [str(top / "tools" / "program"), "--any"]
     ran = subprocess.run(words, stdin=subprocess.DEVNULL, capture_output=True, text=True)
     if ran.returncode == 0:
         if ran.stderr:
