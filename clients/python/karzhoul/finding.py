@@ -24,7 +24,7 @@ def find_program(given: Optional[Words] = None) -> str:
     if given:
         return _startable(given)
     named = os.environ.get("KARZHOUL_PROGRAM")
-    found = _installed(_PACKAGE) or _of_clone(_PACKAGE.parents[2], named)
+    found = _installed(_PACKAGE) or _of_clone((_PACKAGE / "../../..").resolve(), named)
     if not found:
         return _startable(named or "jpa")
     if named and not _is_same(named, found):

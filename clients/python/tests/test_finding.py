@@ -53,7 +53,7 @@ class Finding(unittest.TestCase):
         return str(path)
 
     def test_elsewhere_it_is_the_one_that_is_named(self) -> None:
-        package = self.place / "site" / "karzhoul"
+        package = Path("/karzhoul")
         with mock.patch.dict(os.environ, PATH=str(self.place)), self.assertRaises(karzhoul.ProgramNotFound):
             self.found(package)
         on_path, named = self.started("jpa"), self.started("named")
