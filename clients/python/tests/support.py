@@ -6,6 +6,7 @@ import contextlib
 import os
 import re
 import shutil
+import subprocess
 import tempfile
 import unittest
 from pathlib import Path
@@ -21,17 +22,16 @@ STUB = HERE / "stub.py"
 
 
 def tested_program() -> Optional[str]:
-    """The program that is tested: the one that KARZHOUL_PROGRAM names, else the one that stands built. It is never built here, since
-    that proves it."""
+    """The program that is tested: the one that KARZHOUL_PROGRAM names, else the one that runs in this clone without a build."""
     named = os.environ.get("KARZHOUL_PROGRAM")
     if named:
         return shutil.which(named)
-    built = TOP / "crates" / "jpa" / "out" / "jpa"
-    return str(built) if os.access(built, os.X_OK) else None
+    words = [str(TOP / "tools" / "program"), "--any"]
+    return subprocess.run(words, stdin=subprocess.DEVNULL, capture_output=True, text=True).stdout.rstrip("\n") or None
 
 
 PROGRAM = tested_program()
-needs_program = unittest.skipUnless(PROGRAM, "the program isn't built: run ./jpa --proved once, or set KARZHOUL_PROGRAM")
+needs_program = unittest.skipUnless(PROGRAM, "no program runs without a build: run ./jpa --proved once, or set KARZHOUL_PROGRAM")
 
 
 def package_elsewhere(place: str) -> Path:
