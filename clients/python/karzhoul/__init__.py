@@ -10,13 +10,32 @@
         print(manager.find(Person, 1).name)
 """
 
+from typing import TYPE_CHECKING
+
 from . import refusals
 from .entities import Collection, EmbeddedId, Entity, Event
 from .factory import EntityManager, EntityManagerFactory, EntityTransaction, open
 from .lines import FlushModeType, LifecycleEvent, LockModeType
-from .refusals import *
+from .refusals import (
+    BadLine, Busy, Damaged, EntityExists, EntityNotFound, GivenUp, IllegalArgument,
+    IllegalState, KarzhoulError, Limit, Listener, Mapping, NoResult, NoSuchManager,
+    NoSuchObject, NonUniqueResult, NotServed, OptimisticLock, OutOfMemory, Overflow,
+    Persistence, ProgramEnded, ProgramNotFound, Refused, Restarted, Rollback, StoreFault,
+    StoreInMemory, TransactionRequired,
+)
 
 __version__ = "0.1.0"
 
-__all__ = ["Collection", "EmbeddedId", "Entity", "EntityManager", "EntityManagerFactory", "EntityTransaction", "Event", "FlushModeType"]
-__all__ += ["LifecycleEvent", "LockModeType", "open", "refusals", *refusals.__all__]
+# Written out, since type checkers read it. `from karzhoul import *` gives no name that Python has too,
+# as `open`, or that its `typing` has, as `Mapping`.
+__all__ = [
+    "EmbeddedId", "Entity", "EntityManager", "EntityManagerFactory", "EntityTransaction",
+    "Event", "FlushModeType", "LifecycleEvent", "LockModeType", "refusals",
+    "BadLine", "Busy", "Damaged", "EntityExists", "EntityNotFound", "GivenUp",
+    "IllegalArgument", "IllegalState", "KarzhoulError", "Limit", "Listener", "NoResult",
+    "NoSuchManager", "NoSuchObject", "NonUniqueResult", "NotServed", "OptimisticLock",
+    "OutOfMemory", "Overflow", "Persistence", "ProgramEnded", "ProgramNotFound", "Refused",
+    "Restarted", "Rollback", "StoreFault", "StoreInMemory", "TransactionRequired",
+]
+if TYPE_CHECKING:
+    __all__ += ["Collection", "Mapping", "open"]

@@ -2,12 +2,12 @@
 
 from __future__ import annotations
 
+import sys
 from collections.abc import Callable, Iterable, Iterator, Mapping, MutableSequence, Sequence
 from functools import partial
-from typing import TYPE_CHECKING, Any, ClassVar, List, NamedTuple, Optional, Tuple, Type, TypeVar, Union
+from typing import TYPE_CHECKING, Any, ClassVar, Dict, List, NamedTuple, Optional, Tuple, Type, TypeVar, Union, overload
 
-from .lines import LifecycleEvent, line_of, text_spelled
-from .refusals import IllegalArgument
+from .lines import LifecycleEvent, line_of, spelled, text_spelled
 
 if TYPE_CHECKING:
     from .factory import EntityManagerFactory
@@ -19,7 +19,7 @@ class Entity:
     """An object of an entity. A number of the program is always the same object of Python, as long as that is held.
 
     `EntityManagerFactory.entity` gives the class of an entity: calling it makes a new object, and its attributes are the entity's
-    members. A name that isn't known here, as of a subclass's member, is asked of the program.
+    members. The class of a subclass is a subclass.
     """
 
     __slots__ = ("__number__", "__weakref__")
@@ -27,6 +27,8 @@ class Entity:
     __factory__: ClassVar[EntityManagerFactory]
     # The line that makes one.
     __line__: ClassVar[bytes]
+    # The attribute that is the key, and the members that are its parts.
+    __key__: ClassVar[Tuple[str, Sequence[str]]]
 
     def __new__(cls: Type[E], /, **values: Any) -> E:
         return cls.__factory__.ask_lines([cls.__line__], cls.__name__)[0]  # type: ignore[no-any-return]
@@ -35,23 +37,29 @@ class Entity:
         for name, value in values.items():
             setattr(self, name, value)
 
-    def __getattr__(self, name: str) -> Any:
-        if name.startswith("__"):
-            raise AttributeError(name)
-        try:
-            return self.__factory__.get(self, name)
-        except IllegalArgument as refused:
-            raise AttributeError(f"{self!r} has no member {name!r}") from refused
+    if TYPE_CHECKING:
+        # A type checker doesn't know the members.
+        def __getattr__(self, name: str) -> Any: ...
+
+        def __setattr__(self, name: str, value: Any) -> None: ...
 
     def __reduce__(self) -> str:
-        return repr(self)  # So a copy is the object itself, and none can be pickled.
+        return _named(self, None)  # So a copy is the object itself, and none can be pickled.
 
     def __repr__(self) -> str:
-        return f"<{type(self).__name__} #{self.__number__}>"
+        return _named(self, self.__factory__.key_at_hand(self))
+
+
+def _named(entity: Entity, key: Optional[Sequence[Any]]) -> str:
+    """An object with its key, or with its number where the key isn't at hand."""
+    name, parts = entity.__key__
+    value = None if key is None else key[0] if parts == [name] else tuple(key)
+    return f"<{type(entity).__name__} {f'#{entity.__number__}' if key is None else f'{name}={value!r}'}>"
 
 
 class EmbeddedId:
-    """The embedded id of an object; its parts are attributes, and `tuple(id)` are their values."""
+    """The embedded id of an object, as it is at the moment: its parts are attributes, and `tuple(id)` are their values. It is equal
+    to that tuple, and has its hash."""
 
     __slots__ = ("_parts", "_entity", "_name")
 
@@ -60,38 +68,78 @@ class EmbeddedId:
             object.__setattr__(self, slot, value)
 
     def __getattr__(self, part: str) -> Any:
-        return getattr(self._entity, f"{self._name}.{part}")
+        return self._entity.__factory__.get(self._entity, self._member(part))
 
     def __setattr__(self, part: str, value: Any) -> None:
-        self._entity.__factory__.set(self._entity, f"{self._name}.{part}", value)
+        self._entity.__factory__.set(self._entity, self._member(part), value)
+
+    def _member(self, part: str) -> str:
+        """The name of a part as a member of the object."""
+        if part in self.__slots__ or part not in self._parts:
+            raise AttributeError(f"an embedded id has no part {part!r}")
+        return f"{self._name}.{part}"
+
+    def __reduce__(self) -> Tuple[Any, ...]:
+        return EmbeddedId, (self._parts, self._entity, self._name)
 
     def __iter__(self) -> Iterator[Any]:
-        return iter([getattr(self, part) for part in self._parts])
+        return iter(self._entity.__factory__.get_members(self._entity, [self._member(part) for part in self._parts]))
 
     def __eq__(self, other: object) -> bool:
-        return tuple(self) == tuple(other) if isinstance(other, (EmbeddedId, tuple)) else NotImplemented
+        if isinstance(other, (EmbeddedId, tuple)):
+            return tuple(self) == tuple(other)
+        return NotImplemented
+
+    def __hash__(self) -> int:
+        return hash(tuple(self))
+
+    def __repr__(self) -> str:
+        return f"<{self._name} {' '.join(f'{part}={value!r}' for part, value in zip(self._parts, self))}>"
 
     def _assign(self, given: Union[Mapping[str, Any], Iterable[Any]]) -> None:
-        for part, value in given.items() if isinstance(given, Mapping) else zip(self._parts, given):
+        for part, value in self._each(given):
             setattr(self, part, value)
 
+    def _each(self, given: Union[Mapping[str, Any], Iterable[Any]]) -> List[Tuple[str, Any]]:
+        """Each part with its value; a `ValueError` where one is missing or too much."""
+        if isinstance(given, Mapping):
+            fits, values = set(given) == set(self._parts), list(given.values())
+            names: Sequence[str] = list(given)
+        else:
+            is_many = isinstance(given, Iterable) and not isinstance(given, (str, bytes, bytearray))
+            names, values = self._parts, list(given) if is_many else [given]
+            fits = is_many and len(values) == len(names)
+        if not fits:
+            raise ValueError(f"the embedded id {self._name} takes {', '.join(self._parts)}, and not {given!r}")
+        for value in values:
+            spelled(value)  # What is no value at all is refused before a part is set.
+        return list(zip(names, values))
 
-class Collection(MutableSequence):  # type: ignore[type-arg]
-    """The members of a relation to many: a list that is read anew each time.
+
+class Collection(MutableSequence[E]):
+    """The members of a relation to many: a list that is read anew where a call was made since it was read.
 
     The program adds a member at the end, and takes out the first occurrence of one. `append`, `extend` and `remove` are these calls;
     what else a list can do adds the members of the new list, and then takes out those of the old one. A refusal on the way leaves the
     members between the two, and none is lost that was there."""
 
-    __slots__ = ("_entity", "_name")
+    __slots__ = ("_entity", "_name", "_read", "_turn")
 
     def __init__(self, entity: Entity, name: str) -> None:
         self._entity, self._name = entity, name
+        self._read: List[E] = []
+        self._turn: Optional[int] = None
 
-    def _members(self) -> List[Entity]:
-        return self._entity.__factory__.get(self._entity, self._name)  # type: ignore[no-any-return]
+    def _members(self) -> List[E]:
+        """The members, which nobody changes. `list(members)` asks for them twice, and reads them once."""
+        factory = self._entity.__factory__
+        turn = factory.turn
+        if turn is None or turn != self._turn:
+            self._read = factory.get(self._entity, self._name)
+            self._turn = None if turn is None else turn + 1  # Another turn has come where more than this was sent.
+        return self._read
 
-    def _assign(self, given: Iterable[Entity]) -> None:
+    def _assign(self, given: Iterable[E]) -> None:
         # `object.members += [..]` has added them when it assigns.
         if isinstance(given, Collection) and given._entity is self._entity and given._name == self._name:
             return
@@ -100,11 +148,11 @@ class Collection(MutableSequence):  # type: ignore[type-arg]
         for member in held:
             self.remove(member)
 
-    def append(self, member: Entity) -> None:
+    def append(self, member: E) -> None:
         """Adds a member at the end."""
         self._entity.__factory__.add(self._entity, self._name, member)
 
-    def remove(self, member: Entity) -> None:
+    def remove(self, member: E) -> None:
         """Takes out the first occurrence of a member; a `ValueError` where there is none."""
         if not self._entity.__factory__.take_out(self._entity, self._name, member):
             raise ValueError(f"{member!r} is not in {self!r}")
@@ -113,13 +161,22 @@ class Collection(MutableSequence):  # type: ignore[type-arg]
         """Takes all members out."""
         self._change(list.clear)
 
-    def _change(self, change: Callable[..., Any], *given: Any) -> None:
-        """Has the members of the list that a change makes of them."""
-        members = self._members()
-        change(members, *given)
+    def _change(self, change: Callable[..., Any], *given: Any) -> Any:
+        """Has the members of the list that a change makes of them, and answers what it answers."""
+        members = list(self._members())
+        answer = change(members, *given)
         self._assign(members)
+        return answer
 
-    def insert(self, at: int, member: Entity) -> None:
+    def pop(self, at: int = -1) -> E:
+        """Takes out the member at a place, and gives it."""
+        return self._change(list.pop, at)  # type: ignore[no-any-return]
+
+    def reverse(self) -> None:
+        """Turns the order of the members round."""
+        self._change(list.reverse)
+
+    def insert(self, at: int, member: E) -> None:
         """Puts a member before the one at a place."""
         self._change(list.insert, at, member)
 
@@ -129,17 +186,39 @@ class Collection(MutableSequence):  # type: ignore[type-arg]
     def __delitem__(self, at: Union[int, slice]) -> None:
         self._change(list.__delitem__, at)
 
+    @overload
+    def __getitem__(self, at: int) -> E: ...
+
+    @overload
+    def __getitem__(self, at: slice) -> List[E]: ...
+
     def __getitem__(self, at: Any) -> Any:
         return self._members()[at]
 
     def __len__(self) -> int:
         return len(self._members())
 
-    def __iter__(self) -> Iterator[Entity]:
+    def __iter__(self) -> Iterator[E]:
         return iter(self._members())
 
+    def __reversed__(self) -> Iterator[E]:
+        return reversed(self._members())
+
+    def __contains__(self, member: object) -> bool:
+        return member in self._members()
+
+    def index(self, member: Any, start: int = 0, stop: int = sys.maxsize) -> int:
+        """The first place of a member; a `ValueError` where it has none."""
+        return self._members().index(member, start, stop)
+
+    def count(self, member: Any) -> int:
+        """How often a member is in it."""
+        return self._members().count(member)
+
     def __eq__(self, other: object) -> bool:
-        return self._members() == list(other) if isinstance(other, (list, Collection)) else NotImplemented
+        if isinstance(other, (list, Collection)):
+            return self._members() == list(other)
+        return NotImplemented
 
     def __repr__(self) -> str:
         return f"<{self._name} of {self._entity!r}>"
@@ -148,26 +227,57 @@ class Collection(MutableSequence):  # type: ignore[type-arg]
 class Attribute(property):
     """A member as an attribute. A relation has the name of its target; a collection and an embedded id are looked at through a view."""
 
-    def __init__(self, name: str, target: str = "", view: Optional[Callable[[Entity, str], Union[Collection, EmbeddedId]]] = None) -> None:
+    def __init__(
+        self, name: str, target: str = "", view: Optional[Callable[[Entity, str], Union[Collection[Any], EmbeddedId]]] = None
+    ) -> None:
         self.name, self.target = name, target
-        if view is None:
-            super().__init__(lambda it: it.__factory__.get(it, name), lambda it, value: it.__factory__.set(it, name, value))
-        else:
-            super().__init__(lambda it: view(it, name), lambda it, value: view(it, name)._assign(value))
+
+        def read(it: Entity) -> Any:
+            return it.__factory__.get(it, name) if view is None else view(it, name)
+
+        def assign(it: Entity, value: Any) -> None:
+            if view is None:
+                it.__factory__.set(it, name, value)
+            else:
+                view(it, name)._assign(value)
+
+        super().__init__(read, assign)
 
 
-def class_of(factory: EntityManagerFactory, declared: Mapping[str, Any], name: str) -> Type[Entity]:
-    """The class of an entity's objects."""
-    attributes = {attribute.name: attribute for attribute in _attributes(declared, declared[name])}
-    own = {"__slots__": (), "__factory__": factory, "__line__": line_of("new", {"entity": text_spelled(name)})}
-    return type(name, (Entity,), {**attributes, **own, "__doc__": f"An object of the entity {name}."})
+def classes_of(factory: EntityManagerFactory, mapping: Mapping[str, Any]) -> Dict[str, Type[Entity]]:
+    """The class of each entity's objects, by name."""
+    declared = {entity["name"]: entity for entity in mapping["entities"]}
+    made: Dict[str, Type[Entity]] = {}
+    for name in declared:
+        _make_class(factory, declared, name, made)
+    return {name: made[name] for name in declared}
 
 
-def _attributes(declared: Mapping[str, Any], entity: Mapping[str, Any]) -> List[Attribute]:
-    """The attributes that an entity and its superclasses declare."""
-    made = _attributes(declared, declared[entity["extends"]]) if "extends" in entity else []
+def _make_class(factory: EntityManagerFactory, declared: Mapping[str, Any], name: str, made: Dict[str, Type[Entity]]) -> Type[Entity]:
+    """The class of an entity, which is a subclass of that of the entity that it extends."""
+    if name not in made:
+        entity = declared[name]
+        base = _make_class(factory, declared, entity["extends"], made) if "extends" in entity else Entity
+        own: Dict[str, Any] = {attribute.name: attribute for attribute in _attributes(entity)}
+        own.update(__slots__=(), __doc__=f"An object of the entity {name}.")
+        own.update(__factory__=factory, __line__=line_of("new", {"entity": text_spelled(name)}))
+        if base is Entity:
+            own["__key__"] = _key(entity)
+        made[name] = type(name, (base,), own)
+    return made[name]
+
+
+def _key(entity: Mapping[str, Any]) -> Tuple[str, List[str]]:
+    """The attribute that is the key of an entity that extends none, and the members that are its parts."""
+    parts = [part["name"] for part in entity["key"]]
+    name = entity.get("embedded")
+    return (name, [f"{name}.{part}" for part in parts]) if name else (parts[0], parts)
+
+
+def _attributes(entity: Mapping[str, Any]) -> List[Attribute]:
+    """The attributes that an entity itself declares."""
     key = [part["name"] for part in entity.get("key", ())]
-    made += [Attribute(entity["embedded"], view=partial(EmbeddedId, key))] if "embedded" in entity else [Attribute(part) for part in key]
+    made = [Attribute(entity["embedded"], view=partial(EmbeddedId, key))] if "embedded" in entity else [Attribute(part) for part in key]
     made += [Attribute(entity["version"]["name"])] if "version" in entity else []
     made += [Attribute(attribute["name"]) for attribute in entity.get("attributes", ())]
     for relation in entity.get("relations", ()):
@@ -175,9 +285,21 @@ def _attributes(declared: Mapping[str, Any], entity: Mapping[str, Any]) -> List[
     return made
 
 
-class Event(NamedTuple):
-    """An event of an object's life, with the names of the listeners and callbacks that ran."""
-
+class _Told(NamedTuple):
     kind: LifecycleEvent
-    object: Entity
+    # The number of an object that isn't known.
+    of: Union[Entity, int]
     ran: Tuple[str, ...] = ()
+
+
+class Event(_Told):
+    """An event of an object's life: its `kind`, the `object`, and the names of the listeners and callbacks that `ran`."""
+
+    __slots__ = ()
+
+    @property
+    def object(self) -> Entity:
+        """The object. A call that is refused gives up the objects that it loaded, and so one of these is a `LookupError`."""
+        if isinstance(self.of, Entity):
+            return self.of
+        raise LookupError(f"the object of this {self.kind.value} isn't known: the call that loaded it was refused or interrupted")

@@ -36,7 +36,7 @@ class LifecycleEvent(str, enum.Enum):
 
 
 # A text as JSON.
-text_spelled: Callable[[str], str] = json.encoder.encode_basestring
+text_spelled: Callable[[str], str] = getattr(json.encoder, "encode_basestring")
 
 
 def spelled(value: Any) -> str:

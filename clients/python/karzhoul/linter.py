@@ -11,6 +11,7 @@ import re
 from dataclasses import dataclass, field
 from typing import Callable, Dict, Iterable, Iterator, List, Mapping, Optional, Sequence, Set, Tuple, Union
 
+from .arguments import meant
 from .lines import LifecycleEvent
 from .strict_json import Lines, NoJson, Value, read, text_of
 
@@ -34,23 +35,24 @@ class Fault(str, enum.Enum):
 
 @dataclass(frozen=True)
 class Finding:
-    """A rule that is broken, and where: the path of the value in the JSON, its line and its column."""
+    """A rule that is broken, and where: the path of the value in the JSON, its line and its column. Without a fault it is a warning."""
 
-    fault: Fault
+    fault: Optional[Fault]
     message: str
     path: str
     line: int
     column: int
 
     def __str__(self) -> str:
-        return f"{self.line}:{self.column}: {self.path}: {self.message} [Mapping({self.fault.value})]"
+        return f"{self.line}:{self.column}: {self.path}: {self.message} [{f'Mapping({self.fault.value})' if self.fault else 'warning'}]"
 
 
 @dataclass
 class Report:
-    """What a check found."""
+    """What a check found: the broken rules, and warnings of what the program takes and can't do later."""
 
     findings: List[Finding] = field(default_factory=list)
+    warnings: List[Finding] = field(default_factory=list)
 
     @property
     def verdict(self) -> Optional[Fault]:
@@ -78,6 +80,7 @@ def lint(data: bytes) -> Report:
         made = _functions(teller, root)
         if is_well_formed and made is not None:
             _unknown(teller, root, made)
+            _lost(teller, unit)
     return report
 
 
@@ -90,7 +93,10 @@ class _Teller:
     def tell(self, fault: Fault, path: Path, value: Value, message: str) -> None:
         self._report.findings.append(self._finding(fault, path, value, message))
 
-    def _finding(self, fault: Fault, path: Path, value: Value, message: str) -> Finding:
+    def warn(self, path: Path, value: Value, message: str) -> None:
+        self._report.warnings.append(self._finding(None, path, value, message))
+
+    def _finding(self, fault: Optional[Fault], path: Path, value: Value, message: str) -> Finding:
         return Finding(fault, message, path_text(path), *self._lines.place(value.at))
 
 
@@ -308,6 +314,19 @@ class _Unit:
             for relation in self.entities[declarer].items("relations"):
                 yield declarer, relation
 
+    @staticmethod
+    def member_names(entity: _Placed) -> Iterator[_Placed]:
+        """The names of the members that an entity declares itself."""
+        if not entity.has("extends"):
+            if entity.has("embedded"):
+                yield entity.at("embedded")
+            else:
+                yield from (part.at("name") for part in entity.items("key"))
+            if entity.has("version"):
+                yield entity.at("version").at("name")
+        for sort in ("attributes", "relations"):
+            yield from (item.at("name") for item in entity.items(sort))
+
 
 _NAME = re.compile(r"[A-Za-z_][A-Za-z0-9_]{0,63}", re.ASCII)
 _OPPOSITE = {"oneToMany": "manyToOne", "oneToOne": "oneToOne", "manyToMany": "manyToMany"}
@@ -449,20 +468,8 @@ class _Model:
         count = sum(len(_items(entity.value, "attributes")) + len(_items(entity.value, "relations")) for entity in chain)
         if count > MOST_MEMBERS:
             self._tell(own, f"an entity has at most {MOST_MEMBERS} attributes and relations with those of its superclasses, and not {count}")
-        members = [(where.value.data, where) for entity in chain for where in self._member_names(entity)]
+        members = [(where.value.data, where) for entity in chain for where in self._unit.member_names(entity)]
         self._repeated(members, lambda name: f"the entity {own.text('name')} has two members of the name {name!r}")
-
-    @staticmethod
-    def _member_names(entity: _Placed) -> Iterator[_Placed]:
-        if not entity.has("extends"):
-            if entity.has("embedded"):
-                yield entity.at("embedded")
-            else:
-                yield from (part.at("name") for part in entity.items("key"))
-            if entity.has("version"):
-                yield entity.at("version").at("name")
-        for sort in ("attributes", "relations"):
-            yield from (item.at("name") for item in entity.items(sort))
 
     # 5. and 6. relations
 
@@ -644,3 +651,13 @@ def _unknown(teller: _Teller, root: Value, made: _Made) -> None:
     for where, names, what in named:
         if where.value.data not in names:
             teller.tell(Fault.FUNCTION, where.path, where.value, f"'functions' makes no {what} of this name")
+
+
+def _lost(teller: _Teller, unit: _Unit) -> None:
+    """Warns of functions that look for an attribute which no entity has: their first run throws."""
+    members = {str(where.value.data) for entity in unit.entities for where in unit.member_names(entity)}
+    for function in unit.root.items("functions"):
+        for name in _MAKES[function.text("make")][1]:
+            if name in ("attribute", "from", "to") and function.text(name) not in members:
+                where = function.at(name)
+                teller.warn(where.path, where.value, f"no entity has an attribute {function.text(name)!r}{meant(function.text(name), members)}")

@@ -2,135 +2,200 @@
 
 from __future__ import annotations
 
+import math
 import os
 import select
 import signal
 import sys
 import tempfile
+import time
 import weakref
 from contextlib import suppress
-from subprocess import PIPE, Popen, TimeoutExpired
-from typing import IO, List, Optional, Sequence, Union
+from subprocess import DEVNULL, PIPE, Popen, TimeoutExpired
+from typing import IO, List, NoReturn, Optional, Sequence, Union
 
-from .refusals import KarzhoulError, ProgramEnded, ProgramNotFound, refusal_of
+from .refusals import GivenUp, KarzhoulError, ProgramEnded, ProgramNotFound, refusal_of
 
 _PATIENCE = 2.0
+_CHUNK = (1 << 16,)
+# How long a program may still take for its reply once it is interrupted a second time.
+_GRACE = 1.0
+# Ends the program's group at the end of input, which comes without a line where this process is killed.
+_WATCH = 'read -r line || kill -KILL "-$1"'
 
 Words = Union[str, "os.PathLike[str]"]
+
+
+class Exchange:
+    """Lines that go to the program together, and what came of them so far.
+
+    It is whole at every moment, so that a call which is interrupted anywhere can be gone on with: what is still to be done is read off
+    what is noted, and each system call is noted by the step of the interpreter that makes it (`notes += map(..)`). The handlers of
+    signals, and so an interrupt, run between such steps alone.
+    """
+
+    __slots__ = ("lines", "parts")
+
+    def __init__(self, lines: Sequence[bytes]) -> None:
+        self.lines = lines
+        # None yet until it is sent.
+        self.parts: List[_Part] = []
+
+    def start(self) -> List[_Part]:
+        """Parts the lines into a few short ones or one at a time. From now on they are sent, and none can be added."""
+        lines, size = self.lines, 0
+        together: List[bytes] = []
+        if len(lines) == 1:
+            self.parts = [_Part(lines[0] + b"\n", 1)]
+            return self.parts
+        parts = []
+        for line in lines:
+            size += len(line) + 1
+            if size > select.PIPE_BUF and together:
+                parts.append(_Part(b"%b\n" % b"\n".join(together), len(together)))
+                together, size = [], len(line) + 1
+            together.append(line)
+        if together:
+            parts.append(_Part(b"%b\n" % b"\n".join(together), len(together)))
+        self.parts = parts
+        return parts
+
+    def waits(self) -> bool:
+        """Whether the next of it to be done is to read replies."""
+        parts = [part for part in self.parts if not part.is_answered()]
+        return bool(parts) and sum(parts[0].written) == len(parts[0].text)
+
+
+class _Part:
+    """Lines that are written before the first of their replies is read, when all before them are answered: so a write never waits for
+    a program that itself waits for its replies to be read."""
+
+    __slots__ = ("text", "lines", "written", "read")
+
+    def __init__(self, text: bytes, lines: int) -> None:
+        self.text, self.lines = text, lines
+        # How many bytes each write took, and what each read gave.
+        self.written: List[int] = []
+        self.read: List[bytes] = []
+
+    def is_answered(self) -> bool:
+        """Whether all replies are there."""
+        if not self.read or self.read[-1][-1:] != b"\n":
+            return False
+        return self.lines == 1 or sum([chunk.count(b"\n") for chunk in self.read]) >= self.lines
 
 
 class Program:
     """A program that was started with these words. Not for use by two threads at a time.
 
-    Lines are written a few short ones or one at a time, when all that were written before are answered: so a write never waits for a
-    program that itself waits for its replies to be read. What the program tells on standard error goes to a file, and is told where
-    it ends.
+    What it tells on standard error goes to a file, and is told where it ends.
     """
 
     def __init__(self, words: Sequence[Words]) -> None:
-        self._name, self._errors = words[0], tempfile.TemporaryFile()
+        self.words, self._errors = words, tempfile.TemporaryFile()
         # In a group of its own, so that Ctrl-C at a terminal interrupts a call and doesn't end the program.
         try:
             self._process = Popen(words, bufsize=0, stdin=PIPE, stdout=PIPE, stderr=self._errors, start_new_session=True)
         except OSError as fault:
             self._errors.close()
             raise ProgramNotFound(f"{words[0]!r} can't be started: {fault.strerror}") from fault
+        self._watch = _watch_of(self._process)
         assert self._process.stdin is not None and self._process.stdout is not None
-        self._in, self._out = self._process.stdin.fileno(), self._process.stdout.fileno()
-        self._end = weakref.finalize(self, _end, self._process, self._process.stdin, self._process.stdout, self._errors)
+        # As `map` takes them.
+        self._in, self._out = (self._process.stdin.fileno(),), (self._process.stdout.fileno(),)
+        files = (self._process.stdin, self._process.stdout, self._errors)
+        self._end = weakref.finalize(self, _end, self._process, self._watch, *files)
         self._reading = select.poll()
-        self._reading.register(self._out, select.POLLIN)
+        self._reading.register(self._process.stdout, select.POLLIN)
         self.pid = self._process.pid
         # Why the program answers no more; None while it does.
         self.fault: Optional[KarzhoulError] = None
-        self._unanswered, self._incoming = 0, b""
-        self._replies: List[bytes] = []
-        # Whether bytes are on their way; where a call finds them so, an interrupt may have lost some of them.
-        self._is_moving = False
 
-    def replies(self, lines: Sequence[bytes]) -> List[bytes]:
-        """Writes lines, and gives their replies. The program's end is a `ProgramEnded`, or the refusal that it ended with."""
-        if self._unanswered:
-            self._read_all()  # What a call that was interrupted left.
-        self._replies, together, size = [], [], 0
-        if len(lines) == 1:
-            self._exchange(lines)
-            return self._replies
-        for line in lines:
-            size += len(line) + 1
-            if size > select.PIPE_BUF:
-                self._exchange(together)
-                together, size = [], len(line) + 1
-            together.append(line)
-        self._exchange(together)
-        return self._replies
+    def replies(self, exchange: Exchange, timeout: Optional[float] = None) -> List[bytes]:
+        """Does what is left to do of an exchange, and gives its replies. The program's end is a `ProgramEnded`, or the refusal that it
+        ended with. A program that doesn't answer within so many seconds is ended, and so is one that is interrupted (by a
+        `KeyboardInterrupt`) in an exchange that was interrupted before: both are a `GivenUp`."""
+        if self.fault:
+            raise self.fault
+        parts = exchange.parts
+        was_interrupted = bool(parts)
+        deadline = None if timeout is None else time.monotonic() + timeout
+        replies: List[bytes] = []
+        try:
+            for part in parts or exchange.start():
+                self._write(part)
+                replies += self._read(part, timeout, deadline)
+        except KeyboardInterrupt as interrupt:
+            if was_interrupted and exchange.waits() and not self._comes(time.monotonic() + _GRACE):
+                self._give_up("a call was interrupted twice", interrupt)
+            raise
+        return replies
 
-    def _exchange(self, lines: Sequence[bytes]) -> None:
-        self._write(b"%b\n" % b"\n".join(lines) if lines else b"")
-        self._read_all()
+    def _write(self, part: _Part) -> None:
+        """Writes what isn't written of a part."""
+        try:
+            while (done := sum(part.written)) < len(part.text):
+                part.written += map(os.write, self._in, (part.text[done:],))
+        except BrokenPipeError:
+            pass  # What it told before its end is still read.
+
+    def _read(self, part: _Part, timeout: Optional[float], deadline: Optional[float]) -> List[bytes]:
+        """Reads what isn't read of the replies to a part, and gives them all."""
+        while not part.read or not part.is_answered():
+            if deadline is not None and not self._comes(deadline):
+                self._give_up(f"a call wasn't answered within {timeout} seconds")
+            part.read += map(os.read, self._out, _CHUNK)
+            if not part.read[-1]:
+                self.fault = self._why_it_ended()
+                raise self.fault
+        replies = b"".join(part.read).split(b"\n")
+        if replies.pop() or len(replies) != part.lines:
+            self.fault = ProgramEnded(_stopped(self._process, self._watch, 0), "the program told more than it was asked")
+            raise self.fault
+        return replies
+
+    def _comes(self, deadline: float) -> bool:
+        """Waits until there is something to read, until a deadline at most; and whether there is."""
+        while True:
+            left = deadline - time.monotonic()
+            if self._reading.poll(math.ceil(1000 * min(max(left, 0), 3600))):
+                return True
+            if left <= 0:
+                return False
+
+    def _give_up(self, why: str, interrupt: Optional[BaseException] = None) -> NoReturn:
+        """Ends the program for the sake of a call."""
+        # The fault first, so that nobody waits for this program again.
+        self.fault = GivenUp(-signal.SIGKILL, why)
+        _stopped(self._process, self._watch, 0)
+        raise self.fault from interrupt
 
     def start(self) -> None:
         """Waits for the program to answer at all, by an empty line, which is no call. What it tells meanwhile, as where it is being
         built, goes to standard error."""
-        self._write(b"\n")
+        hello = Exchange([b""])
+        self._write(hello.start()[0])
         shown = 0
         while not self._reading.poll(1000 * _PATIENCE):
             if told := self._told()[shown:]:
-                print(f"karzhoul: waiting for {self._name}: {told.strip()}", file=sys.stderr)
+                print(f"karzhoul: waiting for {self.words[0]}: {told.strip()}", file=sys.stderr)
                 shown += len(told)
-        self._read_all()
-        if b'"BadLine"' not in self._replies[0]:
-            raise ProgramNotFound(f"{self._name!r} is no program that answers calls")
+        if b'"BadLine"' not in self.replies(hello)[0]:
+            raise ProgramNotFound(f"{self.words[0]!r} is no program that answers calls")
 
     def close(self) -> None:
-        """Waits for the replies to what was written, ends the program's input and waits for its end."""
-        with suppress(KarzhoulError):  # Then it has ended, as is wanted.
-            self._read_all()
+        """Ends the program's input and waits for its end; a program that goes on for ten seconds is ended."""
         self.fault = self.fault or ProgramEnded(None)
         self._end()
 
     def kill(self) -> None:
         """Ends the program at once, with what it runs itself, as where it is being built."""
-        _stopped(self._process, 0)
+        _stopped(self._process, self._watch, 0)
         self.close()
-
-    def _write(self, lines: bytes) -> None:
-        if self.fault or self._is_moving or self._unanswered < 0:
-            self.raise_fault()
-        self._is_moving = True
-        self._unanswered += lines.count(b"\n")
-        try:
-            while lines:
-                lines = lines[os.write(self._in, lines) :]
-        except BrokenPipeError:
-            pass  # What it told before its end is still read.
-        self._is_moving = False
-
-    def _read_all(self) -> None:
-        while self._unanswered > 0:
-            if self.fault or self._is_moving:
-                self.raise_fault()
-            self._reading.poll()  # An interrupt of this loses nothing.
-            self._is_moving = True
-            chunk = os.read(self._out, 1 << 16)
-            if not chunk:
-                self.fault = self._why_it_ended()
-            *replies, self._incoming = (self._incoming + chunk).split(b"\n")
-            self._replies += replies
-            self._unanswered -= len(replies)
-            self._is_moving = False
-
-    def raise_fault(self) -> None:
-        """Raises why the program answers no more, where it doesn't."""
-        if not self.fault and (self._is_moving or self._unanswered < 0):
-            why = "a call was interrupted while bytes were on their way" if self._is_moving else "the program told more than it was asked"
-            self.fault = ProgramEnded(_stopped(self._process, 0), why)
-        if self.fault:
-            raise self.fault
 
     def _why_it_ended(self) -> KarzhoulError:
         """Why the program ended: the refusal that it told where it never came to answer, as of its mapping."""
-        status, told = _stopped(self._process, _PATIENCE), self._told()
+        status, told = _stopped(self._process, self._watch, _PATIENCE), self._told()
         last = told.rstrip().rpartition("\n")[2]
         return refusal_of(last[len("jpa: ") :]) if status in (2, 3) and last.startswith("jpa: ") else ProgramEnded(status, told)
 
@@ -138,17 +203,54 @@ class Program:
         return os.pread(self._errors.fileno(), os.fstat(self._errors.fileno()).st_size, 0).decode(errors="replace")
 
 
-def _stopped(process: Popen[bytes], patience: float) -> int:
-    """The status of a process, which is ended with what it runs itself if it hasn't ended after so many seconds."""
+_watches: weakref.WeakSet[Popen[bytes]] = weakref.WeakSet()
+
+
+def _watch_of(process: Popen[bytes]) -> Popen[bytes]:
+    """A shell that ends a process where this one ends without a word, be it killed, also while the process is at a long query.
+
+    The kernel's own way to do so (PR_SET_PDEATHSIG) is Linux's alone, and would end the program with the thread that started it.
+    """
+    words = ["/bin/sh", "-c", _WATCH, "karzhoul", str(process.pid)]
     try:
-        return process.wait(patience)
+        watch = Popen(words, bufsize=0, stdin=PIPE, stdout=DEVNULL, stderr=DEVNULL, cwd="/", start_new_session=True)
+    except OSError as fault:
+        os.killpg(process.pid, signal.SIGKILL)
+        process.wait()
+        raise ProgramNotFound(f"'/bin/sh' can't be started, which watches over the program: {fault.strerror}") from fault
+    _watches.add(watch)
+    return watch
+
+
+def _let_go() -> None:
+    """In a forked process: it keeps no program running that its parent started."""
+    for watch in _watches:
+        assert watch.stdin is not None
+        watch.stdin.close()
+
+
+os.register_at_fork(after_in_child=_let_go)
+
+
+def _stopped(process: Popen[bytes], watch: Popen[bytes], patience: float) -> int:
+    """The status of a process, which is ended with what it runs itself if it hasn't ended after so many seconds. Its watch ends."""
+    try:
+        status = process.wait(patience)
     except TimeoutExpired:
         os.killpg(process.pid, signal.SIGKILL)
-        return process.wait()
+        status = process.wait()
+    # At once, since the number of a process that ended may become that of another one.
+    assert watch.stdin is not None
+    if not watch.stdin.closed:
+        with suppress(BrokenPipeError):
+            watch.stdin.write(b"\n")
+        watch.stdin.close()
+        watch.wait()
+    return status
 
 
-def _end(process: Popen[bytes], *files: IO[bytes]) -> None:
+def _end(process: Popen[bytes], watch: Popen[bytes], *files: IO[bytes]) -> None:
     """Ends the process, which is no child of a forked process and lives on there. Called once, at the interpreter's exit at the latest."""
     for file in files:
         file.close()
-    _stopped(process, 10)
+    _stopped(process, watch, 10)

@@ -2,6 +2,7 @@
 
 from __future__ import annotations
 
+import re
 from typing import TYPE_CHECKING, ClassVar, Dict, Optional, Tuple, Type
 
 if TYPE_CHECKING:
@@ -27,6 +28,24 @@ class ProgramEnded(KarzhoulError):
         status = self.status
         how = "is closed" if status is None else f"was ended by signal {-status}" if status < 0 else f"ended with status {status}"
         return f"the program {how}" + (f": {self.told}" if self.told else "")
+
+
+class GivenUp(ProgramEnded):
+    """The program was ended since a call took too long, or was interrupted twice; `EntityManagerFactory.restart` opens it again."""
+
+    def __str__(self) -> str:
+        return (
+            f"{super().__str__()}, and was given up: what was not committed is lost, and a store in memory is; app.restart() opens the"
+            " program again over its file"
+        )
+
+
+class Restarted(KarzhoulError):
+    """An object or a manager is of before a restart, and can't be used any more: make or find it again."""
+
+
+class StoreInMemory(KarzhoulError):
+    """A restart was refused, since it would lose the store, which is in memory."""
 
 
 # The refusals by name.
@@ -141,8 +160,26 @@ class Busy(Refused, number=18):
     """Another manager has the open transaction."""
 
 
+_RESTART = ": commit, and app.restart() opens the program again over its file"
+# What else a call may have too much of.
+_LONG = dict.fromkeys(("find", "getReference"), "; or the key has a text or bytes of over 65,535 bytes")
+_LONG.update(dict.fromkeys(("query", "querySingle", "executeUpdate"), "; or the query is over the limits of docs/QUERIES.md"))
+
+
 class Limit(Refused, number=19):
-    """More than the program allows."""
+    """More than the program allows. It says which limits the call may have met, and what to do."""
+
+    def __str__(self) -> str:
+        found = re.match(r'\{"call":"(\w+)"', self.line)
+        call = found[1] if found else ""
+        if len(self.line.encode(errors="replace")) > 1_048_576:
+            return "Limit: a line has at most 1,048,576 bytes"
+        if call == "set":
+            return "Limit: a text or bytes have at most 65,535 bytes"
+        if call == "createEntityManager":
+            return f"Limit: at most 16 managers are open at a time: close one that isn't used; and a run makes 1,000,000{_RESTART}"
+        objects = f"a run makes at most 1,000,000 objects, loads counted{_RESTART}"
+        return f"Limit: {objects}{_LONG.get(call, '')}"
 
 
 class Mapping(Refused, number=20):
@@ -175,4 +212,4 @@ def refusal_of(text: str, events: Tuple[Event, ...] = (), line: str = "") -> Ref
     return kind(rest[:-1] if mark else None, events, line) if kind else Refused(text, events, line)
 
 
-__all__ = ["KarzhoulError", "NotServed", "ProgramEnded", "ProgramNotFound", "Refused", *REFUSALS]
+__all__ = ["GivenUp", "KarzhoulError", "NotServed", "ProgramEnded", "ProgramNotFound", "Refused", "Restarted", "StoreInMemory", *REFUSALS]

@@ -119,7 +119,7 @@ class Shell:
         except ProgramEnded as ended:
             self._write(str(ended))
             self._ends = True
-        except (KarzhoulError, Misread, TypeError, OverflowError) as fault:
+        except (KarzhoulError, Misread, TypeError, OverflowError, LookupError) as fault:
             self._write(str(fault))
 
     def _do(self, said: str) -> None:
@@ -156,9 +156,12 @@ class Shell:
         self._write(readable(answer) if speaks else "done")
 
     def _tell(self, event: Event) -> None:
-        self._held.append(event.object)
+        is_known = isinstance(event.of, Entity)
+        if is_known:
+            self._held.append(event.object)
         ran = f", which ran {', '.join(event.ran)}" if event.ran else ""
-        self._write(f"  {event.kind.value} {readable(event.object)}{ran}")
+        what = readable(event.object) if is_known else f"#{event.of}"
+        self._write(f"  {event.kind.value} {what}{ran}")
 
     def _entities(self) -> None:
         for entity in self._described.values():
@@ -184,8 +187,9 @@ class Shell:
             return [f"#{held.__number__}" for held in dict.fromkeys(self._held)]
         if asked == "name":
             return self._members(words[0])
-        modes = LockModeType if call == "lock" else FlushModeType
-        return [mode.value for mode in modes] if asked == "mode" else ()
+        if asked == "mode":
+            return [mode.value for mode in LockModeType] if call == "lock" else [mode.value for mode in FlushModeType]
+        return ()
 
     def _members(self, word: str) -> Iterable[str]:
         held = [type(each).__name__ for each in self._held if f"#{each.__number__}" == word]
@@ -215,8 +219,7 @@ def _mark(kind: MemberKind) -> str:
 def readable(answer: Any) -> str:
     """An answer as a reader sees it."""
     if isinstance(answer, Entity):
-        name = type(answer).__name__
-        return f"#{answer.__number__}" + ("" if name == "AnyEntity" else f" {name}")
+        return f"#{answer.__number__} {type(answer).__name__}"
     if isinstance(answer, bool):
         return "yes" if answer else "no"
     if isinstance(answer, list):

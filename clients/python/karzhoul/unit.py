@@ -28,6 +28,8 @@ class Member:
     declarer: str
     """The class of the chain that declares it."""
     is_owner: bool = False
+    is_required: bool = False
+    """Whether it is null in no stored object."""
 
 
 @dataclass(frozen=True)
@@ -71,14 +73,16 @@ def _described(declared: Mapping[str, Any], name: str) -> EntityDescription:
 def _key(root: Any) -> Iterator[Member]:
     prefix = f"{root['embedded']}." if "embedded" in root else ""
     for part in root["key"]:
-        yield Member(prefix + part["name"], MemberKind.KEY, part["type"], root["name"])
+        yield Member(prefix + part["name"], MemberKind.KEY, part["type"], root["name"], is_required=True)
     if "version" in root:
-        yield Member(root["version"]["name"], MemberKind.VERSION, "int", root["name"])
+        yield Member(root["version"]["name"], MemberKind.VERSION, "int", root["name"], is_required=True)
 
 
 def _own(entity: Any) -> Iterator[Member]:
     for attribute in entity.get("attributes", ()):
-        yield Member(attribute["name"], MemberKind.ATTRIBUTE, attribute["type"], entity["name"])
+        is_required = attribute.get("required", False)
+        yield Member(attribute["name"], MemberKind.ATTRIBUTE, attribute["type"], entity["name"], is_required=is_required)
     for relation in entity.get("relations", ()):
         kind = MemberKind.TO_ONE if relation["kind"] in ("manyToOne", "oneToOne") else MemberKind.COLLECTION
-        yield Member(relation["name"], kind, relation["target"], entity["name"], "mappedBy" not in relation)
+        is_owner, is_required = "mappedBy" not in relation, relation.get("required", False)
+        yield Member(relation["name"], kind, relation["target"], entity["name"], is_owner, is_required)

@@ -10,9 +10,11 @@ import subprocess
 import tempfile
 import unittest
 from pathlib import Path
-from typing import Any, Dict, Iterator, List, NamedTuple, Optional
+from typing import Any, Dict, Iterator, List, NamedTuple, Optional, Sequence
+from unittest import mock
 
 import karzhoul
+from karzhoul.program import Exchange
 
 HERE = Path(__file__).resolve().parent
 TOP = HERE.parents[2]
@@ -89,6 +91,20 @@ class ProgramTest(unittest.TestCase):
         with self.em.transaction():
             self.em.persist(person)
         return person
+
+
+@contextlib.contextmanager
+def counted(app: karzhoul.EntityManagerFactory) -> Iterator[List[bytes]]:
+    """The lines that are sent in the block."""
+    sent: List[bytes] = []
+    replies = app.program.replies
+
+    def counting(calls: Exchange, timeout: Optional[float] = None) -> List[bytes]:
+        sent.extend(calls.lines)
+        return replies(calls, timeout)
+
+    with mock.patch.object(app.program, "replies", counting):
+        yield sent
 
 
 @contextlib.contextmanager

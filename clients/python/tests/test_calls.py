@@ -6,11 +6,12 @@ import copy
 import tempfile
 import unittest
 from pathlib import Path
+from typing import Any, List
 
 import karzhoul
 from karzhoul import LifecycleEvent
 
-from .support import FLAT, PERSONS, PROGRAM, ProgramTest, needs_program
+from .support import FLAT, PERSONS, PROGRAM, ProgramTest, counted, needs_program
 
 
 @needs_program
@@ -71,6 +72,52 @@ class Objects(ProgramTest):
         self.assertEqual(place.at, (2, "a", b""))
         with self.assertRaises(AttributeError):
             place.at.colour
+
+    def test_an_embedded_id_takes_exactly_its_parts(self) -> None:
+        place = self.Place(at=(1, "a", b""))
+        wrong: List[Any] = [(7, "b", b"", 9), (7,), (), {"row": 7, "shelf": "b"}, {"row": 7, "shelf": "b", "tag": b"", "x": 1}, "abc", b"abc", 7, None]
+        for given in wrong:
+            with self.subTest(given), self.assertRaisesRegex(ValueError, "at takes row, shelf, tag, and not"):
+                place.at = given
+        with self.assertRaises(TypeError):
+            place.at = (7, "b", 1.5)
+        with self.assertRaises(ValueError):
+            self.Place(at=(7,))
+        self.assertEqual(tuple(place.at), (1, "a", b""))
+        with self.assertRaises(AttributeError):
+            place.at.colour = 1
+        place.at = {"tag": b"c", "shelf": "b", "row": 7}
+        self.assertEqual(tuple(place.at), (7, "b", b"c"))
+        other = self.Place(at=place.at)
+        self.assertEqual(tuple(other.at), (7, "b", b"c"))
+
+    def test_an_embedded_id_as_a_value(self) -> None:
+        first, second, third = (self.Place(at=(row, "a", b"")) for row in (1, 1, 2))
+        self.assertTrue(first.at == second.at == (1, "a", b"") and first.at != third.at and first.at != (1, "a"))
+        self.assertEqual({first.at: 1}[(1, "a", b"")], 1)
+        self.assertEqual(len({first.at, second.at, third.at}), 2)
+        self.assertEqual(repr(first.at), "<at row=1 shelf='a' tag=b''>")
+        self.assertEqual(repr(first), "<Place at=(1, 'a', b'')>")
+        self.assertEqual(copy.copy(first.at), first.at)
+        with counted(self.app) as sent:
+            tuple(first.at)
+        self.assertEqual(len(sent), 3)
+
+    def test_how_objects_are_shown(self) -> None:
+        person = self.Person(name="Ada")
+        self.assertEqual(repr(person), "<Person id=None>")
+        with self.em.transaction():
+            self.em.persist(person)
+        self.assertEqual((repr(person), str(person)), ("<Person id=1>", "<Person id=1>"))
+        order = self.Order()
+        with self.app.pipeline():
+            order.number = 7
+            with counted(self.app) as sent:
+                self.assertEqual(repr(order), "<Order #2>")
+            self.assertEqual(sent, [])
+        self.assertEqual(repr(order), "<Order number=7>")
+        self.app.close()
+        self.assertEqual(repr(order), "<Order #2>")
 
     def test_a_name_that_is_no_member(self) -> None:
         person = self.Person()

@@ -32,10 +32,15 @@ BROWSERS = ("chromium", "chromium-browser", "google-chrome", "firefox")
 
 
 def ran(*words: str) -> Tuple[int, str, str]:
+    """The command's status and what it prints, over the program."""
+    return alone(words[0], "--program", str(PROGRAM), *words[1:])
+
+
+def alone(*words: str) -> Tuple[int, str, str]:
     """The command's status and what it prints."""
     out, err = io.StringIO(), io.StringIO()
     with contextlib.redirect_stdout(out), contextlib.redirect_stderr(err):
-        status = main([words[0], "--program", str(PROGRAM), *words[1:]])
+        status = main(list(words))
     return status, out.getvalue(), err.getvalue()
 
 
@@ -153,6 +158,32 @@ class Show(WithStore):
         subprocess.run([browser, *words, page.as_uri()], check=True, capture_output=True, timeout=60)
         self.assertTrue(shot.read_bytes().startswith(b"\x89PNG"))
 
+    def test_a_file_that_another_program_has_open(self) -> None:
+        with karzhoul.open(self.mapping, self.db, program=PROGRAM):
+            for command in ("show", "shell"):
+                status, out, err = self.over(command, self.db)
+                self.assertEqual((status, out), (4, ""))
+                self.assertIn(f"karzhoul: {self.db} can't be opened (StoreFault): it seems that another program has it open", err)
+
+    def test_files_that_are_no_database(self) -> None:
+        Path(self.db).write_bytes(b"no database at all, whatever its name is")
+        status, _, err = self.over("show", self.db)
+        self.assertEqual((status, "it is no database of SQLite" in err), (4, True))
+        status, _, err = self.over("shell", str(self.place))
+        self.assertEqual((status, "it is a folder" in err), (4, True))
+
+    def test_an_interrupt_ends_the_program_and_is_a_line(self) -> None:
+        opened: List[karzhoul.EntityManagerFactory] = []
+
+        def interrupted(app: karzhoul.EntityManagerFactory, *_: object) -> None:
+            opened.append(app)
+            raise KeyboardInterrupt
+
+        with mock.patch("karzhoul.show.tables", interrupted):
+            self.assertEqual(self.over("show", self.db), (130, "", "karzhoul: interrupted\n"))
+        self.assertIsNotNone(opened[0].program.fault)
+        self.assertEqual(self.over("show", self.db)[0], 0)
+
     def test_what_can_not_be_shown(self) -> None:
         self.assertEqual(self.over("show", str(self.place / "none.db"))[0], 4)
         status, _, err = self.over("show", self.db, "--key", "Nobody=1")
@@ -179,7 +210,8 @@ class Queried(unittest.TestCase):
             ('{"call":"get","object":2,"name":"person"}', '{"object":1}'),
             ('{"call":"get","object":1,"name":"id"}', "1"),
         ]
-        with played("".join(f'> {line}\n< {{"events":[],"ok":{ok}}}\n' for line, ok in lines), persons) as app:
+        loaded = {lines[1][0]: '["PostLoad",1,"class0"]', lines[5][0]: '["PostLoad",2,"class1"]'}
+        with played("".join(f'> {line}\n< {{"events":[{loaded.get(line, "")}],"ok":{ok}}}\n' for line, ok in lines), persons) as app:
             shown = show.tables(app, {})
         text = show.text_page(shown)
         self.assertIn(" 1 |       0 | Ada  | [Order 10]", text)
@@ -218,6 +250,55 @@ class Keys(unittest.TestCase):
         for wrong in ("Order", "Nobody=1", "Order=a..b"):
             with self.assertRaises(ValueError):
                 show.keys_of([wrong], entities)
+
+
+class CheckAlone(unittest.TestCase):
+    """A check by the client alone, with no program to start."""
+
+    def setUp(self) -> None:
+        place = tempfile.TemporaryDirectory()
+        self.addCleanup(place.cleanup)
+        self.mapping = str(Path(place.name, "mapping.json"))
+        Path(self.mapping).write_text(json.dumps(PERSONS), encoding="utf-8")
+        nowhere = mock.patch.dict(os.environ, {"KARZHOUL_PROGRAM": str(Path(place.name, "none"))})
+        nowhere.start()
+        self.addCleanup(nowhere.stop)
+
+    def test_it_starts_no_program(self) -> None:
+        with mock.patch("karzhoul.factory.open", side_effect=AssertionError):
+            self.assertEqual(alone("check", self.mapping), (0, f"{self.mapping}: good\n", ""))
+
+    def test_the_program_is_asked_where_that_is_wanted(self) -> None:
+        with mock.patch("karzhoul.factory.find_program", side_effect=karzhoul.ProgramNotFound("there is none")):
+            self.assertEqual(alone("check", "--with-program", self.mapping), (4, "", "karzhoul: there is none\n"))
+        with mock.patch("karzhoul.factory.open", side_effect=karzhoul.Mapping("model")):
+            status, out, _ = alone("check", "--with-program", self.mapping)
+        self.assertEqual((status, out), (3, f"{self.mapping}: well formed, and refused by the program: Mapping(model)\n"))
+
+    def test_a_warning_is_told_of_a_good_mapping(self) -> None:
+        warned = copy.deepcopy(PERSONS)
+        warned["functions"].append({"name": "fill", "make": "count", "attribute": "visits"})
+        Path(self.mapping).write_text(json.dumps(warned), encoding="utf-8")
+        status, out, _ = alone("check", self.mapping)
+        self.assertEqual((status, out.splitlines()[1]), (0, f"{self.mapping}: good"))
+        self.assertIn("$.functions[1].attribute: no entity has an attribute 'visits' [warning]", out)
+
+    def test_a_mapping_from_a_pipe(self) -> None:
+        words = [sys.executable, "-m", "karzhoul", "check", "/dev/stdin"]
+        checked = subprocess.run(words, input=json.dumps(PERSONS).encode(), capture_output=True, cwd=HERE.parent, timeout=60)
+        self.assertEqual((checked.returncode, checked.stdout, checked.stderr), (0, b"/dev/stdin: good\n", b""))
+
+    def test_an_interrupt_is_a_line(self) -> None:
+        with mock.patch("karzhoul.command.lint", side_effect=KeyboardInterrupt):
+            self.assertEqual(alone("check", self.mapping), (130, "", "karzhoul: interrupted\n"))
+
+    def test_a_reader_that_has_enough_is_no_fault(self) -> None:
+        reading, writing = os.pipe()
+        os.close(reading)
+        words = [sys.executable, "-m", "karzhoul", "check", self.mapping]
+        checked = subprocess.run(words, stdout=writing, stderr=subprocess.PIPE, cwd=HERE.parent, timeout=60)
+        os.close(writing)
+        self.assertEqual((checked.returncode, checked.stderr), (4, b""))
 
 
 @needs_program

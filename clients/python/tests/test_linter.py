@@ -100,6 +100,25 @@ class Places(unittest.TestCase):
                 self.assertIn((fault, path), self.told(change))
         self.assertEqual(self.told(lambda m: None), [])
 
+    def test_an_attribute_that_no_entity_has_is_warned_of(self) -> None:
+        mapping = copy.deepcopy(PERSONS)
+        mapping["functions"] += [
+            {"name": "fill", "make": "set_text", "attribute": "nmae", "value": "x"},
+            {"name": "twice", "make": "copy", "from": "label", "to": "colour"},
+            {"name": "sure", "make": "require", "attribute": "name"},
+        ]
+        report = lint(json.dumps(mapping).encode())
+        self.assertEqual((report.findings, report.verdict), ([], None))
+        told = [(finding.path, finding.message) for finding in report.warnings]
+        self.assertEqual(
+            told,
+            [
+                ("$.functions[1].attribute", "no entity has an attribute 'nmae': did you mean 'name'?"),
+                ("$.functions[2].to", "no entity has an attribute 'colour'"),
+            ],
+        )
+        self.assertTrue(str(report.warnings[0]).endswith("[warning]"))
+
     def test_lines_and_columns(self) -> None:
         report = lint('{"revision":1,\n "entities":[\n  {"name":"é","table":0}]}'.encode())
         self.assertEqual([(finding.line, finding.column) for finding in report.findings], [(3, 3)])

@@ -91,14 +91,15 @@ class Answers(unittest.TestCase):
         script[50] = find(50, NULL)
         script[51] = find(51, '{"events":[["PostLoad",7]],"ok":{"object":7}}')
         script[99] = find(99, REFUSED)
-        with played(MANAGER + "".join(script[:99]) + script[99], PERSONS) as app:
+        asked = "".join(f'> {{"call":"get","object":{key},"name":"number"}}\n< {{"events":[],"ok":{key}}}\n' for key in (97, 98))
+        with played(MANAGER + "".join(script[:99]) + asked + script[99], PERSONS) as app:
             em, told = app.create_entity_manager(), []
             app.listen(told.append)
             found = em.find_many("Order", range(99))
             self.assertIsNone(found[50])
             self.assertIs(found[51], found[7])
             self.assertEqual([event.object for event in told], [found[7]])
-            self.assertEqual([repr(each) for each in found[97:]], ["<Order #97>", "<Order #98>"])
+            self.assertEqual([repr(each) for each in found[97:]], ["<Order number=97>", "<Order number=98>"])
             with self.assertRaises(karzhoul.IllegalArgument) as raised:
                 em.find_many("Order", [99])
             self.assertEqual(raised.exception.line, '{"call":"find","em":1,"entity":"Order","key":[99]}')

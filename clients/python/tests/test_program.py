@@ -17,7 +17,7 @@ from pathlib import Path
 from unittest import mock
 
 import karzhoul
-from karzhoul.program import Program
+from karzhoul.program import Exchange, Program
 
 from .support import FLAT, HERE, PERSONS, PROGRAM, STUB, ProgramTest, needs_program, played
 
@@ -78,20 +78,10 @@ class Ends(unittest.TestCase):
         line = '{"call":"set","object":1,"name":"n","value":1}'
         transcript = f'> {line}\n< {{"events":[],"ok":null}}\n' * 3 + f"> {line}\n! 4\n"
         with played(transcript, PERSONS) as app:
-            self.assertEqual(app.program.replies([line.encode()] * 3), [b'{"events":[],"ok":null}'] * 3)
+            self.assertEqual(app.program.replies(Exchange([line.encode()] * 3)), [b'{"events":[],"ok":null}'] * 3)
             with self.assertRaises(karzhoul.ProgramEnded) as raised:
-                app.program.replies([line.encode()] * 2)
+                app.program.replies(Exchange([line.encode()] * 2))
             self.assertEqual(raised.exception.status, 4)
-
-    def test_an_interrupt_while_bytes_are_on_their_way_ends_the_program(self) -> None:
-        line = '{"call":"createEntityManager"}'
-        for moving in ("write", "read"):
-            with self.subTest(moving), played(f'> {line}\n< {{"events":[],"ok":1}}\n', PERSONS) as app:
-                with mock.patch(f"karzhoul.program.os.{moving}", side_effect=KeyboardInterrupt), self.assertRaises(KeyboardInterrupt):
-                    app.create_entity_manager()
-                with self.assertRaises(karzhoul.ProgramEnded) as raised:
-                    app.create_entity_manager()
-                self.assertIn("interrupted", str(raised.exception))
 
     def test_a_transaction_whose_program_ends_raises_that(self) -> None:
         transcript = '> {"call":"createEntityManager"}\n< {"events":[],"ok":1}\n> {"call":"begin","em":1}\n< {"events":[],"ok":null}\n'
@@ -175,20 +165,6 @@ class OfTheProgram(ProgramTest):
             thread.join()
         self.assertEqual(faults, [])
 
-    def test_an_interrupted_call_loses_no_reply(self) -> None:
-        person = self.committed(name="Ada")
-        interrupt(self, 0.05)
-        count = 0
-        with self.assertRaises(KeyboardInterrupt):
-            while True:
-                person.name = str(count)
-                count += 1
-        try:
-            self.assertEqual(person.id, 1)
-        except karzhoul.ProgramEnded as ended:
-            # The interrupt came between a pipe's bytes and the note that they moved.
-            self.assertIn("interrupted", str(ended))
-
     def test_ctrl_c_at_a_terminal_ends_no_program(self) -> None:
         self.assertNotEqual(os.getpgid(self.app.program.pid), os.getpgid(0))
 
@@ -230,7 +206,7 @@ class OfTheProgram(ProgramTest):
     def test_more_than_both_pipes_hold(self) -> None:
         running = Program([str(PROGRAM), "--mapping", str(FLAT)])
         running.start()
-        replies = running.replies([b'{"call":"x"}'] * 50_000)
+        replies = running.replies(Exchange([b'{"call":"x"}'] * 50_000))
         self.assertEqual([b"BadLine" in reply for reply in replies], [True] * 50_000)
         running.close()
 

@@ -49,6 +49,27 @@ class Queries(unittest.TestCase):
         self.assertEqual(loaded, theirs)
         self.assertEqual([(type(order), order.number) for order in theirs], [(self.Order, 10), (self.Order, 11)])
 
+    def test_a_result_class(self) -> None:
+        rows = self.em.query("SELECT o, p FROM Order o LEFT JOIN o.person p", self.Person)
+        self.assertEqual(rows, [[self.orders[0], self.person], [self.orders[1], self.person], [self.orders[2], None]])
+        counts = self.em.query("SELECT COUNT(o), o.person FROM Order o GROUP BY o.person", "Person")
+        self.assertEqual(counts, [[2, self.person], [1, None]])
+        self.assertEqual(self.em.query("SELECT o FROM Order o WHERE o.number = 9", self.Person), [])
+        self.assertEqual(self.em.query("SELECT o.amount FROM Order o", int), [5, 7, None])
+        self.assertIs(self.em.query_single("SELECT p FROM Person p", self.Person), self.person)
+
+    def test_a_result_class_that_does_not_fit(self) -> None:
+        other = self.app.create_entity_manager()
+        for text in ("SELECT o FROM Order o", "SELECT o, o.number FROM Order o", "SELECT o.number FROM Order o"):
+            with self.assertRaisesRegex(TypeError, "nothing is of the result class Person"):
+                other.query(text, self.Person)
+        with self.assertRaisesRegex(TypeError, "<Order number=11>"):
+            other.query_single("SELECT o FROM Order o WHERE o.number = 11", self.Person)
+        with self.assertRaises(KeyError):
+            other.query("SELECT o FROM Order o", "Nobody")
+        found = other.query("SELECT o FROM Order o")
+        self.assertEqual([type(order) for order in found], [self.Order] * 3)
+
     def test_parameters(self) -> None:
         text = "SELECT o.number FROM Order o WHERE o.amount = :a OR o.number = ?1"
         self.assertEqual(self.em.query(text, params={"a": 5, "1": 12}), [10, 12])

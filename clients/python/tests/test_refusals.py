@@ -58,6 +58,21 @@ class Table(unittest.TestCase):
                 (event,) = refused.events
                 self.assertEqual((event.kind, event.ran), (karzhoul.LifecycleEvent.PRE_PERSIST, ("bump",)))
 
+    def test_a_limit_says_what_to_do(self) -> None:
+        objects, restart = "1,000,000 objects, loads counted", "app.restart()"
+        told = {
+            '{"call":"new","entity":"Order"}': (objects, restart),
+            '{"call":"find","em":1,"entity":"Order","key":[1]}': (objects, restart, "65,535 bytes"),
+            '{"call":"query","em":1,"text":"SELECT o FROM Order o"}': (objects, restart, "docs/QUERIES.md"),
+            '{"call":"set","object":1,"name":"name","value":"a"}': ("65,535 bytes",),
+            '{"call":"createEntityManager"}': ("16 managers", "close one", restart),
+            " " * 1_048_577: ("1,048,576 bytes",),
+        }
+        for line, words in told.items():
+            with self.subTest(line[:40]):
+                said = str(refusal_of("Limit", line=line))
+                self.assertEqual([word in said for word in (*words, "Limit: ")], [True] * (len(words) + 1), said)
+
     def test_what_is_not_served_is_told_with_its_line(self) -> None:
         reply = '{"error":{"name":"BadLine","no":3},"events":[]}'
         with played(f'> {{"call":"close","em":1}}\n< {reply}\n', PERSONS) as app:

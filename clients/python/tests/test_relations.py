@@ -5,12 +5,12 @@ from __future__ import annotations
 import tempfile
 import unittest
 from pathlib import Path
-from typing import Any, List, Tuple
+from typing import Any, Callable, List, Tuple
 
 import karzhoul
 from karzhoul import LifecycleEvent
 
-from .support import PROGRAM, TOP, needs_program
+from .support import PROGRAM, TOP, counted, needs_program
 
 LINKED = TOP / "tests" / "linked.json"
 ORPHANS = TOP / "tests" / "persons.json"
@@ -128,6 +128,55 @@ class Lists(RelationsTest):
         person.orders = [b, a]
         orders.clear()
         self.assertEqual((person.orders, list(person.orders)), ([], []))
+
+    def test_each_reading_of_a_list_is_one_call(self) -> None:
+        person, orders = self.family(50)
+        readings: List[Tuple[Any, Callable[[Any], Any]]] = [
+            (orders, list),
+            (orders[::-1], lambda members: list(reversed(members))),
+            (49, lambda members: members.index(orders[-1])),
+            (1, lambda members: members.count(orders[-1])),
+            ((True, False), lambda members: (orders[-1] in members, person in members)),
+            (orders[10:20], lambda members: members[10:20]),
+            (orders[-1], lambda members: members[-1]),
+            (orders, lambda members: sorted(members, key=orders.index)),
+            (orders, lambda members: [members[place] for place in range(len(members))]),
+            (True, lambda members: members == orders),
+        ]
+        for wanted, reading in readings:
+            with counted(self.app) as sent:
+                self.assertEqual(reading(person.orders), wanted)
+            self.assertEqual(len(sent), 1)
+        self.assertEqual(person.orders.index(orders[7], 5, 9), 7)
+        for start, stop in ((8, 50), (0, 7)):
+            with self.assertRaises(ValueError):
+                person.orders.index(orders[7], start, stop)
+
+    def test_a_list_that_is_held_sees_each_change(self) -> None:
+        person, (a, b) = self.family()
+        orders = person.orders
+        self.assertEqual(orders, [a, b])
+        self.app.add(person, "orders", a)
+        self.assertEqual((len(orders), orders), (3, [a, b, a]))
+        with self.app.pipeline():
+            self.app.add(person, "orders", b)
+            self.assertEqual(len(orders), 4)
+        person.orders.clear()
+        self.assertEqual(len(orders), 0)
+        orders.append(a)
+        self.em.refresh(person)
+        self.assertEqual(orders, [a, b])
+        self.app.close()
+        with self.assertRaises(karzhoul.ProgramEnded):
+            len(orders)
+
+    def test_an_order_is_turned_round_by_one_change(self) -> None:
+        person, orders = self.family(20)
+        with counted(self.app) as sent:
+            person.orders.reverse()
+        self.assertEqual(person.orders, orders[::-1])
+        # It is read twice, each member is added once, and taken out once.
+        self.assertLessEqual(len(sent), 2 + 2 * 20)
 
     def test_a_member_of_another_class(self) -> None:
         person, orders = self.family()

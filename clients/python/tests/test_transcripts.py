@@ -184,7 +184,7 @@ class Transcripts(unittest.TestCase):
             with em.transaction():
                 em.remove(again)
             self.assertIs(removed[0], again)
-            self.assertEqual(len(removed), 3)
+            self.assertEqual([type(each) for each in removed], [Person, Order, Order])
 
         self.play("remove", example)
 
@@ -195,7 +195,7 @@ class Transcripts(unittest.TestCase):
             '{"call":"new","entity":"Person"}': '{"object":1}',
             f'{{"call":"executeUpdate","em":1,"text":"{text}","params":{{"n":{{"hex":"00ff"}},"p":{{"object":1}}}}}}': "1",
             '{"call":"query","em":1,"text":"SELECT p, p.name FROM Person p","params":{},"first":0,"max":2}': (
-                '[[{"object":2},"Ada"],[null,{"hex":"0a"}]]'
+                '[[{"object":1},"Ada"],[null,{"hex":"0a"}]]'
             ),
             '{"call":"close","em":1}': "null",
         }
@@ -207,7 +207,7 @@ class Transcripts(unittest.TestCase):
                 self.assertEqual(em.execute_update(text, params={"n": b"\0\xff", "p": person}), 1)
                 rows = em.query("SELECT p, p.name FROM Person p", Person, params={}, first=0, max=2)
                 self.assertEqual(rows[1], [None, b"\x0a"])
-                self.assertIs(type(rows[0][0]), Person)
+                self.assertIs(rows[0][0], person)
                 self.assertEqual(rows[0][1], "Ada")
 
 

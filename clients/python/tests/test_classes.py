@@ -1,0 +1,326 @@
+"""The class of each object that the client hands out: a desk with a hierarchy of customers, their orders and the orders' lines."""
+
+from __future__ import annotations
+
+import json
+import tempfile
+import unittest
+from pathlib import Path
+from typing import Any, Dict, List
+
+import karzhoul
+from karzhoul import Collection, LifecycleEvent
+from karzhoul.classes import marked, marked_text, marks_of
+from karzhoul.shell import Shell
+
+from .support import PROGRAM, TOP, counted, needs_program, played
+
+DESK: Dict[str, Any] = {
+    "revision": 1,
+    "entities": [
+        {"name": "Company", "extends": "Customer", "attributes": [{"name": "vat", "type": "text", "column": 3}]},
+        {
+            "name": "Customer",
+            "table": 1,
+            "key": [{"name": "id", "type": "int"}],
+            "generated": True,
+            "attributes": [{"name": "name", "type": "text", "column": 1}],
+            "relations": [{"name": "orders", "kind": "oneToMany", "target": "Order", "mappedBy": "customer", "cascade": ["ALL"]}],
+            "callbacks": [{"name": "called", "events": ["PostLoad", "PrePersist"]}],
+        },
+        # A class without a member of its own.
+        {"name": "Friend", "extends": "Customer", "listeners": [{"name": "named", "events": ["PostLoad"]}], "excludeSuper": True},
+        {
+            "name": "Order",
+            "table": 2,
+            "key": [{"name": "number", "type": "int"}],
+            "attributes": [{"name": "note", "type": "text", "column": 2}],
+            "relations": [
+                {"name": "customer", "kind": "manyToOne", "target": "Customer", "column": 1, "cascade": ["MERGE"]},
+                {"name": "lines", "kind": "oneToMany", "target": "Line", "mappedBy": "order", "cascade": ["ALL"], "orphanRemoval": True},
+            ],
+        },
+        {
+            "name": "Line",
+            "table": 3,
+            "embedded": "at",
+            "key": [{"name": "order", "type": "int"}, {"name": "place", "type": "int"}],
+            "relations": [{"name": "order", "kind": "manyToOne", "target": "Order", "column": 1}],
+        },
+        {"name": "Gift", "extends": "Line"},
+    ],
+    "functions": [{"name": "called", "make": "note"}, {"name": "named", "make": "require", "attribute": "name"}],
+}
+
+
+@needs_program
+class DeskTest(unittest.TestCase):
+    """A test over a program of its own, with its store in memory."""
+
+    def setUp(self) -> None:
+        self.app = karzhoul.open(DESK, program=PROGRAM)
+        self.addCleanup(self.app.close)
+        self.em = self.app.create_entity_manager()
+        self.Customer, self.Company, self.Friend = map(self.app.entity, ("Customer", "Company", "Friend"))
+        self.Order, self.Line, self.Gift = map(self.app.entity, ("Order", "Line", "Gift"))
+
+    def stored(self) -> None:
+        """A company with the orders 10, which has a line and a gift, and 11; a friend with order 12; and a customer without any."""
+        customers = [self.Company(name="Ada & Co", vat="AT1"), self.Friend(name="Bob"), self.Customer(name="Cy")]
+        company, friend, _ = customers
+        order = self.Order(number=10, customer=company)
+        order.lines = [self.Line(at=(10, 1), order=order), self.Gift(at=(10, 2), order=order)]
+        company.orders = [order, self.Order(number=11, customer=company)]
+        friend.orders = [self.Order(number=12, customer=friend)]
+        with self.em.transaction():
+            for customer in customers:
+                self.em.persist(customer)
+        self.em.clear()
+
+    def types(self, objects: Any) -> List[str]:
+        return [type(each).__name__ for each in objects]
+
+
+class Found(DeskTest):
+    def test_a_list_of_an_object_of_a_query_takes_changes(self) -> None:
+        self.stored()
+        with self.em.transaction():
+            [order] = self.em.query("SELECT o FROM Order o WHERE o.number = 10")
+            self.assertIsInstance(order.lines, Collection)
+            order.lines.append(self.Line(at=(10, 3), order=order))
+            [other] = self.em.query("SELECT o FROM Order o WHERE o.number = 11")
+            other.lines = [self.Line(at=(11, 1), order=other)]
+        again = self.app.create_entity_manager()
+        self.assertEqual([tuple(line.at) for line in again.find(self.Order, 10).lines], [(10, 1), (10, 2), (10, 3)])
+        with again.transaction():
+            [order] = again.query("SELECT o FROM Order o WHERE o.number = 10")
+            order.lines.clear()
+        self.assertEqual(again.query("SELECT l.at.order FROM Line l"), [11])
+
+    def test_an_object_of_a_subclass_is_one(self) -> None:
+        self.assertTrue(issubclass(self.Company, self.Customer) and issubclass(self.Friend, self.Customer))
+        self.assertFalse(issubclass(self.Company, self.Friend) or issubclass(self.Customer, self.Company))
+        self.stored()
+        with counted(self.app) as sent:
+            company, friend, customer = self.em.find_many(self.Customer, (1, 2, 3))
+        self.assertEqual(len(sent), 3)
+        self.assertEqual(self.types((company, friend, customer)), ["Company", "Friend", "Customer"])
+        self.assertIsInstance(company, self.Customer)
+        self.assertEqual([repr(each) for each in (company, friend, customer)], ["<Company id=1>", "<Friend id=2>", "<Customer id=3>"])
+        with self.em.transaction():
+            company.vat = "AT2"
+        self.assertEqual(self.app.create_entity_manager().get_reference(self.Customer, 1).vat, "AT2")
+        with self.assertRaises(AttributeError):
+            friend.vat = "AT3"
+        self.assertIsNone(self.em.find(self.Company, 2))
+
+    def test_items_of_a_row(self) -> None:
+        self.stored()
+        rows = self.em.query("SELECT c, o, l, 'FROM Line x', :p FROM Customer c, Line l JOIN c.orders o WHERE o = l.order", params={"p": 1})
+        self.assertEqual([self.types(row[:3]) for row in rows], [["Company", "Order", "Line"], ["Company", "Order", "Gift"]])
+        self.em.clear()
+        self.assertEqual(self.types(self.em.query("select L.ORDER.customer from Line as L".replace("ORDER", "order"))), ["Company", "Company"])
+        self.em.clear()
+        self.assertEqual(self.types([self.em.query_single("SELECT o.customer FROM Order o WHERE o.number = 12")]), ["Friend"])
+
+    def test_what_relations_lead_to(self) -> None:
+        self.stored()
+        order = self.em.find(self.Order, 10)
+        self.assertEqual(self.types([order.customer, *order.lines, *order.customer.orders]), ["Company", "Line", "Gift", "Order", "Order"])
+        friend = self.em.find(self.Order, 12).customer
+        self.em.detach(friend)
+        self.assertEqual((type(friend), friend.name), (self.Friend, "Bob"))
+
+    def test_an_object_that_no_one_holds_keeps_its_class(self) -> None:
+        self.stored()
+        self.em.query("SELECT c, l FROM Customer c, Line l")
+        with counted(self.app) as sent:
+            found = self.em.find_many(self.Customer, (1, 2, 3)) + [self.em.find(self.Line, (10, 2))]
+        self.assertEqual((self.types(found), len(sent)), (["Company", "Friend", "Customer", "Gift"], 4))
+        self.assertIs(self.em.find(self.Customer, 1), found[0])
+        self.assertEqual(len({*found, *self.em.find_many(self.Customer, (1, 2, 3))}), 4)
+
+    def test_members_that_are_read_and_set_send_a_line_each(self) -> None:
+        self.stored()
+        company = self.em.find(self.Customer, 1)
+        with counted(self.app) as sent:
+            company.name, company.vat
+            self.assertFalse(hasattr(company, "nmae"))
+            company.vat = "AT2"
+        self.assertEqual(len(sent), 3)
+
+
+class States(DeskTest):
+    def heard(self, *kinds: LifecycleEvent) -> List[karzhoul.Event]:
+        told: List[karzhoul.Event] = []
+        self.app.listen(told.append, *kinds)
+        return told
+
+    def test_what_an_event_tells_first(self) -> None:
+        self.stored()
+        told = self.heard(LifecycleEvent.POST_LOAD)
+        company = self.em.find(self.Customer, 1)
+        self.em.find(self.Customer, 2)
+        with self.em.transaction():
+            self.em.remove(company)
+        self.assertEqual(self.types(event.object for event in told), ["Company", "Friend", "Order", "Order", "Line", "Gift"])
+        self.assertEqual([event.ran for event in told[:3]], [("called",), ("named", "called"), ()])
+
+    def test_a_removed_object_keeps_its_class(self) -> None:
+        self.stored()
+        told = self.heard(LifecycleEvent.PRE_REMOVE)
+        order = self.em.find(self.Order, 10)
+        self.em.transaction().begin()
+        self.em.remove(order)
+        line, gift = order.lines
+        self.assertEqual((type(order), type(line), type(gift)), (self.Order, self.Line, self.Gift))
+        self.assertEqual([event.object for event in told], [order, line, gift])
+        self.em.flush()
+        self.em.transaction().rollback()
+        self.assertEqual(repr(gift), "<Gift at=(10, 2)>")
+
+    def test_what_a_removal_loads_is_known_without_a_callback_too(self) -> None:
+        self.stored()
+        order = self.em.find(self.Order, 10)
+        with self.em.transaction():
+            self.em.remove(order)
+            self.assertEqual(self.types(order.lines), ["Line", "Gift"])
+
+    def test_images_of_a_merge(self) -> None:
+        self.stored()
+        told = self.heard(LifecycleEvent.PRE_PERSIST, LifecycleEvent.POST_LOAD)
+        friend = self.Friend(name="Dan")
+        order = self.Order(number=13, customer=friend, lines=[self.Line(at=(13, 1)), self.Gift(at=(13, 2))])
+        for line in order.lines:
+            line.order = order
+        with self.em.transaction():
+            image = self.em.merge(order)
+        self.assertEqual(self.types([image, image.customer, *image.lines]), ["Order", "Friend", "Line", "Gift"])
+        self.assertEqual(sorted(self.types(event.object for event in told)), ["Friend", "Gift", "Line", "Order"])
+        self.em.clear()
+        company = self.Company(id=1, name="Ada", vat="AT9")
+        with self.em.transaction():
+            self.assertEqual(type(self.em.merge(company)), self.Company)
+
+    def test_after_a_rollback_and_a_clear(self) -> None:
+        self.stored()
+        transaction = self.em.transaction().begin()
+        first = self.em.find(self.Customer, 1)
+        new = self.Friend(name="Eve")
+        self.em.persist(new)
+        self.em.flush()
+        transaction.rollback()
+        self.assertEqual((type(first), first.vat, type(new), new.name), (self.Company, "AT1", self.Friend, "Eve"))
+        second = self.em.find(self.Customer, 1)
+        self.assertIsNot(second, first)
+        self.assertIs(type(second), self.Company)
+        self.assertEqual((first == second, first == first, len({first, second})), (False, True, 2))
+
+    def test_objects_that_a_refused_call_gave_up(self) -> None:
+        self.stored()
+        friend = self.em.find(self.Friend, 2)
+        friend.name = None
+        with self.em.transaction():
+            pass
+        self.em.clear()
+        told = self.heard(LifecycleEvent.POST_LOAD)
+        with self.assertRaises(karzhoul.Listener) as raised:
+            self.em.query("SELECT c FROM Customer c")
+        self.assertEqual([event.ran for event in raised.exception.events], [("called",), ("named",)])
+        self.assertEqual(len(told), 2)
+        for event in [*raised.exception.events, *told]:
+            with self.assertRaisesRegex(LookupError, "refused"):
+                event.object
+        # Their numbers are given again.
+        order = self.Order(number=99)
+        self.assertEqual((type(order), order.number), (self.Order, 99))
+
+    def test_the_prompt_shows_what_a_refused_call_gave_up(self) -> None:
+        told: List[str] = []
+        prompt = Shell(self.app, told.append)
+        for said in ("new Friend", "begin", "persist #1", "commit", "clear", "find Friend 1"):
+            prompt.do(said)
+        self.assertEqual(told[-2:], ["  PostLoad #2, which ran named", "refused: Listener(require name)\n  " + str(karzhoul.Listener.__doc__)])
+
+    def test_a_line_of_one_s_own_makes_an_object_of_its_class(self) -> None:
+        made = self.app.send_line('{ "entity":"Customer", "call" : "new" }')
+        self.assertIs(type(made), self.Customer)
+        self.assertIs(type(self.app.ask("new", "Line", entity='"Line"')), self.Line)
+
+
+class Marks(unittest.TestCase):
+    def test_a_mapping_that_is_none_stays_as_it_is(self) -> None:
+        wrong = ['{"entities":{}}', '{"entities":[{"name":"A","listeners":{}}]}', '{"entities":[],"functions":"f"}', '{"entities":[1]}', "[", "[]", "1", ""]
+        for text in [*wrong, '\ufeff{"entities":[]}', '{"entities":[{}]}', "[" * 100_000]:
+            with self.subTest(text[:50]):
+                self.assertEqual(marked_text(text.encode()), text.encode())
+        self.assertEqual(marked_text(b"\xff"), b"\xff")
+
+    def test_no_mark_has_a_name_of_the_mapping(self) -> None:
+        mapping = {"revision": 1, "entities": [{"name": "A", "listeners": [{"name": "class0", "events": ["PostLoad"]}]}, {"name": "class_"}]}
+        self.assertEqual(marks_of(mapping), {"class__0": "A", "class__1": "class_"})
+        made = marked(mapping)
+        self.assertEqual(made["entities"][0]["listeners"], [{"name": "class__0", "events": ["PostLoad"]}, {"name": "class0", "events": ["PostLoad"]}])
+        self.assertEqual(made["functions"], [{"name": "class__0", "make": "note"}, {"name": "class__1", "make": "note"}])
+        self.assertEqual(made["revision"], 1)
+        self.assertNotIn("functions", mapping)
+
+    def test_objects_that_a_merge_makes_on_its_way_are_marked_when_they_are_made(self) -> None:
+        heard = {entity["name"]: entity["listeners"][0]["events"] for entity in marked(DESK)["entities"]}
+        self.assertEqual(set(map(tuple, heard.values())), {("PostLoad", "PrePersist")})
+        flat = {**DESK, "entities": [{**entity, "relations": []} for entity in DESK["entities"]]}
+        self.assertEqual([entity["listeners"][0]["events"] for entity in marked(flat)["entities"]], [["PostLoad"]] * 6)
+        ring = {"entities": [{"name": "A", "extends": "B"}, {"name": "B", "extends": "A", "relations": [{"target": "A", "cascade": ["ALL"]}]}]}
+        self.assertEqual([entity["listeners"][0]["events"] for entity in marked(ring)["entities"]], [["PostLoad", "PrePersist"]] * 2)
+
+    @needs_program
+    def test_the_image_of_an_object_is_of_its_class(self) -> None:
+        with karzhoul.open(TOP / "tests" / "sub.json", program=PROGRAM) as app:
+            em, told = app.create_entity_manager(), []
+            app.listen(told.append)
+            order, note = app.new("Order", at=(1, "a")), app.new("Note", at=(1, "b"))
+            images = [em.merge(order), em.merge(note)]
+            self.assertEqual([type(each) for each in images], [app.entity("Order"), app.entity("Note")])
+            self.assertEqual([(event.object, event.ran) for event in told], [(each, ("seen",)) for each in images])
+
+    @needs_program
+    def test_the_program_refuses_the_mapping_that_was_given(self) -> None:
+        person = {"name": "Person", "table": 1, "key": [{"name": "id", "type": "int"}]}
+        refused = {
+            "function": {"revision": 1, "entities": [{**person, "listeners": [{"name": "class0", "events": ["PostLoad"]}]}]},
+            "shape": {"revision": 1, "entities": [{**person, "listeners": {}}]},
+            "model": {"revision": 1, "entities": []},
+        }
+        for detail, mapping in refused.items():
+            with self.subTest(detail), self.assertRaises(karzhoul.Mapping) as raised:
+                karzhoul.open(mapping, program=PROGRAM)
+            self.assertEqual(raised.exception.detail, detail)
+            self.assertTrue(raised.exception.faults)
+        with tempfile.TemporaryDirectory() as place:
+            path = Path(place, "mapping.json")
+            with self.assertRaises(karzhoul.Mapping) as raised:
+                karzhoul.open(path, program=PROGRAM)
+            self.assertEqual((raised.exception.detail, raised.exception.faults), ("json", ()))
+            path.write_text("\ufeff" + json.dumps({"revision": 1, "entities": [person]}), encoding="utf-8")
+            with self.assertRaises(karzhoul.Mapping) as raised:
+                karzhoul.open(path, program=PROGRAM)
+            self.assertEqual(raised.exception.detail, "json")
+
+
+class Lost(unittest.TestCase):
+    def test_an_object_whose_class_was_never_told(self) -> None:
+        script = '> {"call":"createEntityManager"}\n< {"events":[],"ok":1}\n'
+        script += '> {"call":"find","em":1,"entity":"Customer","key":[1]}\n< {"events":[],"ok":{"object":7}}\n'
+        script += '> {"call":"find","em":1,"entity":"Company","key":[1]}\n< {"events":[],"ok":{"object":7}}\n'
+        script += '> {"call":"find","em":1,"entity":"Customer","key":[1]}\n< {"events":[],"ok":{"object":7}}\n'
+        with played(script, DESK) as app:
+            em = app.create_entity_manager()
+            with self.assertRaisesRegex(LookupError, "class of object #7 isn't known"):
+                em.find("Customer", 1)
+            company = em.find("Company", 1)
+            self.assertIs(type(company), app.entity("Company"))
+            self.assertIs(em.find("Customer", 1), company)
+
+
+if __name__ == "__main__":
+    unittest.main()

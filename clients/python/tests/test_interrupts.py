@@ -1,0 +1,386 @@
+"""An interrupt at any moment loses nothing and does nothing twice; what takes too long can be given up."""
+
+from __future__ import annotations
+
+import inspect
+import json
+import os
+import random
+import signal
+import subprocess
+import sys
+import tempfile
+import threading
+import time
+import unittest
+from pathlib import Path
+from typing import Any, Callable, List, Optional
+from unittest import mock
+
+import karzhoul
+
+from .support import FLAT, HERE, PERSONS, PROGRAM, ProgramTest, needs_program
+from .test_program import PACKAGE, lives
+
+LEDGER = HERE / "ledger.py"
+
+
+class Interrupted(unittest.TestCase):
+    """A test over a ledger, whose alarm raises a KeyboardInterrupt as Ctrl-C does."""
+
+    def setUp(self) -> None:
+        place = tempfile.TemporaryDirectory()
+        self.addCleanup(place.cleanup)
+        self.log = Path(place.name, "log")
+        with mock.patch.dict(os.environ, KARZHOUL_LEDGER=str(self.log)):
+            self.app = karzhoul.open(PERSONS, program=LEDGER)
+        self.addCleanup(self.app.close)
+        self.em = self.app.create_entity_manager()
+        self.handled_by(signal.default_int_handler)
+
+    def handled_by(self, handler: Any) -> None:
+        self.addCleanup(signal.signal, signal.SIGALRM, signal.signal(signal.SIGALRM, handler))
+        self.addCleanup(signal.setitimer, signal.ITIMER_REAL, 0)
+
+    def lines(self, call: str) -> List[Any]:
+        """The lines of a call that have come to the program, after all that was sent before is done."""
+        self.app.send_line('{"call":"get","object":1,"name":"number"}')
+        said = map(json.loads, self.log.read_text(encoding="utf-8").splitlines())
+        return [each for each in said if each["call"] == call]
+
+
+def interrupt_at(seconds: float, work: Callable[[], object]) -> None:
+    """Does work again and again, until it is interrupted after so many seconds."""
+    try:
+        signal.setitimer(signal.ITIMER_REAL, seconds)
+        while True:
+            work()
+    except KeyboardInterrupt:
+        pass
+
+
+class AtRandom(Interrupted):
+    ROUNDS = 100
+
+    def interrupt_often(self, work: Callable[[], object]) -> None:
+        for _ in range(self.ROUNDS):
+            interrupt_at(random.uniform(0.0001, 0.003), work)
+
+    def test_a_count(self) -> None:
+        order, counted = self.app.new("Order", amount=0), []
+
+        def count() -> None:
+            order.amount += 1
+            counted.append(1)
+
+        self.interrupt_often(count)
+        # Each number once: none is lost, and none is set twice.
+        self.assertEqual([each["value"] for each in self.lines("set")], list(range(order.amount + 1)))
+        self.assertLessEqual(len(counted), order.amount)
+        self.assertLessEqual(order.amount, len(counted) + self.ROUNDS)
+
+    def test_finds(self) -> None:
+        keys = iter(range(1, 10**9))
+
+        def find() -> None:
+            key = next(keys)
+            self.assertEqual(self.em.find("Order", key).__number__, key)
+
+        self.interrupt_often(find)
+
+    def test_queries(self) -> None:
+        numbers = iter(range(1, 10**9))
+
+        def ask() -> None:
+            text = f"1e-{next(numbers)}"
+            self.assertEqual(self.em.query(text), [text])
+
+        self.interrupt_often(ask)
+
+    def test_many_new_ones(self) -> None:
+        amounts = iter(range(10**9))
+        self.interrupt_often(lambda: self.app.new_many("Order", [{"amount": next(amounts)} for _ in range(5)]))
+        told = [each["value"] for each in self.lines("set")]
+        self.assertEqual(told, sorted(set(told)))
+        self.assertEqual(self.app.get(self.app.new("Order", amount=7), "amount"), 7)
+
+
+class AtEachStep(Interrupted):
+    """An interrupt at each place of the package where the interpreter runs the handlers of signals: where a function begins, and where
+    one of C has ended."""
+
+    def interrupt_at_step(self, number: int, work: Callable[[], object]) -> bool:
+        """Does work, interrupted at its step of this number; whether it has as many."""
+        left = number
+
+        def profile(frame: Any, event: str, _: object) -> None:
+            nonlocal left
+            # (Where a generator is called, a profile's exception would pass by its `finally`, as no interrupt does.)
+            is_step = event == "c_return" or event == "call" and not frame.f_code.co_flags & inspect.CO_GENERATOR
+            if is_step and os.path.dirname(frame.f_code.co_filename) == os.path.dirname(karzhoul.__file__):
+                left -= 1
+                if left == 0:
+                    raise KeyboardInterrupt
+
+        sys.setprofile(profile)
+        try:
+            work()
+        except KeyboardInterrupt:
+            return True
+        finally:
+            sys.setprofile(None)
+        return False
+
+    def each_step(self, work: Callable[[int], object]) -> int:
+        number = 1
+        while self.interrupt_at_step(number, lambda: work(number)):
+            self.assertEqual(self.em.query(str(number / 1e6)), [str(number / 1e6)])
+            number += 1
+        self.assertGreater(number, 10)
+        return number
+
+    def test_a_pipeline(self) -> None:
+        order = self.app.new("Order")
+        told: List[int] = []
+
+        def work(number: int) -> None:
+            with self.app.pipeline():
+                for amount in (2 * number, 2 * number + 1):
+                    order.amount = amount
+                    told.append(amount)
+
+        self.each_step(work)
+        sent = [each["value"] for each in self.lines("set")]
+        self.assertEqual(sent, sorted(set(sent)))
+        self.assertEqual(set(told) - set(sent), set())
+
+    def test_events(self) -> None:
+        order, heard = self.app.new("Order"), []
+        self.app.listen(heard.append)  # (a callback's own steps may be interrupted)
+        number = self.each_step(lambda _: self.em.persist(order))
+        self.assertEqual([event.object for event in heard], [order] * len(self.lines("persist")))
+        self.assertLessEqual(len(heard), number)
+
+    def test_a_begin(self) -> None:
+        def work(_: int) -> None:
+            with self.em.transaction():
+                pass
+
+        left = 0
+        number = 1
+        while self.interrupt_at_step(number, lambda: work(number)):
+            number += 1
+            # Where the block's end begins nothing was done yet.
+            left += self.em.transaction().is_active
+            self.em.transaction()._roll_back()
+            self.em.transaction().begin().rollback()
+        self.assertLessEqual(left, 3)
+
+
+class WhileItWaits(Interrupted):
+    def test_a_long_query_is_answered_to_nobody(self) -> None:
+        start = time.monotonic()
+        interrupt_at(0.1, lambda: self.em.query("0.5"))
+        self.assertLess(time.monotonic() - start, 0.4)
+        self.assertEqual(self.em.query("0"), ["0"])
+        self.assertGreater(time.monotonic() - start, 0.4)
+
+    def test_the_events_of_an_interrupted_call_are_told_by_the_next(self) -> None:
+        order, heard = self.app.new("Order"), []
+        self.app.listen(heard.append)
+        os.kill(self.app.program.pid, signal.SIGSTOP)
+        interrupt_at(0.1, lambda: self.em.persist(order))
+        os.kill(self.app.program.pid, signal.SIGCONT)
+        self.assertEqual(heard, [])
+        self.assertEqual(self.em.query("0"), ["0"])
+        self.assertEqual([event.object for event in heard], [order])
+
+    def test_a_second_interrupt_ends_the_program(self) -> None:
+        interrupt_at(0.1, lambda: self.em.query("100"))
+        signal.setitimer(signal.ITIMER_REAL, 0.1)
+        for _ in range(2):
+            with self.assertRaises(karzhoul.GivenUp) as raised:
+                self.em.query("0")
+            self.assertIn("not committed is lost", str(raised.exception))
+            self.assertIn("app.restart()", str(raised.exception))
+        self.assertFalse(lives(self.app.program.pid))
+
+    def test_a_second_interrupt_of_a_program_that_is_about_to_answer(self) -> None:
+        interrupt_at(0.1, lambda: self.em.query("0.3"))
+        interrupt_at(0.1, lambda: self.em.query("0"))
+        self.assertEqual(self.em.query("0"), ["0"])
+
+    def test_a_time_limit(self) -> None:
+        self.assertEqual(self.em.query("0", timeout=5), ["0"])
+        for wrong in (0, -1, float("nan")):
+            with self.assertRaises(ValueError):
+                self.em.query("0", timeout=wrong)
+        start = time.monotonic()
+        with self.assertRaises(karzhoul.GivenUp) as raised:
+            self.em.query("100", timeout=0.2)
+        self.assertLess(time.monotonic() - start, 2)
+        self.assertIn("0.2 seconds", str(raised.exception))
+        self.assertFalse(lives(self.app.program.pid))
+
+    def test_another_signal_s_exception(self) -> None:
+        def too_late(*_: object) -> None:
+            raise TimeoutError
+
+        self.handled_by(too_late)
+        for _ in range(2):
+            signal.setitimer(signal.ITIMER_REAL, 0.1)
+            with self.assertRaises(TimeoutError):
+                self.em.query("0.3")
+        self.assertEqual(self.em.query("0"), ["0"])
+
+    def test_a_lock_that_is_waited_for(self) -> None:
+        asks = threading.Thread(target=self.em.query, args=("0.5",))
+        asks.start()
+        time.sleep(0.1)
+        start = time.monotonic()
+        interrupt_at(0.1, lambda: self.em.query("0"))
+        self.assertLess(time.monotonic() - start, 0.35)
+        asks.join()
+        other: List[Any] = []
+        asks = threading.Thread(target=lambda: other.append(self.em.query("0.01")))
+        asks.start()
+        asks.join(5)
+        self.assertEqual(other, [["0.01"]])
+
+    def test_an_interrupted_begin_opens_nothing(self) -> None:
+        os.kill(self.app.program.pid, signal.SIGSTOP)
+        threading.Timer(0.3, os.kill, (self.app.program.pid, signal.SIGCONT)).start()
+        with self.assertRaises(KeyboardInterrupt):
+            signal.setitimer(signal.ITIMER_REAL, 0.1)
+            with self.em.transaction():
+                self.fail("the block was run")
+        self.assertFalse(self.em.transaction().is_active)
+        with self.em.transaction():
+            pass
+
+
+class Managers(Interrupted):
+    def test_what_its_block_raises_is_raised(self) -> None:
+        with self.assertRaises(ZeroDivisionError):
+            with self.app.create_entity_manager() as other:
+                other.transaction().begin()
+                raise ZeroDivisionError
+        self.assertEqual(len(self.lines("rollback")), 1)
+        self.assertEqual(len(self.lines("close")), 1)
+        with self.em.transaction():
+            pass
+
+    def test_an_open_transaction_is_rolled_back_at_its_end(self) -> None:
+        with self.app.create_entity_manager() as other:
+            other.transaction().begin()
+        self.assertFalse(other.transaction().is_active)
+        self.assertEqual([len(self.lines(call)) for call in ("rollback", "close")], [1, 1])
+
+    def test_a_transaction_within_a_pipeline_is_rolled_back(self) -> None:
+        order = self.app.new("Order")
+        with self.assertRaises(ZeroDivisionError):
+            with self.app.pipeline(), self.em.transaction():
+                order.amount = 1
+                raise ZeroDivisionError
+        self.assertFalse(self.em.transaction().is_active)
+        self.assertEqual(len(self.lines("rollback")), 1)
+
+
+class Killed(unittest.TestCase):
+    CODE = (
+        "import karzhoul, sys, threading\n"
+        "app = karzhoul.open(sys.argv[1], program=sys.argv[2])\n"
+        "em = app.create_entity_manager()\n"
+        "asks = threading.Thread(target=em.query, args=('100',))\n"
+        "asks.start()\n"
+        "print(app.program.pid, app.program._watch.pid, flush=True)\n"
+        "asks.join()\n"
+    )
+
+    def test_a_killed_client_takes_its_program_along(self) -> None:
+        with tempfile.TemporaryDirectory() as place:
+            env = {**os.environ, "KARZHOUL_LEDGER": str(Path(place, "log"))}
+            words = [sys.executable, "-c", self.CODE, str(FLAT), str(LEDGER)]
+            with subprocess.Popen(words, cwd=PACKAGE, env=env, stdout=subprocess.PIPE, text=True) as client:
+                assert client.stdout is not None
+                pids = list(map(int, client.stdout.readline().split()))
+                time.sleep(0.2)
+                self.assertEqual(list(map(lives, pids)), [True, True])
+                client.kill()
+            deadline = time.monotonic() + 5
+            while any(map(lives, pids)) and time.monotonic() < deadline:
+                time.sleep(0.02)
+            self.assertEqual(list(map(lives, pids)), [False, False])
+
+    def test_the_thread_that_opened_may_end(self) -> None:
+        apps: List[Any] = []
+        with tempfile.TemporaryDirectory() as place:
+            with mock.patch.dict(os.environ, KARZHOUL_LEDGER=str(Path(place, "log"))):
+                opens = threading.Thread(target=lambda: apps.append(karzhoul.open(PERSONS, program=LEDGER)))
+                opens.start()
+                opens.join()
+            with apps[0] as app:
+                time.sleep(0.1)
+                self.assertEqual(app.create_entity_manager().query("0"), ["0"])
+                watch = app.program._watch.pid
+            self.assertFalse(lives(watch))
+
+
+@needs_program
+class OfTheProgram(ProgramTest):
+    def test_interrupts_in_an_open_transaction(self) -> None:
+        self.addCleanup(signal.signal, signal.SIGALRM, signal.signal(signal.SIGALRM, signal.default_int_handler))
+        order, counted = self.Order(number=1, amount=0), []
+
+        def count() -> None:
+            order.amount += 1
+            counted.append(1)
+
+        works = (
+            count,
+            lambda: self.em.find("Order", 1),
+            lambda: self.em.query("SELECT o.amount FROM Order o"),
+            lambda: self.app.new_many("Order", [{"number": 2}] * 3),
+        )
+        with self.em.transaction():
+            self.em.persist(order)
+            for work in works:
+                for _ in range(25):
+                    interrupt_at(random.uniform(0.0001, 0.005), work)
+        self.assertLessEqual(len(counted), order.amount)
+        self.assertLessEqual(order.amount, len(counted) + 25)
+        self.assertIs(self.em.find("Order", 1), order)
+
+    def test_a_restart(self) -> None:
+        with tempfile.TemporaryDirectory() as place, karzhoul.open(PERSONS, Path(place, "app.db"), program=PROGRAM) as app:
+            heard: List[Optional[object]] = []
+            app.listen(lambda event: heard.append(event.kind))
+            em, Person = app.create_entity_manager(), app.entity("Person")
+            ada, bob = Person(name="Ada"), Person(name="Bob")
+            with em.transaction():
+                em.persist(ada)
+            em.transaction().begin()
+            em.persist(bob)
+            heard.clear()
+            os.kill(app.program.pid, signal.SIGKILL)
+            app.restart()
+            again = app.create_entity_manager()
+            for call in (lambda: ada.name, lambda: setattr(bob, "name", "Cy"), lambda: again.contains(ada), em.clear, em.transaction().commit):
+                with self.assertRaises(karzhoul.Restarted) as raised:
+                    call()
+                self.assertIn("before a restart", str(raised.exception))
+            self.assertEqual([again.find(Person, 1).name, again.find(Person, 2)], ["Ada", None])
+            self.assertEqual(heard, [karzhoul.LifecycleEvent.POST_LOAD])
+            # A program that runs is ended.
+            app.restart()
+            self.assertEqual(app.create_entity_manager().find("Person", 1).name, "Ada")
+
+    def test_a_store_in_memory_is_not_restarted(self) -> None:
+        ada = self.committed(name="Ada")
+        with self.assertRaises(karzhoul.StoreInMemory):
+            self.app.restart()
+        self.assertEqual(ada.name, "Ada")
+
+
+if __name__ == "__main__":
+    unittest.main()
