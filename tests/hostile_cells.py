@@ -15,6 +15,9 @@ class Stored:
     def with_link(self, name, held):
         return Stored(self.entity, self.version, self.values, {**self.links, name: held})
 
+    def is_same(self, other):
+        return (self.entity, self.version, self.values, self.links) == (other.entity, other.version, other.values, other.links)
+
     def lacks(self):
         """Whether a required value or link is null."""
         values = any(each.get("required") and self.values[name] is None for name, each in self.entity.attributes.items())
@@ -24,6 +27,12 @@ class Stored:
         """The identities that it owns in a relation."""
         held = self.links[relation.name]
         return held if relation.is_many else [] if held is None else [held]
+
+
+def agree(some, others, identity):
+    """Whether two sets have the very same object under an identity, or none."""
+    one, other = some.get(identity), others.get(identity)
+    return one is other or one is not None and other is not None and one.is_same(other)
 
 
 def members(objects, identity, relation):

@@ -35,6 +35,8 @@ class Calls(Plots, QueryCalls):
 
     def __init__(self, random, machine):
         self.random, self.machine, self.plot = random, machine, None
+        # How many managers there are mostly; up to 16 may have a transaction open.
+        self.crowd = random.choice([2, 3, 3, 6, 16])
         self.has_relations = any(entity.relations for entity in machine.unit.entities.values())
 
     def line(self):
@@ -61,7 +63,9 @@ class Calls(Plots, QueryCalls):
         """The word of a call, the likelier where it makes sense now."""
         managers = [manager for manager in self.machine.managers if manager.is_open]
         begun = any(manager.is_begun for manager in managers)
-        weights = {"createEntityManager": 0.6 if len(managers) > 2 else 9, "new": 9, "set": 26, "get": 8, "begin": 1 if begun else 14, "persist": 14,
+        idle = not all(manager.is_begun for manager in managers)
+        weights = {"createEntityManager": 0.6 if len(managers) >= self.crowd else 9, "new": 9, "set": 26, "get": 8,
+                   "begin": 14 if not begun else 7 if idle else 1, "persist": 14,
                    "find": 14, "commit": 6 if begun else 0.7, "rollback": 1 if begun else 0.4, "setRollbackOnly": 0.3 if begun else 0.2,
                    "getReference": 4, "contains": 5, "clear": 0.7, "flush": 10 if begun else 0.7, "remove": 7, "refresh": 4, "detach": 2,
                    "merge": 5 if managers else 1, "lock": 3 if begun else 0.4, "close": 0.4 if len(managers) < 4 else 0.8,
@@ -80,14 +84,14 @@ class Calls(Plots, QueryCalls):
     # -- members
 
     def em(self, most=0.4):
-        """A manager's number: that of the open transaction so often at least, and rarely none, or a closed one."""
+        """A manager's number: one of an open transaction so often at least, and rarely none, or a closed one."""
         open_ones = [n for n, manager in enumerate(self.machine.managers, 1) if manager.is_open]
         if self.random.random() < 0.02 or not open_ones:
             return self.random.choice([0, -1, len(self.machine.managers) + 1, 1, 2, GREATEST, LEAST])
         begun = [n for n in open_ones if self.machine.managers[n - 1].is_begun]
         if begun and self.random.random() < most:
-            return begun[0]
-        return self.random.choice(open_ones[:3] if self.random.random() < 0.9 else open_ones)
+            return self.random.choice(begun)
+        return self.random.choice(open_ones[:self.crowd] if self.random.random() < 0.9 else open_ones)
 
     def object(self, wanted=lambda live: True):
         """An object's number: mostly of one that is wanted, and rarely none."""

@@ -6,7 +6,7 @@ Values are None, int, str (a text), bytes and Number (the number of an object); 
 """
 import json
 
-from hostile_cells import State, Stored, members, unsound
+from hostile_cells import State, Stored, agree, members, unsound
 from hostile_merge import Merging
 from hostile_queries import Queries
 from hostile_reading import GREATEST, Number, Refused, call_of
@@ -111,10 +111,11 @@ class Live:
 
 class Manager:
     """A manager: what it manages or has removed, in order of entry, whether its transaction is open and can only roll back, the
-    objects that this one sees, and when a query flushes."""
+    objects that were committed at the begin of this one and those that it sees, and when a query flushes."""
 
     def __init__(self):
-        self.context, self.is_open, self.is_begun, self.is_marked, self.seen, self.flush_mode = [], True, False, False, None, "AUTO"
+        self.context, self.is_open, self.is_begun, self.is_marked, self.flush_mode = [], True, False, False, "AUTO"
+        self.first, self.seen = None, None
 
 
 class Before:
@@ -443,9 +444,8 @@ class Machine(Merging, Queries):
         manager = self.manager(em)
         if manager.is_begun:
             raise Refused("IllegalState", "active")
-        if any(each.is_begun for each in self.managers):
-            raise Refused("Busy")
-        manager.is_begun, manager.is_marked, manager.seen = True, False, self.committed.objects
+        manager.is_begun, manager.is_marked = True, False
+        manager.first = manager.seen = self.committed.objects
 
     def begun(self, em):
         manager = self.manager(em)
@@ -461,7 +461,10 @@ class Machine(Merging, Queries):
 
     def roll_back(self, manager):
         self.detach_all(manager)
-        manager.is_begun, manager.seen = False, None
+        self.end(manager)
+
+    def end(self, manager):
+        manager.is_begun, manager.first, manager.seen = False, None, None
 
     def commit(self, events, em):
         manager = self.begun(em)
@@ -471,18 +474,40 @@ class Machine(Merging, Queries):
         before = Before(self)
         try:
             self.write(events, manager)
+            changed = self.changed(manager)
+            self.see_first(manager, changed)
             self.see_read_locks(manager)
+            objects = self.merged(manager, changed)
         except Refused as refused:
             before.restore()
             self.roll_back(manager)
             raise Refused("Rollback", refused.text()) from None
-        self.committed = State(manager.seen, dict(self.numbers))
+        self.committed = State(objects, dict(self.numbers))
         for live in [live for live in manager.context if live.is_removed]:
             manager.context.remove(live)
             live.detach()
         for live in manager.context:
             live.lock = None
-        manager.is_begun, manager.seen = False, None
+        self.end(manager)
+
+    def changed(self, manager):
+        """The identities under which the transaction changed something."""
+        return [identity for identity in {**manager.first, **manager.seen} if not agree(manager.first, manager.seen, identity)]
+
+    def see_first(self, manager, changed):
+        """What the transaction changed, and what it holds locked READ, is committed as it was at its begin: the first committer wins."""
+        locked = [live.identity() for live in manager.context if live.lock == "READ" and not live.is_removed]
+        if not all(agree(self.committed.objects, manager.first, identity) for identity in [*changed, *locked]):
+            raise Refused("OptimisticLock")
+
+    def merged(self, manager, changed):
+        """What is committed, with what the transaction changed; it is to be sound."""
+        objects = {identity: each for identity, each in self.committed.objects.items() if identity not in changed}
+        objects.update({identity: manager.seen[identity] for identity in changed if identity in manager.seen})
+        why = unsound(objects)
+        if why:
+            raise Refused("Persistence", why)
+        return objects
 
     # -- locks
 

@@ -23,7 +23,8 @@ class Plots(LinkPlots):
         return [n for n, manager in enumerate(self.machine.managers, 1) if manager.is_open]
 
     def begun(self):
-        return next((n for n in self.open_ones() if self.machine.managers[n - 1].is_begun), None)
+        begun = [n for n in self.open_ones() if self.machine.managers[n - 1].is_begun]
+        return self.random.choice(begun) if begun else None
 
     def newest(self):
         return len(self.machine.objects)
@@ -45,12 +46,13 @@ class Plots(LinkPlots):
         return self.random.choice(["find", "find", "getReference"]), {"em": em, "entity": name, "key": key}
 
     def beginning(self, em):
-        """Calls after which the manager has the open transaction, mostly one that can commit."""
-        other = self.begun()
-        if other == em and (not self.machine.managers[em - 1].is_marked or self.random.random() < 0.3):
+        """Calls after which the manager has an open transaction, mostly one that can commit; those of others mostly stay open."""
+        manager = self.machine.managers[em - 1]
+        if manager.is_begun and (not manager.is_marked or self.random.random() < 0.3):
             return
-        if other:
-            yield self.random.choice(["commit", "commit", "rollback"]), {"em": other}
+        ending = em if manager.is_begun else self.begun() if self.random.random() < 0.3 else None
+        if ending:
+            yield self.random.choice(["commit", "commit", "rollback"]), {"em": ending}
         yield "begin", {"em": em}
 
     def making(self, em, key=None):

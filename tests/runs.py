@@ -17,7 +17,7 @@ import json, os, sqlite3, subprocess, sys, tempfile
 sys.dont_write_bytecode = True
 from hostile_reading import UNSERVED
 
-STAGES = {b"a transaction per manager", b"mapping revision 2"}
+STAGES = {b"mapping revision 2"}
 HERE = os.path.dirname(os.path.abspath(__file__))
 FLAT = os.path.join(HERE, "flat.json")
 TABLE = ("CREATE TABLE cell (t INTEGER NOT NULL, r BLOB NOT NULL, c INTEGER NOT NULL,\n"

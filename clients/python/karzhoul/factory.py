@@ -622,7 +622,7 @@ def _require_class(row: Any, wanted: Type[Any]) -> None:
 
 
 class EntityTransaction:
-    """The transaction of a manager; one is open at a time.
+    """The transaction of a manager; each manager has one of its own.
 
     `is_active` says whether it is open. Where one of its calls was interrupted it may be over all the same: then `rollback` is refused.
     """

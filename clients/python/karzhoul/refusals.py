@@ -157,7 +157,7 @@ class Overflow(Refused, number=17):
 
 
 class Busy(Refused, number=18):
-    """Another manager has the open transaction."""
+    """No program answers this any more; its number stays."""
 
 
 _RESTART = ": commit, and app.restart() opens the program again over its file"

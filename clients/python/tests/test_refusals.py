@@ -112,10 +112,22 @@ class OfTheProgram(ProgramTest):
         transaction.begin()
         self.refuses(refusals.IllegalState, "active", transaction.begin)
         other = self.app.create_entity_manager().transaction()
-        try:
-            self.refuses(refusals.Busy, None, other.begin)
-        except AssertionError:
-            other.rollback()  # A program with a transaction for each manager is not busy.
+        other.begin()  # Each manager has a transaction of its own.
+        other.rollback()
+
+    def test_the_first_that_commits_wins(self) -> None:
+        person, second = self.committed(name="Ada"), self.app.create_entity_manager()
+        ours, theirs = self.em.transaction(), second.transaction()
+        ours.begin()
+        theirs.begin()
+        person.name = "A1"
+        ours.commit()
+        found = second.find("Person", person.id)
+        self.assertEqual(found.name, "Ada")  # As it was at the begin.
+        found.name = "B"
+        refused = self.refuses(refusals.Rollback, "OptimisticLock", theirs.commit)
+        self.assertIsInstance(refused.cause, refusals.OptimisticLock)
+        self.assertEqual(second.find("Person", person.id).name, "A1")
 
     def test_objects(self) -> None:
         order = self.Order(number=1)

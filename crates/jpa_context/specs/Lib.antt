@@ -1,3 +1,4 @@
+pub mod Marks
 pub mod Work
 pub mod Steps
 pub mod Near

@@ -7,6 +7,7 @@ use Rattle.jpa_heap.specs.declared.LiveObject.{LiveObject}
 use Rattle.jpa_heap.specs.Objects.{object_at, is_whole}
 use Rattle.jpa_heap.specs.Shape.{HasShape}
 use Rattle.jpa_context.specs.declared.Entry.{Entry}
+use Rattle.jpa_context.specs.declared.marks.Marks.{Marks}
 use Rattle.jpa_context.specs.declared.work.UnitOfWork.{UnitOfWork}
 use Rattle.jpa_context.specs.Work.{Work}
 
@@ -14,30 +15,38 @@ use Rattle.jpa_context.specs.Work.{Work}
 abbrev pub now : UnitOfWork → Work
 now u = record { manager = u.manager; objects = u.objects.now; context = u.context.now; numbers = u.numbers.now; view = opened.now u.view; events = u.events }
 
--- what undoing gives: also the set that the transaction wrote before this call, over what is committed, and whether the
--- manager sees it
+-- the work where it is kept: without a transaction the set that the manager sees stays as it was
+abbrev pub now_kept : Bool → UnitOfWork → Work
+now_kept is_begun u = if is_begun then now u else record (now u) { view = opened.since u.view }
+
+-- what undoing gives, who is at work, and the marks, which no operation changes: also what is committed, what was at the
+-- transaction's begin, and the set that it saw before this call
 pub record Since : Type 0 where
+  pub manager : ℕ
   pub objects : List LiveObject
   pub context : List Entry
+  pub marks : Marks
   pub numbers : List ℕ
   pub kept : StoredSet
+  pub begun : StoredSet
   pub committed : StoredSet
-  pub is_shown : Bool
 
 abbrev pub since : UnitOfWork → Since
 since u =
     record {
+      manager = u.manager;
       objects = u.objects.since;
       context = u.context.since;
+      marks = u.context.marks;
       numbers = u.numbers.since;
       kept = u.view.kept;
+      begun = u.view.begun;
       committed = u.view.committed;
-      is_shown = u.view.is_shown;
     }
 
 -- the set that the manager sees then
 abbrev pub view_since : Since → StoredSet
-view_since s = if s.is_shown then s.kept else s.committed
+view_since s = s.kept
 
 -- the work to which a manager is led back, of which nothing is told
 abbrev pub undone : ℕ → Since → Work

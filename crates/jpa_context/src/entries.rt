@@ -1,14 +1,17 @@
 //! The entries of a persistence context, found by key and by object.
 ghost use Rattle.std.specs.Prelude.{◌≡◌, ◌<◌, ◌≤◌, [], ◌∷◌, ◌++◌, length, map, take, slice_set, OnOk, OnErr};
 ghost use Rattle.jpa_context.specs.Indexed as indexed;
+ghost use Rattle.jpa_context.specs.Marks.{all_marked, is_marked};
 ghost use Rattle.jpa_context.specs.Near.{places_near};
 ghost use Rattle.jpa_context.specs.Places.{StaysAt, entry_place, without_objects, without_removed};
 ghost use Rattle.jpa_context.specs.Work.{unlocked};
+ghost use Rattle.jpa_undo.specs.Undo.{put_back};
 
 use crate::Entry;
 use crate::fingerprint::fingerprint;
 use crate::index::PlaceIndex;
 use crate::leaving::{any_removed, drop_unplaced, forget_objects, forget_removed};
+use crate::marks::Marks;
 use crate::object_places::ObjectPlaces;
 use crate::unlocking::unlock_each;
 use jpa_heap::LiveObject;
@@ -30,17 +33,18 @@ pub struct PersistenceContext {
     index: PlaceIndex,
     // The place of the first entry of each object of `list`.
     at: ObjectPlaces,
+    // What a flush looks at.
+    marks: Marks,
 }
 
 impl Model for PersistenceContext {
-    ghost use Rattle.jpa_undo.specs.Undo.{Changes};
-    ghost use Rattle.jpa_context.specs.declared.Entry.{Entry};
+    ghost use Rattle.jpa_context.specs.Marks.{Entries};
 
-    ghost Value = { Changes Entry };
+    ghost Value = { Entries };
 
     ghost use Rattle.jpa_context.specs.Indexed.{IsIndexed};
 
-    ghost view = { λ c. c.list };
+    ghost view = { λ c. record { now = c.list.now; since = c.list.since; marks = c.marks } };
 
     ghost invariant = { λ c. IsIndexed c.list c.kept c.index c.at };
 }
@@ -65,13 +69,54 @@ impl PersistenceContext {
     pub fn new(alloc: Global) -> PersistenceContext
         ensures now { result.now ≡ [] }
         ensures since { result.since ≡ [] }
+        ensures marks { result.marks ≡ all_marked }
     {
         PersistenceContext {
             list: UndoList::new(alloc),
             kept: 0,
             index: PlaceIndex::new(alloc),
             at: ObjectPlaces::new(alloc),
+            marks: Marks::all(alloc),
         }
+    }
+
+    /// The marks.
+    pub fn marks(&self) -> &Marks
+        ensures { result.now ≡ self.now.marks }
+    {
+        &self.marks
+    }
+
+    /// Whether an object is marked: a flush looks at it. Takes no memory.
+    pub fn marked(&self, object: usize) -> bool
+        ensures { result ≡ is_marked self.now.marks object }
+    {
+        self.marks.has(object)
+    }
+
+    /// Other marks, for good. Takes no memory.
+    pub fn mark(&mut self, marks: Marks)
+        ensures now { self.new.now ≡ self.old.now }
+        ensures since { self.new.since ≡ self.old.since }
+        ensures marks { self.new.marks ≡ marks }
+    {
+        self.marks = marks;
+    }
+
+    /// What was overwritten since the changes were last kept, each entry with its place. Takes no memory.
+    pub fn overwritten(&self) -> &[(usize, Entry)]
+        ensures back { self.now.since
+            ≡ take (length self.now.since) (put_back self.now.now result.now) }
+    {
+        self.list.overwritten()
+    }
+
+    /// How many entries there were when the changes were last kept.
+    pub fn kept_len(&self) -> usize
+        ensures kept { result ≡ length self.now.since }
+        ensures within { result ≤ length self.now.now }
+    {
+        self.list.kept_len()
     }
 
     /// The entries, in the order in which they entered.
@@ -108,6 +153,7 @@ impl PersistenceContext {
         ensures pushed { OnOk result (self.new.now ≡ self.old.now ++ entry ∷ []) }
         ensures refused { OnErr result (self.new.now ≡ self.old.now) }
         ensures since { self.new.since ≡ self.old.since }
+        ensures marks { self.new.marks ≡ self.old.marks }
     {
         let print = fingerprint(entry.key.as_slice());
         let object = entry.object;
@@ -132,6 +178,7 @@ impl PersistenceContext {
         ensures changed { OnOk result (self.new.now ≡ slice_set self.old.now at entry) }
         ensures refused { OnErr result (self.new.now ≡ self.old.now) }
         ensures since { self.new.since ≡ self.old.since }
+        ensures marks { self.new.marks ≡ self.old.marks }
     {
         self.list.set(at, entry)
     }
@@ -140,6 +187,7 @@ impl PersistenceContext {
     pub fn keep(&mut self)
         ensures now { self.new.now ≡ self.old.now }
         ensures since { self.new.since ≡ self.old.now }
+        ensures marks { self.new.marks ≡ self.old.marks }
     {
         self.list.keep();
         self.kept = self.list.len();
@@ -149,6 +197,7 @@ impl PersistenceContext {
     pub fn undo(&mut self)
         ensures now { self.new.now ≡ self.old.since }
         ensures since { self.new.since ≡ self.old.since }
+        ensures marks { self.new.marks ≡ self.old.marks }
     {
         let entries = self.list.as_slice();
         forget(&mut self.index, &mut self.at, entries, self.kept);
@@ -156,11 +205,13 @@ impl PersistenceContext {
     }
 
     /// The entries of these objects leave for good: neither that nor a change before it can be undone. The others stand in their
-    /// order. Takes no memory, and time for each entry.
-    pub fn leave(&mut self, objects: &[usize])
+    /// order, and all are marked. Takes no memory, and time for each entry.
+    pub fn leave(&mut self, alloc: Global, objects: &[usize])
         ensures now { self.new.now ≡ without_objects objects.now self.old.now }
         ensures since { self.new.since ≡ self.new.now }
+        ensures marks { self.new.marks ≡ all_marked }
     {
+        self.marks = Marks::all(alloc);
         forget_objects(&mut self.at, objects);
         self.kept = drop_unplaced(&mut self.list, &mut self.index, &mut self.at);
     }
@@ -170,6 +221,7 @@ impl PersistenceContext {
     pub fn leave_removed(&mut self, objects: &[LiveObject], manager: usize)
         ensures now { self.new.now ≡ without_removed objects.now manager self.old.now }
         ensures since { self.new.since ≡ self.new.now }
+        ensures marks { self.new.marks ≡ self.old.marks }
     {
         // (mostly none is)
         if !any_removed(self.list.as_slice(), objects, manager) {
@@ -185,6 +237,7 @@ impl PersistenceContext {
     pub fn unlock(&mut self, alloc: Global)
         ensures now { self.new.now ≡ map unlocked self.old.now }
         ensures since { self.new.since ≡ self.new.now }
+        ensures marks { self.new.marks ≡ self.old.marks }
     {
         unlock_each(alloc, &mut self.list);
         self.kept = self.list.len();
@@ -194,6 +247,7 @@ impl PersistenceContext {
     pub fn clear(&mut self, alloc: Global)
         ensures now { self.new.now ≡ [] }
         ensures since { self.new.since ≡ [] }
+        ensures marks { self.new.marks ≡ all_marked }
     {
         *self = PersistenceContext::new(alloc);
     }

@@ -11,6 +11,7 @@ mod fingerprint;
 mod index;
 mod laws;
 mod leaving;
+mod marks;
 mod object_places;
 mod unlocking;
 mod work;
@@ -19,6 +20,7 @@ pub use entries::PersistenceContext;
 use jpa_stored::Stored;
 use jpa_value::{Identity, Key, Seq};
 pub use laws::{near_laws, place_laws};
+pub use marks::Marks;
 pub use work::UnitOfWork;
 
 /// The optimistic lock of an entry (Jakarta Persistence 3.1, chapter 3.4).

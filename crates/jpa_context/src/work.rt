@@ -1,6 +1,6 @@
 //! A manager at work.
 ghost use Rattle.std.specs.Prelude.{◌≡◌};
-ghost use Rattle.jpa_context.specs.Undo.{IsKept, now, since, undone};
+ghost use Rattle.jpa_context.specs.Undo.{IsKept, now, now_kept, since, undone};
 ghost use Rattle.jpa_open.specs.Opened as opened;
 
 use crate::PersistenceContext;
@@ -33,16 +33,16 @@ pub struct UnitOfWork {
 impl UnitOfWork {
     /// Keeps what was changed: from now on it is what undoing leads back to. Takes no memory.
     ///
-    /// What was written over a set whose layers are hidden is undone.
-    pub fn keep(&mut self)
-        ensures now { now self.new ≡ now self.old }
+    /// Where no transaction is open, the set that the manager sees stays as it was.
+    pub fn keep(&mut self, is_begun: bool)
+        ensures now { now self.new ≡ now_kept is_begun self.old }
         ensures kept { IsKept self.new }
-        ensures view { self.new.view ≡ opened.after_keeping self.old.view }
+        ensures view { self.new.view ≡ opened.after_keeping is_begun self.old.view }
     {
         self.objects.keep();
         self.context.keep();
         self.numbers.keep();
-        if self.view.is_shown() {
+        if is_begun {
             self.view.keep();
         } else {
             self.view.undo();

@@ -1,5 +1,5 @@
 -- A changed person, a removed one and a new one: what a flush writes, takes out and tells, and what the next one finds.
-use Rattle.std.specs.Prelude.{◌≡◌, refl, ℕ, ℤ, pos, true, false, List, [], ◌∷◌, Option, Some, None}
+use Rattle.std.specs.Prelude.{◌≡◌, refl, ℕ, ℤ, pos, Bool, true, false, List, [], ◌∷◌, map, Option, Some, None}
 use Rattle.jpa_value.specs.declared.value.Value.{Value}
 use Rattle.jpa_value.specs.declared.value.Kind.{Kind}
 use Rattle.jpa_value.specs.declared.value.Identity.{Identity}
@@ -16,9 +16,11 @@ use Rattle.jpa_heap.specs.declared.LiveObject.{LiveObject}
 use Rattle.jpa_context.specs.declared.Base.{Base}
 use Rattle.jpa_context.specs.declared.Entry.{Entry}
 use Rattle.jpa_context.specs.declared.Lock.{Lock}
-use Rattle.jpa_context.specs.Steps.{Done, Refused}
+use Rattle.jpa_context.specs.Steps.{Done, Outcome, Refused}
 use Rattle.jpa_context.specs.Work.{Work}
+use Rattle.jpa_fetch.specs.Load.{load}
 use Rattle.jpa_flush.specs.Flush.{flush}
+use Rattle.jpa_flush.specs.Marked.{is_calm}
 use Rattle.jpa_ops.specs.Names.{has_distinct_entries}
 use Rattle.jpa_flush.specs.Plan.{plan_of, write_each}
 
@@ -111,3 +113,21 @@ stale = refl
 -- the plan makes the same set
 planned : write_each (plan_of unit (work 7)) (work 7).view ≡ flushed.view
 planned = refl
+
+-- ---- what a flush need not look at
+
+-- one is changed, one is removed, one was not written
+looked_at : map (is_calm unit (work 7)) (work 7).context ≡ false ∷ false ∷ false ∷ []
+looked_at = refl
+
+-- what was written is as its base says; the removed one has none
+left : map (is_calm unit flushed) flushed.context ≡ true ∷ false ∷ true ∷ []
+left = refl
+
+abbrev all_calm : Outcome ℕ → List Bool
+all_calm (Done n w) = map (is_calm unit w) w.context
+all_calm (Refused r events) = []
+
+-- so is what was loaded
+loaded : all_calm (load world (id 1) (row 4 65) (record (work 7) { objects = []; context = [] })) ≡ true ∷ []
+loaded = refl

@@ -4,17 +4,26 @@ pub mod Changed
 pub mod Converts
 mod Examples
 pub mod Flushed
+pub mod Gaps
 pub mod InOrder
 pub mod Joined
 mod Linked
 pub mod Names
+pub mod Noted
 pub mod Orphaned
+pub mod Places
 pub mod Reached
 pub mod Remembered
 pub mod Rising
 pub mod Rounds
 pub mod Same
 pub mod Settled
+pub mod Silent
+pub mod Turns
+pub mod TurnsOfMemory
+pub mod TurnsOfUpdates
+pub mod Unreached
+pub mod Untouched
 pub mod Updated
 pub mod Values
 pub mod Written

@@ -14,7 +14,7 @@ use jpa_value::{Cause, Identity, Seq, Value, order_keys};
 use std::cmp::Ordering;
 
 /// Whether two lists hold the same values.
-fn are_same_values(a: &[Value], b: &[Value]) -> bool
+pub(crate) fn are_same_values(a: &[Value], b: &[Value]) -> bool
     ensures { result ≡ flushes.same_values a.now b.now }
 {
     matches!(order_keys(a, b), Ordering::Equal)

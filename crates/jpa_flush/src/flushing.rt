@@ -36,7 +36,6 @@ fn write_changes<B: Behaviour>(
     work: &mut UnitOfWork,
 ) -> Result<(), Cause>
     requires ready { IsReady unit.now.metamodel (now work.old) }
-    requires shown { work.old.view.is_shown ≡ true }
     requires sound { IsSound unit.now.metamodel (now work.old).view }
     requires rising { T (is_sorted identity_cmp (now work.old).view) }
     requires distinct { has_distinct_entries unit.now.metamodel (now work.old) ≡ true }
@@ -73,7 +72,6 @@ pub fn flush<B: Behaviour>(
 ) -> Result<(), Cause>
     requires orderly { IsOrderly unit.now.metamodel }
     requires ready { IsReady unit.now.metamodel (now work.old) }
-    requires shown { work.old.view.is_shown ≡ true }
     requires sound { IsSound unit.now.metamodel (now work.old).view }
     requires rising { T (is_sorted identity_cmp (now work.old).view) }
     requires distinct { has_distinct_entries unit.now.metamodel (now work.old) ≡ true }
@@ -98,7 +96,6 @@ pub fn flush_if<B: Behaviour>(
 ) -> Result<(), Cause>
     requires orderly { IsOrderly unit.now.metamodel }
     requires ready { IsReady unit.now.metamodel (now work.old) }
-    requires shown { is_due ≡ true → work.old.view.is_shown ≡ true }
     requires sound { IsSound unit.now.metamodel (now work.old).view }
     requires rising { T (is_sorted identity_cmp (now work.old).view) }
     requires distinct { has_distinct_entries unit.now.metamodel (now work.old) ≡ true }

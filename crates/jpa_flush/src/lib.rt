@@ -4,13 +4,17 @@
 //! of, and `specs/Changes.antt` what a plan changes of a set. The crate stands on the operations of a manager.
 #![tactic(auto)]
 
+mod calm;
 mod checking;
 mod differing;
 mod flushing;
 mod held;
 mod judging;
+mod laws;
+mod leading;
 mod links;
 mod locks;
+mod looked;
 mod orphans;
 mod planning;
 mod reaching;
@@ -23,4 +27,5 @@ mod telling;
 mod writing;
 
 pub use flushing::{flush, flush_if};
+pub use laws::{calm_laws, mark_laws};
 pub use locks::reads_hold;

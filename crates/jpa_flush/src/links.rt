@@ -15,7 +15,7 @@ use jpa_model::Metamodel;
 use jpa_value::{Cause, State};
 
 /// Whether an object in this state may be led to when a flush writes.
-fn is_storable(state: EntityState) -> bool
+pub(crate) fn is_storable(state: EntityState) -> bool
     ensures { result ≡ flushes.is_storable state }
 {
     matches!(state, EntityState::Managed | EntityState::Detached)
@@ -49,7 +49,7 @@ fn holds_storable(work: &UnitOfWork, held: &Held) -> bool
 }
 
 /// Whether an entry's object, if it is managed, leads to none that is not stored, along relations that don't cascade persist.
-fn links_stored(metamodel: &Metamodel, work: &UnitOfWork, entry: &Entry) -> bool
+pub(crate) fn links_stored(metamodel: &Metamodel, work: &UnitOfWork, entry: &Entry) -> bool
     requires ready { IsReady metamodel.now (now work.now) }
     requires object { entry.now.object < length work.now.objects.now }
     ensures { result ≡ flushes.links_stored metamodel.now (now work.now) entry.now }

@@ -113,7 +113,7 @@ fn push_orphans_along(
 
 /// The orphans of an object, if it is managed: relation by relation, in the order in which its base has them. Fails for want of
 /// memory alone, with `OutOfMemory`; takes none where no relation of its class removes orphans.
-fn orphans_of(
+pub(crate) fn orphans_of(
     alloc: Global,
     metamodel: &Metamodel,
     work: &UnitOfWork,

@@ -135,7 +135,7 @@ fn removal(
 }
 
 /// What is written of an object in this step, if anything.
-fn plan_one<B: Behaviour>(
+pub(crate) fn plan_one<B: Behaviour>(
     alloc: Global,
     unit: &ServedUnit<B>,
     work: &UnitOfWork,

@@ -61,7 +61,7 @@ fn relearned(
 }
 
 /// The entry of an object with the members that its relations have now, where it is managed and its base remembers others.
-fn outdated(
+pub(crate) fn outdated(
     alloc: Global,
     metamodel: &Metamodel,
     work: &UnitOfWork,

@@ -18,7 +18,7 @@ use jpa_value::{Cause, LifecycleEvent};
 use std::alloc::Global;
 
 /// PreUpdate, where the object replaces its row.
-fn tell_update<B: Behaviour>(
+pub(crate) fn tell_update<B: Behaviour>(
     alloc: Global,
     unit: &ServedUnit<B>,
     work: &mut UnitOfWork,

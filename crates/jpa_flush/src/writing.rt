@@ -1,7 +1,7 @@
 //! What is written over the set that a manager sees.
 ghost use Rattle.std.specs.Prelude.{◌≡◌, true, IfErr, OnOk, OnErr};
 ghost use Rattle.jpa_context.specs.Undo.{now, since};
-ghost use Rattle.jpa_open.specs.Opened.{with_seen};
+ghost use Rattle.jpa_open.specs.Opened.{IsUndone};
 ghost use Rattle.jpa_value.specs.declared.refusal.Cause.{Cause};
 ghost use Rattle.jpa_flush.specs.Plan as plans;
 
@@ -12,9 +12,8 @@ use jpa_value::{Cause, TryCopy};
 
 /// Writes what a plan has of one object over a set, or takes out what stands under its identity.
 fn write(view: &mut OpenSet, planned: &Planned) -> Result<(), Cause>
-    ensures ok { OnOk result
-        (view.new ≡ with_seen (plans.write planned.now view.old.seen) view.old) }
-    ensures kept { OnErr result (view.new ≡ view.old) }
+    ensures ok { OnOk result (view.new.seen ≡ plans.write planned.now view.old.seen) }
+    ensures undone { IsUndone view.old view.new }
     ensures err { IfErr result (λ cause. cause ≡ Cause.OutOfMemory) }
 {
     match (&planned.id, &planned.stored) {
@@ -26,7 +25,6 @@ fn write(view: &mut OpenSet, planned: &Planned) -> Result<(), Cause>
 
 /// Writes a plan over the set that the manager sees. What a refused call wrote is undone with the work.
 pub fn write_all(work: &mut UnitOfWork, plan: &[Planned]) -> Result<(), Cause>
-    requires shown { work.old.view.is_shown ≡ true }
     ensures ok { OnOk result (now work.new
         ≡ record (now work.old) { view = plans.write_each plan.now (now work.old).view }) }
     ensures events { (now work.new).events ≡ (now work.old).events }

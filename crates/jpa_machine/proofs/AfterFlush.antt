@@ -13,20 +13,29 @@ use Rattle.jpa_consistent.specs.Going.{HoldsAfter}
 use Rattle.jpa_machine.proofs.AtWork.{IsAtWork}
 use Rattle.jpa_consistent.proofs.Flushed.{flush_goes}
 use Rattle.jpa_consistent.proofs.Going.{More, only}
-use Rattle.jpa_machine.specs.Transactions.{commit_work}
-use Rattle.jpa_machine.proofs.Handed.{commit_work_goes}
 use Rattle.jpa_fetch.specs.Orderly.{IsOrderly}
+use Rattle.jpa_isolation.specs.Differences.{merged}
+use Rattle.jpa_consistent.proofs.Facts.{held_more}
+use Rattle.jpa_consistent.proofs.Flushed.{viewed_at_work}
+use Rattle.jpa_machine.specs.Machine.{begun_set}
+use Rattle.jpa_machine.specs.Transactions.{commit_work}
+use Rattle.jpa_machine.proofs.Handed.{commit_work_holds}
+use Rattle.jpa_machine.proofs.MergedHeld.{merged_held}
 
 pub flushed_at_work : {world : World} (M : Machine) {m : ℕ} {w : Work} (w' : Work) → IsOrderly world.model → IsRegular world → IsAtWork world M m w → flush world w ≡ Done tt w' →
     IsAtWork world M m w'
 flushed_at_work {world} M {m} {w} w' orderly regular h e = (subst (HoldsAfter (λ u v. IsAtWork world M m v × More w v)) e (flush_goes orderly regular h)).0
 
--- and of a commit: it looks at the locks, and changes nothing then
-pub still_at_work : {world : World} (M : Machine) {m : ℕ} {w : Work} (w' : Work) → IsOrderly world.model → IsRegular world → IsAtWork world M m w → commit_work world w ≡ Done tt w' →
-    IsAtWork world M m w'
-still_at_work {world} M {m} {w} w' orderly regular h e =
-    subst (HoldsAfter (λ u v. IsAtWork world M m v)) e (commit_work_goes world (IsAtWork world M m) w (only (IsAtWork world M m) w (flush world w) (flush_goes orderly regular h)))
-
 -- no next number falls below the stored one
 pub numbers_rise : {world : World} {M : Machine} {m : ℕ} {w : Work} → IsMachine world M → IsAtWork world M m w → each_fits nat_le M.stored_numbers w.numbers ≡ true
 numbers_rise {world} {M} {m} {w} h at = numbers_trans M.stored_numbers M.numbers w.numbers h.stored at.raised
+
+-- and of a commit: its set is one that a store can hold
+pub still_at_work : {world : World} {M : Machine} {m : ℕ} {w : Work} (w' : Work) → IsOrderly world.model → IsRegular world → IsMachine world M → IsAtWork world M m w →
+    commit_work world M.committed (begun_set M m) w ≡ Done tt w' → IsAtWork world M m w'
+still_at_work {world} {M} {m} {w} w' orderly regular h at e =
+    subst (HoldsAfter (λ u v. IsAtWork world M m v)) e
+    (commit_work_holds world (IsAtWork world M m) w (only (IsAtWork world M m) w (flush world w) (flush_goes orderly regular at)) M.committed (begun_set M m) (IsAtWork world M m)
+    (λ v p current sound.
+    viewed_at_work (merged M.committed (begun_set M m) v.view)
+    (merged_held M.committed (begun_set M m) v.view v.numbers (held_more v.numbers h.committed (numbers_rise h p) p.numbered) p.view sound) p))

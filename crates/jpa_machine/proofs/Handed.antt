@@ -14,19 +14,23 @@ use Rattle.jpa_protocol.specs.declared.reply.Answer.{Answer}
 use Rattle.jpa_heap.specs.Objects.{place_of}
 use Rattle.jpa_heap.specs.Shape.{IsInHeap}
 use Rattle.jpa_context.specs.Work.{Work, state_of}
-use Rattle.jpa_context.specs.Steps.{Outcome, Done, Refused, Op, after, give}
+use Rattle.jpa_context.specs.Steps.{Outcome, Done, Refused, Op, after, give, change}
 use Rattle.jpa_fetch.specs.Load.{find}
 use Rattle.jpa_fetch.specs.Members.{get, set, add, take_out, is_held}
 use Rattle.jpa_ops.specs.States.{persist, remove, refresh, detach, lock}
 use Rattle.jpa_merge.specs.Merge.{merge}
-use Rattle.jpa_flush.specs.Flush.{flush, reads_hold}
+use Rattle.jpa_flush.specs.Flush.{flush, reads_hold, sound_or}
 use Rattle.jpa_machine.specs.Calls.{object_numbered, handed, got, nothing, truth, object_told, object_or_null, told_as, give_or, class_named, key_given, is_short_given, whole_key}
-use Rattle.jpa_machine.specs.Transactions.{commit_work}
+use Rattle.jpa_value.specs.declared.refusal.Persist.{Persist}
+use Rattle.jpa_stored.specs.Sets.{StoredSet, fault_of}
+use Rattle.jpa_isolation.specs.Differences.{merged}
+use Rattle.jpa_updates.specs.Updates.{with_view}
+use Rattle.jpa_machine.specs.Transactions.{commit_work, is_current}
 use Rattle.jpa_machine.specs.Routes.{get_call, set_call, add_call, take_out_call, persist_call, remove_call, refresh_call, detach_call, merge_call, lock_call, lock_of, flush_call, find_call, get_reference_call, there_must_be}
 use Rattle.jpa_machine.specs.Invariant.{given_representable}
 use Rattle.jpa_consistent.specs.Going.{HoldsAfter}
 use Rattle.jpa_fetch.specs.Orderly.{IsOrderly}
-use Rattle.jpa_consistent.proofs.Going.{after_holds, require_holds, require_holds_last, More, only}
+use Rattle.jpa_consistent.proofs.Going.{after_holds, require_holds, More, only}
 use Rattle.jpa_consistent.proofs.Setting.{handed_representable}
 use Rattle.jpa_consistent.proofs.Changed.{HasSet, set_holds}
 use Rattle.jpa_consistent.proofs.Fetching.{get_goes, add_goes, take_out_goes}
@@ -178,6 +182,16 @@ module _ (world : World) (P : Work → Type 0) (w : Work) (flushes : HoldsAfter 
   pub flush_call_goes : HoldsAfter (λ a v. P v) (flush_call world w)
   flush_call_goes = told_holds P nothing (flush world w) flushes
 
-  pub commit_work_goes : HoldsAfter (λ u v. P v) (commit_work world w)
-  commit_work_goes =
-      after_holds (λ u v. P v) (λ u v. P v) (flush world w) _ flushes (λ u v p. require_holds_last (λ u' v'. P v') (reads_hold world.model v) Cause.OptimisticLock v (λ hold. p))
+  -- what a commit makes of what is flushed, where it is current and the set that comes of it is sound
+  pub commit_work_holds : (committed begun : StoredSet) (Q : Work → Type 0) →
+      ((v : Work) → P v → is_current world.model committed begun v ≡ true → fault_of world.model (merged committed begun v.view) ≡ None → Q (with_view (merged committed begun v.view) v)) →
+      HoldsAfter (λ u v. Q v) (commit_work world committed begun w)
+  commit_work_holds committed begun Q makes =
+      after_holds (λ u v. Q v) (λ u v. P v) (flush world w) _ flushes (λ u v p.
+      require_holds (λ u' v'. Q v') (is_current world.model committed begun v) Cause.OptimisticLock v _ (λ current.
+      require_holds (λ u' v'. Q v') (reads_hold world.model v) Cause.OptimisticLock v _ (λ hold.
+      by_fault v (merged committed begun v.view) (fault_of world.model (merged committed begun v.view)) (λ sound. makes v p current sound))))
+    where
+      by_fault : (v : Work) (s : StoredSet) (f : Option Persist) → (f ≡ None → Q (with_view s v)) → HoldsAfter (λ u' v'. Q v') (after (sound_or f v) (λ u'. change (with_view s)))
+      by_fault v s None k = k refl
+      by_fault v s (Some fault) k = tt

@@ -61,17 +61,17 @@ module _ (M : Machine) where
         same = λ cause apart h. same;
         creates = λ other few apart h. absurd (false≢true h);
         makes = λ other class within few apart h. absurd (false≢true h);
-        keeps = λ other m w a k apart h. absurd (false≢true h);
+        keeps = λ other m w a n k apart h. absurd (false≢true h);
         refuses = λ other m events cause b apart h. marked_or_not b m;
-        begins = λ other m o free apart h. absurd (false≢true h);
+        begins = λ other m o n free apart h. absurd (false≢true h);
         marking = λ other m apart h. absurd (false≢true h);
         tells = λ other answer apart h. absurd (false≢true h);
         clears = λ other m o apart h. absurd (false≢true h);
         sets_mode = λ other m o mode apart h. absurd (false≢true h);
         closes = λ other m o none apart h. absurd (false≢true h);
-        rolls = λ none m o apart h. absurd (false≢true h);
-        stores = λ writes none m w o k apart h. absurd (false≢true h);
-        undoes = λ writes none m events why o apart h. absurd (true≢false (sym writes ∙ apart));
+        rolls = λ none m o n apart h. absurd (false≢true h);
+        stores = λ writes none m w o n has k apart h. absurd (false≢true h);
+        undoes = λ writes none m events why o n apart h. absurd (true≢false (sym writes ∙ apart));
       }
 
   -- ---- a rollback, also that of a commit which is refused
@@ -100,17 +100,17 @@ module _ (M : Machine) where
         same = λ cause h. unchanged;
         creates = λ other few. neither other;
         makes = λ other class within few. neither other;
-        keeps = λ other m w a k. neither other;
+        keeps = λ other m w a n k. neither other;
         refuses = λ other m events cause b. neither other;
-        begins = λ other m o free. neither other;
+        begins = λ other m o n free. neither other;
         marking = λ other m. neither other;
         tells = λ other answer. neither other;
         clears = λ other m o. neither other;
         sets_mode = λ other m o mode. neither other;
         closes = λ other m o none. neither other;
-        rolls = λ apart m o h. rolled m;
-        stores = λ writes apart m w o k. not_refused r writes apart;
-        undoes = λ writes apart m events why o h. rolled m;
+        rolls = λ apart m o n h. rolled m;
+        stores = λ writes apart m w o n has k. not_refused r writes apart;
+        undoes = λ writes apart m events why o n h. rolled m;
       }
 
   -- ---- next numbers
@@ -131,17 +131,17 @@ module _ (M : Machine) where
         same = λ cause. stay;
         creates = λ other few. stay;
         makes = λ other class within few. stay;
-        keeps = λ other m w a k. (k.at).raised;
+        keeps = λ other m w a n k. (k.at).raised;
         refuses = λ other m events cause b. marked_stay b m;
-        begins = λ other m o free. stay;
+        begins = λ other m o n free. stay;
         marking = λ other m. stay;
         tells = λ other answer. stay;
         clears = λ other m o. stay;
         sets_mode = λ other m o mode. stay;
         closes = λ other m o none. stay;
-        rolls = λ apart m o. stay;
-        stores = λ writes apart m w o k. (k.at).raised;
-        undoes = λ writes apart m events why o. stay;
+        rolls = λ apart m o n. stay;
+        stores = λ writes apart m w o n has k. (k.at).raised;
+        undoes = λ writes apart m events why o n. stay;
       }
 
   -- a refused call gives none
@@ -151,17 +151,17 @@ module _ (M : Machine) where
         same = λ cause e. stay;
         creates = λ other few e. stay;
         makes = λ other class within few e. stay;
-        keeps = λ other m w a k e. absurd (false≢true e);
+        keeps = λ other m w a n k e. absurd (false≢true e);
         refuses = λ other m events cause b e. marked_stay b m;
-        begins = λ other m o free e. stay;
+        begins = λ other m o n free e. stay;
         marking = λ other m e. stay;
         tells = λ other answer e. stay;
         clears = λ other m o e. stay;
         sets_mode = λ other m o mode e. stay;
         closes = λ other m o none e. stay;
-        rolls = λ apart m o e. stay;
-        stores = λ writes apart m w o k e. absurd (false≢true e);
-        undoes = λ writes apart m events why o e. stay;
+        rolls = λ apart m o n e. stay;
+        stores = λ writes apart m w o n has k e. absurd (false≢true e);
+        undoes = λ writes apart m events why o n e. stay;
       }
 
 -- ---- of a step

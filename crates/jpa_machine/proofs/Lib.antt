@@ -6,9 +6,12 @@ pub mod Handed
 pub mod Ways
 pub mod Queried
 pub mod Updated
+pub mod Whole
+pub mod MergedHeld
 pub mod Operated
 pub mod Outcome
-pub mod OneTransaction
 pub mod AfterFlush
 pub mod Still
 pub mod Left
+pub mod SameView
+pub mod Isolated

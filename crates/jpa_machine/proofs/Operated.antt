@@ -1,7 +1,8 @@
 -- What the operation of each call leaves: one line for each call.
 use Rattle.std.proofs.Common.{◌≡◌, inl, inr, ℕ, true, [], ap, sym, subst}
+use Rattle.std.specs.Prelude.{None}
 use Rattle.jpa_behaviour.specs.Behaviour.{World, AnswersConvertible, IsRegular}
-use Rattle.jpa_stored.specs.Sets.{StoredSet}
+use Rattle.jpa_stored.specs.Sets.{StoredSet, fault_of}
 use Rattle.jpa_rows.specs.Cells.{CanBeHeld}
 use Rattle.jpql_kept.specs.Fits.{AreInherited}
 use Rattle.jpa_updates.specs.Updates.{with_view}
@@ -16,24 +17,28 @@ use Rattle.jpa_consistent.proofs.Going.{only}
 use Rattle.jpa_consistent.proofs.Instances.{at_work}
 use Rattle.jpa_consistent.proofs.Unheld.{empty_unheld}
 use Rattle.jpa_consistent.proofs.Flushed.{flush_goes, viewed_at_work}
-use Rattle.jpa_machine.specs.Machine.{Machine, manager_at, has_transaction, flushes_first, work_of}
+use Rattle.jpa_machine.specs.Machine.{Machine, manager_at, has_transaction, flushes_first, begun_set, work_of}
 use Rattle.jpa_machine.specs.Updating.{MakesRepresentable, update_outcome}
 use Rattle.jpa_machine.proofs.Updated.{update_call_goes}
 use Rattle.jpa_machine.specs.Querying.{query_call, query_single_call}
 use Rattle.jpa_machine.proofs.Queried.{query_call_goes, query_single_call_goes}
-use Rattle.jpa_machine.specs.Transactions.{commit_work}
+use Rattle.jpa_machine.specs.Transactions.{commit_work, is_current}
+use Rattle.jpa_isolation.specs.Differences.{merged}
+use Rattle.jpa_machine.proofs.MergedHeld.{merged_held}
+use Rattle.jpa_consistent.proofs.Facts.{held_more, numbers_trans}
 use Rattle.jpa_flush.specs.Flush.{flush}
 use Rattle.jpa_machine.specs.Routes.{route, holder_in, get_call, set_call, add_call, take_out_call, persist_call, remove_call, refresh_call, detach_call, merge_call, lock_call, flush_call, find_call, get_reference_call}
 use Rattle.jpa_machine.specs.Invariant.{IsMachine, hands_representable}
 use Rattle.jpa_machine.proofs.AtWork.{others_of, IsAtWork, IsOpen, MayReturn, taken, holder_may, may_still}
-use Rattle.jpa_machine.proofs.Handed.{get_call_goes, get_call_unheld, add_call_goes, add_call_unheld, take_out_call_goes, take_out_call_unheld, set_call_holds, persist_call_goes, remove_call_goes, refresh_call_goes, detach_call_goes, merge_call_goes, lock_call_goes, flush_call_goes, find_call_goes, get_reference_call_goes, commit_work_goes}
+use Rattle.jpa_machine.proofs.Handed.{get_call_goes, get_call_unheld, add_call_goes, add_call_unheld, take_out_call_goes, take_out_call_unheld, set_call_holds, persist_call_goes, remove_call_goes, refresh_call_goes, detach_call_goes, merge_call_goes, lock_call_goes, flush_call_goes, find_call_goes, get_reference_call_goes, commit_work_holds}
 use Rattle.jpa_machine.proofs.Ways.{Does}
 use Rattle.jpa_fetch.specs.Orderly.{IsOrderly}
 
 -- ---- of a manager that is open, and of whoever holds an object
 
 module _ (world : World) (M : Machine) (P K : ℕ → Work → Type 0) (steps : (m : ℕ) → Steps world (P m)) (give : (m : ℕ) (w : Work) → P m w → MayReturn M m w → K m w)
-    (viewed : (m : ℕ) (w : Work) (s : StoredSet) → P m w → CanBeHeld world s w.numbers → P m (with_view s w)) (convertible : AnswersConvertible world) (inherited : AreInherited world.model) where
+    (viewed : (m : ℕ) (w : Work) (s : StoredSet) → P m w → CanBeHeld world s w.numbers → P m (with_view s w))
+    (commits : (m : ℕ) (v : Work) → P m v → is_current world.model M.committed (begun_set M m) v ≡ true → fault_of world.model (merged M.committed (begun_set M m) v.view) ≡ None → P m (with_view (merged M.committed (begun_set M m) v.view) v)) (convertible : AnswersConvertible world) (inherited : AreInherited world.model) where
   of_open : {A : Type 0} (m : ℕ) → IsOpen M m → (o : Outcome A) → HoldsAfter (λ a w. P m w) o → HoldsAfter (λ a w. K m w) o
   of_open m is_open (Done a w) p = give m w p (inl is_open)
   of_open m is_open (Refused r events) p = tt
@@ -77,7 +82,8 @@ module _ (world : World) (M : Machine) (P K : ℕ → Work → Type 0) (steps : 
   does_by orderly h start flushes (Call.Merge em object) rep made = λ m o. of_open m o (merge_call world object (work_of M m)) (merge_call_goes (steps m) orderly object (work_of M m) (start m))
   does_by orderly h start flushes (Call.Lock em object mode) rep made = λ m o. of_open m o (lock_call world object mode (work_of M m)) (lock_call_goes (steps m) object mode (work_of M m) (start m))
   does_by orderly h start flushes (Call.Flush em) rep made = λ m o. of_open m o (flush_call world (work_of M m)) (flush_call_goes world (P m) (work_of M m) (flushes m (work_of M m) (start m)))
-  does_by orderly h start flushes (Call.Commit em) rep made = λ m o. of_open m o (commit_work world (work_of M m)) (commit_work_goes world (P m) (work_of M m) (flushes m (work_of M m) (start m)))
+  does_by orderly h start flushes (Call.Commit em) rep made = λ m o. of_open m o (commit_work world M.committed (begun_set M m) (work_of M m))
+      (commit_work_holds world (P m) (work_of M m) (flushes m (work_of M m) (start m)) M.committed (begun_set M m) (P m) (commits m))
   does_by orderly h start flushes (Call.Rollback em) rep made = tt
   does_by orderly h start flushes (Call.SetRollbackOnly em) rep made = tt
   does_by orderly h start flushes (Call.GetReference em name key) rep made = λ m o. of_open m o (get_reference_call world name key (work_of M m)) (get_reference_call_goes (steps m) name key (work_of M m) (start m))
@@ -104,5 +110,6 @@ pub record IsDone (world : World) (M : Machine) (m : ℕ) (w : Work) : Type 0 wh
 pub does : (world : World) (M : Machine) → IsOrderly world.model → IsRegular world → AreInherited world.model → (call : Call) → hands_representable call ≡ true → MakesRepresentable world M call → IsMachine world M →
     Does world M (IsDone world M) (route call)
 does world M orderly regular inherited call rep made h =
-    does_by world M (IsAtWork world M) (IsDone world M) (λ m. at_work (others_of M) m orderly regular.heard) (λ m w p b. record { at = p; back = b }) (λ m w s p held. viewed_at_work s held p) regular.convertible inherited
+    does_by world M (IsAtWork world M) (IsDone world M) (λ m. at_work (others_of M) m orderly regular.heard) (λ m w p b. record { at = p; back = b }) (λ m w s p held. viewed_at_work s held p)
+    (λ m v p current sound. viewed_at_work (merged M.committed (begun_set M m) v.view) (merged_held M.committed (begun_set M m) v.view v.numbers (held_more v.numbers h.committed (numbers_trans M.stored_numbers M.numbers v.numbers h.stored p.raised) p.numbered) p.view sound) p) regular.convertible inherited
     orderly h (λ m. taken m h) (λ m w p. only (IsAtWork world M m) w (flush world w) (flush_goes orderly regular p)) call rep made

@@ -29,17 +29,17 @@ ways {world} {M} r h =
       same = λ cause. h;
       creates = λ other few. created_holds h few;
       makes = λ other class within few. object_made class within few h;
-      keeps = λ other m w a k. returned k.back h k.at;
+      keeps = λ other m w a n k. returned k.back h k.at;
       refuses = λ other m events cause b. marked_or_not b m;
-      begins = λ other m o free. begun_holds m o.within o.is_open h;
+      begins = λ other m o n free. begun_holds m o.within o.is_open h;
       marking = λ other m. marked_holds m h;
       tells = λ other a. h;
       clears = λ other m o. cleared_holds m o.within o.is_open h;
       sets_mode = λ other m o mode. mode_holds m mode o.within h;
       closes = λ other m o none. closed_holds m o.within o.is_open none h;
-      rolls = λ apart m o. rolled_back_holds m o.within o.is_open h;
-      stores = λ writes apart m w o k. committed_holds o.within o.is_open h k.at;
-      undoes = λ writes apart m events why o. rolled_back_holds m o.within o.is_open h;
+      rolls = λ apart m o n. rolled_back_holds m o.within o.is_open h;
+      stores = λ writes apart m w o n has k. committed_holds o.within o.is_open h k.at;
+      undoes = λ writes apart m events why o n. rolled_back_holds m o.within o.is_open h;
     }
   where
     marked_or_not : (b : Bool) (m : ℕ) → IsMachine world (marked_if b M m)
@@ -53,17 +53,17 @@ refused_ways {world} {M} r h =
       same = λ cause e. h;
       creates = λ other few e. created_holds h few;
       makes = λ other class within few e. object_made class within few h;
-      keeps = λ other m w a k e. absurd (false≢true e);
+      keeps = λ other m w a n k e. absurd (false≢true e);
       refuses = λ other m events cause b e. marked_or_not b m;
-      begins = λ other m o free e. begun_holds m o.within o.is_open h;
+      begins = λ other m o n free e. begun_holds m o.within o.is_open h;
       marking = λ other m e. marked_holds m h;
       tells = λ other a e. h;
       clears = λ other m o e. cleared_holds m o.within o.is_open h;
       sets_mode = λ other m o mode e. mode_holds m mode o.within h;
       closes = λ other m o none e. closed_holds m o.within o.is_open none h;
-      rolls = λ apart m o e. rolled_back_holds m o.within o.is_open h;
-      stores = λ writes apart m w o k e. absurd (false≢true e);
-      undoes = λ writes apart m events why o e. rolled_back_holds m o.within o.is_open h;
+      rolls = λ apart m o n e. rolled_back_holds m o.within o.is_open h;
+      stores = λ writes apart m w o n has k e. absurd (false≢true e);
+      undoes = λ writes apart m events why o n e. rolled_back_holds m o.within o.is_open h;
     }
   where
     marked_or_not : (b : Bool) (m : ℕ) → IsMachine world (marked_if b M m)

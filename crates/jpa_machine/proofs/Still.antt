@@ -31,17 +31,17 @@ ways world M r =
       same = λ cause h. still M;
       creates = λ other few h. record { committed = refl; numbers = refl };
       makes = λ other class within few h. record { committed = refl; numbers = refl };
-      keeps = λ other m w a k h. record { committed = refl; numbers = refl };
+      keeps = λ other m w a n k h. record { committed = refl; numbers = refl };
       refuses = λ other m events cause b h. marked_or_not M b m;
-      begins = λ other m o free h. record { committed = refl; numbers = refl };
+      begins = λ other m o n free h. record { committed = refl; numbers = refl };
       tells = λ other a h. still M;
       clears = λ other m o h. record { committed = refl; numbers = refl };
       sets_mode = λ other m o mode h. record { committed = refl; numbers = refl };
       closes = λ other m o none h. record { committed = refl; numbers = refl };
       marking = λ other m h. record { committed = refl; numbers = refl };
-      rolls = λ apart m o h. record { committed = refl; numbers = refl };
-      stores = λ writes apart m w o k. neither r writes;
-      undoes = λ writes apart m events why o h. record { committed = refl; numbers = refl };
+      rolls = λ apart m o n h. record { committed = refl; numbers = refl };
+      stores = λ writes apart m w o n has k. neither r writes;
+      undoes = λ writes apart m events why o n h. record { committed = refl; numbers = refl };
     }
 
 pub step_still : (M : Machine) (world : World) (call : Call) (reply : Reply) (N : Machine) → Step world M call reply N → (is_commit call ≡ false) ⊎ IsErr reply.answer → IsStoredAs M N

@@ -14,7 +14,7 @@ use Rattle.jpa_consistent.specs.Consistent.{IsLive, IsEntry, are_one, stands_in}
 use Rattle.jpa_protocol.specs.declared.call.Call.{Call}
 use Rattle.jpa_protocol.specs.declared.call.Given.{Given}
 use Rattle.jpa_protocol.specs.declared.call.Parameter.{Parameter}
-use Rattle.jpa_machine.specs.Machine.{Machine, Manager, Transaction, manager_at, has_transaction}
+use Rattle.jpa_machine.specs.Machine.{Machine, Manager, Transaction, manager_at}
 
 -- ---- managers
 
@@ -50,10 +50,6 @@ pub record IsMachine (world : World) (M : Machine) : Type 0 where
   pub stored : each_fits nat_le M.stored_numbers M.numbers ≡ true
   pub objects_few : length M.objects ≤ most_objects
   pub managers_few : length M.managers ≤ most_managers
-
--- one transaction is open at a time: where a manager has one, no other has
-abbrev pub HasOneTransaction : Machine → Type 0
-HasOneTransaction M = (m k : ℕ) → has_transaction (manager_at M m) ≡ true → has_transaction (manager_at M k) ≡ true → m ≡ k
 
 -- ---- calls
 

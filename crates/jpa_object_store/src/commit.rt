@@ -4,7 +4,8 @@ ghost use Rattle.std.specs.List.{AllByRecursion};
 ghost use Rattle.jpa_value.specs.declared.refusal.Cause.{Cause};
 ghost use Rattle.jpa_value.specs.Value.{same_identity};
 ghost use Rattle.jpa_behaviour.specs.Registered.{world_of};
-ghost use Rattle.jpa_stored.specs.Sets.{all_distinct, each_fits};
+ghost use Rattle.jpa_open.specs.Opened.{AreAllChanged};
+ghost use Rattle.jpa_stored.specs.Sets.{all_distinct, each_fits, is_rising};
 ghost use Rattle.jpa_rows.specs.Cells.{are_numbers, CanBeHeld};
 ghost use Rattle.jpa_rows.specs.Faults.{faults_after};
 ghost use Rattle.jpa_rows.specs.Rows.{Rows, AreChanges};
@@ -21,7 +22,7 @@ use jpa_model::Metamodel;
 use jpa_open::OpenSet;
 use jpa_overlay::Overlay;
 use jpa_rows::{RowChange, RowSource};
-use jpa_value::{Cause, Seq};
+use jpa_value::{Cause, Identity, Seq};
 use std::alloc::Global;
 
 /// The difference of the rows of a view's committed objects and their next numbers from those with what is to stand under some
@@ -124,7 +125,7 @@ fn write_changes<R: RowSource, B: Behaviour>(
     source.commit(changes.as_slice())
 }
 
-/// Writes what the view's transaction wrote or removed, over the committed objects, which the store holds, and the next numbers of
+/// Writes what the manager sees under these identities, each once in rising order, where alone it sees other than what is committed, over the committed objects, which the store holds, and the next numbers of
 /// generated keys in the place of those before, none of which falls: all or nothing, as one transaction of the store (Jakarta
 /// Persistence 3.1, chapters 2.4, 2.10, 2.12, 3.2.3, 3.2.4 and 7.5).
 ///
@@ -142,15 +143,17 @@ pub fn write<R: RowSource, B: Behaviour>(
     registry: &Registry<B>,
     source: &mut R,
     view: &OpenSet,
+    ids: &[Identity],
     before: &[u64],
     next: &[u64],
 ) -> Result<(), Cause>
+    requires elsewhere { AreAllChanged view.now ids.now }
+    requires once { is_rising ids.now ≡ true }
     requires schema { R.schema source.old ≡ schema_of metamodel.now }
     requires committed { CanBeHeld (world_of B.meaning metamodel.now registry.now)
         view.now.committed before.now }
     requires seen { CanBeHeld (world_of B.meaning metamodel.now registry.now)
         view.now.seen next.now }
-    requires shown { view.now.is_shown ≡ true }
     requires rising { each_fits nat_le before.now next.now ≡ true }
     ensures ok { let world = world_of B.meaning metamodel.now registry.now in
         OnOk result (R.holds source.old (rows_of world view.now.committed before.now)
@@ -177,8 +180,7 @@ pub fn write<R: RowSource, B: Behaviour>(
         rows_of world view.now.committed before.now ≡ rows_of world view.now.seen next.now
         → source.new ≡ source.old }
 {
-    let ids = view.changed()?;
-    let objects = changes_of(alloc, view, ids.as_slice())?;
+    let objects = changes_of(alloc, view, ids)?;
     write_changes(
         alloc,
         metamodel,

@@ -22,7 +22,6 @@ pub(crate) fn changes_of<'a>(
     view: &'a OpenSet,
     ids: &'a [Identity],
 ) -> Result<Vec<ObjectChange<'a>>, Cause>
-    requires shown { view.now.is_shown ≡ true }
     ensures ok { IfOk result (λ changes.
         entries_in changes.items ≡ entries_of view.now.seen ids.now) }
     ensures err { IfErr result (λ cause. cause ≡ Cause.OutOfMemory) }

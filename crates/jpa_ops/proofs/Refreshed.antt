@@ -13,7 +13,7 @@ use Rattle.jpa_heap.specs.declared.Life.{Life}
 use Rattle.jpa_heap.specs.Objects.{is_whole, no_object}
 use Rattle.jpa_heap.specs.Shape.{HasShape}
 use Rattle.jpa_context.specs.declared.EntityState.{EntityState}
-use Rattle.jpa_context.specs.Steps.{◌>>◌, Done, Meets, after, change, require}
+use Rattle.jpa_context.specs.Steps.{◌>>◌, Done, IsRefusedAs, Meets, after, change, require}
 use Rattle.jpa_context.specs.Work.{Work, object, identity_at, instance, row, row_at, state_of, with_life_of, with_object}
 use Rattle.jpa_cascade.specs.declared.Node.{Node}
 use Rattle.jpa_cascade.specs.There.{IsThere}
@@ -21,6 +21,7 @@ use Rattle.jpa_lifecycle.specs.Callbacks.{callback}
 use Rattle.jpa_lifecycle.proofs.Keeps.{happened}
 use Rattle.jpa_fetch.specs.Load.{base_loaded, load, object_loaded}
 use Rattle.jpa_ops.specs.States.{refresh_managed, refresh_node, refresh_one, refresh_row, reloaded, remove_live, remove_one, remove_under}
+use Rattle.jpa_ops.proofs.Refused.{refused_after}
 use Rattle.jpa_ops.proofs.Going.{HoldsAfter, holds_where, require_holds}
 use Rattle.jpa_ops.proofs.Persisted.{within_from}
 use Rattle.jpa_fetch.proofs.Grown.{grown_happened, grown_set, placed_happened, placed_set}
@@ -123,3 +124,13 @@ removes_loaded world id x y n w v new r none stored same done h =
     ∙ ap (λ s. remove_under world id None s w) stored
     ∙ ap (λ z. after (load world id z w) (remove_live world)) (sym same)
     ∙ ap (λ o. after o (remove_live world)) done)) h
+
+-- where it isn't loaded, the removal is refused with it
+pub removes_refused : (world : World) (id : Identity) (x y : Stored) (w new : Work) (r : Cause) → instance world.model w id ≡ None → row w id ≡ Some y → x ≡ y →
+    IsRefusedAs r new.events (load world id x w) → IsRefusedAs r new.events (remove_under world id (instance world.model w id) (row w id) w)
+removes_refused world id x y w new r none stored same h =
+    subst (IsRefusedAs r new.events)
+    (sym (ap (λ o. remove_under world id o (row w id) w) none
+    ∙ ap (λ s. remove_under world id None s w) stored
+    ∙ ap (λ z. after (load world id z w) (remove_live world)) (sym same)))
+    (refused_after r new.events (load world id x w) (remove_live world) h)

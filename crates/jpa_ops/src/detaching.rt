@@ -42,7 +42,7 @@ fn let_go(alloc: Global, work: &mut UnitOfWork, object: usize)
     let mut detached = work.objects.put(object, no_object(alloc));
     detached.life = Life::Detached;
     work.objects.put(object, detached);
-    work.context.leave(&[object]);
+    work.context.leave(alloc, &[object]);
 }
 
 /// An object that stands so for its manager is detached. For good. Takes no memory.

@@ -1,11 +1,10 @@
 -- What a flush of the manager at work stands on, and what it leaves.
 use Rattle.std.proofs.Common.{◌≡◌, ◌<◌, ℕ, Bool, true, false, List, length, ap, sym, subst, ◌∙◌}
-use Rattle.std.specs.Prelude.{All, T, nat_le}
+use Rattle.std.specs.Prelude.{All, T}
 use Rattle.std.specs.FinMap.Entries.{is_sorted}
 use Rattle.jpa_value.specs.Value.{identity_cmp}
-use Rattle.std.proofs.lemmas.List.Elements.{All-weaker}
 use Rattle.jpa_behaviour.specs.Behaviour.{World}
-use Rattle.jpa_stored.specs.Sets.{IsSound, each_fits}
+use Rattle.jpa_stored.specs.Sets.{IsSound}
 use Rattle.jpa_rows.specs.Cells.{CanBeHeld, all_representable}
 use Rattle.jpa_context.specs.declared.Entry.{Entry}
 use Rattle.jpa_context.specs.Work.{Work}
@@ -16,18 +15,16 @@ use Rattle.jpa_updates.specs.Updates.{StaysSound}
 use Rattle.jpa_context.specs.Undo.{Since}
 use Rattle.jpa_fetch.specs.Grown.{IsReady}
 use Rattle.jpa_flush.specs.Flush.{flush}
-use Rattle.jpa_machine.specs.Transactions.{commit_work}
 use Rattle.jpa_ops.specs.Names.{has_distinct_entries}
 use Rattle.jpa_provider.specs.declared.session.Session.{Session}
-use Rattle.jpa_machine.specs.Machine.{Machine, manager_at, is_begun, work_of}
-use Rattle.jpa_machine.specs.Invariant.{IsMachine, HasOneTransaction, context_of}
-use Rattle.jpa_provider.specs.Serving.{machine_of, manager_in, is_begun_status, EndsAlone, IsCommitting, IsServing, IsSettled, IsWorking}
-use Rattle.jpa_machine.proofs.AtWork.{IsAtWork, each_manager, taken, work_ready}
-use Rattle.jpa_machine.proofs.AfterFlush.{flushed_at_work, still_at_work, numbers_rise}
-use Rattle.jpa_consistent.specs.Consistent.{IsEntry}
+use Rattle.jpa_machine.specs.Machine.{work_of}
+use Rattle.jpa_machine.specs.Invariant.{IsMachine, context_of}
+use Rattle.jpa_provider.specs.Serving.{machine_of, IsServing}
+use Rattle.jpa_machine.proofs.AtWork.{each_manager, taken, work_ready}
+use Rattle.jpa_machine.proofs.AfterFlush.{flushed_at_work}
 use Rattle.jpa_consistent.proofs.Ready.{ready_at_work}
 use Rattle.jpa_provider.proofs.Serving.{entries_in}
-use Rattle.jpa_provider.proofs.Sessions.{manager_there, begun_there}
+use Rattle.jpa_provider.proofs.Sessions.{manager_there}
 
 -- the entries that undoing gives back
 pub entries_since : {world : World} (s : Session) (m : ℕ) (x : Since) → IsMachine world (machine_of s) → x.objects ≡ (machine_of s).objects → x.context ≡ context_of (machine_of s) m →
@@ -45,21 +42,6 @@ view_sound world s m h = ((taken m h.machine).view).sound
 
 pub view_rises : (world : World) (s : Session) (m : ℕ) → IsServing world s → T (is_sorted identity_cmp (work_of (machine_of s) m).view)
 view_rises world s m h = ((taken m h.machine).view).rising
-
-pub committing : {world : World} (s t : Session) (m : ℕ) → IsServing world s → is_begun_status (manager_in s.managers.items m).status ≡ true → IsWorking (machine_of s) m t → IsCommitting (machine_of s) m t
-committing s t m h begun working = record { working = working; one = h.one; begun = begun_there s m ∙ begun }
-
--- undone, the transaction is still the one that is open
-pub ends_alone : {M : Machine} (t : Session) (m : ℕ) → IsSettled t → machine_of t ≡ M → HasOneTransaction M → is_begun (manager_at M m).transaction ≡ true → EndsAlone m t
-ends_alone t m settled same one begun =
-    record {
-      settled = settled;
-      one = subst HasOneTransaction (sym same) one;
-      begun = sym (begun_there t m) ∙ ap (λ (N : Machine). is_begun (manager_at N m).transaction) same ∙ begun;
-    }
-
-abbrev finished : Work → Outcome (Unit {0})
-finished w = Done tt w
 
 -- the work of an outcome that is done
 abbrev work_in : Work → Outcome (Unit {0}) → Work
@@ -89,16 +71,3 @@ update_sound world s m h flushes v e = let held = flush_if_held world s m h flus
 
 pub update_representable : (world : World) (s : Session) (m : ℕ) → IsServing world s → (flushes : Bool) (v : Work) → flush_if flushes world (work_of (machine_of s) m) ≡ Done tt v → all_representable v.view ≡ true
 update_representable world s m h flushes v e = (flush_if_held world s m h flushes v e).representable
-
-module _ (world : World) (s : Session) (m : ℕ) (h : IsServing world s) (w : Work) (e : commit_work world (work_of (machine_of s) m) ≡ Done tt w) where
-  pub after_it : IsAtWork world (machine_of s) m w
-  after_it = still_at_work (machine_of s) w h.orderly h.regular (taken m h.machine) e
-
-  pub flushed_held : CanBeHeld world w.view w.numbers
-  flushed_held = after_it.view
-
-  pub flushed_rising : each_fits nat_le (machine_of s).stored_numbers w.numbers ≡ true
-  flushed_rising = numbers_rise h.machine after_it
-
-  pub flushed_within : All (λ (x : Entry). x.object < length w.objects) w.context
-  flushed_within = All-weaker (IsEntry world.model w.objects w.numbers m) (λ (x : Entry). x.object < length w.objects) (λ x i. i.within) w.context after_it.entries

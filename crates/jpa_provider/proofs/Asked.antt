@@ -1,10 +1,10 @@
 -- How contains, clear and setFlushMode step.
+use Rattle.jpa_context.specs.Marks.{Entries}
 use Rattle.std.proofs.Common.{◌≡◌, inl, ℕ, ℤ, Bool, [], length, ap, sym, ◌∙◌}
 use Rattle.std.specs.Prelude.{slice_set, Some, None}
 use Rattle.jpa_value.specs.declared.refusal.Cause.{Cause}
 use Rattle.jpa_behaviour.specs.Behaviour.{World}
 use Rattle.jpa_heap.specs.Objects.{place_of, object_at}
-use Rattle.jpa_undo.specs.Undo.{Changes}
 use Rattle.jpa_context.specs.declared.Entry.{Entry}
 use Rattle.jpa_context.specs.Work.{is_managed, state_from}
 use Rattle.jpa_ops.specs.States.{detach_each}
@@ -18,8 +18,8 @@ use Rattle.jpa_machine.specs.Calls.{accepted}
 use Rattle.jpa_machine.specs.Routes.{answered, contains, contains_in}
 use Rattle.jpa_open.specs.Opened.{Opened}
 use Rattle.jpa_provider.specs.Serving.{manager_in, machine_of, named, Serves}
-use Rattle.jpa_provider.proofs.Opened.{told, refusal, replaced}
-use Rattle.jpa_provider.proofs.Sessions.{manager_there}
+use Rattle.jpa_provider.proofs.Opened.{told, refusal}
+use Rattle.jpa_provider.proofs.Sessions.{manager_there, replaced}
 use Rattle.jpa_provider.proofs.Worked.{of_manager, of_nobody}
 
 -- ---- contains
@@ -50,12 +50,12 @@ pub clear_clears : (world : World) (s t : Session) (em : ℤ) (m : ℕ) → name
 clear_clears world s t em m e f =
     inl (of_manager s (λ k. accepted [] Answer.Null (cleared (machine_of s) k)) em m e ∙ (λ i. (told Answer.Null, sym f i)))
 
-pub cleared_there : (s t : Session) (m : ℕ) (c : Changes Entry) → t.managers.items ≡ slice_set s.managers.items m (record (manager_in s.managers.items m) { context = c }) → c.now ≡ [] →
+pub cleared_there : (s t : Session) (m : ℕ) (c : Entries) → t.managers.items ≡ slice_set s.managers.items m (record (manager_in s.managers.items m) { context = c }) → c.now ≡ [] →
     t.work.objects.now ≡ detach_each (manager_in s.managers.items m).context.now s.work.objects.now → t.work.view ≡ s.work.view → t.work.numbers.now ≡ s.work.numbers.now → t.stored ≡ s.stored →
     machine_of t ≡ cleared (machine_of s) m
 cleared_there s t m c f e o v n k =
     let there = manager_there s m in
-    replaced s t m (record (manager_in s.managers.items m) { context = c }) f (ap (λ (w : Opened). w.committed) v) (ap (λ (w : Opened). w.kept) v) n k
+    replaced s t m (record (manager_in s.managers.items m) { context = c }) f (ap (λ (w : Opened). w.committed) v) n k
     ∙ (λ i. record (machine_of s) {
       objects = (o ∙ ap (λ (x : Manager). detach_each x.context s.work.objects.now) (sym there)) i;
       managers = with_manager (machine_of s) m (record (sym there i) { context = e i });

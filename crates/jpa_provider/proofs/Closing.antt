@@ -1,4 +1,5 @@
 -- How close steps.
+use Rattle.jpa_context.specs.Marks.{all_marked}
 use Rattle.std.proofs.Common.{◌≡◌, inl, ℕ, ℤ, true, false, [], ap, sym, ◌∙◌}
 use Rattle.std.specs.Prelude.{slice_set, Some, None, if◌then◌else◌}
 use Rattle.jpa_value.specs.declared.refusal.Cause.{Cause}
@@ -36,17 +37,16 @@ close_closes world s t em m e h f =
 
 -- of a session whose manager was cleared
 pub shut_there : (s u t : Session) (m : ℕ) → is_begun_status (manager_in s.managers.items m).status ≡ false → machine_of u ≡ cleared (machine_of s) m → u.work.view ≡ s.work.view →
-    t.managers.items ≡ slice_set s.managers.items m (record (manager_in s.managers.items m) { status = Status.Closed; context = record { now = []; since = [] } }) → t.work ≡ u.work → t.stored ≡ u.stored → machine_of t ≡ closed (machine_of s) m
+    t.managers.items ≡ slice_set s.managers.items m (record (manager_in s.managers.items m) { status = Status.Closed; context = record { now = []; since = []; marks = all_marked } }) → t.work ≡ u.work → t.stored ≡ u.stored → machine_of t ≡ closed (machine_of s) m
 shut_there s u t m h clear v f w k =
     let M = machine_of s in
     let C = (s.work.view).committed in
-    let K = (s.work.view).kept in
-    let x : EntityManager = record (manager_in s.managers.items m) { status = Status.Closed; context = record { now = []; since = [] } } in
+    let x : EntityManager = record (manager_in s.managers.items m) { status = Status.Closed; context = record { now = []; since = []; marks = all_marked } } in
     let mode : x.mode ≡ (manager_at M m).mode = sym (ap (λ (y : Manager). y.mode) (manager_there s m)) in
     let view : t.work.view ≡ s.work.view = ap (λ (y : UnitOfWork). y.view) w ∙ v in
     (λ i. record {
       objects = (ap (λ (y : UnitOfWork). y.objects.now) w ∙ ap (λ (N : Machine). N.objects) clear) i;
-      managers = ((λ j. managers_of (view j).committed (view j).kept (f j)) ∙ managers_changed C K s.managers.items m x) i;
+      managers = ((λ j. managers_of (view j).committed (f j)) ∙ managers_changed C s.managers.items m x) i;
       numbers = (ap (λ (y : UnitOfWork). y.numbers.now) w ∙ ap (λ (N : Machine). N.numbers) clear) i;
       stored_numbers = (k ∙ ap (λ (N : Machine). N.stored_numbers) clear) i;
       committed = (view i).committed;

@@ -1,4 +1,5 @@
 -- How a commit steps.
+use Rattle.jpa_context.specs.Marks.{Entries}
 use Rattle.std.proofs.Common.{◌≡◌, ◌<◌, ◌⊎◌, inl, inr, ℕ, ℤ, Bool, true, false, List, [], ◌∷◌, map, refl, ap, sym, subst, ◌∙◌}
 use Rattle.std.specs.Prelude.{All, not, Some, None, Err, slice_set}
 use Rattle.std.specs.List.{AllByRecursion, filter}
@@ -8,13 +9,12 @@ use Rattle.jpa_value.specs.declared.refusal.Cause.{Cause}
 use Rattle.jpa_value.specs.declared.refusal.Refusal.{Refusal}
 use Rattle.jpa_value.specs.declared.refusal.State.{State}
 use Rattle.jpa_behaviour.specs.Behaviour.{World}
-use Rattle.jpa_undo.specs.Undo.{Changes}
 use Rattle.jpa_protocol.specs.declared.call.Call.{Call}
 use Rattle.jpa_protocol.specs.declared.event.Told.{Told}
 use Rattle.jpa_protocol.specs.declared.reply.Answer.{Answer}
 use Rattle.jpa_protocol.specs.declared.reply.Reply.{Reply}
 use Rattle.jpa_heap.specs.declared.LiveObject.{LiveObject}
-use Rattle.jpa_open.specs.Opened.{Opened, with_kept, with_seen, after_keeping}
+use Rattle.jpa_open.specs.Opened.{no_layers, begun_over, seen_over}
 use Rattle.jpa_context.specs.declared.Entry.{Entry}
 use Rattle.jpa_context.specs.Work.{Work, unlocked}
 use Rattle.jpa_context.specs.Steps.{Outcome, Done, Refused, IsRefusedAs}
@@ -23,14 +23,16 @@ use Rattle.jpa_ops.specs.States.{detach_each}
 use Rattle.jpa_provider.specs.declared.session.Status.{Status}
 use Rattle.jpa_provider.specs.declared.session.EntityManager.{EntityManager}
 use Rattle.jpa_provider.specs.declared.session.Session.{Session}
-use Rattle.jpa_machine.specs.Machine.{Machine, manager_at, is_begun, with_manager, work_of, is_gone, committed_after, rolled_back, IsStoredAs}
+use Rattle.jpa_machine.specs.Machine.{Machine, manager_at, is_begun, begun_set, with_manager, work_of, is_gone, committed_after, rolled_back, IsStoredAs}
 use Rattle.jpa_machine.specs.Calls.{accepted}
 use Rattle.jpa_machine.specs.Transactions.{commit, commit_in, commit_of, commit_work}
 use Rattle.jpa_machine.specs.Step.{outcome, gives_up}
-use Rattle.jpa_provider.specs.Serving.{transaction_in, is_begun_status, managers_of, manager_in, machine_of, named, detached_at, detached_all, gone_objects, gave_up, Refuses, Stores, IsCommitting, Serves}
-use Rattle.jpa_provider.proofs.Counted.{begun_is_open}
+use Rattle.jpa_provider.specs.Beside.{IsBeside}
+use Rattle.jpa_provider.specs.Serving.{transaction_in, is_open_status, is_begun_status, managers_of, manager_in, machine_of, named, detached_at, detached_all, gone_objects, gave_up, Refuses, Stores, IsAway, IsCommitting, IsCounted, IsIdle, Serves}
+use Rattle.jpa_provider.proofs.Held.{same_managers}
+use Rattle.jpa_provider.proofs.Counted.{begun_is_open, counted_same}
 use Rattle.jpa_provider.proofs.Opened.{refusal, transaction_there, none_there}
-use Rattle.jpa_provider.proofs.Sessions.{begun_same, others_shut}
+use Rattle.jpa_provider.proofs.Sessions.{begun_same, idle_set}
 use Rattle.jpa_provider.proofs.Worked.{of_manager, of_nobody}
 
 -- ---- refusals
@@ -89,9 +91,11 @@ commit_at world s em m e = of_manager s (commit world (machine_of s)) em m e
 
 -- in this state
 commit_in_state : (world : World) (s : Session) (em : ℤ) (m : ℕ) (st : Status) → named s em ≡ Some m → (manager_in s.managers.items m).status ≡ st →
-    outcome world (machine_of s) (Call.Commit em) ≡ commit_in world (machine_of s) m (transaction_in st (s.work.view).committed (s.work.view).kept)
+    outcome world (machine_of s) (Call.Commit em) ≡ commit_in world (machine_of s) m (transaction_in st (begun_over (manager_in s.managers.items m).layers (s.work.view).committed) (seen_over (manager_in s.managers.items m).layers (s.work.view).committed))
 commit_in_state world s em m st e is =
-    commit_at world s em m e ∙ ap (commit_in world (machine_of s) m) (transaction_there s m ∙ ap (λ (x : Status). transaction_in x (s.work.view).committed (s.work.view).kept) is)
+    let x = manager_in s.managers.items m in
+    let C = (s.work.view).committed in
+    commit_at world s em m e ∙ ap (commit_in world (machine_of s) m) (transaction_there s m ∙ ap (λ (y : Status). transaction_in y (begun_over x.layers C) (seen_over x.layers C)) is)
 
 pub commit_inactive : (world : World) (s : Session) (em : ℤ) (m : ℕ) → named s em ≡ Some m → is_begun_status (manager_in s.managers.items m).status ≡ false →
     Serves world s (Call.Commit em) (refusal (Cause.IllegalState State.Inactive)) s
@@ -108,21 +112,25 @@ gives r reply h e = either (gave_cases r h)
     either (inl x) = inl (e ∙ ap gives_up x)
     either (inr x) = inr (e ∙ ap gives_up x)
 
+-- what a commit's work makes of the machine's
+abbrev pub committed_work : World → Machine → ℕ → Outcome (Unit {0})
+committed_work world M m = commit_work world M.committed (begun_set M m) (work_of M m)
+
 -- what a commit makes whose work was done
-pub stored_outcome : (world : World) (s : Session) (em : ℤ) (m : ℕ) → named s em ≡ Some m → (manager_in s.managers.items m).status ≡ Status.Active → (w : Work) → commit_work world (work_of (machine_of s) m) ≡ Done tt w →
+pub stored_outcome : (world : World) (s : Session) (em : ℤ) (m : ℕ) → named s em ≡ Some m → (manager_in s.managers.items m).status ≡ Status.Active → (w : Work) → committed_work world (machine_of s) m ≡ Done tt w →
     outcome world (machine_of s) (Call.Commit em) ≡ accepted w.events Answer.Null (committed_after (machine_of s) m w)
 stored_outcome world s em m e active w o = commit_in_state world s em m Status.Active e active ∙ ap (commit_of (machine_of s) m) o
 
 module _ (world : World) (s t : Session) (em : ℤ) (m : ℕ) (e : named s em ≡ Some m) (active : (manager_in s.managers.items m).status ≡ Status.Active) where
-  -- the flush was refused, or what is locked to be read was written by another
-  pub refused_step : (r : Cause) (events : List Told) (reply : Reply) → IsRefusedAs r events (commit_work world (work_of (machine_of s) m)) → Refuses (machine_of s) m events r reply (machine_of t) → Serves world s (Call.Commit em) reply t
+  -- the flush was refused, or another committed first what it changed or read, or its set is none that is sound
+  pub refused_step : (r : Cause) (events : List Told) (reply : Reply) → IsRefusedAs r events (committed_work world (machine_of s) m) → Refuses (machine_of s) m events r reply (machine_of t) → Serves world s (Call.Commit em) reply t
   refused_step r events reply o (inl g) = inr (refl, gives r reply g.0 g.1, g.2)
   refused_step r events reply o (inr g) =
       let M = machine_of s in
       inl (commit_in_state world s em m Status.Active e active ∙ ap (commit_of M m) (refused_by r events _ g.0 o) ∙ (λ i. (sym g.1 i, sym g.2 i)))
 
   -- all was done
-  pub stored_step : (w : Work) (reply : Reply) → commit_work world (work_of (machine_of s) m) ≡ Done tt w → Stores (machine_of s) m w reply (machine_of t) → Serves world s (Call.Commit em) reply t
+  pub stored_step : (w : Work) (reply : Reply) → committed_work world (machine_of s) m ≡ Done tt w → Stores (machine_of s) m w reply (machine_of t) → Serves world s (Call.Commit em) reply t
   stored_step w reply o (inl g) = inl (stored_outcome world s em m e active w o ∙ (λ i. (sym g.0 i, sym g.1 i)))
   stored_step w reply o (inr g) = inr (refl, g.0, g.1)
 
@@ -133,48 +141,54 @@ pub detached_entries : (es : List Entry) (os : List LiveObject) → detached_all
 detached_entries [] os = refl
 detached_entries (e ∷ es) os = detached_entries es (detached_at e.object os)
 
-pub committed_there : (M : Machine) (s t : Session) (m : ℕ) (c : Changes Entry) → IsCommitting M m s →
-    t.managers.items ≡ slice_set s.managers.items m (record (manager_in s.managers.items m) { status = Status.Inactive; context = c }) → c.now ≡ map unlocked (filter (λ e. not (is_gone (now s.work) e)) s.work.context.now) →
-    t.work.objects.now ≡ detach_each (filter (is_gone (now s.work)) s.work.context.now) s.work.objects.now → t.work.numbers.now ≡ s.work.numbers.now → (t.work.view).committed ≡ (now s.work).view →
-    t.stored ≡ s.work.numbers.now → machine_of t ≡ committed_after M m (now s.work)
-committed_there M s t m c h f e o n v k =
-    let w = now s.work in
-    let away = (h.working).away in
-    let xs = s.managers.items in
-    let C = M.committed in
-    let K = (s.work.view).kept in
-    let V = w.view in
-    let W = (t.work.view).kept in
-    let x : EntityManager = record (manager_in xs m) { status = Status.Inactive; context = c } in
-    let begun : is_begun_status (manager_in xs m).status ≡ true =
-    sym (begun_same (manager_in xs m).status C K) ∙ ap is_begun away.status ∙ h.begun in
-    let is_open : true ≡ (manager_at M m).is_open = sym (begun_is_open (manager_in xs m) begun) ∙ away.is_open in
-    (λ i. record {
-      objects = o i;
-      managers = ((λ j. managers_of (v j) W (f j)) ∙ others_shut M C K xs m away.managers h.one h.begun V W x) i;
-      numbers = n i;
-      stored_numbers = k i;
-      committed = v i;
-    })
-    ∙ (λ i. record M {
-      objects = detach_each (filter (is_gone w) s.work.context.now) s.work.objects.now;
-      managers = with_manager M m (record { is_open = is_open i; mode = away.mode i; context = e i; transaction = None });
-      numbers = s.work.numbers.now;
-      stored_numbers = s.work.numbers.now;
-      committed = V;
-    })
+-- the manager as the commit leaves it
+abbrev pub ended : EntityManager → Entries → EntityManager
+ended x c = record x { status = Status.Inactive; context = c; layers = no_layers }
 
--- ---- what keeping makes of a set
+module _ (M : Machine) (s t : Session) (m : ℕ) (c : Entries) (h : IsCommitting M m s) (beside : IsBeside m s) (f : t.managers.items ≡ slice_set s.managers.items m (ended (manager_in s.managers.items m) c)) where
+  abbrev away : IsAway M m s
+  away = (h.working).away
 
-by_shown : (P : Opened → Type 0) (v : Opened) → P (with_kept v.seen v) → P (with_seen v.kept v) → P (after_keeping v)
-by_shown P v h k = cond_both v.is_shown (with_kept v.seen v) (with_seen v.kept v) P (λ _. h) (λ _. k)
+  abbrev xs : List EntityManager
+  xs = s.managers.items
 
--- where all was committed it stays so
-pub committed_then : (v : Opened) → (after_keeping v).committed ≡ v.committed
-committed_then v = by_shown (λ (w : Opened). w.committed ≡ v.committed) v refl refl
+  was_begun : is_begun_status (manager_in xs m).status ≡ true
+  was_begun = sym (begun_same (manager_in xs m).status (s.work.view).begun (s.work.view).kept) ∙ ap is_begun away.status ∙ h.begun
 
-pub kept_then : (v : Opened) → v.seen ≡ v.kept → (after_keeping v).kept ≡ v.kept
-kept_then v e = by_shown (λ (w : Opened). w.kept ≡ v.kept) v e refl
+  was_open : true ≡ is_open_status (manager_in xs m).status
+  was_open = sym (begun_is_open (manager_in xs m) was_begun)
+
+  pub committed_there : c.now ≡ map unlocked (filter (λ e. not (is_gone (now s.work) e)) s.work.context.now) →
+      t.work.objects.now ≡ detach_each (filter (is_gone (now s.work)) s.work.context.now) s.work.objects.now → t.work.numbers.now ≡ s.work.numbers.now → (t.work.view).committed ≡ (now s.work).view →
+      t.stored ≡ s.work.numbers.now → machine_of t ≡ committed_after M m (now s.work)
+  committed_there e o n v k =
+      let w = now s.work in
+      let V = w.view in
+      let x = ended (manager_in xs m) c in
+      (λ i. record {
+        objects = o i;
+        managers = ((λ j. managers_of (v j) (f j)) ∙ same_managers (s.work.view).committed V xs xs m x away.within beside refl ∙ ap (λ C. managers_of C (slice_set xs m x)) away.committed ∙ away.managers x) i;
+        numbers = n i;
+        stored_numbers = k i;
+        committed = v i;
+      })
+      ∙ (λ i. record M {
+        objects = detach_each (filter (is_gone w) s.work.context.now) s.work.objects.now;
+        managers = with_manager M m (record { is_open = (was_open ∙ away.is_open) i; mode = away.mode i; context = e i; transaction = None });
+        numbers = s.work.numbers.now;
+        stored_numbers = s.work.numbers.now;
+        committed = V;
+      })
+
+  -- without a transaction it has no layers
+  pub idle_there : (k : ℕ) → IsIdle t.managers.items k
+  idle_there k = subst (λ ys. IsIdle ys k) (sym f) (idle_set xs m (ended (manager_in xs m) c) away.within (λ e. refl) away.idle k)
+
+  -- and is as open as it was
+  pub counted_there : t.open_managers ≡ s.open_managers → IsCounted t
+  counted_there n = counted_same s t m (ended (manager_in xs m) c) away.within away.counted f was_open n
+
+-- ---- what else a commit leaves
 
 -- a commit whose flush was refused changes nothing that is committed
 pub refused_still : {M N : Machine} (m : ℕ) (r : Cause) (events : List Told) (reply : Reply) → Refuses M m events r reply N → IsStoredAs M N

@@ -9,16 +9,15 @@ use Rattle.jpa_protocol.specs.declared.event.Told.{Told}
 use Rattle.jpa_protocol.specs.declared.reply.Reply.{Reply}
 use Rattle.jpa_context.specs.Work.{Work}
 use Rattle.jpa_context.specs.Steps.{Done}
-use Rattle.jpa_machine.specs.Transactions.{commit_work}
 use Rattle.jpa_provider.specs.declared.session.Status.{Status}
 use Rattle.jpa_provider.specs.declared.session.Session.{Session}
-use Rattle.jpa_machine.specs.Machine.{Machine, work_of}
+use Rattle.jpa_machine.specs.Machine.{Machine}
 use Rattle.jpa_provider.specs.Provided.{rows_made}
 use Rattle.jpa_provider.specs.Serving.{machine_of, manager_in, named, Refuses}
-use Rattle.jpa_provider.proofs.Commits.{stored_outcome}
+use Rattle.jpa_provider.proofs.Commits.{committed_work, stored_outcome}
 
 -- the rows of what the commit made of the manager's work
-pub made_by : (world : World) (s : Session) (em : ℤ) (m : ℕ) → named s em ≡ Some m → (manager_in s.managers.items m).status ≡ Status.Active → (w : Work) → commit_work world (work_of (machine_of s) m) ≡ Done tt w →
+pub made_by : (world : World) (s : Session) (em : ℤ) (m : ℕ) → named s em ≡ Some m → (manager_in s.managers.items m).status ≡ Status.Active → (w : Work) → committed_work world (machine_of s) m ≡ Done tt w →
     rows_of world w.view w.numbers ≡ rows_made world (machine_of s) (Call.Commit em)
 made_by world s em m e active w o =
     sym (ap (λ (made : Reply × Machine). rows_of world (made.1).committed (made.1).stored_numbers) (stored_outcome world s em m e active w o))

@@ -8,7 +8,10 @@ pub mod Routed
 pub mod Opened
 pub mod Closing
 pub mod Serving
+pub mod Current
+pub mod Held
 pub mod Commits
+pub mod Committed
 pub mod Active
 pub mod Crashed
 pub mod Told

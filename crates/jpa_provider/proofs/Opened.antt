@@ -1,4 +1,5 @@
 -- How managers and objects are made, and transactions begin, are marked and roll back.
+use Rattle.jpa_context.specs.Marks.{all_marked}
 use Rattle.jpa_value.specs.Limits.{most_managers, most_objects, most_open_managers}
 use Rattle.std.proofs.Common.{◌≡◌, ◌<◌, ◌≤◌, ◌+◌, inl, inr, ℕ, suc, ℤ, drop, get_or, Bool, true, false, List, [], ◌∷◌, ◌++◌, length, refl, ap, sym, ◌∙◌}
 use Rattle.std.specs.Prelude.{Option, Some, None, Ok, Err, if◌then◌else◌, slice_get, slice_set, nat_lt, count_by, ◌&&◌}
@@ -10,6 +11,8 @@ use Rattle.jpa_value.specs.declared.refusal.Refusal.{Refusal}
 use Rattle.jpa_value.specs.declared.refusal.State.{State}
 use Rattle.jpa_value.specs.declared.refusal.Argument.{Argument}
 use Rattle.jpa_model.specs.Chains.{class_of}
+use Rattle.jpa_stored.specs.Sets.{StoredSet}
+use Rattle.jpa_open.specs.Opened.{no_layers, begun_over, seen_over}
 use Rattle.jpa_behaviour.specs.Behaviour.{World}
 use Rattle.jpa_protocol.specs.declared.call.Call.{Call}
 use Rattle.jpa_protocol.specs.declared.call.FlushMode.{FlushMode}
@@ -29,9 +32,9 @@ use Rattle.jpa_machine.specs.Calls.{because}
 use Rattle.jpa_machine.specs.Transactions.{begin, begin_in, begun, rollback, rollback_in, set_rollback_only, only_rollback_in}
 use Rattle.jpa_machine.specs.Routes.{by_manager, made_new}
 use Rattle.jpa_machine.specs.Step.{outcome}
-use Rattle.jpa_provider.specs.Serving.{transaction_in, is_open_status, is_begun_status, manager_of, managers_of, manager_in, nobody, machine_of, named, detached_at, detached_all, EndsAlone, IsCounted, Serves}
-use Rattle.jpa_provider.proofs.Counted.{open_count, busy_there, begun_is_open}
-use Rattle.jpa_provider.proofs.Sessions.{manager_there, managers_changed, managers_count, none_begun, begun_there, others_shut, own_others}
+use Rattle.jpa_provider.specs.Serving.{transaction_in, is_open_status, is_begun_status, manager_of, managers_of, manager_in, nobody, machine_of, named, detached_at, detached_all, IsCounted, IsIdle, Serves}
+use Rattle.jpa_provider.proofs.Counted.{open_count, begun_is_open}
+use Rattle.jpa_provider.proofs.Sessions.{manager_there, managers_changed, managers_count, none_begun, nothing_begun, nothing_seen, begun_there, replaced}
 use Rattle.jpa_provider.proofs.Worked.{of_manager, of_nobody, named_open}
 
 abbrev pub told : Answer → Reply
@@ -46,7 +49,7 @@ abbrev may_open : ℕ → ℕ → Bool
 may_open opened made = nat_lt opened most_open_managers && nat_lt made most_managers
 
 may_create : (s : Session) → IsCounted s → may_open (count_by (λ (x : Manager). x.is_open) (machine_of s).managers) (length (machine_of s).managers) ≡ may_open s.open_managers (length s.managers.items)
-may_create s h = λ i. may_open ((open_count (s.work.view).committed (s.work.view).kept s.managers.items ∙ sym h.opened) i) (managers_count s i)
+may_create s h = λ i. may_open ((open_count (s.work.view).committed s.managers.items ∙ sym h.opened) i) (managers_count s i)
 
 few : (opened made : ℕ) → opened < most_open_managers → made < most_managers → may_open opened made ≡ true
 few opened made k l = ap (λ b. b && nat_lt made most_managers) (lt-ltb opened most_open_managers k) ∙ lt-ltb made most_managers l
@@ -79,43 +82,38 @@ created world s t x h l k e st o c w d =
     (may_create s h ∙ few s.open_managers (length s.managers.items) l k)
     ∙ (λ i. (told (Answer.Number (suc (managers_count s i))), sym same i)))
   where
-    fresh : manager_of (s.work.view).committed (s.work.view).kept x ≡ new_manager
-    fresh = λ i. record { is_open = is_open_status (st i); mode = o i; context = c i; transaction = transaction_in (st i) (s.work.view).committed (s.work.view).kept }
+    C : StoredSet
+    C = (s.work.view).committed
+
+    fresh : manager_of C x ≡ new_manager
+    fresh = λ i. record { is_open = is_open_status (st i); mode = o i; context = c i; transaction = transaction_in (st i) (begun_over x.layers C) (seen_over x.layers C) }
 
     same : machine_of t ≡ record (machine_of s) { managers = (machine_of s).managers ++ new_manager ∷ [] }
     same =
         (λ i. record {
           objects = (w i).objects.now;
-          managers = managers_of ((w i).view).committed ((w i).view).kept (e i);
+          managers = managers_of ((w i).view).committed (e i);
           numbers = (w i).numbers.now;
           stored_numbers = d i;
           committed = ((w i).view).committed;
         })
         ∙ (λ i. record (machine_of s) {
-          managers = (map-append (manager_of (s.work.view).committed (s.work.view).kept) s.managers.items (x ∷ []) ∙ ap (λ y. (machine_of s).managers ++ y ∷ []) fresh) i;
+          managers = (map-append (manager_of C) s.managers.items (x ∷ []) ∙ ap (λ y. (machine_of s).managers ++ y ∷ []) fresh) i;
         })
 
 -- ---- the transaction of a manager
 
-pub transaction_there : (s : Session) (m : ℕ) → (manager_at (machine_of s) m).transaction ≡ transaction_in (manager_in s.managers.items m).status (s.work.view).committed (s.work.view).kept
+pub transaction_there : (s : Session) (m : ℕ) →
+    (manager_at (machine_of s) m).transaction
+    ≡ transaction_in (manager_in s.managers.items m).status (begun_over (manager_in s.managers.items m).layers (s.work.view).committed) (seen_over (manager_in s.managers.items m).layers (s.work.view).committed)
 transaction_there s m = ap (λ (x : Manager). x.transaction) (manager_there s m)
 
 -- none is open
 pub none_there : (s : Session) (m : ℕ) → is_begun_status (manager_in s.managers.items m).status ≡ false → (manager_at (machine_of s) m).transaction ≡ None
-none_there s m h = transaction_there s m ∙ none_begun (manager_in s.managers.items m).status (s.work.view).committed (s.work.view).kept h
-
--- the manager of another session in a new state
-pub replaced : (s t : Session) (m : ℕ) (x : EntityManager) → t.managers.items ≡ slice_set s.managers.items m x → (t.work.view).committed ≡ (s.work.view).committed → (t.work.view).kept ≡ (s.work.view).kept →
-    t.work.numbers.now ≡ s.work.numbers.now → t.stored ≡ s.stored →
-    machine_of t ≡ record (machine_of s) { objects = t.work.objects.now; managers = with_manager (machine_of s) m (manager_of (s.work.view).committed (s.work.view).kept x) }
-replaced s t m x e v k n d =
-    λ i. record {
-      objects = t.work.objects.now;
-      managers = ((λ j. managers_of (v j) (k j) (e j)) ∙ managers_changed (s.work.view).committed (s.work.view).kept s.managers.items m x) i;
-      numbers = n i;
-      stored_numbers = d i;
-      committed = v i;
-    }
+none_there s m h =
+    let x = manager_in s.managers.items m in
+    let C = (s.work.view).committed in
+    transaction_there s m ∙ none_begun x.status (begun_over x.layers C) (seen_over x.layers C) h
 
 -- ---- begin
 
@@ -131,37 +129,31 @@ pub begin_refused : (world : World) (s : Session) (em : ℤ) (m : ℕ) → named
 begin_refused world s em m e h =
     inl (of_manager s (begin (machine_of s)) em m e ∙ begin_open (machine_of s) m (manager_at (machine_of s) m).transaction (begun_there s m ∙ h))
 
-begin_shut : (s : Session) (em : ℤ) (m : ℕ) (b : Bool) → named s em ≡ Some m → is_begun_status (manager_in s.managers.items m).status ≡ false → IsCounted s → s.is_busy ≡ b →
-    by_manager (machine_of s) em (begin (machine_of s)) ≡ (if b then because (machine_of s) Cause.Busy else (told Answer.Null, begun (machine_of s) m))
-begin_shut s em m b e h counted busy =
-    let M = machine_of s in
-    of_manager s (begin M) em m e ∙ ap (begin_in M m) (none_there s m h)
-    ∙ ap (λ c. if c then because M Cause.Busy else (told Answer.Null, begun M m)) (busy_there s counted ∙ busy)
-
-pub begin_busy : (world : World) (s : Session) (em : ℤ) (m : ℕ) → named s em ≡ Some m → is_begun_status (manager_in s.managers.items m).status ≡ false → IsCounted s → s.is_busy ≡ true →
-    Serves world s (Call.Begin em) (refusal Cause.Busy) s
-begin_busy world s em m e h counted busy = inl (begin_shut s em m true e h counted busy)
-
--- where no transaction is open nothing is written over what is committed
-pub begin_begins : (world : World) (s t : Session) (em : ℤ) (m : ℕ) → named s em ≡ Some m → is_begun_status (manager_in s.managers.items m).status ≡ false → IsCounted s → s.is_busy ≡ false →
+-- a manager without a transaction has no layers, so that it sees what is committed
+pub begin_begins : (world : World) (s t : Session) (em : ℤ) (m : ℕ) → named s em ≡ Some m → is_begun_status (manager_in s.managers.items m).status ≡ false → IsIdle s.managers.items m →
     t.managers.items ≡ slice_set s.managers.items m (record (manager_in s.managers.items m) { status = Status.Active }) → t.work ≡ s.work → t.stored ≡ s.stored → Serves world s (Call.Begin em) (told Answer.Null) t
-begin_begins world s t em m e h counted free f w k =
-    inl (begin_shut s em m false e h counted free ∙ (λ i. (told Answer.Null, sym same i)))
+begin_begins world s t em m e h idle f w k =
+    let M = machine_of s in
+    inl (of_manager s (begin M) em m e ∙ ap (begin_in M m) (none_there s m h) ∙ (λ i. (told Answer.Null, sym same i)))
   where
     same : machine_of t ≡ begun (machine_of s) m
     same =
         let C = (s.work.view).committed in
         let at = manager_there s m in
+        let none = idle h in
         let is_open : true ≡ (manager_at (machine_of s) m).is_open = sym (ap (λ (x : Manager). x.is_open) at ∙ named_open s em m e) in
-        replaced s t m (record (manager_in s.managers.items m) { status = Status.Active }) f (ap (λ (u : UnitOfWork). (u.view).committed) w) (ap (λ (u : UnitOfWork). (u.view).kept) w)
-        (ap (λ (u : UnitOfWork). u.numbers.now) w) k
+        replaced s t m (record (manager_in s.managers.items m) { status = Status.Active }) f (ap (λ (u : UnitOfWork). (u.view).committed) w) (ap (λ (u : UnitOfWork). u.numbers.now) w) k
         ∙ (λ i. record (machine_of s) {
           objects = (w i).objects.now;
           managers = with_manager (machine_of s) m (record {
             is_open = is_open i;
             mode = (sym at i).mode;
             context = (sym at i).context;
-            transaction = Some (record { begun = C; view = counted.calm free i; is_marked = false });
+            transaction = Some (record {
+              begun = (ap (λ a. begun_over a C) none ∙ nothing_begun C) i;
+              view = (ap (λ a. seen_over a C) none ∙ nothing_seen C) i;
+              is_marked = false;
+            });
           });
         })
 
@@ -204,24 +196,29 @@ pub twice : (xs : List EntityManager) (m : ℕ) (x : EntityManager) (st : Status
     slice_set (slice_set xs m x) m (record (manager_in (slice_set xs m x) m) { status = st }) ≡ slice_set xs m (record x { status = st })
 twice xs m x st l = ap (λ (y : EntityManager). slice_set (slice_set xs m x) m (record y { status = st })) (get_or-set_same xs m x nobody l) ∙ set-set xs m x (record x { status = st })
 
--- of a session whose manager was cleared: what the transaction wrote is undone with it
-pub rolled_there : (s u t : Session) (m : ℕ) → EndsAlone m s → machine_of u ≡ cleared (machine_of s) m →
-    t.managers.items ≡ slice_set s.managers.items m (record (manager_in s.managers.items m) { status = Status.Inactive; context = record { now = []; since = [] } }) → t.work.objects.now ≡ u.work.objects.now →
-    (t.work.view).committed ≡ (s.work.view).committed → t.work.numbers.now ≡ u.work.numbers.now → t.stored ≡ u.stored → machine_of t ≡ rolled_back (machine_of s) m
-rolled_there s u t m h clear f o v n k =
+-- its layers go with the transaction
+pub ended_twice : (xs : List EntityManager) (m : ℕ) (x : EntityManager) → m < length xs →
+    slice_set (slice_set xs m x) m (record (manager_in (slice_set xs m x) m) { status = Status.Inactive; layers = no_layers }) ≡ slice_set xs m (record x { status = Status.Inactive; layers = no_layers })
+ended_twice xs m x l =
+    ap (λ (y : EntityManager). slice_set (slice_set xs m x) m (record y { status = Status.Inactive; layers = no_layers })) (get_or-set_same xs m x nobody l) ∙ set-set xs m x (record x { status = Status.Inactive; layers = no_layers })
+
+-- of a session whose manager was cleared
+pub rolled_there : (s u t : Session) (m : ℕ) → is_begun_status (manager_in s.managers.items m).status ≡ true → machine_of u ≡ cleared (machine_of s) m → u.work.view ≡ s.work.view →
+    t.managers.items ≡ slice_set s.managers.items m (record (manager_in s.managers.items m) { status = Status.Inactive; layers = no_layers; context = record { now = []; since = []; marks = all_marked } }) →
+    t.work ≡ u.work → t.stored ≡ u.stored → machine_of t ≡ rolled_back (machine_of s) m
+rolled_there s u t m begun clear v f w k =
     let M = machine_of s in
     let C = (s.work.view).committed in
-    let W = (t.work.view).kept in
-    let x : EntityManager = record (manager_in s.managers.items m) { status = Status.Inactive; context = record { now = []; since = [] } } in
+    let x : EntityManager = record (manager_in s.managers.items m) { status = Status.Inactive; layers = no_layers; context = record { now = []; since = []; marks = all_marked } } in
     let mode : x.mode ≡ (manager_at M m).mode = sym (ap (λ (y : Manager). y.mode) (manager_there s m)) in
-    let begun : is_begun (manager_at M m).transaction ≡ true = begun_there s m ∙ h.begun in
-    let is_open : true ≡ (manager_at M m).is_open = sym (ap (λ (y : Manager). y.is_open) (manager_there s m) ∙ begun_is_open (manager_in s.managers.items m) h.begun) in
+    let is_open : true ≡ (manager_at M m).is_open = sym (ap (λ (y : Manager). y.is_open) (manager_there s m) ∙ begun_is_open (manager_in s.managers.items m) begun) in
+    let view : t.work.view ≡ s.work.view = ap (λ (y : UnitOfWork). y.view) w ∙ v in
     (λ i. record {
-      objects = (o ∙ ap (λ (N : Machine). N.objects) clear) i;
-      managers = ((λ j. managers_of (v j) W (f j)) ∙ others_shut M C (s.work.view).kept s.managers.items m (own_others s m) h.one begun C W x) i;
-      numbers = (n ∙ ap (λ (N : Machine). N.numbers) clear) i;
+      objects = (ap (λ (y : UnitOfWork). y.objects.now) w ∙ ap (λ (N : Machine). N.objects) clear) i;
+      managers = ((λ j. managers_of (view j).committed (f j)) ∙ managers_changed C s.managers.items m x) i;
+      numbers = (ap (λ (y : UnitOfWork). y.numbers.now) w ∙ ap (λ (N : Machine). N.numbers) clear) i;
       stored_numbers = (k ∙ ap (λ (N : Machine). N.stored_numbers) clear) i;
-      committed = v i;
+      committed = (view i).committed;
     })
     ∙ (λ i. record (rolled_back M m) { managers = with_manager M m (record { is_open = is_open i; mode = mode i; context = []; transaction = None }) })
 
@@ -247,7 +244,7 @@ new_gives_up world s t name e = inr (refl, inl refl, e)
 -- another session with these objects
 pub with_objects : (s t : Session) (os : List LiveObject) → t.managers ≡ s.managers → t.stored ≡ s.stored → t.work.objects.now ≡ os → t.work.numbers.now ≡ s.work.numbers.now → t.work.view ≡ s.work.view →
     machine_of t ≡ record (machine_of s) { objects = os }
-with_objects s t os m k o n v = λ i. record { objects = o i; managers = managers_of (v i).committed (v i).kept (m i).items; numbers = n i; stored_numbers = k i; committed = (v i).committed }
+with_objects s t os m k o n v = λ i. record { objects = o i; managers = managers_of (v i).committed (m i).items; numbers = n i; stored_numbers = k i; committed = (v i).committed }
 
 pub new_serves : (world : World) (s t : Session) (name : List ℕ) (class : ℕ) → length s.work.objects.now < most_objects → class_of world.model name ≡ Some class →
     machine_of t ≡ record (machine_of s) { objects = s.work.objects.now ++ new_object world.model class ∷ [] } → Serves world s (Call.NewObject name) (told (Answer.Object (suc (length s.work.objects.now)))) t

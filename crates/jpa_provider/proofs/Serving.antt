@@ -3,7 +3,6 @@ use Rattle.std.proofs.Common.{◌≡◌, ◌<◌, inl, ℕ, Bool, true, false, L
 use Rattle.std.specs.Prelude.{All, OnOk}
 use Rattle.jpql_kept.specs.Fits.{AreInherited}
 use Rattle.jpa_machine.specs.Updating.{MakesRepresentable}
-use Rattle.std.proofs.lemmas.Bool.{false≢true}
 use Rattle.std.proofs.lemmas.List.Elements.{All-weaker}
 use Rattle.jpa_behaviour.specs.Behaviour.{World, IsRegular}
 use Rattle.jpa_stored.specs.Sets.{StoredSet}
@@ -14,10 +13,9 @@ use Rattle.jpa_protocol.specs.declared.reply.Reply.{Reply}
 use Rattle.jpa_provider.specs.declared.session.Session.{Session}
 use Rattle.jpa_machine.specs.Machine.{Manager, manager_at, opened, IsStoredAs}
 use Rattle.jpa_consistent.specs.Consistent.{IsEntry}
-use Rattle.jpa_machine.specs.Invariant.{HasOneTransaction, IsMachine, hands_representable}
+use Rattle.jpa_machine.specs.Invariant.{IsMachine, hands_representable}
 use Rattle.jpa_machine.specs.Routes.{is_commit}
 use Rattle.jpa_provider.specs.Serving.{machine_of, manager_in, IsServing, IsSettled, Serves}
-use Rattle.jpa_machine.proofs.OneTransaction.{step_one}
 use Rattle.jpa_machine.proofs.AtWork.{each_manager}
 use Rattle.jpa_provider.proofs.Sessions.{manager_there}
 use Rattle.jpa_machine.proofs.Settled.{opened_holds}
@@ -34,7 +32,6 @@ serves_on world s t call reply h rep made step settled =
       regular = h.regular;
       inherited = h.inherited;
       machine = step_keeps h.orderly h.regular h.inherited call rep made h.machine step;
-      one = step_one world call h.one step;
       settled = settled;
     }
 
@@ -71,6 +68,5 @@ opened_serving world s set numbers orderly regular inherited held e settled =
       regular = regular;
       inherited = inherited;
       machine = subst (IsMachine world) (sym e) (opened_holds held);
-      one = subst HasOneTransaction (sym e) (λ m k a b. absurd (false≢true a));
       settled = settled;
     }

@@ -1,13 +1,13 @@
 -- A session in which nobody's manager works, on an object that no manager holds.
-use Rattle.std.proofs.Common.{◌≡◌, ◌≤◌, Bool, true, false, List, [], ◌∷◌, length, refl, ap, sym, ◌∙◌, arith}
+use Rattle.std.proofs.Common.{◌≡◌, ◌≤◌, Bool, true, false, List, [], ◌∷◌, length, refl, ap, sym, subst, ◌∙◌, arith}
 use Rattle.std.specs.Prelude.{slice_index_or}
 use Rattle.std.proofs.lemmas.List.{set_past}
-use Rattle.jpa_open.specs.Opened.{Opened, with_seen, with_shown, after_keeping}
+use Rattle.jpa_open.specs.Opened.{Opened, with_seen}
 use Rattle.jpa_context.specs.Work.{Work}
 use Rattle.jpa_provider.specs.declared.session.Session.{Session}
 use Rattle.jpa_machine.specs.Machine.{Manager, manager_at, no_manager, work_of, kept, marked_in, view_in}
 use Rattle.jpa_machine.specs.Calls.{marked_if}
-use Rattle.jpa_provider.specs.Serving.{machine_of, managers_of, IsSettled}
+use Rattle.jpa_provider.specs.Serving.{machine_of, managers_of, IsResting, IsSettled}
 use Rattle.jpa_machine.proofs.AtWork.{no_manager_kept}
 use Rattle.jpa_provider.proofs.Sessions.{managers_count}
 
@@ -23,7 +23,7 @@ nobody_counts s = let e = managers_count s in omega (arith, e)
 
 -- in an empty context it sees what is committed
 pub nobody_works : (s : Session) (w : Work) → IsSettled s →
-    w ≡ record { manager = length s.managers.items; objects = s.work.objects.now; context = []; numbers = s.work.numbers.now; view = (s.work.view).committed; events = s.work.events } →
+    w ≡ record { manager = length s.managers.items; objects = s.work.objects.now; context = []; numbers = s.work.numbers.now; view = (s.work.view).seen; events = s.work.events } →
     w ≡ work_of (machine_of s) (length s.managers.items)
 nobody_works s w h e =
     let there = nobody_there s in
@@ -32,18 +32,18 @@ nobody_works s w h e =
       objects = s.work.objects.now;
       context = (sym there i).context;
       numbers = s.work.numbers.now;
-      view = view_in (sym there i).transaction (s.work.view).committed;
+      view = ((h.kept).view ∙ (h.resting).kept ∙ ap (λ (x : Manager). view_in x.transaction (s.work.view).committed) (sym there)) i;
       events = (h.quiet) i;
     })
 
--- what was written over a hidden set is undone
-pub hidden_keep : (v w x : Opened) → w ≡ with_shown false v → x ≡ after_keeping w → x ≡ with_seen v.kept (with_shown false v)
-hidden_keep v w x e f = f ∙ ap after_keeping e
+-- a set that led back to what is committed still does
+pub still_resting : (v w : Opened) → IsResting v → w ≡ with_seen v.kept v → IsResting w
+still_resting v w h e = subst IsResting (sym e) (record { begun = h.begun; kept = h.kept })
 
--- a session with the same managers, over the same sets
-module _ (s t : Session) (m : t.managers.items ≡ s.managers.items) (k : t.stored ≡ s.stored) (c : (t.work.view).committed ≡ (s.work.view).committed) (v : (t.work.view).kept ≡ (s.work.view).kept) where
+-- a session with the same managers, over the same set
+module _ (s t : Session) (m : t.managers.items ≡ s.managers.items) (k : t.stored ≡ s.stored) (c : (t.work.view).committed ≡ (s.work.view).committed) where
   machine_with : machine_of t ≡ record (machine_of s) { objects = t.work.objects.now; numbers = t.work.numbers.now }
-  machine_with = λ i. record { objects = t.work.objects.now; managers = managers_of (c i) (v i) (m i); numbers = t.work.numbers.now; stored_numbers = k i; committed = c i }
+  machine_with = λ i. record { objects = t.work.objects.now; managers = managers_of (c i) (m i); numbers = t.work.numbers.now; stored_numbers = k i; committed = c i }
 
   pub nobody_keeps : (w : Work) → t.work.objects.now ≡ w.objects → t.work.numbers.now ≡ w.numbers → machine_of t ≡ kept (machine_of s) (length s.managers.items) w
   nobody_keeps w o n =

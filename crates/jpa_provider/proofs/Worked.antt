@@ -11,6 +11,7 @@ use Rattle.jpa_protocol.specs.declared.event.Told.{Told}
 use Rattle.jpa_protocol.specs.declared.reply.Answer.{Answer}
 use Rattle.jpa_protocol.specs.declared.reply.Reply.{Reply}
 use Rattle.jpa_heap.specs.Objects.{place_of}
+use Rattle.jpa_open.specs.Opened.{begun_over, seen_over}
 use Rattle.jpa_context.specs.declared.work.UnitOfWork.{UnitOfWork}
 use Rattle.jpa_context.specs.Work.{Work}
 use Rattle.jpa_context.specs.Steps.{Outcome, Refused, IsRefusedAs, Meets}
@@ -18,12 +19,12 @@ use Rattle.jpa_context.specs.Undo.{since, Since}
 use Rattle.jpa_provider.specs.declared.session.Session.{Session}
 use Rattle.jpa_provider.specs.declared.session.EntityManager.{EntityManager}
 use Rattle.jpa_provider.specs.declared.replies.Rule.{Rule}
-use Rattle.jpa_machine.specs.Machine.{Machine, Manager, manager_at, with_manager}
+use Rattle.jpa_machine.specs.Machine.{Machine, Manager, manager_at}
 use Rattle.jpa_machine.specs.Calls.{because, ended, marks, marks_if_callback, marked_if}
 use Rattle.jpa_machine.specs.Routes.{by_manager, if_open, takes_nothing}
 use Rattle.jpa_machine.specs.Step.{Step, IsGivenUp, gives_up, outcome}
 use Rattle.jpa_provider.specs.Operations.{told_of, is_marked_by, Concludes, EndsSo}
-use Rattle.jpa_provider.specs.Serving.{machine_of, manager_in, manager_of, managers_of, transaction_in, is_open_status, if_named, named, IsAway, IsWorking}
+use Rattle.jpa_provider.specs.Serving.{machine_of, manager_in, transaction_in, is_open_status, if_named, named, IsAway, IsWorking}
 use Rattle.jpa_machine.proofs.Updated.{ok_from}
 use Rattle.jpa_provider.proofs.Sessions.{manager_there, managers_count}
 
@@ -119,26 +120,30 @@ named_same s em m k e place =
 
 -- ---- while it works
 
--- the view keeps what is committed, what was written before the call, and to whom it is shown
-pub still_away : {M : Machine} {m : ℕ} (s : Session) (u : UnitOfWork) → IsAway M m s → (u.view).kept ≡ (s.work.view).kept → (u.view).committed ≡ (s.work.view).committed → (u.view).is_shown ≡ (s.work.view).is_shown →
+-- the view keeps what is committed, and the sets of the transaction that undoing leads back to
+pub still_away : {M : Machine} {m : ℕ} (s : Session) (u : UnitOfWork) → IsAway M m s → (u.view).kept ≡ (s.work.view).kept → (u.view).begun ≡ (s.work.view).begun → (u.view).committed ≡ (s.work.view).committed →
     IsAway M m (record s { work = u })
-still_away {M} {m} s u h k c b =
+still_away {M} {m} s u h k b c =
+    let x = manager_in s.managers.items m in
     record {
       within = h.within;
       committed = c ∙ h.committed;
-      shown = b ∙ h.shown;
       stored = h.stored;
-      status = (λ i. transaction_in (manager_in s.managers.items m).status M.committed (k i)) ∙ h.status;
-      managers = λ x. (λ i. managers_of M.committed (k i) (slice_set s.managers.items m x)) ∙ h.managers x ∙ (λ i. with_manager M m (manager_of M.committed (sym k i) x));
+      status = (λ i. transaction_in x.status (b i) (k i)) ∙ h.status;
+      apart = λ none. let rests = (h.apart none).0 in (record { begun = b ∙ rests.begun ∙ sym c; kept = k ∙ rests.kept ∙ sym c }, (h.apart none).1);
+      home = ap (begun_over x.layers) c ∙ h.home ∙ sym c;
+      home_too = ap (seen_over x.layers) c ∙ h.home_too ∙ sym c;
+      managers = h.managers;
       is_open = h.is_open;
       mode = h.mode;
-      counted = record { opened = (h.counted).opened; busy = (h.counted).busy; calm = λ q. k ∙ (h.counted).calm q ∙ sym c };
+      idle = h.idle;
+      counted = record { opened = (h.counted).opened };
     }
 
 pub still_working : {M : Machine} {m : ℕ} (s : Session) (u : UnitOfWork) → IsWorking M m s → since u ≡ since s.work → IsWorking M m (record s { work = u })
 still_working s u h e =
     record {
-      away = still_away s u h.away (ap (λ (x : Since). x.kept) e) (ap (λ (x : Since). x.committed) e) (ap (λ (x : Since). x.is_shown) e);
+      away = still_away s u h.away (ap (λ (x : Since). x.kept) e) (ap (λ (x : Since). x.begun) e) (ap (λ (x : Since). x.committed) e);
       objects = ap (λ (x : Since). x.objects) e ∙ h.objects;
       context = ap (λ (x : Since). x.context) e ∙ h.context;
       numbers = ap (λ (x : Since). x.numbers) e ∙ h.numbers;

@@ -1,13 +1,15 @@
--- The machine that live data stand for: managers, at most one of which has an open transaction, which sees what it wrote over
--- the committed set.
-use Rattle.std.specs.Prelude.{◌≡◌, ◌<◌, ◌⊎◌, ℕ, ℤ, Bool, true, false, List, [], ◌∷◌, length, map, count_by, Option, Some, None, Ok, Err, slice_index_or, slice_set, if◌then◌else◌}
-use Rattle.std.specs.List.{list_any, filter}
+-- The machine that live data stand for: managers, each with the layers of its open transaction over the committed set, and one
+-- of them at work.
+use Rattle.jpa_context.specs.Marks.{all_marked}
+use Rattle.std.specs.Prelude.{◌≡◌, ◌≢◌, ◌<◌, ◌⊎◌, ℕ, ℤ, Bool, true, false, List, [], ◌∷◌, length, map, count_by, Option, Some, None, Ok, Err, slice_index_or, slice_set, if◌then◌else◌}
+use Rattle.std.specs.List.{filter}
 use Rattle.jpa_value.specs.declared.refusal.Cause.{Cause}
 use Rattle.jpa_value.specs.declared.refusal.Refusal.{Refusal}
 use Rattle.jpa_behaviour.specs.Behaviour.{World, IsRegular}
 use Rattle.jpa_stored.specs.Sets.{StoredSet}
 use Rattle.jpa_rows.specs.Rows.{Rows}
 use Rattle.jpa_object_rows.specs.Sets.{rows_of}
+use Rattle.jpa_open.specs.Opened.{Opened, no_layers, begun_over, seen_over}
 use Rattle.jpa_protocol.specs.declared.call.Call.{Call}
 use Rattle.jpa_protocol.specs.declared.call.FlushMode.{FlushMode}
 use Rattle.jpa_protocol.specs.declared.event.Told.{Told}
@@ -24,18 +26,18 @@ use Rattle.jpa_provider.specs.declared.session.EntityManager.{EntityManager}
 use Rattle.jpa_provider.specs.declared.session.Session.{Session}
 use Rattle.jpa_machine.specs.Machine.{Machine, Manager, Transaction, manager_at, is_begun, with_manager, is_gone, committed_after, rolled_back}
 use Rattle.jpa_machine.specs.Step.{Step, gives_up}
-use Rattle.jpa_machine.specs.Invariant.{IsMachine, HasOneTransaction, context_of}
+use Rattle.jpa_machine.specs.Invariant.{IsMachine, context_of}
 use Rattle.jpa_fetch.specs.Orderly.{IsOrderly}
 use Rattle.jpql_kept.specs.Fits.{AreInherited}
 
 -- ---- managers
 
--- the transaction in this state, over the committed set and the one that it wrote so far
+-- the transaction in this state, whose begin saw the one set, and which sees the other
 abbrev pub transaction_in : Status → StoredSet → StoredSet → Option Transaction
-transaction_in Status.Closed set written = None
-transaction_in Status.Inactive set written = None
-transaction_in Status.Active set written = Some (record { begun = set; view = written; is_marked = false })
-transaction_in Status.RollbackOnly set written = Some (record { begun = set; view = written; is_marked = true })
+transaction_in Status.Closed begun seen = None
+transaction_in Status.Inactive begun seen = None
+transaction_in Status.Active begun seen = Some (record { begun = begun; view = seen; is_marked = false })
+transaction_in Status.RollbackOnly begun seen = Some (record { begun = begun; view = seen; is_marked = true })
 
 abbrev pub is_open_status : Status → Bool
 is_open_status Status.Closed = false
@@ -50,12 +52,19 @@ is_begun_status Status.Inactive = false
 is_begun_status Status.Active = true
 is_begun_status Status.RollbackOnly = true
 
-abbrev pub manager_of : StoredSet → StoredSet → EntityManager → Manager
-manager_of set written x = record { is_open = is_open_status x.status; mode = x.mode; context = x.context.now; transaction = transaction_in x.status set written }
+-- a manager that isn't at work, over what is committed
+abbrev pub manager_of : StoredSet → EntityManager → Manager
+manager_of set x =
+    record {
+      is_open = is_open_status x.status;
+      mode = x.mode;
+      context = x.context.now;
+      transaction = transaction_in x.status (begun_over x.layers set) (seen_over x.layers set);
+    }
 
 -- what stands where a number names no manager
 abbrev pub nobody : EntityManager
-nobody = record { status = Status.Closed; mode = FlushMode.Auto; context = record { now = []; since = [] } }
+nobody = record { status = Status.Closed; mode = FlushMode.Auto; context = record { now = []; since = []; marks = all_marked }; layers = no_layers }
 
 abbrev pub manager_in : List EntityManager → ℕ → EntityManager
 manager_in managers m = slice_index_or managers m nobody
@@ -68,8 +77,8 @@ if_named managers (Some m) = if is_open_status (manager_in managers m).status th
 abbrev pub named : Session → ℤ → Option ℕ
 named s em = if_named s.managers.items (place_of (length s.managers.items) em)
 
-abbrev pub managers_of : StoredSet → StoredSet → List EntityManager → List Manager
-managers_of set written managers = map (manager_of set written) managers
+abbrev pub managers_of : StoredSet → List EntityManager → List Manager
+managers_of set managers = map (manager_of set) managers
 
 -- ---- the machine
 
@@ -77,22 +86,31 @@ abbrev pub machine_of : Session → Machine
 machine_of s =
     record {
       objects = s.work.objects.now;
-      managers = managers_of (s.work.view).committed (s.work.view).kept s.managers.items;
+      managers = managers_of (s.work.view).committed s.managers.items;
       numbers = s.work.numbers.now;
       stored_numbers = s.stored;
       committed = (s.work.view).committed;
     }
 
--- the counts are those of the managers, and where no transaction is open nothing is written over what is committed
+-- the count is that of the managers
 pub record IsCounted (s : Session) : Type 0 where
   pub opened : s.open_managers ≡ count_by (λ (x : EntityManager). is_open_status x.status) s.managers.items
-  pub busy : s.is_busy ≡ list_any (λ (x : EntityManager). is_begun_status x.status) s.managers.items
-  pub calm : s.is_busy ≡ false → (s.work.view).kept ≡ (s.work.view).committed
 
--- nothing is left to be undone or told
+-- without a transaction all sets are what is committed
+pub record IsResting (v : Opened) : Type 0 where
+  pub begun : v.begun ≡ v.committed
+  pub kept : v.kept ≡ v.committed
+
+-- a manager without a transaction has no layers
+abbrev pub IsIdle : List EntityManager → ℕ → Type 0
+IsIdle managers k = is_begun_status (manager_in managers k).status ≡ false → (manager_in managers k).layers ≡ no_layers
+
+-- nothing is left to be undone or told, and nobody's layers are at work
 pub record IsSettled (s : Session) : Type 0 where
   pub kept : IsKept s.work
   pub quiet : s.work.events ≡ []
+  pub resting : IsResting s.work.view
+  pub idle : (k : ℕ) → IsIdle s.managers.items k
   pub counted : IsCounted s
 
 -- what holds between calls
@@ -101,31 +119,28 @@ pub record IsServing (world : World) (s : Session) : Type 0 where
   pub regular : IsRegular world
   pub inherited : AreInherited world.model
   pub machine : IsMachine world (machine_of s)
-  pub one : HasOneTransaction (machine_of s)
   pub settled : IsSettled s
 
 -- the reply to a call, and what stands afterwards, are those of a step of the machine
 abbrev pub Serves : World → Session → Call → Reply → Session → Type 0
 Serves world old call reply new = Step world (machine_of old) call reply (machine_of new)
 
--- the one open transaction is this manager's, and ends
-pub record EndsAlone (m : ℕ) (s : Session) : Type 0 where
-  pub settled : IsSettled s
-  pub one : HasOneTransaction (machine_of s)
-  pub begun : is_begun_status (manager_in s.managers.items m).status ≡ true
-
 -- ---- a manager at work
 
--- in a call of the machine's manager m, whose context is away: with it put back, the session's managers are the machine's
+-- in a call of the machine's manager m, whose context is away, and its layers where its transaction is open: with it put back, the
+-- session's managers are the machine's
 pub record IsAway (M : Machine) (m : ℕ) (s : Session) : Type 0 where
   pub within : m < length s.managers.items
   pub committed : (s.work.view).committed ≡ M.committed
-  pub shown : (s.work.view).is_shown ≡ is_begun (manager_at M m).transaction
   pub stored : s.stored ≡ M.stored_numbers
-  pub status : transaction_in (manager_in s.managers.items m).status M.committed (s.work.view).kept ≡ (manager_at M m).transaction
-  pub managers : (x : EntityManager) → managers_of M.committed (s.work.view).kept (slice_set s.managers.items m x) ≡ with_manager M m (manager_of M.committed (s.work.view).kept x)
+  pub status : transaction_in (manager_in s.managers.items m).status (s.work.view).begun (s.work.view).kept ≡ (manager_at M m).transaction
+  pub apart : is_begun_status (manager_in s.managers.items m).status ≡ false → IsResting s.work.view × ((manager_in s.managers.items m).layers ≡ no_layers)
+  pub home : begun_over (manager_in s.managers.items m).layers (s.work.view).committed ≡ (s.work.view).committed
+  pub home_too : seen_over (manager_in s.managers.items m).layers (s.work.view).committed ≡ (s.work.view).committed
+  pub managers : (x : EntityManager) → managers_of M.committed (slice_set s.managers.items m x) ≡ with_manager M m (manager_of M.committed x)
   pub is_open : is_open_status (manager_in s.managers.items m).status ≡ (manager_at M m).is_open
   pub mode : (manager_in s.managers.items m).mode ≡ (manager_at M m).mode
+  pub idle : (k : ℕ) → k ≢ m → IsIdle s.managers.items k
   pub counted : IsCounted s
 
 -- and what undoing gives is the machine's
@@ -138,7 +153,6 @@ pub record IsWorking (M : Machine) (m : ℕ) (s : Session) : Type 0 where
 -- the commit of its open transaction is under way
 pub record IsCommitting (M : Machine) (m : ℕ) (s : Session) : Type 0 where
   pub working : IsWorking M m s
-  pub one : HasOneTransaction M
   pub begun : is_begun (manager_at M m).transaction ≡ true
 
 -- the rows that stand then, and those of what the manager sees

@@ -1,17 +1,16 @@
-//! A manager at work: while a call of it is served, its context stands in the session's unit of
-//! work.
-ghost use Rattle.std.specs.Prelude.{◌≡◌, ◌<◌, false, length, IfErr, IfSome, OnErr};
-ghost use Rattle.jpa_context.specs.Undo.{now, since, IsKept};
+//! A manager at work: while a call of it is served, its context stands in the session's unit of work, and so do the layers of its
+//! open transaction.
+ghost use Rattle.std.specs.Prelude.{◌≡◌, ◌<◌, [], false, length, IfErr, IfSome, OnErr};
+ghost use Rattle.jpa_context.specs.Undo.{now, since};
 ghost use Rattle.jpa_machine.specs.Faults.{is_store_fault, tells_fault};
 ghost use Rattle.jpa_machine.specs.Machine.{Machine, kept, marked, work_of};
 ghost use Rattle.jpa_provider.specs.Operations.{Concludes};
-ghost use Rattle.jpa_machine.specs.Invariant.{HasOneTransaction};
 ghost use Rattle.jpa_provider.specs.Serving as serving;
-ghost use Rattle.jpa_provider.specs.Serving.{machine_of, manager_in, named, IsAway, IsCounted, IsSettled, IsWorking};
+ghost use Rattle.jpa_provider.specs.Serving.{machine_of, manager_in, named, IsAway, IsSettled, IsWorking};
 
 use crate::handing::place_of;
 use crate::replies::{Rule, is_marked_by, told_of};
-use crate::session::{Session, Status, exchange, set_status, status_of};
+use crate::session::{Session, Status, exchange, exchange_if_begun, set_status, status_of};
 use jpa_protocol::{Answer, Reply};
 use jpa_value::{Cause, Refusal, Seq};
 use std::alloc::Global;
@@ -30,35 +29,35 @@ pub(crate) fn manager_named(session: &Session, em: i64) -> Option<usize>
     }
 }
 
-/// The manager goes to work on its context, and sees what its transaction wrote. Takes no memory.
+/// The manager goes to work on its context, and sees what its transaction sees. Takes no memory.
 pub(crate) fn take_work(session: &mut Session, manager: usize)
     requires within { manager < length session.old.managers.items }
     requires settled { IsSettled session.old }
     ensures working { IsWorking (machine_of session.old) manager session.new }
     ensures work { now session.new.work ≡ work_of (machine_of session.old) manager }
 {
-    let shown = status_of(&session.managers, manager).is_begun();
+    exchange_if_begun(&mut session.managers, manager, &mut session.work.view);
     exchange(&mut session.managers, manager, &mut session.work.context);
     session.work.context.keep();
-    session.work.view.show(shown);
     session.work.manager = manager;
 }
 
-/// The manager's context goes back to it, and what its work changed is kept. Takes no memory.
-pub(crate) fn keep_work(session: &mut Session, manager: usize)
+/// The manager's context and layers go back to it, and what its work changed is kept. Takes no memory.
+fn keep_work(session: &mut Session, manager: usize)
     requires within { manager < length session.old.managers.items }
-    ensures kept { (M : Machine) → HasOneTransaction M → IsAway M manager session.old
+    ensures kept { (M : Machine) → IsAway M manager session.old
         → machine_of session.new ≡ kept M manager (now session.old.work) }
-    ensures work { IsKept session.new.work }
-    ensures counted { (M : Machine) → IsAway M manager session.old → IsCounted session.new }
-    ensures events { session.new.work.events ≡ session.old.work.events }
+    ensures settled { (M : Machine) → IsAway M manager session.old
+        → session.old.work.events ≡ [] → IsSettled session.new }
 {
-    session.work.keep();
+    let is_begun = status_of(&session.managers, manager).is_begun();
+    session.work.keep(is_begun);
+    exchange_if_begun(&mut session.managers, manager, &mut session.work.view);
     exchange(&mut session.managers, manager, &mut session.work.context);
     session.work.context.keep();
 }
 
-/// The manager's context goes back to it, and what its work changed is undone. Takes no memory.
+/// The manager's context and layers go back to it, and what its work changed is undone. Takes no memory.
 pub(crate) fn restore(alloc: Global, session: &mut Session, manager: usize)
     requires within { manager < length session.old.managers.items }
     ensures back { (M : Machine) → IsWorking M manager session.old → machine_of session.new
@@ -67,9 +66,10 @@ pub(crate) fn restore(alloc: Global, session: &mut Session, manager: usize)
     ensures objects { session.new.work.objects.now ≡ (since session.old.work).objects }
     ensures context { (manager_in session.new.managers.items manager).context.now ≡
         (since session.old.work).context }
-    ensures settled { IsCounted session.old → IsSettled session.new }
+    ensures settled { (M : Machine) → IsWorking M manager session.old → IsSettled session.new }
 {
     session.work.undo(alloc);
+    exchange_if_begun(&mut session.managers, manager, &mut session.work.view);
     exchange(&mut session.managers, manager, &mut session.work.context);
     session.work.context.keep();
 }
@@ -104,10 +104,11 @@ pub(crate) fn conclude(
     rule: Rule,
 ) -> Reply
     requires within { manager < length session.old.managers.items }
-    ensures concludes { (M : Machine) → HasOneTransaction M → IsAway M manager session.old →
+    ensures concludes { (M : Machine) → IsAway M manager session.old →
         OnErr answered (IsWorking M manager session.old) →
         Concludes rule M manager (now session.old.work) answered result (machine_of session.new) }
-    ensures settled { (M : Machine) → IsAway M manager session.old → IsSettled session.new }
+    ensures settled { (M : Machine) → IsAway M manager session.old →
+        OnErr answered (IsWorking M manager session.old) → IsSettled session.new }
     ensures untold { IfErr answered (λ cause. is_store_fault cause ≡ false)
         → tells_fault result ≡ false }
 {

@@ -1,41 +1,36 @@
 //! The call commit (Jakarta Persistence 3.1, chapters 7.5 and 3.4).
-ghost use Rattle.std.specs.Prelude.{◌≡◌, ◌<◌, ◌⊎◌, [], All, T, ℤ, false, true, length, nat_le, IfOk, OnOk, IsErr, Some};
-ghost use Rattle.std.specs.FinMap.Entries.{is_sorted};
+ghost use Rattle.std.specs.Prelude.{◌≡◌, ◌<◌, ◌⊎◌, [], All, ℤ, false, true, length, nat_le, IfOk, OnOk, IsErr, Some};
 ghost use Rattle.jpa_behaviour.specs.Served.{world_of_unit};
-ghost use Rattle.jpa_context.specs.Steps.{Done, Meets};
 ghost use Rattle.jpa_context.specs.Undo.{now, since};
-ghost use Rattle.jpa_context.specs.Work.{Work, is_removed, state_from};
-ghost use Rattle.jpa_fetch.specs.Grown.{IsReady};
-ghost use Rattle.jpa_fetch.specs.Orderly.{IsOrderly};
-ghost use Rattle.jpa_flush.specs.Flush.{flush};
-ghost use Rattle.jpa_ops.specs.Names.{has_distinct_entries};
+ghost use Rattle.jpa_context.specs.Work.{is_removed, state_from};
+ghost use Rattle.jpa_open.specs.Opened.{AreAllChanged};
 ghost use Rattle.jpa_protocol.specs.declared.call.Call.{Call};
 ghost use Rattle.jpa_machine.specs.Faults.{is_store_fault, tells_fault, faults_after_reply};
 ghost use Rattle.jpa_machine.specs.Machine.{Machine, committed_after};
 ghost use Rattle.jpa_object_store.specs.Written.{RunsAtMost, RunsDifference};
 ghost use Rattle.jpa_provider.specs.Provided.{rows_kept, rows_made};
 ghost use Rattle.jpa_machine.specs.Step.{IsGivenUp};
+ghost use Rattle.jpa_provider.specs.Beside.{IsBeside};
 ghost use Rattle.jpa_provider.specs.declared.session.Status.{Status};
 ghost use Rattle.jpa_provider.specs.Serving as serving;
-ghost use Rattle.jpa_provider.specs.Serving.{machine_of, manager_in, named, rows_before, rows_seen, IsCommitting, IsServing, IsSettled, Serves};
+ghost use Rattle.jpa_provider.specs.Serving.{machine_of, manager_in, named, rows_before, rows_seen, IsCommitting, IsCounted, IsServing, IsSettled, Serves};
 ghost use Rattle.jpa_rows.specs.Cells.{CanBeHeld};
 ghost use Rattle.jpa_rows.specs.Tables.{schema_of};
-ghost use Rattle.jpa_stored.specs.Sets.{each_fits, IsSound};
-ghost use Rattle.jpa_value.specs.Value.{identity_cmp};
-ghost use Rattle.jpa_machine.specs.Transactions as transactions;
+ghost use Rattle.jpa_stored.specs.Sets.{each_fits, is_rising};
 
 use crate::at_work::{manager_named, restore, take_work};
+use crate::beside::make_room;
+use crate::commit_work::commit_work;
 use crate::ending::{detach_objects, release};
 use crate::replies::because;
-use crate::session::{Session, Status, exchange, set_status, status_of};
+use crate::session::{Session, Status, end_transaction, exchange, status_of};
 use jpa_behaviour::{Behaviour, ServedUnit};
 use jpa_context::UnitOfWork;
-use jpa_flush::{flush, reads_hold};
 use jpa_heap::Life;
 use jpa_object_store::write;
 use jpa_protocol::{Answer, Reply};
 use jpa_rows::RowSource;
-use jpa_value::{Cause, Refusal, Seq, State};
+use jpa_value::{Cause, Identity, Refusal, Seq, State};
 use std::alloc::{AllocError, Global};
 use std::mem;
 
@@ -105,14 +100,15 @@ fn copied(alloc: Global, numbers: &[u64]) -> Result<Seq<u64>, AllocError>
 }
 
 /// Ends a commit that was stored: what the manager's work changed is kept, the removed objects are detached, its locks end,
-/// and its transaction is over. Takes no memory.
+/// and its transaction is over. The transactions of others see what they saw. Takes no memory.
 fn end_commit(alloc: Global, session: &mut Session, manager: usize, next: Seq<u64>, gone: &[usize])
     requires within { manager < length session.old.managers.items }
     requires next { next ≡ session.old.work.numbers.now }
     requires gone { gone.now ≡ serving.gone_objects (now session.old.work) }
     requires entries { All (λ e. e.object < length session.old.work.objects.now)
         session.old.work.context.now }
-    requires shown { (session.old.work.view).is_shown ≡ true }
+    requires room { (session.old.work.view).is_ready ≡ true }
+    requires beside { IsBeside manager session.old }
     ensures ended { (M : Machine) → IsCommitting M manager session.old
         → machine_of session.new ≡ committed_after M manager (now session.old.work) }
     ensures settled { (M : Machine) → IsCommitting M manager session.old
@@ -126,15 +122,15 @@ fn end_commit(alloc: Global, session: &mut Session, manager: usize, next: Seq<u6
     session.work.context.unlock(alloc);
     detach_objects(alloc, &mut session.work.objects, gone);
     session.work.view.commit();
-    session.work.keep();
+    session.work.keep(true);
     exchange(&mut session.managers, manager, &mut session.work.context);
     session.work.context.keep();
-    set_status(&mut session.managers, manager, Status::Inactive);
-    session.is_busy = false;
+    end_transaction(alloc, &mut session.managers, manager);
     session.stored = next;
 }
 
-/// Stores what the transaction wrote, and the next numbers; the transaction is committed then.
+/// Stores what the transaction changed, which stands under these identities alone, and the next numbers; the transaction is
+/// committed then. What it changed is kept back for others before, so that nothing is refused once it is stored.
 #[tactic(auto, using(crate::proofs::Told::as_told))]
 fn store_commit<R: RowSource, B: Behaviour>(
     alloc: Global,
@@ -142,14 +138,17 @@ fn store_commit<R: RowSource, B: Behaviour>(
     session: &mut Session,
     rows: &mut R,
     manager: usize,
+    ids: &[Identity],
 ) -> Reply
     requires within { manager < length session.old.managers.items }
+    requires counted { IsCounted session.old }
+    requires elsewhere { AreAllChanged session.old.work.view ids.now }
+    requires once { is_rising ids.now ≡ true }
     requires schema { R.schema rows.old ≡ schema_of unit.now.metamodel }
     requires committed { CanBeHeld (world_of_unit B.meaning unit.now)
         (session.old.work.view).committed session.old.stored }
     requires seen { CanBeHeld (world_of_unit B.meaning unit.now)
         (session.old.work.view).seen session.old.work.numbers.now }
-    requires shown { (session.old.work.view).is_shown ≡ true }
     requires rising { each_fits nat_le session.old.stored session.old.work.numbers.now ≡ true }
     requires entries { All (λ e. e.object < length session.old.work.objects.now)
         session.old.work.context.now }
@@ -183,12 +182,24 @@ fn store_commit<R: RowSource, B: Behaviour>(
             return because(alloc, Cause::OutOfMemory);
         }
     };
+    let room = make_room(
+        &mut session.managers,
+        session.open_managers,
+        manager,
+        &mut session.work.view,
+        ids,
+    );
+    if let Err(cause) = room {
+        restore(alloc, session, manager);
+        return because(alloc, cause);
+    }
     let stored = write(
         alloc,
         &unit.metamodel,
         &unit.registry,
         rows,
         &session.work.view,
+        ids,
         session.stored.as_slice(),
         next.as_slice(),
     );
@@ -213,32 +224,6 @@ fn at_hand(alloc: Global, work: &UnitOfWork) -> Result<(Seq<u64>, Seq<usize>), A
     let next = copied(alloc, work.numbers.as_slice())?;
     let gone = removed_of(alloc, work)?;
     Ok((next, gone))
-}
-
-/// What a commit does before it stores: the flush; then what is locked to be read is to stand as it was read, else
-/// `OptimisticLock` (chapter 3.4.4.1). Refused as the flush is.
-fn commit_work<B: Behaviour>(
-    alloc: Global,
-    unit: &ServedUnit<B>,
-    work: &mut UnitOfWork,
-) -> Result<(), Cause>
-    requires orderly { IsOrderly unit.now.metamodel }
-    requires ready { IsReady unit.now.metamodel (now work.old) }
-    requires shown { work.old.view.is_shown ≡ true }
-    requires sound { IsSound unit.now.metamodel (now work.old).view }
-    requires rising { T (is_sorted identity_cmp (now work.old).view) }
-    requires distinct { has_distinct_entries unit.now.metamodel (now work.old) ≡ true }
-    requires goes { let world = world_of_unit B.meaning unit.now in
-        (w : Work) → flush world (now work.old) ≡ Done tt w → IsReady unit.now.metamodel w }
-    ensures meets { Meets result (now work.new)
-        (transactions.commit_work (world_of_unit B.meaning unit.now) (now work.old)) }
-    ensures since { since work.new ≡ since work.old }
-{
-    flush(alloc, unit, work)?;
-    if !reads_hold(&unit.metamodel, work)? {
-        return Err(Cause::OptimisticLock);
-    }
-    Ok(())
 }
 
 /// Commits the open transaction of the manager.
@@ -285,7 +270,7 @@ fn commit_active<R: RowSource, B: Behaviour>(
     take_work(session, manager);
     match commit_work(alloc, unit, &mut session.work) {
         Err(cause) => refuse_commit(alloc, session, manager, cause),
-        Ok(()) => store_commit(alloc, unit, session, rows, manager),
+        Ok(ids) => store_commit(alloc, unit, session, rows, manager, ids.as_slice()),
     }
 }
 

@@ -1,16 +1,18 @@
 //! The ends of transactions but for commit (Jakarta Persistence 3.1, chapter 7.5).
+ghost use Rattle.jpa_context.specs.Marks.{all_marked};
 ghost use Rattle.std.specs.Prelude.{◌≡◌, ◌<◌, [], ℕ, All, false, true, length, slice_set};
 ghost use Rattle.jpa_behaviour.specs.Served.{world_of_unit};
 ghost use Rattle.jpa_ops.specs.States.{detach_each};
 ghost use Rattle.jpa_protocol.specs.declared.call.Call.{Call};
 ghost use Rattle.jpa_machine.specs.Faults.{tells_fault};
-ghost use Rattle.jpa_machine.specs.Invariant.{HasOneTransaction};
 ghost use Rattle.jpa_machine.specs.Machine.{cleared, closed, rolled_back};
-ghost use Rattle.jpa_provider.specs.Serving.{machine_of, manager_in, detached_all, detached_at, is_open_status, is_begun_status, EndsAlone, IsSettled, Serves};
+ghost use Rattle.jpa_provider.specs.Serving.{machine_of, manager_in, detached_all, detached_at, is_open_status, is_begun_status, IsSettled, Serves};
 
 use crate::at_work::{manager_named, mark};
 use crate::replies::{accepted, because};
-use crate::session::{Session, Status, context_of, exchange, set_status, status_of};
+use crate::session::{
+    Session, Status, context_of, end_transaction, exchange, set_status, status_of,
+};
 use jpa_behaviour::{Behaviour, ServedUnit};
 use jpa_context::{Entry, PersistenceContext};
 use jpa_heap::{Life, LiveObject};
@@ -73,11 +75,10 @@ fn clear(alloc: Global, session: &mut Session, manager: usize)
     ensures managers { session.new.managers.items
         ≡ slice_set session.old.managers.items manager
         (record (manager_in session.old.managers.items manager)
-        { context = record { now = []; since = [] } }) }
+        { context = record { now = []; since = []; marks = all_marked } }) }
     ensures settled { IsSettled session.old → IsSettled session.new }
     ensures view { session.new.work.view ≡ session.old.work.view }
-    ensures counts { (session.new.open_managers ≡ session.old.open_managers)
-        × (session.new.is_busy ≡ session.old.is_busy) }
+    ensures count { session.new.open_managers ≡ session.old.open_managers }
 {
     detach_each(
         alloc,
@@ -155,19 +156,21 @@ fn shut(alloc: Global, session: &mut Session, manager: usize)
     session.open_managers -= 1;
 }
 
-/// Ends the manager's transaction: its objects are detached as they are, and what it wrote is undone. Takes no memory.
+/// Ends the manager's open transaction: its objects are detached as they are, and what it wrote goes with its layers. Takes no
+/// memory.
 pub(crate) fn release(alloc: Global, session: &mut Session, manager: usize)
     requires within { manager < length session.old.managers.items }
     requires entries { All (λ e. e.object < length session.old.work.objects.now)
         (manager_in session.old.managers.items manager).context.now }
-    ensures released { EndsAlone manager session.old
+    ensures released { IsSettled session.old
+        → is_begun_status (manager_in session.old.managers.items manager).status ≡ true
         → machine_of session.new ≡ rolled_back (machine_of session.old) manager }
-    ensures settled { EndsAlone manager session.old → IsSettled session.new }
+    ensures settled { IsSettled session.old
+        → is_begun_status (manager_in session.old.managers.items manager).status ≡ true
+        → IsSettled session.new }
 {
     clear(alloc, session, manager);
-    session.work.view.discard();
-    set_status(&mut session.managers, manager, Status::Inactive);
-    session.is_busy = false;
+    end_transaction(alloc, &mut session.managers, manager);
 }
 
 /// The call rollback. Takes no memory.
@@ -179,7 +182,6 @@ pub(crate) fn rollback_call<B: Behaviour>(
     em: i64,
 ) -> Reply
     requires settled { IsSettled session.old }
-    requires one { HasOneTransaction (machine_of session.old) }
     requires entries { (k : ℕ) → All (λ e. e.object < length session.old.work.objects.now)
         (manager_in session.old.managers.items k).context.now }
     ensures step { let world = world_of_unit B.meaning _unit.now in

@@ -32,7 +32,6 @@ fn flush_work<B: Behaviour>(
 ) -> Result<Answer, Cause>
     requires orderly { IsOrderly unit.now.metamodel }
     requires ready { IsReady unit.now.metamodel (now work.old) }
-    requires shown { work.old.view.is_shown ≡ true }
     requires sound { IsSound unit.now.metamodel (now work.old).view }
     requires rising { T (is_sorted identity_cmp (now work.old).view) }
     requires distinct { has_distinct_entries unit.now.metamodel (now work.old) ≡ true }

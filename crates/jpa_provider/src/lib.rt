@@ -6,6 +6,8 @@
 
 mod asking;
 mod at_work;
+mod beside;
+mod commit_work;
 mod committing;
 mod ending;
 mod flushing;
@@ -17,6 +19,7 @@ mod provider;
 mod querying;
 mod replies;
 mod session;
+mod sharing;
 mod working;
 
 pub use provider::Provider;

@@ -11,6 +11,7 @@ use crate::session::{EntityManager, Session, Status, set_status, status_of};
 use jpa_behaviour::{Behaviour, ServedUnit};
 use jpa_context::PersistenceContext;
 use jpa_heap::new_object;
+use jpa_open::TransactionLayers;
 use jpa_protocol::{Answer, FlushMode, Reply};
 use jpa_value::{Argument, Cause, MOST_OBJECTS, MOST_OPEN_MANAGERS, State};
 use std::alloc::Global;
@@ -39,6 +40,7 @@ pub(crate) fn create_call<B: Behaviour>(
         status: Status::Inactive,
         mode: FlushMode::Auto,
         context: PersistenceContext::new(alloc),
+        layers: TransactionLayers::new(alloc),
     };
     if let Err(_) = session.managers.push(manager) {
         return because(alloc, Cause::OutOfMemory);
@@ -47,8 +49,8 @@ pub(crate) fn create_call<B: Behaviour>(
     accepted(alloc, Answer::Number(count as u64 + 1))
 }
 
-/// The call begin. Takes no memory.
-#[tactic(auto, using(crate::proofs::Opened::begin_alone, crate::proofs::Opened::begin_refused, crate::proofs::Opened::begin_busy, crate::proofs::Opened::begin_begins))]
+/// The call begin: the transaction sees what is committed now. Takes no memory.
+#[tactic(auto, using(crate::proofs::Opened::begin_alone, crate::proofs::Opened::begin_refused, crate::proofs::Opened::begin_begins))]
 pub(crate) fn begin_call<B: Behaviour>(
     alloc: Global,
     _unit: &ServedUnit<B>,
@@ -67,11 +69,7 @@ pub(crate) fn begin_call<B: Behaviour>(
     if status_of(&session.managers, manager).is_begun() {
         return because(alloc, Cause::IllegalState(State::Active));
     }
-    if session.is_busy {
-        return because(alloc, Cause::Busy);
-    }
     set_status(&mut session.managers, manager, Status::Active);
-    session.is_busy = true;
     accepted(alloc, Answer::Null)
 }
 

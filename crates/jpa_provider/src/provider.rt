@@ -13,7 +13,7 @@ ghost use Rattle.jpa_rows.specs.Tables.{schema_of};
 ghost use Rattle.jpa_stored.specs.Sets.{StoredSet, each_fits};
 ghost use Rattle.jpa_open.specs.Opened.{unwritten};
 ghost use Rattle.jpa_machine.specs.Faults.{faults_after_reply};
-ghost use Rattle.jpa_machine.specs.Invariant.{HasOneTransaction, IsMachine};
+ghost use Rattle.jpa_machine.specs.Invariant.{IsMachine};
 ghost use Rattle.jpa_machine.specs.Left.{HoldsSameValues, LivesAsBefore};
 ghost use Rattle.jpa_machine.specs.Machine.{opened, IsStoredAs};
 ghost use Rattle.jpa_machine.specs.Step.{IsGivenUp};
@@ -33,6 +33,7 @@ use crate::opening::{begin_call, create_call, new_call};
 use crate::operating::Operation;
 use crate::querying::{Told, Wanted, query_call, update_call};
 use crate::session::Session;
+use crate::sharing::view_of;
 use crate::working::{held, lock_call, worked};
 use jpa_behaviour::{Behaviour, ServedUnit};
 use jpa_context::{PersistenceContext, UnitOfWork};
@@ -102,7 +103,7 @@ impl<R: RowSource + Drop, B: Behaviour> Provider<R, B> {
             Ok(next) => next,
             Err(_) => return Err((Cause::OutOfMemory, rows)),
         };
-        let view = match OpenSet::new(alloc, committed.into_entries()) {
+        let view = match view_of(alloc, committed) {
             Ok(view) => view,
             Err(cause) => return Err((cause, rows)),
         };
@@ -132,15 +133,14 @@ impl<R: RowSource + Drop, B: Behaviour> Provider<R, B> {
 impl<R: RowSource, B: Behaviour> Provider<R, B> {
     /// What stands between calls, for contracts to cite; it does nothing. The store is of the unit's schema; what was
     /// committed can be held, and if the store is clean it holds the rows of just that. What lives is that of a machine, in which
-    /// each identity has one instance in a context and one transaction is open at a time. A well-formed description describes
-    /// the unit.
+    /// each identity has one instance in a context, and a store could hold what each open transaction sees and what its begin saw. A
+    /// well-formed description describes the unit.
     pub fn stands(&self)
         ensures stands { Stands B.meaning R.clean R.holds self.now }
         ensures schema { R.schema self.now.rows ≡ schema_of self.now.model }
         ensures held { let M = self.now.machine in
             CanBeHeld (world_in B.meaning self.now) M.committed M.stored_numbers }
         ensures machine { IsMachine (world_in B.meaning self.now) self.now.machine }
-        ensures one { HasOneTransaction self.now.machine }
         ensures described { IsDescribed self.now.model }
         ensures discriminators { let m = self.now.model in (class : ℕ) → is_class m class
             ≡ true → is_discriminator (entity_at m class) ≡ true }
@@ -172,7 +172,6 @@ fn opened(alloc: Global, view: OpenSet, next: UndoList<u64>, numbers: Seq<u64>) 
     Session {
         managers: Vec::new(alloc),
         open_managers: 0,
-        is_busy: false,
         work: UnitOfWork {
             manager: 0,
             objects: UndoList::new(alloc),

@@ -150,7 +150,6 @@ fn query_work<B: Behaviour>(
 ) -> Result<Answer, Cause>
     requires orderly { IsOrderly unit.now.metamodel }
     requires ready { IsReady unit.now.metamodel (now work.old) }
-    requires shown { flushes ≡ true → work.old.view.is_shown ≡ true }
     requires sound { IsSound unit.now.metamodel (now work.old).view }
     requires rising { T (is_sorted identity_cmp (now work.old).view) }
     requires distinct { has_distinct_entries unit.now.metamodel (now work.old) ≡ true }
@@ -225,7 +224,6 @@ fn update_work<B: Behaviour>(
 ) -> Result<Answer, Cause>
     requires orderly { IsOrderly unit.now.metamodel }
     requires ready { IsReady unit.now.metamodel (now work.old) }
-    requires shown { is_active ≡ true → work.old.view.is_shown ≡ true }
     requires flushing { flushes ≡ true → is_active ≡ true }
     requires sound { IsSound unit.now.metamodel (now work.old).view }
     requires rising { T (is_sorted identity_cmp (now work.old).view) }

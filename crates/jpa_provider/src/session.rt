@@ -1,10 +1,15 @@
 //! What stands between calls.
 ghost use Rattle.std.specs.Prelude.{◌≡◌, ◌<◌, length, slice_set};
+ghost use Rattle.jpa_open.specs.Opened.{Away, begun_over, no_layers, seen_over};
 ghost use Rattle.jpa_provider.specs.Serving.{manager_in};
+ghost use Rattle.jpa_provider.specs.Turns.{HaveTurned};
+ghost use Rattle.jpa_provider.specs.declared.session.Status.{Status};
 
 use jpa_context::{Entry, PersistenceContext, UnitOfWork};
+use jpa_open::{OpenSet, TransactionLayers};
 use jpa_protocol::FlushMode;
 use jpa_value::Seq;
+use std::alloc::Global;
 use std::mem;
 
 /// The resource transaction of an entity manager (Jakarta Persistence 3.1, chapter 7.5).
@@ -38,24 +43,23 @@ impl Status {
     }
 }
 
-/// An entity manager: its transaction, its flush mode, and its persistence context (chapters 7.2 and 3.10.8). While it is at work its context stands in
-/// the session's unit of work.
+/// An entity manager: its transaction, its flush mode, its persistence context, and the layers of its transaction (chapters 7.2 and
+/// 3.10.8). While it is at work its context stands in the session's unit of work, and so do its layers where its transaction is open.
 #[derive(Drop)]
 pub struct EntityManager {
     pub status: Status,
     pub mode: FlushMode,
     pub context: PersistenceContext,
+    pub layers: TransactionLayers,
 }
 
 /// The managers, what they work on, and the next numbers that were last stored. Contracts see the machine that it stands for.
 ///
-/// One transaction is open at a time (`is_busy`); what it wrote is in the view of the unit of work, which shows it to its
-/// manager alone.
+/// Each open manager may have a transaction open. Between calls the view of the unit of work shows what is committed.
 #[derive(Drop)]
 pub struct Session {
     pub managers: Vec<EntityManager>,
     pub open_managers: usize,
-    pub is_busy: bool,
     pub work: UnitOfWork,
     pub stored: Seq<u64>,
 }
@@ -88,6 +92,49 @@ pub(crate) fn exchange(
     ensures context { context.new ≡ (manager_in managers.old.items manager).context }
 {
     mem::swap(&mut managers[manager].context, context);
+}
+
+/// The manager's layers and those at work change places; what was written in the call is undone before. Takes no memory.
+pub(crate) fn exchange_layers(managers: &mut Vec<EntityManager>, manager: usize, view: &mut OpenSet)
+    requires { manager < length managers.old.items }
+    ensures managers { (layers : Away) × (managers.new.items ≡ slice_set managers.old.items manager
+        (record (manager_in managers.old.items manager) { layers = layers }))
+        × (begun_over layers view.old.committed ≡ view.old.begun)
+        × (seen_over layers view.old.committed ≡ view.old.kept) }
+    ensures committed { view.new.committed ≡ view.old.committed }
+    ensures begun { view.new.begun
+        ≡ begun_over (manager_in managers.old.items manager).layers view.old.committed }
+    ensures kept { view.new.kept
+        ≡ seen_over (manager_in managers.old.items manager).layers view.old.committed }
+    ensures seen { view.new.seen ≡ view.new.kept }
+{
+    view.exchange(&mut managers[manager].layers);
+}
+
+/// The same where the manager's transaction is open: one without a transaction works on what is committed. Takes no memory.
+pub(crate) fn exchange_if_begun(
+    managers: &mut Vec<EntityManager>,
+    manager: usize,
+    view: &mut OpenSet,
+)
+    requires { manager < length managers.old.items }
+    ensures { HaveTurned managers.old.items manager view.old managers.new.items view.new }
+{
+    if status_of(managers, manager).is_begun() {
+        exchange_layers(managers, manager, view);
+    }
+}
+
+/// The manager's transaction is over, and so are its layers. Takes no memory.
+pub(crate) fn end_transaction(alloc: Global, managers: &mut Vec<EntityManager>, manager: usize)
+    requires { manager < length managers.old.items }
+    ensures { managers.new.items ≡ slice_set managers.old.items manager
+        (record (manager_in managers.old.items manager)
+        { status = Status.Inactive; layers = no_layers }) }
+{
+    let ended = &mut managers[manager];
+    ended.status = Status::Inactive;
+    ended.layers = TransactionLayers::new(alloc);
 }
 
 /// The manager's transaction is in another state. Takes no memory.

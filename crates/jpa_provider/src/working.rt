@@ -73,12 +73,11 @@ fn unheld<B: Behaviour>(
 {
     session.work.manager = session.managers.len();
     session.work.context = PersistenceContext::new(alloc);
-    session.work.view.show(false);
     let answered = operate(alloc, unit, &mut session.work, operation);
     let events = mem::replace(&mut session.work.events, Seq::new(alloc));
     match answered {
         Ok(answer) => {
-            session.work.keep();
+            session.work.keep(false);
             Reply {
                 events,
                 answer: Ok(answer),

@@ -86,7 +86,6 @@ fn rows_asked<B: Behaviour>(
 ) -> Result<Seq<Seq<Datum>>, Cause>
     requires orderly { IsOrderly unit.now.metamodel }
     requires ready { IsReady unit.now.metamodel (now work.old) }
-    requires shown { flushes ≡ true → work.old.view.is_shown ≡ true }
     requires sound { IsSound unit.now.metamodel (now work.old).view }
     requires rising { T (is_sorted identity_cmp (now work.old).view) }
     requires distinct { has_distinct_entries unit.now.metamodel (now work.old) ≡ true }
@@ -152,7 +151,6 @@ pub fn query<B: Behaviour>(
 ) -> Result<Seq<Seq<Item>>, Cause>
     requires orderly { IsOrderly unit.now.metamodel }
     requires ready { IsReady unit.now.metamodel (now work.old) }
-    requires shown { flushes ≡ true → work.old.view.is_shown ≡ true }
     requires sound { IsSound unit.now.metamodel (now work.old).view }
     requires rising { T (is_sorted identity_cmp (now work.old).view) }
     requires distinct { has_distinct_entries unit.now.metamodel (now work.old) ≡ true }
@@ -179,7 +177,6 @@ pub fn query_single<B: Behaviour>(
 ) -> Result<Seq<Item>, Cause>
     requires orderly { IsOrderly unit.now.metamodel }
     requires ready { IsReady unit.now.metamodel (now work.old) }
-    requires shown { flushes ≡ true → work.old.view.is_shown ≡ true }
     requires sound { IsSound unit.now.metamodel (now work.old).view }
     requires rising { T (is_sorted identity_cmp (now work.old).view) }
     requires distinct { has_distinct_entries unit.now.metamodel (now work.old) ≡ true }

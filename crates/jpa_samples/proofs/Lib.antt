@@ -2,6 +2,7 @@ pub mod Sample
 pub mod FirstRun
 pub mod FirstHolds
 pub mod Managers
+pub mod Several
 pub mod States
 pub mod Functions
 pub mod Subclasses

@@ -65,12 +65,12 @@ duplicate : replies_of flat (beside (machine_after flat flat_fresh one_order))
     ok [] (Answer.Object 2) ∷ quiet ∷ quiet ∷ ok (saw LifecycleEvent.PrePersist 2 ∷ []) Answer.Null ∷ no [] (Refusal.Rollback Cause.EntityExists) ∷ quiet ∷ []
 duplicate = refl
 
--- one transaction at a time, and numbers that name nothing
+-- a transaction for each manager, and numbers that name nothing
 turns : replies_of P1 (beside (machine_after P1 fresh (Call.CreateEntityManager ∷ [])))
     (Call.Begin (pos 1) ∷ Call.Begin (pos 1) ∷ Call.Begin (pos 2) ∷ Call.Commit (pos 2) ∷ Call.Commit (pos 1) ∷ Call.Begin (pos 2)
     ∷ Call.Begin (pos 3) ∷ Call.Persist (pos 2) (pos 9) ∷ Call.NewObject (codes "Nobody") ∷ Call.Find (pos 2) (codes "Person") [] ∷ Call.Commit (pos 2) ∷ []) ≡
-    quiet ∷ no [] (Refusal.Because (Cause.IllegalState State.Active)) ∷ no [] (Refusal.Because Cause.Busy)
-    ∷ no [] (Refusal.Because (Cause.IllegalState State.Inactive)) ∷ quiet ∷ quiet
+    quiet ∷ no [] (Refusal.Because (Cause.IllegalState State.Active)) ∷ quiet
+    ∷ quiet ∷ quiet ∷ quiet
     ∷ no [] (Refusal.Because Cause.NoSuchManager) ∷ no [] (Refusal.Because Cause.NoSuchObject) ∷ no [] (Refusal.Because (Cause.IllegalArgument Argument.Entity))
     ∷ no [] (Refusal.Because (Cause.IllegalArgument Argument.Key)) ∷ no [] Refusal.RollbackMarked ∷ []
 turns = refl

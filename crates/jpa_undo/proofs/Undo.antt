@@ -1,5 +1,8 @@
 -- What undoing gives: of one more change, of one more item, and of the kept front alone.
-use Rattle.std.proofs.Common.{◌≡◌, ◌∙◌, refl, sym, ap, ℕ, zero, suc, ◌≤◌, List, [], ◌∷◌, ◌++◌, length, take, slice_set, arith}
+use Rattle.std.proofs.Common.{◌≡◌, ◌∙◌, refl, sym, ap, ℕ, zero, suc, ◌≤◌, List, [], ◌∷◌, ◌++◌, length, take, slice_set, arith, get_or, subst, ◌<◌, ◌≢◌, ◌⊎◌, inl, inr}
+use Rattle.std.proofs.lemmas.List.{length-set, length-take-le, get_or-set_same, get_or-set_other, get_or-take, set_past}
+use Rattle.std.specs.List.{AllByRecursion}
+use Rattle.std.proofs.lemmas.Bool.{cases_eq, cases_lt}
 use Rattle.jpa_undo.specs.Undo.{put_back}
 
 -- the last change is undone first
@@ -52,3 +55,29 @@ pub slice_set_past : {T : Type 0} (xs : List T) (i : ℕ) (y : T) → length xs 
 slice_set_past [] i y h = refl
 slice_set_past (x ∷ xs) zero y h = absurd (omega arith)
 slice_set_past (x ∷ xs) (suc i) y h = ap (λ r. x ∷ r) (slice_set_past xs i y (omega arith))
+
+-- ---- what was noted, and what was not
+
+pub length_back : {T : Type 0} (items : List T) (os : List (ℕ × T)) → length (put_back items os) ≡ length items
+length_back items [] = refl
+length_back items (o ∷ os) = length-set (put_back items os) o.0 o.1 ∙ length_back items os
+
+-- as many as were kept
+pub length_kept : {T : Type 0} (k : ℕ) (items : List T) (os : List (ℕ × T)) → k ≤ length items → length (take k (put_back items os)) ≡ k
+length_kept k items os h = let same = length_back items os in length-take-le k (put_back items os) (omega (arith, h, same))
+
+-- what holds of an item and of each that was noted at its place holds of what is put back there
+pub back_by : {T : Type 0} (P : T → Type 0) (items : List T) (os : List (ℕ × T)) (i : ℕ) (d : T) → AllByRecursion (λ o. o.0 ≡ i → P o.1) os → P (get_or items i d) → P (get_or (put_back items os) i d)
+back_by P items [] i d h p = p
+back_by {T} P items (o ∷ os) i d h p = by (put_back items os) (back_by P items os i d h.1 p) (cases_eq i o.0) (cases_lt o.0 (length (put_back items os)))
+  where
+    by : (rest : List T) → P (get_or rest i d) → (i ≡ o.0) ⊎ (i ≢ o.0) → (o.0 < length rest) ⊎ (length rest ≤ o.0) → P (get_or (slice_set rest o.0 o.1) i d)
+    by rest old (inr apart) l = subst P (sym (get_or-set_other rest o.0 i o.1 d apart)) old
+    by rest old (inl e) (inl l) = subst P (sym (ap (λ j. get_or (slice_set rest o.0 o.1) j d) e ∙ get_or-set_same rest o.0 o.1 d l)) (h.0 (sym e))
+    by rest old (inl e) (inr l) = subst (λ xs. P (get_or xs i d)) (sym (set_past rest o.0 o.1 l)) old
+
+-- so of the items to which undoing leads back
+pub since_by : {T : Type 0} (P : T → Type 0) (now since : List T) (os : List (ℕ × T)) (i : ℕ) (d : T) → since ≡ take (length since) (put_back now os) → i < length since →
+    AllByRecursion (λ o. o.0 ≡ i → P o.1) os → P (get_or now i d) → P (get_or since i d)
+since_by P now since os i d back l h p =
+    subst P (sym (ap (λ xs. get_or xs i d) back ∙ get_or-take (length since) (put_back now os) i d l)) (back_by P now os i d h p)

@@ -1,5 +1,6 @@
 //! The list.
-ghost use Rattle.std.specs.Prelude.{◌≡◌, ◌<◌, ◌≤◌, [], ◌∷◌, ◌++◌, length, slice_get, slice_set, OnOk, OnErr};
+ghost use Rattle.std.specs.Prelude.{◌≡◌, ◌<◌, ◌≤◌, [], ◌∷◌, ◌++◌, length, take, slice_get, slice_set, OnOk, OnErr};
+ghost use Rattle.jpa_undo.specs.Undo.{put_back};
 ghost use Rattle.std.specs.Fn.{CalledAt};
 ghost use Rattle.std.specs.List.Retain.{IsFiltered};
 
@@ -53,6 +54,23 @@ impl<T> UndoList<T> {
         ensures { result ≡ length self.now.now }
     {
         self.items.len()
+    }
+
+    /// How many items there were when the changes were last kept; those behind them were pushed since.
+    pub fn kept_len(&self) -> usize
+        ensures kept { result ≡ length self.now.since }
+        ensures within { result ≤ length self.now.now }
+    {
+        self.kept
+    }
+
+    /// What was overwritten since the changes were last kept, each item with its place, in the order of the changes. Put back,
+    /// these give the items as they were then. Takes no memory.
+    pub fn overwritten(&self) -> &[(usize, T)]
+        ensures back { self.now.since
+            ≡ take (length self.now.since) (put_back self.now.now result.now) }
+    {
+        self.overwritten.as_slice()
     }
 }
 

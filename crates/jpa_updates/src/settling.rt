@@ -41,7 +41,6 @@ pub(crate) fn put_sound(
     work: &mut UnitOfWork,
     objects: &[(Identity, Stored)],
 ) -> Result<usize, Cause>
-    requires shown { work.old.view.is_shown ≡ true }
     requires sound { sets.IsSound metamodel.now (now work.old).view }
     requires rising { T (is_sorted identity_cmp (now work.old).view) }
     ensures meets { Meets result (now work.new) (updates.settle metamodel.now
@@ -62,7 +61,6 @@ pub(crate) fn take_sound(
     work: &mut UnitOfWork,
     ids: &[Identity],
 ) -> Result<usize, Cause>
-    requires shown { work.old.view.is_shown ≡ true }
     requires sound { sets.IsSound metamodel.now (now work.old).view }
     requires rising { T (is_sorted identity_cmp (now work.old).view) }
     ensures meets { Meets result (now work.new) (updates.settle metamodel.now

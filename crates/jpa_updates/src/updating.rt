@@ -76,7 +76,6 @@ fn update<B: Behaviour>(
     assignments: &[TypedAssignment],
     filter: &Option<Boxed<TypedCondition>>,
 ) -> Result<usize, Cause>
-    requires shown { work.old.view.is_shown ≡ true }
     requires in_order { updates.IsInOrder unit.now.metamodel (now work.old).view }
     ensures meets { let world = world_of_unit B.meaning unit.now in
         Meets result (now work.new) (updates.settled unit.now.metamodel (updates.changed_by world
@@ -108,7 +107,6 @@ fn delete<B: Behaviour>(
     is_named: bool,
     filter: &Option<Boxed<TypedCondition>>,
 ) -> Result<usize, Cause>
-    requires shown { work.old.view.is_shown ≡ true }
     requires in_order { updates.IsInOrder unit.now.metamodel (now work.old).view }
     ensures meets { let world = world_of_unit B.meaning unit.now in
         Meets result (now work.new) (updates.settled unit.now.metamodel (updates.changed_by world
@@ -137,7 +135,6 @@ fn run<B: Behaviour>(
     work: &mut UnitOfWork,
     statement: &Statement,
 ) -> Result<usize, Cause>
-    requires shown { work.old.view.is_shown ≡ true }
     requires in_order { updates.IsInOrder unit.now.metamodel (now work.old).view }
     ensures meets { let world = world_of_unit B.meaning unit.now in
         Meets result (now work.new) (updates.run_bulk world statement.now (now work.old)) }
@@ -193,7 +190,6 @@ pub fn execute_update<B: Behaviour>(
 ) -> Result<usize, Cause>
     requires orderly { IsOrderly unit.now.metamodel }
     requires ready { IsReady unit.now.metamodel (now work.old) }
-    requires shown { is_active ≡ true → work.old.view.is_shown ≡ true }
     requires flushing { flushes ≡ true → is_active ≡ true }
     requires sound { IsSound unit.now.metamodel (now work.old).view }
     requires rising { T (is_sorted identity_cmp (now work.old).view) }

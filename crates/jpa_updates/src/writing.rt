@@ -23,7 +23,6 @@ fn put(view: &mut OpenSet, object: &(Identity, Stored)) -> Result<(), Cause>
 
 /// Puts copies of objects under their identities. What a refused call wrote is undone with the work.
 pub(crate) fn put_all(work: &mut UnitOfWork, objects: &[(Identity, Stored)]) -> Result<(), Cause>
-    requires shown { work.old.view.is_shown ≡ true }
     ensures ok { OnOk result (now work.new ≡ record (now work.old)
         { view = sets.put_all objects.now (now work.old).view }) }
     ensures events { (now work.new).events ≡ (now work.old).events }
@@ -38,7 +37,6 @@ pub(crate) fn put_all(work: &mut UnitOfWork, objects: &[(Identity, Stored)]) -> 
 
 /// Takes out what stands under identities. What a refused call took out is undone with the work.
 pub(crate) fn take_all(work: &mut UnitOfWork, ids: &[Identity]) -> Result<(), Cause>
-    requires shown { work.old.view.is_shown ≡ true }
     ensures ok { OnOk result (now work.new ≡ record (now work.old)
         { view = take_each ids.now (now work.old).view }) }
     ensures events { (now work.new).events ≡ (now work.old).events }

@@ -67,7 +67,6 @@ write_changes-requires g c =
     let set : v.view ≡ (now c.args.work.now).view = u.view ∙ ap opened.now (c.remove_orphans.ensures.view ∙ c.persist_reachable.ensures.view) in
     record {
       ready = updated_ready m x v u c.in_ok-remove_orphans.ensures.ready;
-      shown = ap (λ (s : Since). s.is_shown) (c.tell_updates.ensures.since ∙ c.remove_orphans.ensures.since ∙ c.persist_reachable.ensures.since) ∙ c.requires.shown;
       sound = subst (IsSound m) (sym set) c.requires.sound;
       rising = subst (λ (s : StoredSet). T (is_sorted identity_cmp s)) (sym set) c.requires.rising;
       distinct = updated_distinct m x v u (c.in_ok-remove_orphans.ensures.named (c.in_ok-persist_reachable.ensures.named c.requires.distinct));

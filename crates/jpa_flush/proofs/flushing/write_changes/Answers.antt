@@ -30,9 +30,6 @@ settle-requires-clause-order g c =
 pub remember-requires : goal.remember-requires
 remember-requires g c = record { ready = settled_ready c.args.unit.now.metamodel (now c.args.work.now) (now c.settle.new.work) c.as_slice.result.now c.in_ok-settle.ensures.ok c.requires.ready }
 
-pub write_all-requires : goal.write_all-requires
-write_all-requires g c = record { shown = ap (λ (s : Since). s.is_shown) (c.remember.ensures.since ∙ c.settle.ensures.since) ∙ c.requires.shown }
-
 pub judge_written-requires : goal.judge_written-requires
 judge_written-requires g c =
     let m = c.args.unit.now.metamodel in

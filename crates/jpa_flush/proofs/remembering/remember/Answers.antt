@@ -28,7 +28,7 @@ loop-i-preserved c =
       ready = partly_ready m w0 w2 (i + 1) next c.requires.ready;
       since =
           elim c.match-branch-2.branch [
-            | in-Some+in_ok-set v ↦ ap since v.work-is ∙ (λ j. record (since c.loop-i.work) { context = v.set.ensures.since j }) ∙ c.loop-i.invariant.since
+            | in-Some+in_ok-set v ↦ ap since v.work-is ∙ (λ j. record (since c.loop-i.work) { context = v.set.ensures.since j; marks = v.set.ensures.marks j }) ∙ c.loop-i.invariant.since
             | in_default v ↦ ap since v.work-is ∙ c.loop-i.invariant.since
           ];
     }

@@ -18,17 +18,17 @@ pub write_changes-requires-clause-storable : goal.write_changes-requires-clause-
 write_changes-requires-clause-storable g c =
     let world = world_of g.B.Behaviour.meaning c.args.metamodel.now c.args.registry.now in
     let view = c.args.view.now in
-    let ids = c.as_slice.result.now in
-    let puts = ap entries_in c.as_slice-2.ensures.value ∙ c.in_ok-objects.ensures.ok in
+    let ids = c.args.ids.now in
+    let puts = ap entries_in c.as_slice.ensures.value ∙ c.in_ok-objects.ensures.ok in
     subst (AllByRecursion (λ (e : Entry). is_storable_if_any world e.0 e.1 ≡ true)) (sym puts)
     (seen_storable world view.seen ids (held_storable world view.seen c.args.next.now c.requires.seen))
 
 pub write_changes-requires-clause-distinct : goal.write_changes-requires-clause-distinct
 write_changes-requires-clause-distinct g c =
     let view = c.args.view.now in
-    let ids = c.as_slice.result.now in
-    let puts = ap entries_in c.as_slice-2.ensures.value ∙ c.in_ok-objects.ensures.ok in
-    ap (all_distinct (λ (a : Entry) (b : Entry). same_identity a.0 b.0)) puts ∙ rising_distinct ids view.seen (ap is_rising c.as_slice.ensures ∙ c.in_ok-ids.ensures.rising)
+    let ids = c.args.ids.now in
+    let puts = ap entries_in c.as_slice.ensures.value ∙ c.in_ok-objects.ensures.ok in
+    ap (all_distinct (λ (a : Entry) (b : Entry). same_identity a.0 b.0)) puts ∙ rising_distinct ids view.seen c.requires.once
 
 -- ---- the set that comes is the one that is seen
 
@@ -36,9 +36,9 @@ pub returns-clause-ok : goal.returns-clause-ok
 returns-clause-ok g c =
     let world = world_of g.B.Behaviour.meaning c.args.metamodel.now c.args.registry.now in
     let view = c.args.view.now in
-    let ids = c.as_slice.result.now in
-    let puts = ap entries_in c.as_slice-2.ensures.value ∙ c.in_ok-objects.ensures.ok in
-    let all : AreAllChanged view ids = subst (AreAllChanged view) (sym c.as_slice.ensures) c.in_ok-ids.ensures.others in
+    let ids = c.args.ids.now in
+    let puts = ap entries_in c.as_slice.ensures.value ∙ c.in_ok-objects.ensures.ok in
+    let all : AreAllChanged view ids = c.requires.elsewhere in
     let same = ap (λ es. set_after es view.committed) puts ∙ after_is_seen view ids c.requires.committed.rising c.requires.seen.rising all in
     subst
     (λ (set : StoredSet). OnOk c.write_changes.result (g.R.RowSource.holds c.args.source.now (rows_of world view.committed c.args.before.now) → g.R.RowSource.holds c.write_changes.new.source (rows_of world set c.args.next.now)))
@@ -48,9 +48,9 @@ pub returns-clause-crash : goal.returns-clause-crash
 returns-clause-crash g c =
     let world = world_of g.B.Behaviour.meaning c.args.metamodel.now c.args.registry.now in
     let view = c.args.view.now in
-    let ids = c.as_slice.result.now in
-    let puts = ap entries_in c.as_slice-2.ensures.value ∙ c.in_ok-objects.ensures.ok in
-    let all : AreAllChanged view ids = subst (AreAllChanged view) (sym c.as_slice.ensures) c.in_ok-ids.ensures.others in
+    let ids = c.args.ids.now in
+    let puts = ap entries_in c.as_slice.ensures.value ∙ c.in_ok-objects.ensures.ok in
+    let all : AreAllChanged view ids = c.requires.elsewhere in
     let same = ap (λ es. set_after es view.committed) puts ∙ after_is_seen view ids c.requires.committed.rising c.requires.seen.rising all in
     subst
     (λ (set : StoredSet). g.R.RowSource.holds c.args.source.now (rows_of world view.committed c.args.before.now) → g.R.RowSource.endures c.args.source.now c.write_changes.new.source (λ left. left ≡ rows_of world set c.args.next.now))
@@ -60,9 +60,9 @@ pub returns-clause-counted : goal.returns-clause-counted
 returns-clause-counted g c =
     let world = world_of g.B.Behaviour.meaning c.args.metamodel.now c.args.registry.now in
     let view = c.args.view.now in
-    let ids = c.as_slice.result.now in
-    let puts = ap entries_in c.as_slice-2.ensures.value ∙ c.in_ok-objects.ensures.ok in
-    let all : AreAllChanged view ids = subst (AreAllChanged view) (sym c.as_slice.ensures) c.in_ok-ids.ensures.others in
+    let ids = c.args.ids.now in
+    let puts = ap entries_in c.as_slice.ensures.value ∙ c.in_ok-objects.ensures.ok in
+    let all : AreAllChanged view ids = c.requires.elsewhere in
     let same = ap (λ es. set_after es view.committed) puts ∙ after_is_seen view ids c.requires.committed.rising c.requires.seen.rising all in
     subst
     (λ (set : StoredSet). OnOk c.write_changes.result (RunsDifference (rows_of world view.committed c.args.before.now) (rows_of world set c.args.next.now) (g.R.RowSource.writes c.args.source.now) (g.R.RowSource.writes c.write_changes.new.source)))
@@ -72,9 +72,9 @@ pub returns-clause-bounded : goal.returns-clause-bounded
 returns-clause-bounded g c =
     let world = world_of g.B.Behaviour.meaning c.args.metamodel.now c.args.registry.now in
     let view = c.args.view.now in
-    let ids = c.as_slice.result.now in
-    let puts = ap entries_in c.as_slice-2.ensures.value ∙ c.in_ok-objects.ensures.ok in
-    let all : AreAllChanged view ids = subst (AreAllChanged view) (sym c.as_slice.ensures) c.in_ok-ids.ensures.others in
+    let ids = c.args.ids.now in
+    let puts = ap entries_in c.as_slice.ensures.value ∙ c.in_ok-objects.ensures.ok in
+    let all : AreAllChanged view ids = c.requires.elsewhere in
     let same = ap (λ es. set_after es view.committed) puts ∙ after_is_seen view ids c.requires.committed.rising c.requires.seen.rising all in
     subst
     (λ (set : StoredSet). OnErr c.write_changes.result
@@ -85,18 +85,13 @@ pub returns-clause-unchanged : goal.returns-clause-unchanged
 returns-clause-unchanged g c =
     let world = world_of g.B.Behaviour.meaning c.args.metamodel.now c.args.registry.now in
     let view = c.args.view.now in
-    let ids = c.as_slice.result.now in
-    let puts = ap entries_in c.as_slice-2.ensures.value ∙ c.in_ok-objects.ensures.ok in
-    let all : AreAllChanged view ids = subst (AreAllChanged view) (sym c.as_slice.ensures) c.in_ok-ids.ensures.others in
+    let ids = c.args.ids.now in
+    let puts = ap entries_in c.as_slice.ensures.value ∙ c.in_ok-objects.ensures.ok in
+    let all : AreAllChanged view ids = c.requires.elsewhere in
     let same = ap (λ es. set_after es view.committed) puts ∙ after_is_seen view ids c.requires.committed.rising c.requires.seen.rising all in
     subst (λ (set : StoredSet). rows_of world view.committed c.args.before.now ≡ rows_of world set c.args.next.now → c.write_changes.new.source ≡ c.args.source.now) same c.write_changes.ensures.unchanged
 
 -- ---- no memory
-
-pub returns-in_err-ids-clause-crash : goal.returns-in_err-ids-clause-crash
-returns-in_err-ids-clause-crash g c = λ held.
-    let source = c.args.source.now in
-    g.R.RowSource.wider source source _ _ (λ left none. absurd none) (g.met.R.RowSource.still source)
 
 pub returns-in_err-objects-clause-crash : goal.returns-in_err-objects-clause-crash
 returns-in_err-objects-clause-crash g c = λ held.

@@ -1,13 +1,12 @@
-use Rattle.std.proofs.Common.{◌≡◌, refl, ap, sym, ◌∙◌}
-use Rattle.jpa_undo.specs.Undo.{Changes}
-use Rattle.jpa_open.specs.Opened.{Opened, with_shown}
-use Rattle.jpa_open.specs.Opened as opened
-use Rattle.jpa_context.specs.declared.Entry.{Entry}
+use Rattle.jpa_context.specs.Marks.{Entries}
+use Rattle.std.proofs.Common.{◌≡◌, List, refl, ap, ◌∙◌}
+use Rattle.std.specs.Prelude.{slice_set}
 use Rattle.jpa_context.specs.Undo.{now}
+use Rattle.jpa_provider.specs.declared.session.EntityManager.{EntityManager}
 use Rattle.jpa_provider.specs.declared.session.Session.{Session}
-use Rattle.jpa_provider.specs.Serving.{is_begun_status, manager_in}
+use Rattle.jpa_provider.specs.Serving.{manager_in}
 use Rattle.jpa_provider.proofs.Counted.{counted_same}
-use Rattle.jpa_provider.proofs.Sessions.{taken_works, taken_work}
+use Rattle.jpa_provider.proofs.Sessions.{placed, both_set, taken_works, taken_work}
 use Rattle.jpa_provider.proofs.at_work.take_work.Goals as goal
 
 pub returns-clause-working : goal.returns-clause-working
@@ -15,28 +14,39 @@ returns-clause-working c =
     let s = c.args.session.now in
     let m = c.args.manager in
     let u = s.work in
-    let t : Session = record s { managers = c.exchange.new.managers; work = record u { manager = m; context = c.keep.new.self; view = c.show.new.self } } in
-    let v : c.show.new.self ≡ with_shown (is_begun_status (manager_in s.managers.items m).status) u.view =
-    c.show.ensures ∙ ap (λ b. with_shown b u.view) (c.is_begun-shown.ensures ∙ ap is_begun_status c.status_of.ensures) in
-    let counted = ((c.requires.settled).counted) in
-    taken_works s t m u.context c.requires.within c.requires.settled
-    (counted_same s t m (record (manager_in s.managers.items m) { context = u.context }) c.requires.within counted c.exchange.ensures.managers refl refl refl refl
-    (λ q. ap (λ (w : Opened). w.kept) v ∙ counted.calm q ∙ sym (ap (λ (w : Opened). w.committed) v)))
-    c.exchange.ensures.managers refl v refl (c.keep.ensures.since ∙ ap (λ (x : Changes Entry). x.now) c.exchange.ensures.context) refl
+    let xs = s.managers.items in
+    let l = c.requires.within in
+    let turned = c.exchange_if_begun.ensures in
+    let with : List EntityManager → List EntityManager = λ ys. slice_set ys m (record (manager_in ys m) { context = u.context }) in
+    let t : Session = record s { managers = c.exchange.new.managers; work = record u { manager = m; context = c.keep.new.self; view = c.exchange_if_begun.new.view } } in
+    let e : t.managers.items ≡ slice_set xs m (record (manager_in xs m) { layers = turned.layers; context = u.context }) =
+    c.exchange.ensures.managers ∙ ap with turned.managers ∙ both_set xs m turned.layers u.context l in
+    let context : c.exchange.new.context ≡ (manager_in xs m).context =
+    c.exchange.ensures.context ∙ ap (λ ys. (manager_in ys m).context) turned.managers ∙ ap (λ (x : EntityManager). x.context) (placed xs m (record (manager_in xs m) { layers = turned.layers }) l) in
+    taken_works s t m u.context c.exchange_if_begun.new.managers.items l turned e c.requires.settled
+    (counted_same s t m (record (manager_in xs m) { layers = turned.layers; context = u.context }) l ((c.requires.settled).counted) e refl refl)
+    refl refl (c.keep.ensures.since ∙ ap (λ (x : Entries). x.now) context) refl
 
 pub returns-clause-work : goal.returns-clause-work
 returns-clause-work c =
     let s = c.args.session.now in
     let m = c.args.manager in
     let u = s.work in
-    let v : c.show.new.self ≡ with_shown (is_begun_status (manager_in s.managers.items m).status) u.view =
-    c.show.ensures ∙ ap (λ b. with_shown b u.view) (c.is_begun-shown.ensures ∙ ap is_begun_status c.status_of.ensures) in
-    taken_work s m (now (record u { manager = m; context = c.keep.new.self; view = c.show.new.self })) c.requires.settled
+    let xs = s.managers.items in
+    let l = c.requires.within in
+    let turned = c.exchange_if_begun.ensures in
+    let with : List EntityManager → List EntityManager = λ ys. slice_set ys m (record (manager_in ys m) { context = u.context }) in
+    let t : Session = record s { managers = c.exchange.new.managers; work = record u { manager = m; context = c.keep.new.self; view = c.exchange_if_begun.new.view } } in
+    let e : t.managers.items ≡ slice_set xs m (record (manager_in xs m) { layers = turned.layers; context = u.context }) =
+    c.exchange.ensures.managers ∙ ap with turned.managers ∙ both_set xs m turned.layers u.context l in
+    let context : c.exchange.new.context ≡ (manager_in xs m).context =
+    c.exchange.ensures.context ∙ ap (λ ys. (manager_in ys m).context) turned.managers ∙ ap (λ (x : EntityManager). x.context) (placed xs m (record (manager_in xs m) { layers = turned.layers }) l) in
+    taken_work s t m u.context c.exchange_if_begun.new.managers.items l turned e c.requires.settled (now t.work)
     (λ i. record {
       manager = m;
       objects = u.objects.now;
-      context = (c.keep.ensures.now ∙ ap (λ (x : Changes Entry). x.now) c.exchange.ensures.context) i;
+      context = (c.keep.ensures.now ∙ ap (λ (x : Entries). x.now) context) i;
       numbers = u.numbers.now;
-      view = opened.now (v i);
+      view = (t.work.view).seen;
       events = u.events;
     })

@@ -1,5 +1,5 @@
 use Rattle.std.proofs.Common.{◌≡◌, ℕ, List, inl, inr, refl, ap, sym, subst, ◌∙◌}
-use Rattle.std.specs.Prelude.{◌⊎◌, T, true, nat_le, OnOk, if◌then◌else◌}
+use Rattle.std.specs.Prelude.{◌⊎◌, T, true, nat_le, OnOk}
 use Rattle.std.specs.FinMap.Entries.{is_sorted}
 use Rattle.jpa_value.specs.Value.{identity_cmp}
 use Rattle.jpa_behaviour.specs.Served.{world_of_unit}
@@ -10,28 +10,24 @@ use Rattle.jpa_object_rows.specs.Sets.{rows_of}
 use Rattle.jpa_context.specs.Work.{Work}
 use Rattle.jpa_context.specs.Steps.{Done, IsRefusedAs}
 use Rattle.jpa_context.specs.Undo.{now, since}
-use Rattle.jpa_flush.specs.Flush.{flush}
-use Rattle.jpa_machine.specs.Transactions.{commit_work}
+use Rattle.jpa_queries.specs.Premises.{StaysReady}
 use Rattle.jpa_fetch.specs.Grown.{IsReady}
 use Rattle.jpa_ops.specs.Names.{has_distinct_entries}
 use Rattle.jpa_protocol.specs.declared.call.Call.{Call}
 use Rattle.jpa_object_store.specs.Written.{RunsAtMost, RunsDifference}
 use Rattle.jpa_provider.specs.Provided.{rows_made}
 use Rattle.jpa_provider.specs.Serving.{machine_of, is_begun_status}
-use Rattle.jpa_provider.proofs.Active.{committing, entries_since, entries_apart, view_sound, view_rises, flushed_held, flushed_ready, flushed_rising, flushed_within}
+use Rattle.jpa_provider.specs.Beside.{Rises}
+use Rattle.jpa_provider.proofs.Active.{entries_since, entries_apart, view_sound, view_rises, query_ready}
+use Rattle.jpa_provider.proofs.Committed.{committing, same_work, worked_held, worked_rising, worked_within}
 use Rattle.jpa_provider.proofs.Commits.{refused_step, stored_step, refused_still}
 use Rattle.jpa_provider.proofs.Crashed.{made_by, not_accepted}
 use Rattle.jpa_machine.proofs.AtWork.{work_ready}
-use Rattle.jpa_provider.proofs.Sessions.{begun_there}
 use Rattle.jpa_provider.proofs.Worked.{still_working}
 use Rattle.jpa_provider.proofs.committing.commit_active.Goals as goal
 
 pub commit_work-requires-clause-ready : goal.commit_work-requires-clause-ready
 commit_work-requires-clause-ready g c = subst (IsReady c.args.unit.now.metamodel) (sym c.take_work.ensures.work) (work_ready c.args.manager (c.requires.serving).machine)
-
-pub commit_work-requires-clause-shown : goal.commit_work-requires-clause-shown
-commit_work-requires-clause-shown g c =
-    ((c.take_work.ensures.working).away).shown ∙ begun_there c.args.session.now c.args.manager ∙ ap is_begun_status c.requires.active
 
 pub commit_work-requires-clause-sound : goal.commit_work-requires-clause-sound
 commit_work-requires-clause-sound g c =
@@ -51,7 +47,17 @@ commit_work-requires-clause-distinct g c =
 pub commit_work-requires-clause-goes : goal.commit_work-requires-clause-goes
 commit_work-requires-clause-goes g c =
     let world = world_of_unit g.B.Behaviour.meaning c.args.unit.now in
-    subst (λ (v : Work). (w : Work) → flush world v ≡ Done tt w → IsReady c.args.unit.now.metamodel w) (sym c.take_work.ensures.work) (flushed_ready world c.args.session.now c.args.manager c.requires.serving)
+    subst (StaysReady true world) (sym c.take_work.ensures.work) (query_ready world c.args.session.now c.args.manager c.requires.serving true)
+
+pub commit_work-requires-clause-committed : goal.commit_work-requires-clause-committed
+commit_work-requires-clause-committed g c =
+    let away = (c.take_work.ensures.working).away in
+    subst (IsSound c.args.unit.now.metamodel) (sym away.committed) (((c.requires.serving).machine).committed).sound
+
+pub commit_work-requires-clause-committed_rising : goal.commit_work-requires-clause-committed_rising
+commit_work-requires-clause-committed_rising g c =
+    let away = (c.take_work.ensures.working).away in
+    subst Rises (sym away.committed) (((c.requires.serving).machine).committed).rising
 
 pub refuse_commit-requires-clause-entries : goal.refuse_commit-requires-clause-entries
 refuse_commit-requires-clause-entries g c =
@@ -71,30 +77,30 @@ store_commit-requires-clause-seen g c =
     let s = c.args.session.now in
     let m = c.args.manager in
     let world = world_of_unit g.B.Behaviour.meaning c.args.unit.now in
-    let u = c.commit_work.new.work in
-    let away = (still_working c.take_work.new.session u c.take_work.ensures.working c.commit_work.ensures.since).away in
-    let shown = away.shown ∙ begun_there s m ∙ ap is_begun_status c.requires.active in
-    let done = subst (λ (v : Work). commit_work world v ≡ Done tt (now u)) c.take_work.ensures.work c.in-Ok.ensures.meets in
-    subst (λ b. CanBeHeld world (if b then (u.view).seen else (u.view).committed) u.numbers.now) shown (flushed_held world s m c.requires.serving (now u) done)
-
-pub store_commit-requires-clause-shown : goal.store_commit-requires-clause-shown
-store_commit-requires-clause-shown g c =
-    let away = (still_working c.take_work.new.session c.commit_work.new.work c.take_work.ensures.working c.commit_work.ensures.since).away in
-    away.shown ∙ begun_there c.args.session.now c.args.manager ∙ ap is_begun_status c.requires.active
+    let w : Work = now c.commit_work.new.work in
+    let taken = committing s c.take_work.new.session m (ap is_begun_status c.requires.active) c.take_work.ensures.working in
+    let done = sym (same_work c.take_work.new.session taken world c.take_work.ensures.work) ∙ c.in-Ok.ensures.meets in
+    worked_held world s m c.requires.serving w done
 
 pub store_commit-requires-clause-rising : goal.store_commit-requires-clause-rising
 store_commit-requires-clause-rising g c =
+    let s = c.args.session.now in
+    let m = c.args.manager in
     let world = world_of_unit g.B.Behaviour.meaning c.args.unit.now in
     let w : Work = now c.commit_work.new.work in
-    let done = subst (λ (v : Work). commit_work world v ≡ Done tt w) c.take_work.ensures.work c.in-Ok.ensures.meets in
-    subst (λ ns. each_fits nat_le ns w.numbers ≡ true) (sym ((c.take_work.ensures.working).away).stored) (flushed_rising world c.args.session.now c.args.manager c.requires.serving w done)
+    let taken = committing s c.take_work.new.session m (ap is_begun_status c.requires.active) c.take_work.ensures.working in
+    let done = sym (same_work c.take_work.new.session taken world c.take_work.ensures.work) ∙ c.in-Ok.ensures.meets in
+    subst (λ ns. each_fits nat_le ns w.numbers ≡ true) (sym ((c.take_work.ensures.working).away).stored) (worked_rising world s m c.requires.serving w done)
 
 pub store_commit-requires-clause-entries : goal.store_commit-requires-clause-entries
 store_commit-requires-clause-entries g c =
+    let s = c.args.session.now in
+    let m = c.args.manager in
     let world = world_of_unit g.B.Behaviour.meaning c.args.unit.now in
     let w : Work = now c.commit_work.new.work in
-    let done = subst (λ (v : Work). commit_work world v ≡ Done tt w) c.take_work.ensures.work c.in-Ok.ensures.meets in
-    flushed_within world c.args.session.now c.args.manager c.requires.serving w done
+    let taken = committing s c.take_work.new.session m (ap is_begun_status c.requires.active) c.take_work.ensures.working in
+    let done = sym (same_work c.take_work.new.session taken world c.take_work.ensures.work) ∙ c.in-Ok.ensures.meets in
+    worked_within world s m c.requires.serving w done
 
 -- ---- a commit that was refused
 
@@ -105,16 +111,17 @@ returns-in-Err-clause-step g c = λ em named.
     let world = world_of_unit g.B.Behaviour.meaning c.args.unit.now in
     let u = c.commit_work.new.work in
     let working = still_working c.take_work.new.session u c.take_work.ensures.working c.commit_work.ensures.since in
-    let refused = subst (λ (v : Work). IsRefusedAs c.in-Err.cause u.events (commit_work world v)) c.take_work.ensures.work c.in-Err.ensures.meets in
+    let taken = committing s c.take_work.new.session m (ap is_begun_status c.requires.active) c.take_work.ensures.working in
+    let refused = subst (IsRefusedAs c.in-Err.cause u.events) (same_work c.take_work.new.session taken world c.take_work.ensures.work) c.in-Err.ensures.meets in
     refused_step world s c.refuse_commit.new.session em m named c.requires.active c.in-Err.cause u.events c.refuse_commit.result refused
-    (c.refuse_commit.ensures.refuses (machine_of s) (committing s _ m c.requires.serving (ap is_begun_status c.requires.active) working))
+    (c.refuse_commit.ensures.refuses (machine_of s) (committing s _ m (ap is_begun_status c.requires.active) working))
 
 pub returns-in-Err-clause-settled : goal.returns-in-Err-clause-settled
 returns-in-Err-clause-settled g c =
     let s = c.args.session.now in
     let u = c.commit_work.new.work in
     let working = still_working c.take_work.new.session u c.take_work.ensures.working c.commit_work.ensures.since in
-    c.refuse_commit.ensures.settled (machine_of s) (committing s _ c.args.manager c.requires.serving (ap is_begun_status c.requires.active) working)
+    c.refuse_commit.ensures.settled (machine_of s) (committing s _ c.args.manager (ap is_begun_status c.requires.active) working)
 
 pub returns-in-Err-clause-holds : goal.returns-in-Err-clause-holds
 returns-in-Err-clause-holds g c = λ clean.
@@ -123,7 +130,7 @@ returns-in-Err-clause-holds g c = λ clean.
     let world = world_of_unit g.B.Behaviour.meaning c.args.unit.now in
     let u = c.commit_work.new.work in
     let working = still_working c.take_work.new.session u c.take_work.ensures.working c.commit_work.ensures.since in
-    let kept = refused_still m c.in-Err.cause u.events c.refuse_commit.result (c.refuse_commit.ensures.refuses (machine_of s) (committing s _ m c.requires.serving (ap is_begun_status c.requires.active) working)) in
+    let kept = refused_still m c.in-Err.cause u.events c.refuse_commit.result (c.refuse_commit.ensures.refuses (machine_of s) (committing s _ m (ap is_begun_status c.requires.active) working)) in
     subst (λ (p : StoredSet × List ℕ). g.R.RowSource.holds c.args.rows.now (rows_of world p.0 p.1)) (λ i. (sym kept.committed i, sym kept.numbers i)) (c.requires.holds clean)
 
 pub returns-in-Err-clause-crash : goal.returns-in-Err-clause-crash
@@ -137,7 +144,7 @@ returns-in-Err-clause-counted g c = λ em named.
     let u = c.commit_work.new.work in
     let working = still_working c.take_work.new.session u c.take_work.ensures.working c.commit_work.ensures.since in
     not_accepted _ (machine_of s) (machine_of c.refuse_commit.new.session) c.args.manager u.events c.in-Err.cause c.refuse_commit.result
-    (c.refuse_commit.ensures.refuses (machine_of s) (committing s _ c.args.manager c.requires.serving (ap is_begun_status c.requires.active) working))
+    (c.refuse_commit.ensures.refuses (machine_of s) (committing s _ c.args.manager (ap is_begun_status c.requires.active) working))
 
 pub returns-in-Err-clause-bounded : goal.returns-in-Err-clause-bounded
 returns-in-Err-clause-bounded g c = λ em named refused. inl refl
@@ -154,23 +161,24 @@ returns-in-Ok-clause-step g c = λ em named.
     let world = world_of_unit g.B.Behaviour.meaning c.args.unit.now in
     let u = c.commit_work.new.work in
     let working = still_working c.take_work.new.session u c.take_work.ensures.working c.commit_work.ensures.since in
-    let done = subst (λ (v : Work). commit_work world v ≡ Done tt (now u)) c.take_work.ensures.work c.in-Ok.ensures.meets in
+    let taken = committing s c.take_work.new.session m (ap is_begun_status c.requires.active) c.take_work.ensures.working in
+    let done = sym (same_work c.take_work.new.session taken world c.take_work.ensures.work) ∙ c.in-Ok.ensures.meets in
     stored_step world s c.store_commit.new.session em m named c.requires.active (now u) c.store_commit.result done
-    (c.store_commit.ensures.stores (machine_of s) (committing s _ m c.requires.serving (ap is_begun_status c.requires.active) working))
+    (c.store_commit.ensures.stores (machine_of s) (committing s _ m (ap is_begun_status c.requires.active) working))
 
 pub returns-in-Ok-clause-settled : goal.returns-in-Ok-clause-settled
 returns-in-Ok-clause-settled g c =
     let s = c.args.session.now in
     let u = c.commit_work.new.work in
     let working = still_working c.take_work.new.session u c.take_work.ensures.working c.commit_work.ensures.since in
-    c.store_commit.ensures.settled (machine_of s) (committing s _ c.args.manager c.requires.serving (ap is_begun_status c.requires.active) working)
+    c.store_commit.ensures.settled (machine_of s) (committing s _ c.args.manager (ap is_begun_status c.requires.active) working)
 
 pub returns-in-Ok-clause-holds : goal.returns-in-Ok-clause-holds
 returns-in-Ok-clause-holds g c = λ clean.
     let s = c.args.session.now in
     let u = c.commit_work.new.work in
     let working = still_working c.take_work.new.session u c.take_work.ensures.working c.commit_work.ensures.since in
-    c.store_commit.ensures.holds (machine_of s) (committing s _ c.args.manager c.requires.serving (ap is_begun_status c.requires.active) working) (c.requires.holds (c.store_commit.ensures.was_clean clean))
+    c.store_commit.ensures.holds (machine_of s) (committing s _ c.args.manager (ap is_begun_status c.requires.active) working) (c.requires.holds (c.store_commit.ensures.was_clean clean))
 
 pub returns-in-Ok-clause-crash : goal.returns-in-Ok-clause-crash
 returns-in-Ok-clause-crash g c = λ em named clean.
@@ -180,11 +188,10 @@ returns-in-Ok-clause-crash g c = λ em named clean.
     let rows = c.args.rows.now in
     let u = c.commit_work.new.work in
     let away = (still_working c.take_work.new.session u c.take_work.ensures.working c.commit_work.ensures.since).away in
-    let shown = away.shown ∙ begun_there s m ∙ ap is_begun_status c.requires.active in
-    let done = subst (λ (v : Work). commit_work world v ≡ Done tt (now u)) c.take_work.ensures.work c.in-Ok.ensures.meets in
+    let taken = committing s c.take_work.new.session m (ap is_begun_status c.requires.active) c.take_work.ensures.working in
+    let done = sym (same_work c.take_work.new.session taken world c.take_work.ensures.work) ∙ c.in-Ok.ensures.meets in
     let held = subst (g.R.RowSource.holds rows) (λ i. rows_of world (sym away.committed i) (sym away.stored i)) (c.requires.holds (c.store_commit.ensures.was_clean clean)) in
-    let made : rows_of world (u.view).seen u.numbers.now ≡ rows_made world (machine_of s) (Call.Commit em) =
-    ap (λ b. rows_of world (if b then (u.view).seen else (u.view).committed) u.numbers.now) (sym shown) ∙ made_by world s em m named c.requires.active (now u) done in
+    let made : rows_of world (u.view).seen u.numbers.now ≡ rows_made world (machine_of s) (Call.Commit em) = made_by world s em m named c.requires.active (now u) done in
     subst (λ (stood : Rows). g.R.RowSource.endures rows c.store_commit.new.rows (λ left. left ≡ stood)) made (c.store_commit.ensures.crash held)
 
 pub returns-in-Ok-clause-counted : goal.returns-in-Ok-clause-counted
@@ -194,10 +201,9 @@ returns-in-Ok-clause-counted g c = λ em named.
     let world = world_of_unit g.B.Behaviour.meaning c.args.unit.now in
     let u = c.commit_work.new.work in
     let away = (still_working c.take_work.new.session u c.take_work.ensures.working c.commit_work.ensures.since).away in
-    let shown = away.shown ∙ begun_there s m ∙ ap is_begun_status c.requires.active in
-    let done = subst (λ (v : Work). commit_work world v ≡ Done tt (now u)) c.take_work.ensures.work c.in-Ok.ensures.meets in
-    let made : rows_of world (u.view).seen u.numbers.now ≡ rows_made world (machine_of s) (Call.Commit em) =
-    ap (λ b. rows_of world (if b then (u.view).seen else (u.view).committed) u.numbers.now) (sym shown) ∙ made_by world s em m named c.requires.active (now u) done in
+    let taken = committing s c.take_work.new.session m (ap is_begun_status c.requires.active) c.take_work.ensures.working in
+    let done = sym (same_work c.take_work.new.session taken world c.take_work.ensures.work) ∙ c.in-Ok.ensures.meets in
+    let made : rows_of world (u.view).seen u.numbers.now ≡ rows_made world (machine_of s) (Call.Commit em) = made_by world s em m named c.requires.active (now u) done in
     subst (λ (p : Rows × Rows). OnOk c.store_commit.result.answer (RunsDifference p.0 p.1 (g.R.RowSource.writes c.args.rows.now) (g.R.RowSource.writes c.store_commit.new.rows)))
     (λ i. (rows_of world (away.committed i) (away.stored i), made i)) c.store_commit.ensures.counted
 
@@ -209,10 +215,9 @@ returns-in-Ok-clause-bounded g c = λ em named refused.
     let rows = c.args.rows.now in
     let u = c.commit_work.new.work in
     let away = (still_working c.take_work.new.session u c.take_work.ensures.working c.commit_work.ensures.since).away in
-    let shown = away.shown ∙ begun_there s m ∙ ap is_begun_status c.requires.active in
-    let done = subst (λ (v : Work). commit_work world v ≡ Done tt (now u)) c.take_work.ensures.work c.in-Ok.ensures.meets in
-    let made : rows_of world (u.view).seen u.numbers.now ≡ rows_made world (machine_of s) (Call.Commit em) =
-    ap (λ b. rows_of world (if b then (u.view).seen else (u.view).committed) u.numbers.now) (sym shown) ∙ made_by world s em m named c.requires.active (now u) done in
+    let taken = committing s c.take_work.new.session m (ap is_begun_status c.requires.active) c.take_work.ensures.working in
+    let done = sym (same_work c.take_work.new.session taken world c.take_work.ensures.work) ∙ c.in-Ok.ensures.meets in
+    let made : rows_of world (u.view).seen u.numbers.now ≡ rows_made world (machine_of s) (Call.Commit em) = made_by world s em m named c.requires.active (now u) done in
     subst (λ (p : Rows × Rows). (c.store_commit.new.rows ≡ rows) ⊎ RunsAtMost p.0 p.1 (g.R.RowSource.writes rows) (g.R.RowSource.writes c.store_commit.new.rows))
     (λ i. (rows_of world (away.committed i) (away.stored i), made i)) (c.store_commit.ensures.bounded refused)
 

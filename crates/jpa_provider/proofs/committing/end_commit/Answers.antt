@@ -1,10 +1,9 @@
-use Rattle.std.proofs.Common.{◌≡◌, ◌<◌, false, List, length, refl, ap, sym, subst, ◌∙◌}
-use Rattle.std.specs.Prelude.{map, slice_set, All, if◌then◌else◌}
+use Rattle.jpa_context.specs.Marks.{Entries}
+use Rattle.std.proofs.Common.{◌≡◌, ◌<◌, List, length, refl, ap, sym, subst, ◌∙◌}
+use Rattle.std.specs.Prelude.{map, slice_set, All}
 use Rattle.std.specs.List.{filter}
-use Rattle.jpa_undo.specs.Undo.{Changes}
-use Rattle.jpa_open.specs.Opened.{Opened}
+use Rattle.jpa_open.specs.Opened.{Opened, no_layers, unwritten, with_kept}
 use Rattle.jpa_heap.specs.declared.LiveObject.{LiveObject}
-use Rattle.jpa_context.specs.declared.Entry.{Entry}
 use Rattle.jpa_context.specs.Places.{without_removed}
 use Rattle.jpa_context.specs.Undo.{now}
 use Rattle.jpa_context.specs.Work.{Work, unlocked}
@@ -12,10 +11,9 @@ use Rattle.jpa_provider.specs.declared.session.EntityManager.{EntityManager}
 use Rattle.jpa_provider.specs.declared.session.Session.{Session}
 use Rattle.jpa_provider.specs.declared.session.Status.{Status}
 use Rattle.jpa_machine.specs.Machine.{is_gone}
-use Rattle.jpa_provider.specs.Serving.{manager_in, detached_all}
-use Rattle.jpa_provider.proofs.Counted.{counted_ended, own_begun}
-use Rattle.jpa_provider.proofs.Opened.{twice}
-use Rattle.jpa_provider.proofs.Commits.{committed_there, committed_then, kept_then, detached_entries, gone_within}
+use Rattle.jpa_provider.specs.Serving.{manager_in, detached_all, IsResting}
+use Rattle.jpa_provider.proofs.Commits.{committed_there, idle_there, counted_there, detached_entries, gone_within}
+use Rattle.jpa_provider.proofs.Opened.{ended_twice}
 use Rattle.jpa_provider.proofs.committing.end_commit.Goals as goal
 
 pub returns-clause-ended : goal.returns-clause-ended
@@ -24,16 +22,15 @@ returns-clause-ended c = λ M h.
     let m = c.args.manager in
     let u = s.work in
     let xs : List EntityManager = s.managers.items in
-    let context : Changes Entry = c.keep.new.self.context in
+    let context : Entries = c.keep.new.self.context in
     let x : EntityManager = record (manager_in xs m) { context = context } in
-    let t : Session = record s { managers = c.set_status.new.managers; is_busy = false; work = record c.keep.new.self { context = c.keep-2.new.self }; stored = c.args.next } in
-    let status : List EntityManager → List EntityManager = λ ys. slice_set ys m (record (manager_in ys m) { status = Status.Inactive }) in
+    let t : Session = record s { managers = c.end_transaction.new.managers; work = record c.keep.new.self { context = c.keep-2.new.self }; stored = c.args.next } in
+    let end : List EntityManager → List EntityManager = λ ys. slice_set ys m (record (manager_in ys m) { status = Status.Inactive; layers = no_layers }) in
     let same = c.keep.ensures.now in
     let stay = ap (λ (w : Work). w.context) same ∙ c.unlock.ensures.now ∙ ap (map unlocked) (c.leave_removed.ensures.now ∙ ap (λ (os : List LiveObject). without_removed os u.manager u.context.now) c.as_slice.ensures) in
     let gone = ap (λ (w : Work). w.objects) same ∙ c.detach_objects.ensures.now ∙ ap (λ ns. detached_all ns u.objects.now) c.requires.gone ∙ detached_entries (filter (is_gone (now u)) u.context.now) u.objects.now in
-    let view = ap (λ (v : Opened). v.committed) c.keep.ensures.view ∙ committed_then c.commit.new.self ∙ ap (λ (v : Opened). v.committed) c.commit.ensures
-    ∙ ap (λ b. if b then (u.view).seen else (u.view).committed) (sym c.requires.shown) in
-    committed_there M s t m context h (c.set_status.ensures ∙ ap status c.exchange.ensures.managers ∙ twice xs m x Status.Inactive c.requires.within) stay gone
+    let view = ap (λ (v : Opened). v.committed) c.keep.ensures.view ∙ ap (λ (v : Opened). v.committed) c.commit.ensures in
+    committed_there M s t m context h c.requires.beside (c.end_transaction.ensures ∙ ap end c.exchange.ensures.managers ∙ ended_twice xs m x c.requires.within) stay gone
     (ap (λ (w : Work). w.numbers) same) view c.requires.next
 
 pub detach_objects-requires : goal.detach_objects-requires
@@ -46,19 +43,17 @@ returns-clause-settled c = λ M h quiet.
     let m = c.args.manager in
     let u = s.work in
     let xs : List EntityManager = s.managers.items in
-    let away = (h.working).away in
-    let context : Changes Entry = c.keep.new.self.context in
+    let context : Entries = c.keep.new.self.context in
     let x : EntityManager = record (manager_in xs m) { context = context } in
-    let t : Session = record s { managers = c.set_status.new.managers; is_busy = false; work = record c.keep.new.self { context = c.keep-2.new.self }; stored = c.args.next } in
-    let status : List EntityManager → List EntityManager = λ ys. slice_set ys m (record (manager_in ys m) { status = Status.Inactive }) in
+    let t : Session = record s { managers = c.end_transaction.new.managers; work = record c.keep.new.self { context = c.keep-2.new.self }; stored = c.args.next } in
+    let end : List EntityManager → List EntityManager = λ ys. slice_set ys m (record (manager_in ys m) { status = Status.Inactive; layers = no_layers }) in
+    let managers = c.end_transaction.ensures ∙ ap end c.exchange.ensures.managers ∙ ended_twice xs m x c.requires.within in
     let kept = c.keep.ensures.kept in
-    let done = c.commit.ensures in
-    let even : c.commit.new.self.seen ≡ c.commit.new.self.kept = ap (λ (v : Opened). v.seen) done ∙ sym (ap (λ (v : Opened). v.kept) done) in
+    let rests : c.keep.new.self.view ≡ unwritten (u.view).seen = c.keep.ensures.view ∙ ap (λ (v : Opened). with_kept v.seen v) c.commit.ensures in
     record {
       kept = record { objects = kept.objects; context = c.keep-2.ensures.since ∙ sym c.keep-2.ensures.now; numbers = kept.numbers; view = kept.view };
       quiet = ap (λ (w : Work). w.events) c.keep.ensures.now ∙ quiet;
-      counted = counted_ended M M.committed (s.work.view).kept s t m (record x { status = Status.Inactive }) c.requires.within away.counted away.managers h.one h.begun (own_begun M s m away ∙ c.requires.shown) refl
-          (c.set_status.ensures ∙ ap status c.exchange.ensures.managers ∙ twice xs m x Status.Inactive c.requires.within) refl refl
-          (ap (λ (v : Opened). v.kept) c.keep.ensures.view ∙ kept_then c.commit.new.self even ∙ ap (λ (v : Opened). v.kept) done
-          ∙ sym (ap (λ (v : Opened). v.committed) c.keep.ensures.view ∙ committed_then c.commit.new.self ∙ ap (λ (v : Opened). v.committed) done));
+      resting = subst IsResting (sym rests) (record { begun = refl; kept = refl });
+      idle = idle_there M s t m context h c.requires.beside managers;
+      counted = counted_there M s t m context h c.requires.beside managers refl;
     }

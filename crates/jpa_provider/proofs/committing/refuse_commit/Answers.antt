@@ -2,7 +2,7 @@ use Rattle.std.proofs.Common.{inl, inr, refl, ap, sym, ◌∙◌}
 use Rattle.std.specs.Prelude.{Err}
 use Rattle.jpa_value.specs.declared.refusal.Refusal.{Refusal}
 use Rattle.jpa_machine.specs.Machine.{Machine, rolled_back}
-use Rattle.jpa_provider.proofs.Active.{ends_alone}
+use Rattle.jpa_provider.proofs.Committed.{begun_still}
 use Rattle.jpa_provider.proofs.Worked.{still_working}
 use Rattle.jpa_provider.proofs.committing.refuse_commit.Goals as goal
 
@@ -16,7 +16,7 @@ pub returns-then-gave_up-clause-settled : goal.returns-then-gave_up-clause-settl
 returns-then-gave_up-clause-settled c = λ M h.
     let s = c.args.session.now in
     let working = still_working s (record s.work { events = c.replace-events.new.dest }) h.working refl in
-    c.restore.ensures.settled (working.away).counted
+    c.restore.ensures.settled M working
 
 pub returns-clause-refuses : goal.returns-clause-refuses
 returns-clause-refuses c = λ M h.
@@ -24,17 +24,15 @@ returns-clause-refuses c = λ M h.
     let m = c.args.manager in
     let working = still_working s (record s.work { events = c.replace-events.new.dest }) h.working refl in
     let back = c.restore.ensures.back M working in
-    let alone = ends_alone c.restore.new.session m (c.restore.ensures.settled (working.away).counted) back h.one h.begun in
     inr (
       sym c.gave_up.ensures ∙ c.if-gave_up.false,
       (λ i. record { events = c.replace-events.ensures.value i; answer = Err (Refusal.Rollback c.args.cause) }),
-      c.release.ensures.released alone ∙ ap (λ (N : Machine). rolled_back N m) back,
+      c.release.ensures.released (c.restore.ensures.settled M working) (begun_still c.restore.new.session m back h.begun) ∙ ap (λ (N : Machine). rolled_back N m) back,
     )
 
 pub returns-clause-settled : goal.returns-clause-settled
 returns-clause-settled c = λ M h.
     let s = c.args.session.now in
-    let m = c.args.manager in
     let working = still_working s (record s.work { events = c.replace-events.new.dest }) h.working refl in
     let back = c.restore.ensures.back M working in
-    c.release.ensures.settled (ends_alone c.restore.new.session m (c.restore.ensures.settled (working.away).counted) back h.one h.begun)
+    c.release.ensures.settled (c.restore.ensures.settled M working) (begun_still c.restore.new.session c.args.manager back h.begun)

@@ -1,6 +1,116 @@
+use Rattle.std.proofs.Common.{◌≡◌, ◌⊎◌, inl, inr, refl, ap, sym, subst, ◌∙◌}
+use Rattle.std.specs.Prelude.{Ok}
+use Rattle.jpa_behaviour.specs.Served.{world_of_unit}
+use Rattle.jpa_object_rows.specs.Sets.{rows_of}
+use Rattle.jpa_protocol.specs.declared.reply.Answer.{Answer}
+use Rattle.jpa_protocol.specs.declared.reply.Reply.{Reply}
+use Rattle.jpa_stored.specs.Sets.{StoredSet}
+use Rattle.jpa_value.specs.declared.refusal.Cause.{Cause}
+use Rattle.jpa_context.specs.Undo.{now}
+use Rattle.jpa_machine.specs.Machine.{Machine, committed_after}
+use Rattle.jpa_machine.specs.Step.{gives_up}
+use Rattle.jpa_provider.specs.declared.session.Session.{Session}
+use Rattle.jpa_provider.specs.Provided.{rows_kept}
+use Rattle.jpa_provider.proofs.Committed.{still_committing}
 use Rattle.jpa_provider.proofs.committing.store_commit.Goals as goal
 
 pub returns-in-Err-clause-crash : goal.returns-in-Err-clause-crash
 returns-in-Err-clause-crash g c = λ held.
     let rows = c.args.rows.now in
     g.R.RowSource.wider rows rows _ _ (λ left none. absurd none) (g.met.R.RowSource.still rows)
+
+-- ---- there was no room
+
+pub returns-in-Err-room-clause-crash : goal.returns-in-Err-room-clause-crash
+returns-in-Err-room-clause-crash g c = λ held.
+    let rows = c.args.rows.now in
+    g.R.RowSource.wider rows rows _ _ (λ left none. absurd none) (g.met.R.RowSource.still rows)
+
+pub returns-in-Err-room-clause-stores : goal.returns-in-Err-room-clause-stores
+returns-in-Err-room-clause-stores g c = λ M h.
+    let s = c.args.session.now in
+    let room = c.make_room-room in
+    let t : Session = record s { managers = room.new.managers; work = record s.work { view = room.new.view } } in
+    let there = still_committing s t room.ensures.undone room.ensures.held refl refl refl refl refl h in
+    inr (inl (c.because-in-Err-room.ensures ∙ ap gives_up c.in-Err-room.ensures.refused), c.restore-in-Err-room.ensures.back M there.working)
+
+pub returns-in-Err-room-clause-settled : goal.returns-in-Err-room-clause-settled
+returns-in-Err-room-clause-settled g c = λ M h.
+    let s = c.args.session.now in
+    let room = c.make_room-room in
+    let t : Session = record s { managers = room.new.managers; work = record s.work { view = room.new.view } } in
+    let there = still_committing s t room.ensures.undone room.ensures.held refl refl refl refl refl h in
+    c.restore-in-Err-room.ensures.settled M there.working
+
+pub returns-in-Err-room-clause-holds : goal.returns-in-Err-room-clause-holds
+returns-in-Err-room-clause-holds g c = λ M h held.
+    let s = c.args.session.now in
+    let world = world_of_unit g.B.Behaviour.meaning c.args.unit.now in
+    let room = c.make_room-room in
+    let t : Session = record s { managers = room.new.managers; work = record s.work { view = room.new.view } } in
+    let there = still_committing s t room.ensures.undone room.ensures.held refl refl refl refl refl h in
+    subst (λ (N : Machine). g.R.RowSource.holds c.args.rows.now (rows_kept world N)) (sym (c.restore-in-Err-room.ensures.back M there.working)) held
+
+-- ---- the store refused
+
+given_up : (r : Cause) (reply : Reply) → (r ≡ Cause.OutOfMemory) ⊎ (r ≡ Cause.StoreFault) → reply ≡ gives_up r → (reply ≡ gives_up Cause.OutOfMemory) ⊎ (reply ≡ gives_up Cause.StoreFault)
+given_up r reply (inl x) e = inl (e ∙ ap gives_up x)
+given_up r reply (inr x) e = inr (e ∙ ap gives_up x)
+
+pub returns-in-Err-stored-clause-stores : goal.returns-in-Err-stored-clause-stores
+returns-in-Err-stored-clause-stores g c = λ M h.
+    let s = c.args.session.now in
+    let room = c.make_room-room in
+    let t : Session = record s { managers = room.new.managers; work = record s.work { view = room.new.view } } in
+    let there = still_committing s t room.ensures.undone room.ensures.held refl refl refl refl refl h in
+    inr (given_up c.in-Err-stored.cause c.because-in-Err-stored.result c.in-Err-stored.ensures.cause c.because-in-Err-stored.ensures, c.restore-in-Err-stored.ensures.back M there.working)
+
+pub returns-in-Err-stored-clause-settled : goal.returns-in-Err-stored-clause-settled
+returns-in-Err-stored-clause-settled g c = λ M h.
+    let s = c.args.session.now in
+    let room = c.make_room-room in
+    let t : Session = record s { managers = room.new.managers; work = record s.work { view = room.new.view } } in
+    let there = still_committing s t room.ensures.undone room.ensures.held refl refl refl refl refl h in
+    c.restore-in-Err-stored.ensures.settled M there.working
+
+pub returns-in-Err-stored-clause-holds : goal.returns-in-Err-stored-clause-holds
+returns-in-Err-stored-clause-holds g c = λ M h held.
+    let s = c.args.session.now in
+    let world = world_of_unit g.B.Behaviour.meaning c.args.unit.now in
+    let room = c.make_room-room in
+    let t : Session = record s { managers = room.new.managers; work = record s.work { view = room.new.view } } in
+    let there = still_committing s t room.ensures.undone room.ensures.held refl refl refl refl refl h in
+    subst (λ (N : Machine). g.R.RowSource.holds c.write-stored.new.source (rows_kept world N)) (sym (c.restore-in-Err-stored.ensures.back M there.working)) (c.in-Err-stored.ensures.err (rows_kept world M) held)
+
+-- ---- it was stored
+
+pub returns-clause-stores : goal.returns-clause-stores
+returns-clause-stores g c = λ M h.
+    let s = c.args.session.now in
+    let room = c.make_room-room in
+    let t : Session = record s { managers = room.new.managers; work = record s.work { view = room.new.view; events = c.replace-events.new.dest } } in
+    let there = still_committing s t room.ensures.undone room.ensures.held refl refl refl refl refl h in
+    inl (
+      (λ i. record { events = c.replace-events.ensures.value i; answer = Ok Answer.Null }),
+      c.end_commit.ensures.ended M there ∙ ap (λ (V : StoredSet). committed_after M c.args.manager (record (now s.work) { view = V })) room.ensures.seen,
+    )
+
+pub returns-clause-settled : goal.returns-clause-settled
+returns-clause-settled g c = λ M h.
+    let s = c.args.session.now in
+    let room = c.make_room-room in
+    let t : Session = record s { managers = room.new.managers; work = record s.work { view = room.new.view; events = c.replace-events.new.dest } } in
+    let there = still_committing s t room.ensures.undone room.ensures.held refl refl refl refl refl h in
+    c.end_commit.ensures.settled M there (c.replace-events.ensures.after ∙ c.new.ensures)
+
+pub returns-clause-holds : goal.returns-clause-holds
+returns-clause-holds g c = λ M h held.
+    let s = c.args.session.now in
+    let world = world_of_unit g.B.Behaviour.meaning c.args.unit.now in
+    let room = c.make_room-room in
+    let t : Session = record s { managers = room.new.managers; work = record s.work { view = room.new.view; events = c.replace-events.new.dest } } in
+    let there = still_committing s t room.ensures.undone room.ensures.held refl refl refl refl refl h in
+    let away = (there.working).away in
+    let had = subst (g.R.RowSource.holds c.args.rows.now) (λ i. rows_of world (sym away.committed i) ((sym away.stored ∙ sym c.as_slice.ensures) i)) held in
+    let made = ap (rows_of world (room.new.view).seen) (c.as_slice-2.ensures ∙ c.in-Ok.ensures.next) ∙ sym (ap (rows_kept world) (c.end_commit.ensures.ended M there)) in
+    subst (g.R.RowSource.holds c.write-stored.new.source) made (c.in_default-stored.ensures.ok had)

@@ -1,19 +1,21 @@
+use Rattle.jpa_context.specs.Marks.{all_marked, Entries}
 use Rattle.std.proofs.Common.{◌≡◌, [], refl, ap, ◌∙◌}
 use Rattle.std.specs.Prelude.{slice_set}
-use Rattle.jpa_undo.specs.Undo.{Changes}
 use Rattle.jpa_context.specs.declared.Entry.{Entry}
 use Rattle.jpa_ops.specs.States.{detach_each}
 use Rattle.jpa_provider.specs.declared.session.Session.{Session}
 use Rattle.jpa_provider.specs.Serving.{manager_in}
 use Rattle.jpa_provider.proofs.Asked.{cleared_there}
 use Rattle.jpa_provider.proofs.Counted.{counted_same}
+use Rattle.jpa_provider.proofs.Sessions.{idle_changed}
+use Rattle.jpa_provider.specs.declared.session.EntityManager.{EntityManager}
 use Rattle.jpa_provider.proofs.ending.clear.Goals as goal
 
 pub returns-clause-cleared : goal.returns-clause-cleared
 returns-clause-cleared c =
     let s = c.args.session.now in
     let m = c.args.manager in
-    let empty : Changes Entry = c.new-empty.result in
+    let empty : Entries = c.new-empty.result in
     let t : Session = record s { managers = c.exchange.new.managers; work = record s.work { objects = c.detach_each.new.objects } } in
     cleared_there s t m empty c.exchange.ensures.managers c.new-empty.ensures.now (c.detach_each.ensures.now ∙ ap (λ es. detach_each es s.work.objects.now) c.context_of.ensures) refl refl refl
 
@@ -21,8 +23,8 @@ pub returns-clause-managers : goal.returns-clause-managers
 returns-clause-managers c =
     let xs = c.args.session.now.managers.items in
     let m = c.args.manager in
-    let empty : c.new-empty.result ≡ record { now = []; since = [] } = λ i. record { now = c.new-empty.ensures.now i; since = c.new-empty.ensures.since i } in
-    c.exchange.ensures.managers ∙ ap (λ (e : Changes Entry). slice_set xs m (record (manager_in xs m) { context = e })) empty
+    let empty : c.new-empty.result ≡ record { now = []; since = []; marks = all_marked } = λ i. record { now = c.new-empty.ensures.now i; since = c.new-empty.ensures.since i; marks = c.new-empty.ensures.marks i } in
+    c.exchange.ensures.managers ∙ ap (λ (e : Entries). slice_set xs m (record (manager_in xs m) { context = e })) empty
 
 pub returns-clause-settled : goal.returns-clause-settled
 returns-clause-settled c = λ settled.
@@ -30,8 +32,11 @@ returns-clause-settled c = λ settled.
     let m = c.args.manager in
     let t : Session = record s { managers = c.exchange.new.managers; work = record s.work { objects = c.detach_each.new.objects } } in
     let kept = settled.kept in
+    let y : EntityManager = record (manager_in s.managers.items m) { context = c.new-empty.result } in
     record {
       kept = record { objects = c.detach_each.ensures.kept kept.objects; context = kept.context; numbers = kept.numbers; view = kept.view };
       quiet = settled.quiet;
-      counted = counted_same s t m (record (manager_in s.managers.items m) { context = c.new-empty.result }) c.requires.within settled.counted c.exchange.ensures.managers refl refl refl refl (settled.counted).calm;
+      resting = settled.resting;
+      idle = idle_changed s.managers.items t.managers.items m y c.requires.within c.exchange.ensures.managers (settled.idle m) settled.idle;
+      counted = counted_same s t m y c.requires.within settled.counted c.exchange.ensures.managers refl refl;
     }

@@ -1,46 +1,42 @@
-use Rattle.std.proofs.Common.{false, List, [], refl, ap, sym, ◌∙◌}
+use Rattle.jpa_context.specs.Marks.{all_marked}
+use Rattle.std.proofs.Common.{◌≡◌, List, [], refl, ap, sym, ◌∙◌}
 use Rattle.std.specs.Prelude.{slice_set}
-use Rattle.jpa_open.specs.Opened.{Opened}
+use Rattle.jpa_open.specs.Opened.{no_layers}
 use Rattle.jpa_provider.specs.declared.session.EntityManager.{EntityManager}
 use Rattle.jpa_provider.specs.declared.session.Session.{Session}
 use Rattle.jpa_provider.specs.declared.session.Status.{Status}
-use Rattle.jpa_provider.specs.Serving.{machine_of, manager_in}
-use Rattle.jpa_provider.proofs.Counted.{counted_ended}
-use Rattle.jpa_provider.proofs.Opened.{twice, rolled_there}
-use Rattle.jpa_provider.proofs.Sessions.{begun_there, own_others}
+use Rattle.jpa_provider.specs.Serving.{manager_in}
+use Rattle.jpa_provider.proofs.Counted.{counted_same, begun_is_open}
+use Rattle.jpa_provider.proofs.Opened.{ended_twice, rolled_there}
+use Rattle.jpa_provider.proofs.Sessions.{idle_changed}
 use Rattle.jpa_provider.proofs.ending.release.Goals as goal
 
 pub returns-clause-released : goal.returns-clause-released
-returns-clause-released c = λ h.
+returns-clause-released c = λ settled begun.
     let s = c.args.session.now in
     let m = c.args.manager in
     let u = c.clear.new.session in
-    let x : EntityManager = record (manager_in s.managers.items m) { context = record { now = []; since = [] } } in
-    let t : Session = record u { managers = c.set_status.new.managers; work = record u.work { view = c.discard.new.self } } in
-    let status : List EntityManager → List EntityManager = λ ys. slice_set ys m (record (manager_in ys m) { status = Status.Inactive }) in
-    let view = c.discard.ensures in
-    rolled_there s u t m h c.clear.ensures.cleared (c.set_status.ensures ∙ ap status c.clear.ensures.managers ∙ twice s.managers.items m x Status.Inactive c.requires.within) refl
-    (ap (λ (w : Opened). w.committed) view ∙ ap (λ (w : Opened). w.committed) c.clear.ensures.view) refl refl
+    let x : EntityManager = record (manager_in s.managers.items m) { context = record { now = []; since = []; marks = all_marked } } in
+    let t : Session = record u { managers = c.end_transaction.new.managers } in
+    let over : List EntityManager → List EntityManager = λ ys. slice_set ys m (record (manager_in ys m) { status = Status.Inactive; layers = no_layers }) in
+    rolled_there s u t m begun c.clear.ensures.cleared c.clear.ensures.view (c.end_transaction.ensures ∙ ap over c.clear.ensures.managers ∙ ended_twice s.managers.items m x c.requires.within) refl refl
 
 pub returns-clause-settled : goal.returns-clause-settled
-returns-clause-settled c = λ h.
+returns-clause-settled c = λ before begun.
     let s = c.args.session.now in
     let m = c.args.manager in
+    let xs = s.managers.items in
     let u = c.clear.new.session in
-    let settled = c.clear.ensures.settled h.settled in
-    let x : EntityManager = record (manager_in s.managers.items m) { context = record { now = []; since = [] } } in
-    let t : Session = record u { managers = c.set_status.new.managers; is_busy = false; work = record u.work { view = c.discard.new.self } } in
-    let status : List EntityManager → List EntityManager = λ ys. slice_set ys m (record (manager_in ys m) { status = Status.Inactive }) in
-    let view = c.discard.ensures in
+    let settled = c.clear.ensures.settled before in
+    let x : EntityManager = record (manager_in xs m) { context = record { now = []; since = []; marks = all_marked } } in
+    let y : EntityManager = record x { status = Status.Inactive; layers = no_layers } in
+    let t : Session = record u { managers = c.end_transaction.new.managers } in
+    let over : List EntityManager → List EntityManager = λ ys. slice_set ys m (record (manager_in ys m) { status = Status.Inactive; layers = no_layers }) in
+    let e : t.managers.items ≡ slice_set xs m y = c.end_transaction.ensures ∙ ap over c.clear.ensures.managers ∙ ended_twice xs m x c.requires.within in
     record {
-      kept = record {
-        objects = (settled.kept).objects;
-        context = (settled.kept).context;
-        numbers = (settled.kept).numbers;
-        view = ap (λ (w : Opened). w.seen) view ∙ sym (ap (λ (w : Opened). w.kept) view);
-      };
+      kept = settled.kept;
       quiet = settled.quiet;
-      counted = counted_ended (machine_of s) (s.work.view).committed (s.work.view).kept s t m (record x { status = Status.Inactive }) c.requires.within (h.settled).counted (own_others s m) h.one
-          (begun_there s m ∙ h.begun) h.begun refl (c.set_status.ensures ∙ ap status c.clear.ensures.managers ∙ twice s.managers.items m x Status.Inactive c.requires.within) c.clear.ensures.counts.0 refl
-          (ap (λ (w : Opened). w.kept) view ∙ sym (ap (λ (w : Opened). w.committed) view));
+      resting = settled.resting;
+      idle = idle_changed xs t.managers.items m y c.requires.within e (λ none. refl) before.idle;
+      counted = counted_same s t m y c.requires.within before.counted e (sym (begun_is_open (manager_in xs m) begun)) c.clear.ensures.count;
     }

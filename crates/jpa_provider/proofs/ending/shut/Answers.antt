@@ -1,3 +1,4 @@
+use Rattle.jpa_context.specs.Marks.{all_marked}
 use Rattle.std.proofs.Common.{◌≡◌, ◌+◌, ◌-◌, List, [], refl, ap, ◌∙◌, arith}
 use Rattle.std.specs.Prelude.{slice_set}
 use Rattle.jpa_provider.specs.declared.session.EntityManager.{EntityManager}
@@ -7,6 +8,7 @@ use Rattle.jpa_provider.specs.Serving.{manager_in}
 use Rattle.jpa_provider.proofs.Opened.{twice}
 use Rattle.jpa_provider.proofs.Closing.{shut_there}
 use Rattle.jpa_provider.proofs.Counted.{counted_closed, one_open}
+use Rattle.jpa_provider.proofs.Sessions.{idle_changed}
 use Rattle.jpa_provider.proofs.ending.shut.Goals as goal
 
 pub returns-clause-closed : goal.returns-clause-closed
@@ -14,7 +16,7 @@ returns-clause-closed c =
     let s = c.args.session.now in
     let m = c.args.manager in
     let u = c.clear.new.session in
-    let x : EntityManager = record (manager_in s.managers.items m) { context = record { now = []; since = [] } } in
+    let x : EntityManager = record (manager_in s.managers.items m) { context = record { now = []; since = []; marks = all_marked } } in
     let t : Session = record u { managers = c.set_status.new.managers } in
     let status : List EntityManager → List EntityManager = λ ys. slice_set ys m (record (manager_in ys m) { status = Status.Closed }) in
     shut_there s u t m c.requires.idle c.clear.ensures.cleared c.clear.ensures.view (c.set_status.ensures ∙ ap status c.clear.ensures.managers ∙ twice s.managers.items m x Status.Closed c.requires.within) refl refl
@@ -25,15 +27,19 @@ returns-clause-settled c =
     let m = c.args.manager in
     let u = c.clear.new.session in
     let settled = c.clear.ensures.settled c.requires.settled in
-    let x : EntityManager = record (manager_in s.managers.items m) { context = record { now = []; since = [] } } in
+    let x : EntityManager = record (manager_in s.managers.items m) { context = record { now = []; since = []; marks = all_marked } } in
     let t : Session = record u { managers = c.set_status.new.managers; open_managers = u.open_managers - 1 } in
     let status : List EntityManager → List EntityManager = λ ys. slice_set ys m (record (manager_in ys m) { status = Status.Closed }) in
-    let same = c.clear.ensures.counts.0 in
+    let same = c.clear.ensures.count in
     let one = one_open s m c.requires.within (c.requires.settled).counted c.requires.open in
     let less : t.open_managers + 1 ≡ s.open_managers = omega (arith, same, one) in
+    let xs = s.managers.items in
+    let y : EntityManager = record x { status = Status.Closed } in
+    let e : t.managers.items ≡ slice_set xs m y = c.set_status.ensures ∙ ap status c.clear.ensures.managers ∙ twice xs m x Status.Closed c.requires.within in
     record {
       kept = settled.kept;
       quiet = settled.quiet;
-      counted = counted_closed s t m (record x { status = Status.Closed }) c.requires.within (c.requires.settled).counted
-          (c.set_status.ensures ∙ ap status c.clear.ensures.managers ∙ twice s.managers.items m x Status.Closed c.requires.within) refl c.requires.open c.requires.idle less c.clear.ensures.counts.1 c.clear.ensures.view;
+      resting = settled.resting;
+      idle = idle_changed xs t.managers.items m y c.requires.within e (λ none. (c.requires.settled).idle m c.requires.idle) (c.requires.settled).idle;
+      counted = counted_closed s t m y c.requires.within (c.requires.settled).counted e refl c.requires.open less;
     }

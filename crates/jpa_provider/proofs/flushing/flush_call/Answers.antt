@@ -18,18 +18,12 @@ use Rattle.jpa_provider.specs.Serving.{machine_of, manager_in, is_begun_status, 
 use Rattle.jpa_provider.proofs.Active.{entries_apart, view_sound, view_rises}
 use Rattle.jpa_machine.proofs.AtWork.{work_ready}
 use Rattle.jpa_provider.proofs.Routed.{flush_idle, flush_so}
-use Rattle.jpa_provider.proofs.Sessions.{begun_there}
 use Rattle.jpa_provider.proofs.Told.{no_fault}
 use Rattle.jpa_provider.proofs.Worked.{still_working, if_refused, ends_so}
 use Rattle.jpa_provider.proofs.flushing.flush_call.Goals as goal
 
 pub flush_work-answered-requires-clause-ready : goal.flush_work-answered-requires-clause-ready
 flush_work-answered-requires-clause-ready g c = subst (IsReady c.args.unit.now.metamodel) (sym c.take_work.ensures.work) (work_ready c.in-Some.manager (c.requires.serving).machine)
-
-pub flush_work-answered-requires-clause-shown : goal.flush_work-answered-requires-clause-shown
-flush_work-answered-requires-clause-shown g c =
-    let begun : is_begun_status (manager_in c.args.session.now.managers.items c.in-Some.manager).status ≡ true = ap is_begun_status (sym c.status_of.ensures) ∙ sym c.is_begun.ensures ∙ c.if-not-is_begun.false in
-    ((c.take_work.ensures.working).away).shown ∙ begun_there c.args.session.now c.in-Some.manager ∙ begun
 
 pub flush_work-answered-requires-clause-sound : goal.flush_work-answered-requires-clause-sound
 flush_work-answered-requires-clause-sound g c =
@@ -59,13 +53,13 @@ returns-clause-step g c =
     let met = subst (λ (w : Work). Meets done.result (now done.new.work) (flush_call world w)) c.take_work.ensures.work done.ensures.meets in
     flush_so world s c.args.em c.conclude.new.session m c.conclude.result is begun
     (ends_so Rule.OfManager M (machine_of c.conclude.new.session) m (flush_call world (work_of M m)) done.result (now done.new.work) c.conclude.result met
-    (c.conclude.ensures.concludes M (c.requires.serving).one working.away (if_refused done.result working)))
+    (c.conclude.ensures.concludes M working.away (if_refused done.result working)))
 
 pub returns-clause-settled : goal.returns-clause-settled
 returns-clause-settled g c =
     let done = c.flush_work-answered in
     let working = still_working c.take_work.new.session done.new.work c.take_work.ensures.working done.ensures.since in
-    c.conclude.ensures.settled (machine_of c.args.session.now) working.away
+    c.conclude.ensures.settled (machine_of c.args.session.now) working.away (if_refused done.result working)
 
 pub returns-clause-untold : goal.returns-clause-untold
 returns-clause-untold g c =

@@ -3,7 +3,7 @@ use Rattle.jpa_provider.specs.declared.session.EntityManager.{EntityManager}
 use Rattle.jpa_provider.specs.declared.session.Session.{Session}
 use Rattle.jpa_provider.specs.Serving.{manager_in}
 use Rattle.jpa_provider.proofs.Counted.{counted_same}
-use Rattle.jpa_provider.proofs.Sessions.{mode_there}
+use Rattle.jpa_provider.proofs.Sessions.{mode_there, idle_changed}
 use Rattle.jpa_provider.proofs.moding.change_mode.Goals as goal
 
 pub returns-clause-mode : goal.returns-clause-mode
@@ -17,8 +17,11 @@ returns-clause-settled c = λ settled.
     let s = c.args.session.now in
     let t : Session = record s { managers = c.set_mode.new.managers } in
     let x : EntityManager = manager_in s.managers.items c.args.manager in
+    let y : EntityManager = record x { mode = c.args.mode } in
     record {
       kept = settled.kept;
       quiet = settled.quiet;
-      counted = counted_same s t c.args.manager (record x { mode = c.args.mode }) c.requires.within settled.counted c.set_mode.ensures refl refl refl refl (settled.counted).calm;
+      resting = settled.resting;
+      idle = idle_changed s.managers.items t.managers.items c.args.manager y c.requires.within c.set_mode.ensures (settled.idle c.args.manager) settled.idle;
+      counted = counted_same s t c.args.manager y c.requires.within settled.counted c.set_mode.ensures refl refl;
     }

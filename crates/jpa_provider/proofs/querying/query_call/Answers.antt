@@ -1,8 +1,7 @@
-use Rattle.std.proofs.Common.{◌≡◌, Bool, true, ap, sym, subst, ◌∙◌}
+use Rattle.std.proofs.Common.{◌≡◌, true, ap, sym, subst, ◌∙◌}
 use Rattle.std.specs.Prelude.{T, Some}
 use Rattle.std.specs.FinMap.Entries.{is_sorted}
 use Rattle.std.proofs.Math.Facts.{to_z-of_z}
-use Rattle.std.proofs.lemmas.Bool.{false≢true}
 use Rattle.jpa_value.specs.Value.{identity_cmp}
 use Rattle.jpa_behaviour.specs.Served.{world_of_unit}
 use Rattle.jpa_stored.specs.Sets.{IsSound}
@@ -11,7 +10,6 @@ use Rattle.jpa_context.specs.Steps.{Meets}
 use Rattle.jpa_context.specs.Undo.{now}
 use Rattle.jpa_fetch.specs.Grown.{IsReady}
 use Rattle.jpa_ops.specs.Names.{has_distinct_entries}
-use Rattle.jpa_protocol.specs.declared.call.FlushMode.{FlushMode}
 use Rattle.jpa_queries.specs.Premises.{StaysReady}
 use Rattle.jpa_provider.specs.declared.replies.Rule.{Rule}
 use Rattle.jpa_machine.specs.Machine.{flushes_in, flushes_first, work_of}
@@ -25,21 +23,8 @@ use Rattle.jpa_provider.proofs.Told.{no_fault}
 use Rattle.jpa_provider.proofs.Worked.{still_working, if_refused, ends_so}
 use Rattle.jpa_provider.proofs.querying.query_call.Goals as goal
 
--- where the objects are flushed a transaction is open
-begun_then : (begun : Bool) (mode : FlushMode) → flushes_in begun mode ≡ true → begun ≡ true
-begun_then begun FlushMode.Auto h = h
-begun_then begun FlushMode.Commit h = absurd (false≢true h)
-
 pub query_work-answered-requires-clause-ready : goal.query_work-answered-requires-clause-ready
 query_work-answered-requires-clause-ready g c = subst (IsReady c.args.unit.now.metamodel) (sym c.take_work.ensures.work) (work_ready c.in-Some.manager (c.requires.serving).machine)
-
-pub query_work-answered-requires-clause-shown : goal.query_work-answered-requires-clause-shown
-query_work-answered-requires-clause-shown g c = λ flushes.
-    let s = c.args.session.now in
-    let m = c.in-Some.manager in
-    let st = c.status_of.result in
-    let begun = begun_then (is_begun_status st) c.mode_of.result (sym c.flushes_first-flushes.ensures ∙ flushes) in
-    ((c.take_work.ensures.working).away).shown ∙ begun_there s m ∙ ap is_begun_status (sym c.status_of.ensures) ∙ begun
 
 pub query_work-answered-requires-clause-sound : goal.query_work-answered-requires-clause-sound
 query_work-answered-requires-clause-sound g c =
@@ -79,13 +64,13 @@ returns-clause-step g c = λ call e.
     (subst (λ (w : Work). Meets done.result (now done.new.work) (op c.flushes_first-flushes.result world w)) c.take_work.ensures.work done.ensures.meets) in
     asked_so world s c.args.em op call e c.conclude.new.session m c.conclude.result is
     (ends_so Rule.OfManager M (machine_of c.conclude.new.session) m (op (flushes_first M m) world (work_of M m)) done.result (now done.new.work) c.conclude.result met
-    (c.conclude.ensures.concludes M (c.requires.serving).one working.away (if_refused done.result working)))
+    (c.conclude.ensures.concludes M working.away (if_refused done.result working)))
 
 pub returns-clause-settled : goal.returns-clause-settled
 returns-clause-settled g c =
     let done = c.query_work-answered in
     let working = still_working c.take_work.new.session done.new.work c.take_work.ensures.working done.ensures.since in
-    c.conclude.ensures.settled (machine_of c.args.session.now) working.away
+    c.conclude.ensures.settled (machine_of c.args.session.now) working.away (if_refused done.result working)
 
 pub returns-clause-untold : goal.returns-clause-untold
 returns-clause-untold g c =

@@ -39,12 +39,6 @@ begun_then begun FlushMode.Commit h = absurd (false≢true h)
 pub update_work-answered-requires-clause-ready : goal.update_work-answered-requires-clause-ready
 update_work-answered-requires-clause-ready g c = subst (IsReady c.args.unit.now.metamodel) (sym c.take_work.ensures.work) (work_ready c.in-Some.manager (c.requires.serving).machine)
 
-pub update_work-answered-requires-clause-shown : goal.update_work-answered-requires-clause-shown
-update_work-answered-requires-clause-shown g c = λ active.
-    let s = c.args.session.now in
-    let m = c.in-Some.manager in
-    ((c.take_work.ensures.working).away).shown ∙ begun_there s m ∙ ap is_begun_status (sym c.status_of-status.ensures) ∙ sym c.is_begun.ensures ∙ active
-
 pub update_work-answered-requires-clause-flushing : goal.update_work-answered-requires-clause-flushing
 update_work-answered-requires-clause-flushing g c = λ flushes.
     c.is_begun.ensures ∙ begun_then (is_begun_status c.status_of-status.result) c.mode_of.result (sym c.flushes_first-flushes.ensures ∙ flushes)
@@ -88,7 +82,7 @@ returns-clause-step g c =
     (subst (λ (w : Work). Meets done.result (now done.new.work) (op c.is_begun.result c.flushes_first-flushes.result world w)) c.take_work.ensures.work done.ensures.meets) in
     update_so world s c.args.em c.args.text.now c.args.parameters.now c.conclude.new.session m c.conclude.result is
     (ends_so Rule.OfManager M (machine_of c.conclude.new.session) m (update_outcome world M c.args.text.now c.args.parameters.now m) done.result (now done.new.work) c.conclude.result met
-    (c.conclude.ensures.concludes M (c.requires.serving).one working.away (if_refused done.result working)))
+    (c.conclude.ensures.concludes M working.away (if_refused done.result working)))
 
 pub returns-clause-made : goal.returns-clause-made
 returns-clause-made g c =
@@ -112,7 +106,7 @@ returns-clause-made g c =
     (subst (λ (v : Work). Meets done.result new (update_call text ps c.is_begun.result c.flushes_first-flushes.result world v)) c.take_work.ensures.work done.ensures.meets)
     (subst (λ (u : Work). OnOk done.result ((v : Work) → flush_if c.flushes_first-flushes.result world u ≡ Done tt v → all_representable v.view ≡ true → all_representable new.view ≡ true)) c.take_work.ensures.work done.ensures.representable)
     (update_representable world s m c.requires.serving c.flushes_first-flushes.result) in
-    told_ok _ Rule.OfManager M (machine_of c.conclude.new.session) m new done.result c.conclude.result (c.conclude.ensures.concludes M (c.requires.serving).one working.away (if_refused done.result working))
+    told_ok _ Rule.OfManager M (machine_of c.conclude.new.session) m new done.result c.conclude.result (c.conclude.ensures.concludes M working.away (if_refused done.result working))
     (ok_weaker done.result (λ h. λ k place.
     subst (λ j. HoldsAfter (λ (a : Answer) v. all_representable v.view ≡ true) (update_outcome world M text ps j)) (named_same s c.args.em m k is place)
     (subst (λ (p : Bool × Bool). HoldsAfter (λ (a : Answer) v. all_representable v.view ≡ true) (update_call text ps p.0 p.1 world w)) (λ i. (active i, flushes i)) h)) made)
@@ -121,7 +115,7 @@ pub returns-clause-settled : goal.returns-clause-settled
 returns-clause-settled g c =
     let done = c.update_work-answered in
     let working = still_working c.take_work.new.session done.new.work c.take_work.ensures.working done.ensures.since in
-    c.conclude.ensures.settled (machine_of c.args.session.now) working.away
+    c.conclude.ensures.settled (machine_of c.args.session.now) working.away (if_refused done.result working)
 
 pub returns-clause-untold : goal.returns-clause-untold
 returns-clause-untold g c =

@@ -25,18 +25,19 @@ returns-clause-ends g c =
     let op = operation_of c.args.operation world in
     let done = c.operate-answered in
     let s = c.take_work.new.session in
-    let away = still_away s done.new.work (c.take_work.ensures.working).away (ap (λ (w : Opened). w.kept) done.ensures.view) (ap (λ (w : Opened). w.committed) done.ensures.view) (ap (λ (w : Opened). w.is_shown) done.ensures.view) in
+    let away = still_away s done.new.work (c.take_work.ensures.working).away (ap (λ (w : Opened). w.kept) done.ensures.view) (ap (λ (w : Opened). w.begun) done.ensures.view) (ap (λ (w : Opened). w.committed) done.ensures.view) in
     let working = on_err done.result (still_working s done.new.work c.take_work.ensures.working) done.ensures.since in
     let met = subst (λ (w : Work). Meets done.result (now done.new.work) (op w)) c.take_work.ensures.work done.ensures.meets in
     ends_so c.args.rule M (machine_of c.conclude.new.session) m (op (work_of M m)) done.result (now done.new.work) c.conclude.result met
-    (c.conclude.ensures.concludes M (c.requires.serving).one away working)
+    (c.conclude.ensures.concludes M away working)
 
 pub returns-clause-settled : goal.returns-clause-settled
 returns-clause-settled g c =
     let done = c.operate-answered in
     let s = c.take_work.new.session in
     c.conclude.ensures.settled (machine_of c.args.session.now)
-    (still_away s done.new.work (c.take_work.ensures.working).away (ap (λ (w : Opened). w.kept) done.ensures.view) (ap (λ (w : Opened). w.committed) done.ensures.view) (ap (λ (w : Opened). w.is_shown) done.ensures.view))
+    (still_away s done.new.work (c.take_work.ensures.working).away (ap (λ (w : Opened). w.kept) done.ensures.view) (ap (λ (w : Opened). w.begun) done.ensures.view) (ap (λ (w : Opened). w.committed) done.ensures.view))
+    (on_err done.result (still_working s done.new.work c.take_work.ensures.working) done.ensures.since)
 
 pub returns-clause-untold : goal.returns-clause-untold
 returns-clause-untold g c =

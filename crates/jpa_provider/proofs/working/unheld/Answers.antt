@@ -1,8 +1,7 @@
-use Rattle.std.proofs.Common.{◌≡◌, refl, ap, sym, subst, ◌∙◌, arith}
+use Rattle.std.proofs.Common.{◌≡◌, false, refl, ap, sym, subst, ◌∙◌, arith}
 use Rattle.std.specs.Prelude.{length, Ok, Err, OnErr}
 use Rattle.jpa_value.specs.declared.refusal.Refusal.{Refusal}
-use Rattle.jpa_open.specs.Opened.{Opened, after_undoing}
-use Rattle.jpa_open.specs.Opened as opened
+use Rattle.jpa_open.specs.Opened.{Opened, with_seen, after_keeping, after_undoing}
 use Rattle.jpa_context.specs.Undo as undoing
 use Rattle.jpa_behaviour.specs.Served.{world_of_unit}
 use Rattle.jpa_context.specs.Work.{Work}
@@ -16,7 +15,7 @@ use Rattle.jpa_provider.specs.Operations.{operation_of, is_marked_by, told_of}
 use Rattle.jpa_provider.specs.Serving.{machine_of}
 use Rattle.jpa_machine.proofs.AtWork.{work_ready}
 use Rattle.jpa_provider.proofs.Counted.{counted_here}
-use Rattle.jpa_provider.proofs.Unheld.{hidden_keep, nobody_works, nobody_keeps, nobody_restores}
+use Rattle.jpa_provider.proofs.Unheld.{still_resting, nobody_works, nobody_keeps, nobody_restores}
 use Rattle.jpa_provider.proofs.Worked.{ends_so}
 use Rattle.jpa_provider.proofs.working.unheld.Goals as goal
 
@@ -24,10 +23,10 @@ pub operate-answered-requires-clause-ready : goal.operate-answered-requires-clau
 operate-answered-requires-clause-ready g c =
     let s = c.args.session.now in
     let n = length s.managers.items in
-    let w : Work = record { manager = c.len-session.result; objects = s.work.objects.now; context = c.new.result.now; numbers = s.work.numbers.now; view = (s.work.view).committed; events = s.work.events } in
+    let w : Work = record { manager = c.len-session.result; objects = s.work.objects.now; context = c.new.result.now; numbers = s.work.numbers.now; view = (s.work.view).seen; events = s.work.events } in
     let counted : c.len-session.result ≡ n = let a = c.len-session.ensures in omega (arith, a) in
     let same : w ≡ work_of (machine_of s) n = nobody_works s w (c.requires.serving).settled (λ i. record w { manager = counted i; context = c.new.ensures.now i }) in
-    subst (IsReady c.args.unit.now.metamodel) (sym ((λ i. record w { view = opened.now (c.show.ensures i) }) ∙ same)) (work_ready n (c.requires.serving).machine)
+    subst (IsReady c.args.unit.now.metamodel) (sym same) (work_ready n (c.requires.serving).machine)
 
 pub returns-in-Ok-clause-ends : goal.returns-in-Ok-clause-ends
 returns-in-Ok-clause-ends g c =
@@ -38,18 +37,16 @@ returns-in-Ok-clause-ends g c =
     let op = operation_of c.args.operation world in
     let done = c.operate-answered in
     let w = now done.new.work in
-    let v : Work = record { manager = c.len-session.result; objects = s.work.objects.now; context = c.new.result.now; numbers = s.work.numbers.now; view = (s.work.view).committed; events = s.work.events } in
+    let v : Work = record { manager = c.len-session.result; objects = s.work.objects.now; context = c.new.result.now; numbers = s.work.numbers.now; view = (s.work.view).seen; events = s.work.events } in
     let counted : c.len-session.result ≡ n = let a = c.len-session.ensures in omega (arith, a) in
-    let same : record v { view = opened.now c.show.new.self } ≡ work_of M n =
-    (λ i. record v { view = opened.now (c.show.ensures i) }) ∙ nobody_works s v (c.requires.serving).settled (λ i. record v { manager = counted i; context = c.new.ensures.now i }) in
-    let met : Meets (Ok c.in-Ok.answer) w (op (work_of M n)) = subst (λ (u : Work). Meets (Ok c.in-Ok.answer) w (op u)) same (subst (λ r. Meets r w (op (record v { view = opened.now c.show.new.self }))) c.in-Ok.is done.ensures.meets) in
+    let same : v ≡ work_of M n = nobody_works s v (c.requires.serving).settled (λ i. record v { manager = counted i; context = c.new.ensures.now i }) in
+    let met : Meets (Ok c.in-Ok.answer) w (op (work_of M n)) = subst (λ (u : Work). Meets (Ok c.in-Ok.answer) w (op u)) same (subst (λ r. Meets r w (op v)) c.in-Ok.is done.ensures.meets) in
     let t : Session = record s { work = c.keep.new.self } in
     let kept = c.keep.ensures.now in
+    let view : c.keep.new.self.view ≡ with_seen (s.work.view).kept s.work.view = c.keep.ensures.view ∙ ap (after_keeping false) done.ensures.view in
     ends_so Rule.OfObject M (machine_of t) n (op (work_of M n)) (Ok c.in-Ok.answer) w (record { events = c.replace-events.result; answer = Ok c.in-Ok.answer }) met (
       (λ i. record { events = c.replace-events.ensures.value i; answer = Ok c.in-Ok.answer }),
-      nobody_keeps s t refl refl (ap (λ (x : Opened). x.committed) (hidden_keep s.work.view done.new.work.view c.keep.new.self.view (done.ensures.view ∙ c.show.ensures) c.keep.ensures.view))
-          (ap (λ (x : Opened). x.kept) (hidden_keep s.work.view done.new.work.view c.keep.new.self.view (done.ensures.view ∙ c.show.ensures) c.keep.ensures.view)) w (ap (λ (u : Work). u.objects) kept)
-          (ap (λ (u : Work). u.numbers) kept),
+      nobody_keeps s t refl refl (ap (λ (x : Opened). x.committed) view) w (ap (λ (x : Work). x.objects) kept) (ap (λ (x : Work). x.numbers) kept),
     )
 
 pub returns-in-Err-clause-ends : goal.returns-in-Err-clause-ends
@@ -62,19 +59,18 @@ returns-in-Err-clause-ends g c =
     let done = c.operate-answered in
     let r = c.in-Err.cause in
     let w = now done.new.work in
-    let v : Work = record { manager = c.len-session.result; objects = s.work.objects.now; context = c.new.result.now; numbers = s.work.numbers.now; view = (s.work.view).committed; events = s.work.events } in
+    let v : Work = record { manager = c.len-session.result; objects = s.work.objects.now; context = c.new.result.now; numbers = s.work.numbers.now; view = (s.work.view).seen; events = s.work.events } in
     let counted : c.len-session.result ≡ n = let a = c.len-session.ensures in omega (arith, a) in
-    let same : record v { view = opened.now c.show.new.self } ≡ work_of M n =
-    (λ i. record v { view = opened.now (c.show.ensures i) }) ∙ nobody_works s v (c.requires.serving).settled (λ i. record v { manager = counted i; context = c.new.ensures.now i }) in
-    let met : Meets (Err r) w (op (work_of M n)) = subst (λ (u : Work). Meets (Err r) w (op u)) same (subst (λ x. Meets x w (op (record v { view = opened.now c.show.new.self }))) c.in-Err.is done.ensures.meets) in
+    let same : v ≡ work_of M n = nobody_works s v (c.requires.serving).settled (λ i. record v { manager = counted i; context = c.new.ensures.now i }) in
+    let met : Meets (Err r) w (op (work_of M n)) = subst (λ (u : Work). Meets (Err r) w (op u)) same (subst (λ x. Meets x w (op v)) c.in-Err.is done.ensures.meets) in
     let t : Session = record s { work = c.undo.new.self } in
     let back = c.undo.ensures.now in
-    let since = subst (λ x. OnErr x (undoing.since done.new.work ≡ undoing.since (record s.work { manager = c.len-session.result; context = c.new.result; view = c.show.new.self }))) c.in-Err.is done.ensures.since in
+    let since = subst (λ x. OnErr x (undoing.since done.new.work ≡ undoing.since (record s.work { manager = c.len-session.result; context = c.new.result }))) c.in-Err.is done.ensures.since in
     let settled = ((c.requires.serving).settled).kept in
+    let view : c.undo.new.self.view ≡ with_seen (s.work.view).kept s.work.view = c.undo.ensures.view ∙ ap after_undoing done.ensures.view in
     ends_so Rule.OfObject M (machine_of t) n (op (work_of M n)) (Err r) w (record { events = c.told_of.result; answer = Err (Refusal.Because r) }) met (
       (λ i. record { events = (c.told_of.ensures ∙ ap (told_of r) c.replace-events.ensures.value) i; answer = Err (Refusal.Because r) }),
-      nobody_restores s t refl refl (ap (λ (x : Opened). x.committed) (c.undo.ensures.view ∙ ap after_undoing (done.ensures.view ∙ c.show.ensures)))
-          (ap (λ (x : Opened). x.kept) (c.undo.ensures.view ∙ ap after_undoing (done.ensures.view ∙ c.show.ensures))) (is_marked_by Rule.OfObject r)
+      nobody_restores s t refl refl (ap (λ (x : Opened). x.committed) view) (is_marked_by Rule.OfObject r)
           (ap (λ (u : Work). u.objects) back ∙ ap (λ (x : Since). x.objects) since ∙ settled.objects) (ap (λ (u : Work). u.numbers) back ∙ ap (λ (x : Since). x.numbers) since ∙ settled.numbers),
     )
 
@@ -82,22 +78,26 @@ pub returns-in-Ok-clause-settled : goal.returns-in-Ok-clause-settled
 returns-in-Ok-clause-settled g c =
     let s = c.args.session.now in
     let done = c.operate-answered in
+    let settled = (c.requires.serving).settled in
     let t : Session = record s { work = c.keep.new.self } in
-    let kept = hidden_keep s.work.view done.new.work.view c.keep.new.self.view (done.ensures.view ∙ c.show.ensures) c.keep.ensures.view in
     record {
       kept = c.keep.ensures.kept;
       quiet = ap (λ (u : Work). u.events) c.keep.ensures.now ∙ c.replace-events.ensures.after ∙ c.new-2.ensures;
-      counted = counted_here s t ((c.requires.serving).settled).counted refl refl refl (ap (λ (x : Opened). x.committed) kept) (ap (λ (x : Opened). x.kept) kept);
+      resting = still_resting s.work.view c.keep.new.self.view settled.resting (c.keep.ensures.view ∙ ap (after_keeping false) done.ensures.view);
+      idle = settled.idle;
+      counted = counted_here s t settled.counted refl refl;
     }
 
 pub returns-in-Err-clause-settled : goal.returns-in-Err-clause-settled
 returns-in-Err-clause-settled g c =
     let s = c.args.session.now in
     let done = c.operate-answered in
+    let settled = (c.requires.serving).settled in
     let t : Session = record s { work = c.undo.new.self } in
-    let kept = c.undo.ensures.view ∙ ap after_undoing (done.ensures.view ∙ c.show.ensures) in
     record {
       kept = c.undo.ensures.kept;
       quiet = ap (λ (u : Work). u.events) c.undo.ensures.now;
-      counted = counted_here s t ((c.requires.serving).settled).counted refl refl refl (ap (λ (x : Opened). x.committed) kept) (ap (λ (x : Opened). x.kept) kept);
+      resting = still_resting s.work.view c.undo.new.self.view settled.resting (c.undo.ensures.view ∙ ap after_undoing done.ensures.view);
+      idle = settled.idle;
+      counted = counted_here s t settled.counted refl refl;
     }

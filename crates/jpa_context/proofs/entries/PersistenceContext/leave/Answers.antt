@@ -1,7 +1,7 @@
 use Rattle.std.proofs.Common.{◌∙◌, ap, get_or}
 use Rattle.std.specs.Prelude.{◌==◌, not, is_some}
 use Rattle.std.specs.List.{list_any}
-use Rattle.jpa_undo.specs.Undo.{Changes}
+use Rattle.jpa_context.specs.Marks.{Entries}
 use Rattle.jpa_context.specs.declared.Entry.{Entry}
 use Rattle.jpa_context.specs.Indexed.{place_in, has_place}
 use Rattle.jpa_context.specs.Places.{without_objects}
@@ -19,4 +19,4 @@ returns-clause-now c =
     (λ k d l.
     let n = (get_or es k d).object in
     left_has (list_any (λ m. m == n) objects) (place_in c.self.inside.at n) (place_in at' n) (c.forget_objects.ensures n) (ap is_some (c.self.invariant.at_each n) ∙ has_entry es k d l))
-    ∙ ap (λ (v : Changes Entry). without_objects objects v.now) c.self.view_is
+    ∙ ap (λ (v : Entries). without_objects objects v.now) c.self.view_is

@@ -3,7 +3,7 @@ use Rattle.std.specs.Prelude.{◌==◌, ◌&&◌, not, is_some}
 use Rattle.std.specs.List.{list_any, filter}
 use Rattle.std.proofs.lemmas.Bool.{true≢false}
 use Rattle.jpa_heap.specs.Objects.{object_at}
-use Rattle.jpa_undo.specs.Undo.{Changes}
+use Rattle.jpa_context.specs.Marks.{Entries}
 use Rattle.jpa_context.specs.declared.Entry.{Entry}
 use Rattle.jpa_context.specs.Indexed.{place_in, has_place}
 use Rattle.jpa_context.specs.Places.{without_removed}
@@ -28,7 +28,7 @@ returns-clause-now c =
     (c.forget_removed.ensures n
     ∙ ap (λ b. cond b None before) (ap (list_any (λ (e : Entry). gone e.object && (e.object == n))) c.as_slice-2.ensures ∙ gone_at gone es k d l))
     (ap is_some (c.self.invariant.at_each n) ∙ has_entry es k d l))
-    ∙ ap (λ (v : Changes Entry). without_removed objects manager v.now) c.self.view_is
+    ∙ ap (λ (v : Entries). without_removed objects manager v.now) c.self.view_is
 
 stays_by : {A : Type 0} (p : A → Bool) (e : A) (es : List A) (b : Bool) → p e ≡ b → (b || list_any p es) ≡ false → (list_any p es ≡ false → filter (λ e. not (p e)) es ≡ es)
     → filter (λ e. not (p e)) (e ∷ es) ≡ e ∷ es
@@ -47,5 +47,5 @@ returns-then-not-any_removed-clause-now c =
     let es = c.self.inside.list.now in
     let gone : Entry → Bool = λ e. is_removed (state_from manager (object_at objects e.object).life) in
     let none : list_any gone es ≡ false = ap (list_any gone) (sym c.as_slice.ensures) ∙ sym c.any_removed.ensures ∙ c.if-not-any_removed.true in
-    c.keep.ensures.now ∙ ap (λ (v : Changes Entry). v.now) (sym c.self.view_is) ∙ sym (all_stay gone es none)
-    ∙ ap (λ (v : Changes Entry). without_removed objects manager v.now) c.self.view_is
+    c.keep.ensures.now ∙ ap (λ (v : Entries). v.now) (sym c.self.view_is) ∙ sym (all_stay gone es none)
+    ∙ ap (λ (v : Entries). without_removed objects manager v.now) c.self.view_is

@@ -1,5 +1,5 @@
 use Rattle.std.proofs.Common.{◌≡◌, ◌∙◌, sym, subst, ap, length, take, map}
-use Rattle.jpa_undo.specs.Undo.{Changes}
+use Rattle.jpa_context.specs.Marks.{Entries}
 use Rattle.jpa_context.specs.declared.Entry.{Entry}
 use Rattle.jpa_context.specs.Indexed.{placed}
 use Rattle.jpa_context.specs.Places.{StaysAt}
@@ -11,7 +11,7 @@ use Rattle.jpa_context.proofs.entries.PersistenceContext.set.Goals as goal
 pub invariant_of-self : goal.invariant_of-self
 invariant_of-self c =
     let before = c.self.inside.list in
-    let same : StaysAt before.now c.args.at c.args.entry = subst (λ (v : Changes Entry). StaysAt v.now c.args.at c.args.entry) (sym c.self.view_is) c.requires.same in
+    let same : StaysAt before.now c.args.at c.args.entry = subst (λ (v : Entries). StaysAt v.now c.args.at c.args.entry) (sym c.self.view_is) c.requires.same in
     let stay : map placed c.set.new.self.now ≡ map placed before.now = set_stays c.set.result before.now c.set.new.self.now c.args.at c.args.entry c.set.ensures.changed c.set.ensures.refused same in
     record {
       under_each = λ print. c.self.invariant.under_each print ∙ same_places print before.now c.set.new.self.now (sym stay);

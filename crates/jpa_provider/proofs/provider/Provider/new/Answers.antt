@@ -15,7 +15,7 @@ invariant_of-result g c =
     let world = world_of_unit g.B.Behaviour.meaning c.args.unit in
     let s = c.opened-session.result in
     let numbers = c.in-Ok.ensures in
-    let view : c.in-Ok-new.view ≡ unwritten c.args.committed = c.in-Ok-new.ensures.opened ∙ ap unwritten c.into_entries.ensures.all in
+    let view : c.in-Ok-view_of.view ≡ unwritten c.args.committed = c.in-Ok-view_of.ensures.view in
     let e : machine_of s ≡ opened c.args.committed c.args.numbers = c.opened-session.ensures.machine c.args.committed view (numbers.0 ∙ c.as_slice.ensures) in
     record {
       serving = opened_serving world s c.args.committed c.args.numbers (described_orderly m c.unit.ensures.described) (c.laws.ensures.regular m) (described_inherited m c.unit.ensures.described) c.requires.held e (c.opened-session.ensures.settled c.args.committed view (numbers.1 ∙ sym numbers.0));
@@ -26,4 +26,4 @@ invariant_of-result g c =
 pub returns-clause-machine : goal.returns-clause-machine
 returns-clause-machine g c =
     let numbers = c.in-Ok.ensures in
-    c.opened-session.ensures.machine c.args.committed (c.in-Ok-new.ensures.opened ∙ ap unwritten c.into_entries.ensures.all) (numbers.0 ∙ c.as_slice.ensures)
+    c.opened-session.ensures.machine c.args.committed c.in-Ok-view_of.ensures.view (numbers.0 ∙ c.as_slice.ensures)

@@ -1,0 +1,17 @@
+use Rattle.std.proofs.Common.{◌≡◌, ap, length, List}
+use Rattle.std.specs.Prelude.{◌==◌}
+use Rattle.jpa_value.specs.declared.value.Identity.{Identity}
+use Rattle.jpa_flush.proofs.Silent.{calm_action, calm_orphans, calm_remembered, linked_stored}
+use Rattle.jpa_flush.proofs.laws.calm_laws.Goals as goal
+
+pub returns-clause-action : goal.returns-clause-action
+returns-clause-action c = calm_action
+
+pub returns-clause-orphans : goal.returns-clause-orphans
+returns-clause-orphans c = λ m w e h own. ap (λ (ids : List Identity). length ids == 0) (calm_orphans m w e h own)
+
+pub returns-clause-remembered : goal.returns-clause-remembered
+returns-clause-remembered c = calm_remembered
+
+pub returns-clause-stored : goal.returns-clause-stored
+returns-clause-stored c = linked_stored

@@ -1,0 +1,107 @@
+-- What the law of isolation sees of a machine, and which move each step is.
+use Rattle.std.specs.Prelude.{◌≡◌, ◌≢◌, ℕ, Bool, true, false, ◌&&◌, List, [], ◌∷◌, length, map, Option, Some, None, Result, Ok, Err}
+use Rattle.jpa_value.specs.declared.refusal.Refusal.{Refusal}
+use Rattle.jpa_behaviour.specs.Behaviour.{World}
+use Rattle.jpa_heap.specs.Objects.{place_of}
+use Rattle.jpa_context.specs.Work.{Work}
+use Rattle.jpa_context.specs.Steps.{Done}
+use Rattle.jpa_flush.specs.Flush.{flush}
+use Rattle.jpa_protocol.specs.declared.call.Call.{Call}
+use Rattle.jpa_protocol.specs.declared.reply.Answer.{Answer}
+use Rattle.jpa_protocol.specs.declared.reply.Reply.{Reply}
+use Rattle.jpa_isolation.specs.Moves.{Scene, Snapshot, Move, Creates, Begins, Works, Ends, Commits, Rests, IsAllowed, moved, after, is_apart, IsIsolated}
+use Rattle.jpa_machine.specs.Machine.{Machine, Manager, Transaction, work_of}
+use Rattle.jpa_machine.specs.Transactions.{locked_ids}
+use Rattle.jpa_machine.specs.Routes.{Route, OfManager, ToQuery, ToUpdate, InTransaction, OfObject, ToCreate, ToMake, ToBegin, ToCommit, ToRollBack, ToMark, ToAsk, ToClear, ToSetMode, ToClose, route, commits}
+use Rattle.jpa_machine.specs.Step.{Step}
+use Rattle.jpa_machine.specs.Invariant.{IsMachine, hands_representable}
+
+-- ---- of a machine
+
+abbrev pub snapshot_of : Option Transaction → Option Snapshot
+snapshot_of None = None
+snapshot_of (Some t) = Some (record { begun = t.begun; view = t.view })
+
+abbrev pub snapshot_in : Manager → Option Snapshot
+snapshot_in x = snapshot_of x.transaction
+
+-- the committed set, and the sets of each open transaction
+abbrev pub scene_of : Machine → Scene
+scene_of M = record { committed = M.committed; transactions = map snapshot_in M.managers }
+
+-- ---- of a call
+
+-- the manager that it names, if it names one
+abbrev pub named_in : Machine → Route → Option ℕ
+named_in M (OfManager em op) = place_of (length M.managers) em
+named_in M (ToQuery em op) = place_of (length M.managers) em
+named_in M (ToUpdate em op) = place_of (length M.managers) em
+named_in M (InTransaction em given op) = place_of (length M.managers) em
+named_in M (OfObject number op) = None
+named_in M ToCreate = None
+named_in M (ToMake name) = None
+named_in M (ToBegin em) = place_of (length M.managers) em
+named_in M (ToCommit em) = place_of (length M.managers) em
+named_in M (ToRollBack em) = place_of (length M.managers) em
+named_in M (ToMark em) = place_of (length M.managers) em
+named_in M (ToAsk em question) = place_of (length M.managers) em
+named_in M (ToClear em) = place_of (length M.managers) em
+named_in M (ToSetMode em mode) = place_of (length M.managers) em
+named_in M (ToClose em) = place_of (length M.managers) em
+
+abbrev pub is_ok : Result Answer Refusal → Bool
+is_ok (Ok a) = true
+is_ok (Err r) = false
+
+-- ---- of a move
+
+abbrev pub is_commit_move : Move → Bool
+is_commit_move Creates = false
+is_commit_move (Begins m) = false
+is_commit_move (Works m set) = false
+is_commit_move (Ends m) = false
+is_commit_move (Commits m set reads) = true
+is_commit_move Rests = false
+
+-- what a commit takes is what its flush made, and what was locked READ then
+abbrev pub IsFlushed : World → Machine → Move → Type 0
+IsFlushed world M (Commits m set reads) = (w : Work) × (flush world (work_of M m) ≡ Done tt w) × (set ≡ w.view) × (reads ≡ locked_ids world.model w)
+IsFlushed world M Creates = Unit {0}
+IsFlushed world M (Begins m) = Unit {0}
+IsFlushed world M (Works m set) = Unit {0}
+IsFlushed world M (Ends m) = Unit {0}
+IsFlushed world M Rests = Unit {0}
+
+-- a step is a move that is allowed: a commit exactly where the call is one that is accepted, and one of the manager that the call
+-- names, or of none
+pub record IsMoveAlong (world : World) (M : Machine) (r : Route) (reply : Reply) (N : Machine) (move : Move) : Type 0 where
+  pub allowed : IsAllowed (scene_of M) move
+  pub makes : scene_of N ≡ moved (scene_of M) move
+  pub acknowledged : is_commit_move move ≡ (commits r && is_ok reply.answer)
+  pub flushed : IsFlushed world M move
+  pub apart : (m : ℕ) → named_in M r ≢ Some m → is_apart m move
+
+abbrev pub IsMove : World → Machine → Call → Reply → Machine → Move → Type 0
+IsMove world M call reply N move = IsMoveAlong world M (route call) reply N move
+
+-- each step of a run is such a move
+abbrev pub AreMoves : World → Machine → List Call → List Reply → List Move → Machine → Type 0
+AreMoves world M [] [] [] last = last ≡ M
+AreMoves world M (call ∷ calls) (reply ∷ replies) (move ∷ moves) last =
+    (mid : Machine) × Step world M call reply mid × IsMove world M call reply mid move × AreMoves world mid calls replies moves last
+AreMoves world M [] [] (move ∷ moves) last = ⊥
+AreMoves world M [] (reply ∷ replies) moves last = ⊥
+AreMoves world M (call ∷ calls) [] moves last = ⊥
+AreMoves world M (call ∷ calls) (reply ∷ replies) [] last = ⊥
+
+-- a run at each call of which holds what holds between calls, and whose calls hand in values of the program
+abbrev pub RunsHeld : World → Machine → List Call → List Reply → Machine → Type 0
+RunsHeld world M [] [] last = last ≡ M
+RunsHeld world M (call ∷ calls) (reply ∷ replies) last = (mid : Machine) × IsMachine world M × (hands_representable call ≡ true) × Step world M call reply mid × RunsHeld world mid calls replies last
+RunsHeld world M [] (reply ∷ replies) last = ⊥
+RunsHeld world M (call ∷ calls) [] last = ⊥
+
+-- such a run is isolated: it is a list of moves, of which the law of isolation holds
+abbrev pub IsIsolatedRun : World → Machine → List Call → List Reply → Machine → Type 0
+IsIsolatedRun world M calls replies last =
+    (moves : List Move) × AreMoves world M calls replies moves last × (scene_of last ≡ after (scene_of M) moves) × IsIsolated (scene_of M)

@@ -1,0 +1,54 @@
+use Rattle.std.proofs.Common.{◌≡◌, sym, subst}
+use Rattle.std.proofs.lemmas.Result.{err_from_is_err_and}
+use Rattle.jpa_value.specs.declared.refusal.Cause.{Cause}
+use Rattle.jpa_behaviour.specs.Served.{world_of_unit}
+use Rattle.jpa_context.specs.Steps.{Outcome, Done, Refused, IsRefusedAs}
+use Rattle.jpa_context.specs.Undo.{now, Since}
+use Rattle.jpa_flush.specs.Flush.{flush}
+use Rattle.jpa_flush.proofs.Rounds.{refused_after}
+use Rattle.jpa_machine.specs.Transactions.{commit_work}
+use Rattle.jpa_provider.proofs.Current.{deciding, joined, not_current}
+use Rattle.jpa_provider.proofs.commit_work.commit_work.Goals as goal
+
+pub returns-in_err-flush-clause-meets : goal.returns-in_err-flush-clause-meets
+returns-in_err-flush-clause-meets g c =
+    let world = world_of_unit g.B.Behaviour.meaning c.args.unit.now in
+    let v = c.args.work.now.view in
+    let p = err_from_is_err_and c.from_residual.result c.from_residual.ensures.1 in
+    rw (p.1, p.2) (refused_after c.in_err-flush.field-0.0 (now c.flush.new.work).events (flush world (now c.args.work.now)) (λ _. deciding world v.committed v.begun) c.in_err-flush.ensures.meets)
+
+-- what was flushed is ready for what comes next, and rises
+pub is_current-requires-clause-ready : goal.is_current-requires-clause-ready
+is_current-requires-clause-ready g c = (c.requires.goes (now c.flush.new.work) c.in_ok-flush.ensures.meets).ready
+
+pub returns-then-not-branch-clause-meets : goal.returns-then-not-branch-clause-meets
+returns-then-not-branch-clause-meets g c =
+    let world = world_of_unit g.B.Behaviour.meaning c.args.unit.now in
+    let w = now c.args.work.now in
+    let u = c.flush.new.work in
+    subst (λ (x : Since). commit_work world x.committed x.begun w ≡ Refused Cause.OptimisticLock (now u).events) c.flush.ensures.since
+    (not_current world u.view.committed u.view.begun w (now u) c.in_ok-flush.ensures.meets c.in_ok-is_current.field-0 c.in_ok-is_current.ensures.ok c.if-not-branch.true)
+
+pub merge-requires-clause-rising : goal.merge-requires-clause-rising
+merge-requires-clause-rising g c = (c.requires.goes (now c.flush.new.work) c.in_ok-flush.ensures.meets).rising
+
+pub returns-in_err-merge-clause-meets : goal.returns-in_err-merge-clause-meets
+returns-in_err-merge-clause-meets g c =
+    let world = world_of_unit g.B.Behaviour.meaning c.args.unit.now in
+    let w = now c.args.work.now in
+    let u = c.flush.new.work in
+    let r = c.in_err-merge.field-0.0 in
+    let events = (now c.merge.new.work).events in
+    let p = err_from_is_err_and c.from_residual-in_err-merge.result c.from_residual-in_err-merge.ensures.1 in
+    rw (p.1, p.2)
+    (subst (λ (x : Since). IsRefusedAs r events (commit_work world x.committed x.begun w)) c.flush.ensures.since
+    (subst (IsRefusedAs r events) (sym (joined world u.view.committed u.view.begun w (now u) c.in_ok-flush.ensures.meets c.in_ok-is_current.field-0 c.in_ok-is_current.ensures.ok c.if-not-branch.false)) c.in_err-merge.ensures.meets))
+
+pub returns-clause-meets : goal.returns-clause-meets
+returns-clause-meets g c =
+    let world = world_of_unit g.B.Behaviour.meaning c.args.unit.now in
+    let w = now c.args.work.now in
+    let u = c.flush.new.work in
+    subst (λ (x : Since). commit_work world x.committed x.begun w ≡ Done tt (now c.merge.new.work)) c.flush.ensures.since
+    (subst (λ (o : Outcome (Unit {0})). o ≡ Done tt (now c.merge.new.work))
+    (sym (joined world u.view.committed u.view.begun w (now u) c.in_ok-flush.ensures.meets c.in_ok-is_current.field-0 c.in_ok-is_current.ensures.ok c.if-not-branch.false)) c.in_ok-merge.ensures.meets)
