@@ -14,8 +14,9 @@ from typing import TYPE_CHECKING
 
 from . import refusals
 from .entities import Collection, EmbeddedId, Entity, Event
-from .factory import EntityManager, EntityManagerFactory, EntityTransaction, open
+from .factory import EntityManagerFactory, open
 from .lines import FlushModeType, LifecycleEvent, LockModeType
+from .managers import EntityManager
 from .refusals import (
     BadLine, Busy, Damaged, EntityExists, EntityNotFound, GivenUp, IllegalArgument,
     IllegalState, KarzhoulError, Limit, Listener, Mapping, NoResult, NoSuchManager,
@@ -23,13 +24,14 @@ from .refusals import (
     Persistence, ProgramEnded, ProgramNotFound, Refused, Restarted, Rollback, StoreFault,
     StoreInMemory, TransactionRequired,
 )
+from .transactions import Attempt, EntityTransaction
 
 __version__ = "0.1.0"
 
 # Written out, since type checkers read it. `from karzhoul import *` gives no name that Python has too,
 # as `open`, or that its `typing` has, as `Mapping`.
 __all__ = [
-    "EmbeddedId", "Entity", "EntityManager", "EntityManagerFactory", "EntityTransaction",
+    "Attempt", "EmbeddedId", "Entity", "EntityManager", "EntityManagerFactory", "EntityTransaction",
     "Event", "FlushModeType", "LifecycleEvent", "LockModeType", "refusals",
     "BadLine", "Busy", "Damaged", "EntityExists", "EntityNotFound", "GivenUp",
     "IllegalArgument", "IllegalState", "KarzhoulError", "Limit", "Listener", "NoResult",

@@ -78,16 +78,23 @@ class Classes:
         """The class of an object; None where it wasn't told."""
         return self._classes[self._places[number]] if number < len(self._places) else None
 
-    def __setitem__(self, number: int, kind: Type[Entity]) -> None:
-        if number >= len(self._places):
+    def settled(self, number: int, kind: Optional[Type[Entity]]) -> Optional[Type[Entity]]:
+        """The class of an object, which is this one from now on where it wasn't told."""
+        try:
+            place = self._places[number]
+        except IndexError:
             self._places.extend(bytes(number + 1000))
+            place = 0
+        if place or kind is None:
+            return self._classes[place]
         self._places[number] = self._bytes[kind]
+        return kind
 
     def learn(self, number: int, ran: Sequence[str]) -> None:
         """Takes the class of an object, where it isn't known, from what ran at an event."""
         marks = [name for name in ran if name in self._marks]
-        if marks and self[number] is None:
-            self[number] = self._marks[marks[-1]]
+        if marks:
+            self.settled(number, self._marks[marks[-1]])
 
     def without_marks(self, ran: Sequence[str]) -> Tuple[str, ...]:
         """What ran, but for marks."""

@@ -7,12 +7,14 @@ from collections.abc import Callable, Iterable, Iterator, Mapping, MutableSequen
 from functools import partial
 from typing import TYPE_CHECKING, Any, ClassVar, Dict, List, NamedTuple, Optional, Tuple, Type, TypeVar, Union, overload
 
-from .lines import LifecycleEvent, line_of, spelled, text_spelled
+from .lines import LifecycleEvent, line_of, text_spelled
 
 if TYPE_CHECKING:
     from .factory import EntityManagerFactory
 
 E = TypeVar("E", bound="Entity")
+# A text or bytes have at most so many bytes.
+_LONGEST = 65_535
 
 
 class Entity:
@@ -63,7 +65,8 @@ class EmbeddedId:
 
     __slots__ = ("_parts", "_entity", "_name")
 
-    def __init__(self, parts: Sequence[str], entity: Entity, name: str) -> None:
+    def __init__(self, parts: Mapping[str, str], entity: Entity, name: str) -> None:
+        """With the type of each part."""
         for slot, value in zip(self.__slots__, (parts, entity, name)):
             object.__setattr__(self, slot, value)
 
@@ -97,8 +100,13 @@ class EmbeddedId:
         return f"<{self._name} {' '.join(f'{part}={value!r}' for part, value in zip(self._parts, self))}>"
 
     def _assign(self, given: Union[Mapping[str, Any], Iterable[Any]]) -> None:
-        for part, value in self._each(given):
-            setattr(self, part, value)
+        """Sets all parts together, or none."""
+        factory, values = self._entity.__factory__, self._each(given)
+        lines = {part: factory.set_line(self._entity, self._member(part), value) for part, value in values}
+        for part, value in values:
+            if not _fits(self._parts[part], value):
+                factory.ask_lines([lines[part]])  # It is refused, and so no other one is sent.
+        factory.tell(*lines.values())
 
     def _each(self, given: Union[Mapping[str, Any], Iterable[Any]]) -> List[Tuple[str, Any]]:
         """Each part with its value; a `ValueError` where one is missing or too much."""
@@ -111,9 +119,18 @@ class EmbeddedId:
             fits = is_many and len(values) == len(names)
         if not fits:
             raise ValueError(f"the embedded id {self._name} takes {', '.join(self._parts)}, and not {given!r}")
-        for value in values:
-            spelled(value)  # What is no value at all is refused before a part is set.
         return list(zip(names, values))
+
+
+def _fits(kind: str, value: Any) -> bool:
+    """Whether the program takes a value for a part of this type."""
+    if value is None:
+        return True
+    if kind == "int":
+        return isinstance(value, int)
+    if kind == "text":
+        return isinstance(value, str) and len(value.encode()) <= _LONGEST
+    return isinstance(value, (bytes, bytearray, memoryview)) and len(bytes(value)) <= _LONGEST
 
 
 class Collection(MutableSequence[E]):
@@ -237,7 +254,8 @@ class Attribute(property):
 
         def assign(it: Entity, value: Any) -> None:
             if view is None:
-                it.__factory__.set(it, name, value)
+                factory = it.__factory__
+                factory.tell(factory.set_line(it, name, value))
             else:
                 view(it, name)._assign(value)
 
@@ -276,7 +294,7 @@ def _key(entity: Mapping[str, Any]) -> Tuple[str, List[str]]:
 
 def _attributes(entity: Mapping[str, Any]) -> List[Attribute]:
     """The attributes that an entity itself declares."""
-    key = [part["name"] for part in entity.get("key", ())]
+    key = {part["name"]: part["type"] for part in entity.get("key", ())}
     made = [Attribute(entity["embedded"], view=partial(EmbeddedId, key))] if "embedded" in entity else [Attribute(part) for part in key]
     made += [Attribute(entity["version"]["name"])] if "version" in entity else []
     made += [Attribute(attribute["name"]) for attribute in entity.get("attributes", ())]

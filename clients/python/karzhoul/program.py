@@ -12,7 +12,7 @@ import time
 import weakref
 from contextlib import suppress
 from subprocess import DEVNULL, PIPE, Popen, TimeoutExpired
-from typing import IO, List, NoReturn, Optional, Sequence, Union
+from typing import IO, Iterator, List, NoReturn, Optional, Sequence, Set, Union
 
 from .refusals import GivenUp, KarzhoulError, ProgramEnded, ProgramNotFound, refusal_of
 
@@ -26,54 +26,14 @@ _WATCH = 'read -r line || kill -KILL "-$1"'
 Words = Union[str, "os.PathLike[str]"]
 
 
-class Exchange:
-    """Lines that go to the program together, and what came of them so far.
-
-    It is whole at every moment, so that a call which is interrupted anywhere can be gone on with: what is still to be done is read off
-    what is noted, and each system call is noted by the step of the interpreter that makes it (`notes += map(..)`). The handlers of
-    signals, and so an interrupt, run between such steps alone.
-    """
-
-    __slots__ = ("lines", "parts")
-
-    def __init__(self, lines: Sequence[bytes]) -> None:
-        self.lines = lines
-        # None yet until it is sent.
-        self.parts: List[_Part] = []
-
-    def start(self) -> List[_Part]:
-        """Parts the lines into a few short ones or one at a time. From now on they are sent, and none can be added."""
-        lines, size = self.lines, 0
-        together: List[bytes] = []
-        if len(lines) == 1:
-            self.parts = [_Part(lines[0] + b"\n", 1)]
-            return self.parts
-        parts = []
-        for line in lines:
-            size += len(line) + 1
-            if size > select.PIPE_BUF and together:
-                parts.append(_Part(b"%b\n" % b"\n".join(together), len(together)))
-                together, size = [], len(line) + 1
-            together.append(line)
-        if together:
-            parts.append(_Part(b"%b\n" % b"\n".join(together), len(together)))
-        self.parts = parts
-        return parts
-
-    def waits(self) -> bool:
-        """Whether the next of it to be done is to read replies."""
-        parts = [part for part in self.parts if not part.is_answered()]
-        return bool(parts) and sum(parts[0].written) == len(parts[0].text)
-
-
 class _Part:
     """Lines that are written before the first of their replies is read, when all before them are answered: so a write never waits for
     a program that itself waits for its replies to be read."""
 
-    __slots__ = ("text", "lines", "written", "read")
+    __slots__ = ("text", "count", "written", "read")
 
-    def __init__(self, text: bytes, lines: int) -> None:
-        self.text, self.lines = text, lines
+    def __init__(self, text: bytes, count: int) -> None:
+        self.text, self.count = text, count
         # How many bytes each write took, and what each read gave.
         self.written: List[int] = []
         self.read: List[bytes] = []
@@ -82,7 +42,64 @@ class _Part:
         """Whether all replies are there."""
         if not self.read or self.read[-1][-1:] != b"\n":
             return False
-        return self.lines == 1 or sum([chunk.count(b"\n") for chunk in self.read]) >= self.lines
+        return self.count == 1 or sum([chunk.count(b"\n") for chunk in self.read]) >= self.count
+
+
+class Exchange(_Part):
+    """Lines that go to the program together, and what came of them so far. One of a single line is its own part.
+
+    It is whole at every moment, so that a call which is interrupted anywhere can be gone on with: what is still to be done is read off
+    what is noted, and each system call is noted by the step of the interpreter that makes it (`notes += map(..)`). The handlers of
+    signals, and so an interrupt, run between such steps alone.
+    """
+
+    __slots__ = ("lines", "parts", "is_sent")
+
+    def __init__(self, lines: Sequence[bytes]) -> None:
+        self.lines = lines
+        self.text = b""
+        self.count = 1
+        self.written = []
+        self.read = []
+        # Of several lines, once they are sent.
+        self.parts: Optional[List[_Part]] = None
+        self.is_sent = False
+
+    def start(self) -> None:
+        """Parts the lines into a few short ones or one at a time. From now on they are sent, and none can be added."""
+        if len(self.lines) == 1:
+            self.text = self.lines[0] + b"\n"
+        else:
+            self.parts = list(_parts(self.lines))
+        self.is_sent = True
+
+    def waits(self) -> bool:
+        """Whether the next of it to be done is to read replies."""
+        parts = [part for part in ([self] if self.parts is None else self.parts) if not part.is_answered()]
+        return self.is_sent and bool(parts) and sum(parts[0].written) == len(parts[0].text)
+
+
+def _parts(lines: Sequence[bytes]) -> Iterator[_Part]:
+    if lines and sum(map(len, lines)) + len(lines) <= select.PIPE_BUF:  # As below, at once.
+        yield _Part(b"%b\n" % b"\n".join(lines), len(lines))
+        return
+    together: List[bytes] = []
+    size = 0
+    for line in lines:
+        size += len(line) + 1
+        if size > select.PIPE_BUF and together:
+            yield _Part(b"%b\n" % b"\n".join(together), len(together))
+            together, size = [], len(line) + 1
+        together.append(line)
+    if together:
+        yield _Part(b"%b\n" % b"\n".join(together), len(together))
+
+
+class _Process(Popen[bytes]):
+    """A process that can be collected where no function of Python runs: an interrupt that comes where such a function begins, called by
+    the collector, is lost. Each is waited for by `_stopped`."""
+
+    __del__ = object.__init__  # Does nothing, and is of C.
 
 
 class Program:
@@ -95,7 +112,7 @@ class Program:
         self.words, self._errors = words, tempfile.TemporaryFile()
         # In a group of its own, so that Ctrl-C at a terminal interrupts a call and doesn't end the program.
         try:
-            self._process = Popen(words, bufsize=0, stdin=PIPE, stdout=PIPE, stderr=self._errors, start_new_session=True)
+            self._process = _Process(words, bufsize=0, stdin=PIPE, stdout=PIPE, stderr=self._errors, start_new_session=True)
         except OSError as fault:
             self._errors.close()
             raise ProgramNotFound(f"{words[0]!r} can't be started: {fault.strerror}") from fault
@@ -117,39 +134,42 @@ class Program:
         `KeyboardInterrupt`) in an exchange that was interrupted before: both are a `GivenUp`."""
         if self.fault:
             raise self.fault
-        parts = exchange.parts
-        was_interrupted = bool(parts)
+        was_interrupted = exchange.is_sent
         deadline = None if timeout is None else time.monotonic() + timeout
-        replies: List[bytes] = []
         try:
-            for part in parts or exchange.start():
-                self._write(part)
-                replies += self._read(part, timeout, deadline)
+            if not was_interrupted:
+                exchange.start()
+            if exchange.parts is None:
+                return self._done(exchange, timeout, deadline)
+            replies: List[bytes] = []
+            for part in exchange.parts:
+                replies += self._done(part, timeout, deadline)
+            return replies
         except KeyboardInterrupt as interrupt:
             if was_interrupted and exchange.waits() and not self._comes(time.monotonic() + _GRACE):
                 self._give_up("a call was interrupted twice", interrupt)
             raise
-        return replies
 
-    def _write(self, part: _Part) -> None:
-        """Writes what isn't written of a part."""
+    def _done(self, part: _Part, timeout: Optional[float], deadline: Optional[float]) -> List[bytes]:
+        """Does what is left to do of a part, and gives its replies."""
+        text, written, read = part.text, part.written, part.read
         try:
-            while (done := sum(part.written)) < len(part.text):
-                part.written += map(os.write, self._in, (part.text[done:],))
+            if not written:
+                written += map(os.write, self._in, (text,))
+            while (done := sum(written)) < len(text):
+                written += map(os.write, self._in, (text[done:],))
         except BrokenPipeError:
             pass  # What it told before its end is still read.
-
-    def _read(self, part: _Part, timeout: Optional[float], deadline: Optional[float]) -> List[bytes]:
-        """Reads what isn't read of the replies to a part, and gives them all."""
-        while not part.read or not part.is_answered():
+        # (`_Part.is_answered` asks the same, and takes longer.)
+        while not read or read[-1][-1:] != b"\n" or part.count > 1 and not part.is_answered():
             if deadline is not None and not self._comes(deadline):
                 self._give_up(f"a call wasn't answered within {timeout} seconds")
-            part.read += map(os.read, self._out, _CHUNK)
-            if not part.read[-1]:
+            read += map(os.read, self._out, _CHUNK)
+            if not read[-1]:
                 self.fault = self._why_it_ended()
                 raise self.fault
-        replies = b"".join(part.read).split(b"\n")
-        if replies.pop() or len(replies) != part.lines:
+        replies = (read[0] if len(read) == 1 else b"".join(read)).split(b"\n")
+        if replies.pop() or len(replies) != part.count:
             self.fault = ProgramEnded(_stopped(self._process, self._watch, 0), "the program told more than it was asked")
             raise self.fault
         return replies
@@ -174,7 +194,9 @@ class Program:
         """Waits for the program to answer at all, by an empty line, which is no call. What it tells meanwhile, as where it is being
         built, goes to standard error."""
         hello = Exchange([b""])
-        self._write(hello.start()[0])
+        hello.start()
+        with suppress(BrokenPipeError):  # What it told before its end is still read.
+            hello.written += map(os.write, self._in, (hello.text,))
         shown = 0
         while not self._reading.poll(1000 * _PATIENCE):
             if told := self._told()[shown:]:
@@ -203,17 +225,18 @@ class Program:
         return os.pread(self._errors.fileno(), os.fstat(self._errors.fileno()).st_size, 0).decode(errors="replace")
 
 
-_watches: weakref.WeakSet[Popen[bytes]] = weakref.WeakSet()
+# Those that run. No weak set, since its callbacks are of Python.
+_watches: Set[_Process] = set()
 
 
-def _watch_of(process: Popen[bytes]) -> Popen[bytes]:
+def _watch_of(process: _Process) -> _Process:
     """A shell that ends a process where this one ends without a word, be it killed, also while the process is at a long query.
 
     The kernel's own way to do so (PR_SET_PDEATHSIG) is Linux's alone, and would end the program with the thread that started it.
     """
     words = ["/bin/sh", "-c", _WATCH, "karzhoul", str(process.pid)]
     try:
-        watch = Popen(words, bufsize=0, stdin=PIPE, stdout=DEVNULL, stderr=DEVNULL, cwd="/", start_new_session=True)
+        watch = _Process(words, bufsize=0, stdin=PIPE, stdout=DEVNULL, stderr=DEVNULL, cwd="/", start_new_session=True)
     except OSError as fault:
         os.killpg(process.pid, signal.SIGKILL)
         process.wait()
@@ -224,7 +247,7 @@ def _watch_of(process: Popen[bytes]) -> Popen[bytes]:
 
 def _let_go() -> None:
     """In a forked process: it keeps no program running that its parent started."""
-    for watch in _watches:
+    for watch in list(_watches):
         assert watch.stdin is not None
         watch.stdin.close()
 
@@ -232,7 +255,7 @@ def _let_go() -> None:
 os.register_at_fork(after_in_child=_let_go)
 
 
-def _stopped(process: Popen[bytes], watch: Popen[bytes], patience: float) -> int:
+def _stopped(process: _Process, watch: _Process, patience: float) -> int:
     """The status of a process, which is ended with what it runs itself if it hasn't ended after so many seconds. Its watch ends."""
     try:
         status = process.wait(patience)
@@ -246,11 +269,17 @@ def _stopped(process: Popen[bytes], watch: Popen[bytes], patience: float) -> int
             watch.stdin.write(b"\n")
         watch.stdin.close()
         watch.wait()
+    _watches.discard(watch)
     return status
 
 
-def _end(process: Popen[bytes], watch: Popen[bytes], *files: IO[bytes]) -> None:
-    """Ends the process, which is no child of a forked process and lives on there. Called once, at the interpreter's exit at the latest."""
-    for file in files:
-        file.close()
-    _stopped(process, watch, 10)
+def _end(process: _Process, watch: _Process, *files: IO[bytes]) -> None:
+    """Ends the process, which is no child of a forked process and lives on there. Called once, at the interpreter's exit at the latest.
+    Where it is interrupted, the process is ended at once."""
+    try:
+        for file in files:
+            file.close()
+        _stopped(process, watch, 10)
+    except BaseException:
+        _stopped(process, watch, 0)
+        raise

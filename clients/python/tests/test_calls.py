@@ -91,6 +91,32 @@ class Objects(ProgramTest):
         other = self.Place(at=place.at)
         self.assertEqual(tuple(other.at), (7, "b", b"c"))
 
+    def test_an_embedded_id_is_set_whole_or_not_at_all(self) -> None:
+        long = "x" * 65_536
+        wrong: List[Any] = [(7, "b", "c"), (7, 8, b"c"), ("7", "b", b"c"), (7, "b", self.Place()), (7, "b", 1)]
+        wrong += [(7, long, b"c"), (7, "b", long.encode()), (7, "\u00e4" * 32_768, b"c")]
+        place = self.Place(at=(1, "a", b""))
+        for given in wrong:
+            refused = karzhoul.Limit if any(len(str(part)) > 32_767 for part in given) else karzhoul.IllegalArgument
+            with self.subTest(str(given)[:40]):
+                with self.assertRaises(refused):
+                    place.at = given
+                self.assertEqual(place.at, (1, "a", b""))
+                with self.assertRaises(refused):
+                    with self.app.pipeline():
+                        place.at = given
+                self.assertEqual(place.at, (1, "a", b""))
+        place.at = (7, "x" * 65_535, None)
+        self.assertEqual(place.at, (7, "x" * 65_535, None))
+        with self.em.transaction():
+            place.at = (1, "a", b"")
+            place.label = "here"
+            self.em.persist(place)
+        with self.assertRaises(karzhoul.IllegalArgument) as raised, self.app.pipeline():
+            place.at = (7, "b", b"c")
+        self.assertEqual(raised.exception.detail, "key")
+        self.assertEqual(place.at, (1, "a", b""))
+
     def test_an_embedded_id_as_a_value(self) -> None:
         first, second, third = (self.Place(at=(row, "a", b"")) for row in (1, 1, 2))
         self.assertTrue(first.at == second.at == (1, "a", b"") and first.at != third.at and first.at != (1, "a"))

@@ -2,6 +2,8 @@
 
 from __future__ import annotations
 
+import contextlib
+import gc
 import inspect
 import json
 import os
@@ -14,7 +16,7 @@ import threading
 import time
 import unittest
 from pathlib import Path
-from typing import Any, Callable, List, Optional
+from typing import Any, Callable, Iterator, List, Optional
 from unittest import mock
 
 import karzhoul
@@ -23,6 +25,8 @@ from .support import FLAT, HERE, PERSONS, PROGRAM, ProgramTest, needs_program
 from .test_program import PACKAGE, lives
 
 LEDGER = HERE / "ledger.py"
+# How often each loop over the program is interrupted; 100 take a second or less.
+INTERRUPTS = int(os.environ.get("KARZHOUL_INTERRUPTS", "100"))
 
 
 class Interrupted(unittest.TestCase):
@@ -53,10 +57,19 @@ def interrupt_at(seconds: float, work: Callable[[], object]) -> None:
     """Does work again and again, until it is interrupted after so many seconds."""
     try:
         signal.setitimer(signal.ITIMER_REAL, seconds)
-        while True:
-            work()
+        repeat(work)
     except KeyboardInterrupt:
-        pass
+        return
+    finally:
+        signal.setitimer(signal.ITIMER_REAL, 0)
+    raise AssertionError("an interrupt was lost")
+
+
+def repeat(work: Callable[[], object]) -> None:
+    """Does work for 100 seconds. (An interrupt of the jump at a loop's end passes by a `try` of the same function in Python 3.13.)"""
+    deadline = time.monotonic() + 100
+    while time.monotonic() < deadline:
+        work()
 
 
 class AtRandom(Interrupted):
@@ -106,29 +119,39 @@ class AtRandom(Interrupted):
 
 
 class AtEachStep(Interrupted):
-    """An interrupt at each place of the package where the interpreter runs the handlers of signals: where a function begins, and where
-    one of C has ended."""
+    """Ctrl-C at each place of the package, and of `contextlib` for it, where the interpreter runs the
+    handlers of signals: where a function begins, and where one of C has ended."""
+
+    def setUp(self) -> None:
+        super().setUp()
+        self.addCleanup(signal.signal, signal.SIGINT, signal.signal(signal.SIGINT, signal.default_int_handler))
 
     def interrupt_at_step(self, number: int, work: Callable[[], object]) -> bool:
         """Does work, interrupted at its step of this number; whether it has as many."""
-        left = number
+        left, package = number, os.path.dirname(karzhoul.__file__)
 
         def profile(frame: Any, event: str, _: object) -> None:
             nonlocal left
+            file = frame.f_code.co_filename
             # (Where a generator is called, a profile's exception would pass by its `finally`, as no interrupt does.)
             is_step = event == "c_return" or event == "call" and not frame.f_code.co_flags & inspect.CO_GENERATOR
-            if is_step and os.path.dirname(frame.f_code.co_filename) == os.path.dirname(karzhoul.__file__):
+            if is_step and (os.path.dirname(file) == package or file == contextlib.__file__):
                 left -= 1
                 if left == 0:
-                    raise KeyboardInterrupt
+                    handler: Any = signal.getsignal(signal.SIGINT)
+                    handler(signal.SIGINT, frame)
 
-        sys.setprofile(profile)
         try:
+            sys.setprofile(profile)
             work()
+            sys.setprofile(None)
+            if left <= 0:
+                time.sleep(5)  # It was put off.
         except KeyboardInterrupt:
             return True
         finally:
             sys.setprofile(None)
+        self.assertGreater(left, 0, "an interrupt was lost")
         return False
 
     def each_step(self, work: Callable[[int], object]) -> int:
@@ -154,27 +177,123 @@ class AtEachStep(Interrupted):
         self.assertEqual(sent, sorted(set(sent)))
         self.assertEqual(set(told) - set(sent), set())
 
-    def test_events(self) -> None:
-        order, heard = self.app.new("Order"), []
-        self.app.listen(heard.append)  # (a callback's own steps may be interrupted)
-        number = self.each_step(lambda _: self.em.persist(order))
-        self.assertEqual([event.object for event in heard], [order] * len(self.lines("persist")))
-        self.assertLessEqual(len(heard), number)
+    def test_an_embedded_id(self) -> None:
+        place = self.app.new("Place")
 
-    def test_a_begin(self) -> None:
-        def work(_: int) -> None:
+        def work(number: int) -> None:
+            place.at = (number, str(number), bytes(number))
+
+        self.each_step(work)
+        sent = [each["value"] for each in self.lines("set")]
+        for row, shelf, tag in zip(sent[::3], sent[1::3], sent[2::3]):
+            self.assertEqual((shelf, tag), (str(row), {"hex": bytes(row).hex()}))
+
+    def test_events(self) -> None:
+        orders, heard = self.app.new_many("Order", [{}] * 500), []
+        self.app.listen(heard.append)  # (a callback's own steps may be interrupted)
+        self.each_step(lambda number: self.em.persist(orders[number]))
+        # Each once, of its own object, and in their order.
+        self.assertEqual([event.object.__number__ for event in heard], [each["object"] for each in self.lines("persist")])
+        self.assertGreater(len(heard), 10)
+
+    def ends_at_each_step(self, work: Callable[[], object]) -> None:
+        """Work whose transaction is over at its end, wherever it is interrupted."""
+        number = 1
+        while self.interrupt_at_step(number, work):
+            number += 1
+            self.assertFalse(self.em.transaction().is_active)
+            self.em.transaction().begin().rollback()
+        self.assertGreater(number, 10)
+        begun, ended = len(self.lines("begin")), len(self.lines("commit")) + len(self.lines("rollback"))
+        self.assertGreaterEqual(ended, begun)
+
+    def test_a_transaction_that_is_committed(self) -> None:
+        def work() -> None:
             with self.em.transaction():
                 pass
 
-        left = 0
+        self.ends_at_each_step(work)
+
+    def test_a_transaction_whose_block_raises(self) -> None:
+        def work() -> None:
+            with contextlib.suppress(ZeroDivisionError), self.em.transaction():
+                raise ZeroDivisionError
+
+        self.ends_at_each_step(work)
+
+    def test_a_transaction_within_a_pipeline(self) -> None:
+        order = self.app.new("Order")
+
+        def work() -> None:
+            with self.app.pipeline(), self.em.transaction():
+                order.amount = 1
+
+        self.ends_at_each_step(work)
+
+    def test_a_transaction_that_contextlib_ends(self) -> None:
+        @contextlib.contextmanager
+        def transaction() -> Iterator[None]:
+            with self.em.transaction():
+                yield
+
+        def work() -> None:
+            with contextlib.ExitStack() as stack:
+                stack.enter_context(transaction())
+
+        self.ends_at_each_step(work)
+
+    def test_a_manager(self) -> None:
+        made: List[Any] = []
+
+        def work() -> None:
+            with self.app.create_entity_manager() as other:
+                made.append(other)
+                other.transaction().begin()
+
         number = 1
-        while self.interrupt_at_step(number, lambda: work(number)):
+        while self.interrupt_at_step(number, work):
             number += 1
-            # Where the block's end begins nothing was done yet.
-            left += self.em.transaction().is_active
-            self.em.transaction()._roll_back()
-            self.em.transaction().begin().rollback()
-        self.assertLessEqual(left, 3)
+            for other in made:
+                self.assertFalse(other.transaction().is_active)
+        self.assertGreater(number, 10)
+        closed = {each["em"] for each in self.lines("close")}
+        self.assertEqual({other.number for other in made} - closed, set())
+
+    def test_the_interpreter_s_own_handler_is_back(self) -> None:
+        with self.app.create_entity_manager() as other, other.transaction(), self.app.pipeline():
+            self.assertIsNot(signal.getsignal(signal.SIGINT), signal.default_int_handler)
+        self.assertIs(signal.getsignal(signal.SIGINT), signal.default_int_handler)
+
+    def test_another_handler_stays(self) -> None:
+        signal.signal(signal.SIGINT, signal.SIG_IGN)
+        with self.em.transaction():
+            self.assertIs(signal.getsignal(signal.SIGINT), signal.SIG_IGN)
+        self.assertIs(signal.getsignal(signal.SIGINT), signal.SIG_IGN)
+
+    def test_an_interrupt_where_contextlib_waits_is_not_put_off_for_ever(self) -> None:
+        lock = threading.Lock()
+        lock.acquire()
+        with self.assertRaises(KeyboardInterrupt):
+            with self.em.transaction(), contextlib.ExitStack() as stack:
+                threading.Timer(0.1, os.kill, (os.getpid(), signal.SIGINT)).start()
+                stack.enter_context(lock)
+        self.assertFalse(self.em.transaction().is_active)
+
+
+class Collected(Interrupted):
+    def test_an_interrupt_while_closed_factories_are_collected(self) -> None:
+        # With so many lists a collection takes long enough to be interrupted.
+        lists = [[0] for _ in range(300_000)]
+        gc.disable()
+        self.addCleanup(gc.enable)
+        with mock.patch.dict(os.environ, KARZHOUL_LEDGER=str(self.log)):
+            for _ in range(3):
+                karzhoul.open(PERSONS, program=LEDGER).close()
+        with self.assertRaises(KeyboardInterrupt):
+            signal.setitimer(signal.ITIMER_REAL, 0.002)
+            gc.collect()
+            time.sleep(5)
+        self.assertEqual(len(lists), 300_000)
 
 
 class WhileItWaits(Interrupted):
@@ -327,30 +446,114 @@ class Killed(unittest.TestCase):
 
 
 @needs_program
-class OfTheProgram(ProgramTest):
-    def test_interrupts_in_an_open_transaction(self) -> None:
+class AtRandomOverTheProgram(ProgramTest):
+    """Loops over the program in an open transaction, each interrupted many times."""
+
+    def setUp(self) -> None:
+        super().setUp()
         self.addCleanup(signal.signal, signal.SIGALRM, signal.signal(signal.SIGALRM, signal.default_int_handler))
-        order, counted = self.Order(number=1, amount=0), []
+        self.order = self.Order(number=1, amount=0)
+        self.em.transaction().begin()
+        self.em.persist(self.order)
+        # What the calls that answered have said.
+        self.amount, self.made = 0, 1
 
+    def interrupt_often(self, work: Callable[[], object]) -> None:
+        """Interrupts work at random moments, and finds the session whole after each."""
+        for _ in range(INTERRUPTS):
+            interrupt_at(random.uniform(0.0001, 0.005), work)
+            # The call that was interrupted may be done, and no other one.
+            self.assertIn(self.order.amount, (self.amount, self.amount + 1))
+            self.amount = self.order.amount
+            self.assertIs(self.em.find("Order", 1), self.order)
+            self.assertIsNone(self.app.program.fault)
+        self.em.transaction().commit()
+        self.em.clear()
+        found = self.em.find("Order", 1)
+        self.assertIsNot(found, self.order)
+        self.assertEqual(found.amount, self.amount)
+
+    def test_interrupts_of_a_count(self) -> None:
         def count() -> None:
-            order.amount += 1
-            counted.append(1)
+            self.order.amount += 1
+            self.amount += 1
 
-        works = (
-            count,
-            lambda: self.em.find("Order", 1),
-            lambda: self.em.query("SELECT o.amount FROM Order o"),
-            lambda: self.app.new_many("Order", [{"number": 2}] * 3),
-        )
+        self.interrupt_often(count)
+        self.assertGreater(self.amount, INTERRUPTS)
+
+    def test_interrupts_of_finds(self) -> None:
+        self.interrupt_often(lambda: self.assertIs(self.em.find("Order", 1), self.order))
+
+    def test_interrupts_of_queries(self) -> None:
+        text = "SELECT o.amount FROM Order o WHERE o.number = 1"
+        self.interrupt_often(lambda: self.assertEqual(self.em.query(text), [self.amount]))
+
+    def test_interrupts_of_many_new_ones(self) -> None:
+        def make() -> None:
+            first, self.made = self.made, self.made + 3
+            numbers = range(first, first + 3)
+            made = self.app.new_many("Order", [{"number": number} for number in numbers])
+            self.assertEqual(self.app.get_many(made, "number"), list(numbers))
+
+        self.interrupt_often(make)
+
+
+@needs_program
+class TransactionsAtRandom(ProgramTest):
+    """Ctrl-C at random moments of transactions over the program: none stays open, and each is stored whole or not at all."""
+
+    def setUp(self) -> None:
+        super().setUp()
+        self.addCleanup(signal.signal, signal.SIGINT, signal.signal(signal.SIGINT, signal.default_int_handler))
+        self.addCleanup(signal.signal, signal.SIGALRM, signal.signal(signal.SIGALRM, self.press))
+        self.keys, self.committed_keys = iter(range(1, 10**9)), set()
+
+    def press(self, _: int, frame: Any) -> None:
+        """Does what Ctrl-C does."""
+        handler: Any = signal.getsignal(signal.SIGINT)
+        handler(signal.SIGINT, frame)
+
+    def store_two(self) -> None:
+        key = next(self.keys)
         with self.em.transaction():
-            self.em.persist(order)
-            for work in works:
-                for _ in range(25):
-                    interrupt_at(random.uniform(0.0001, 0.005), work)
-        self.assertLessEqual(len(counted), order.amount)
-        self.assertLessEqual(order.amount, len(counted) + 25)
-        self.assertIs(self.em.find("Order", 1), order)
+            for number in (key, -key):
+                self.em.persist(self.Order(number=number))
+        self.committed_keys.add(key)
 
+    def test_each_block_ends_its_transaction(self) -> None:
+        for _ in range(INTERRUPTS):
+            interrupt_at(random.uniform(0.0001, 0.005), self.store_two)
+            self.assertFalse(self.em.transaction().is_active)
+            self.em.transaction().begin().rollback()
+        stored = set(self.em.query("SELECT o.number FROM Order o"))
+        self.assertEqual(stored, {-number for number in stored})
+        self.assertEqual(self.committed_keys - stored, set())
+        # Beside these a commit that was interrupted may be done.
+        self.assertLessEqual(len(stored), 2 * (len(self.committed_keys) + INTERRUPTS))
+
+    def test_a_manager_s_block(self) -> None:
+        for _ in range(INTERRUPTS):
+            managers = [self.app.create_entity_manager() for _ in range(3)]
+
+            def work() -> None:
+                if managers:
+                    with managers[0] as manager, manager.transaction():
+                        manager.persist(self.Order(number=next(self.keys)))
+                    del managers[0]
+
+            interrupt_at(random.uniform(0.0001, 0.001), work)
+            for manager in managers:
+                self.assertFalse(manager.transaction().is_active)
+                with contextlib.suppress(karzhoul.NoSuchManager):
+                    manager.close()
+        # None is left open, of which 16 are the most.
+        self.em.close()
+        for _ in range(16):
+            self.app.create_entity_manager()
+
+
+@needs_program
+class OfTheProgram(ProgramTest):
     def test_a_restart(self) -> None:
         with tempfile.TemporaryDirectory() as place, karzhoul.open(PERSONS, Path(place, "app.db"), program=PROGRAM) as app:
             heard: List[Optional[object]] = []

@@ -10,6 +10,7 @@ import functools
 import io
 import os
 import re
+import shutil
 import subprocess
 import sys
 import tempfile
@@ -21,7 +22,7 @@ from unittest import mock
 import karzhoul
 from karzhoul import LifecycleEvent
 
-from .support import PROGRAM, TOP, needs_program
+from .support import PROGRAM, TOP, needs_program, package_elsewhere
 
 DESK = TOP / "examples" / "order-desk"
 sys.path.insert(1, str(DESK))
@@ -111,7 +112,8 @@ class Commands(FolderTest):
 
     def run_desk(self, *words: Any) -> Tuple[int, str, str]:
         out, err = io.StringIO(), io.StringIO()
-        with mock.patch.dict(os.environ, {"KARZHOUL_PROGRAM": str(PROGRAM)}):
+        # As where the package lies in no clone, whose program would be started else.
+        with mock.patch("karzhoul.finding._PACKAGE", self.folder), mock.patch.dict(os.environ, {"KARZHOUL_PROGRAM": str(PROGRAM)}):
             with contextlib.redirect_stdout(out), contextlib.redirect_stderr(err):
                 status = desk.main(["--db", str(self.db), *map(str, words)])
         return status, out.getvalue(), err.getvalue()
@@ -179,11 +181,15 @@ class Commands(FolderTest):
         found = re.findall(r"^```sh\n(.*?)^```\n(?:\n```text\n(.*?)^```$)?", page, re.MULTILINE | re.DOTALL)
         (beginning, _), *blocks = found
         own = {"KARZHOUL_PROGRAM": str(PROGRAM), "TMPDIR": str(self.folder), "PYTHONDONTWRITEBYTECODE": "1"}
+        # In no clone, whose program would be started else.
+        top = self.folder / "top"
+        package_elsewhere(str(top))
+        shutil.copytree(DESK, top / "examples" / "order-desk", ignore=shutil.ignore_patterns("__pycache__"))
         self.assertEqual(page.count("```sh\n"), 1 + len(blocks))
         for block, printed in blocks:
             with self.subTest(block):
                 words = ["bash", "-euc", f"{beginning}\n{block}"]
-                ran = subprocess.run(words, cwd=TOP, env={**os.environ, **own}, capture_output=True, text=True, timeout=100)
+                ran = subprocess.run(words, cwd=top, env={**os.environ, **own}, capture_output=True, text=True, timeout=100)
                 self.assertEqual((ran.stdout, ran.stderr, ran.returncode), (printed, "", 0))
 
 

@@ -116,5 +116,48 @@ class Queries(unittest.TestCase):
         self.refuses(karzhoul.Rollback, "marked", transaction.commit)
 
 
+@needs_program
+class Functions(unittest.TestCase):
+    """A converter by which greater values are stored as lesser ones, and a listener that counts."""
+
+    MAPPING: Any = {
+        "revision": 1,
+        "entities": [
+            {
+                "name": "Order",
+                "table": 1,
+                "key": [{"name": "number", "type": "int"}],
+                "attributes": [
+                    {"name": "amount", "type": "int", "column": 1, "converter": "flip"},
+                    {"name": "count", "type": "int", "column": 2},
+                ],
+                "listeners": [{"name": "count", "events": ["PrePersist"]}],
+            }
+        ],
+        "functions": [{"name": "flip", "make": "flip"}, {"name": "count", "make": "count", "attribute": "count"}],
+    }
+
+    def setUp(self) -> None:
+        self.app = karzhoul.open(self.MAPPING, program=PROGRAM)
+        self.addCleanup(self.app.close)
+        self.em = self.app.create_entity_manager()
+        with self.em.transaction():
+            for number, amount, count in ((10, 1, None), (11, 2, 0), (12, 3, 4)):
+                self.em.persist(self.app.new("Order", number=number, amount=amount, count=count))
+
+    def test_a_converted_attribute_has_its_own_value(self) -> None:
+        ask = self.em.query
+        self.assertEqual(ask("SELECT o.number FROM Order o WHERE o.amount < 3 ORDER BY o.amount"), [10, 11])
+        self.assertEqual(ask("SELECT o.number FROM Order o WHERE o.amount = :a", params={"a": 2}), [11])
+        self.assertEqual(ask("SELECT o.amount + 1 FROM Order o ORDER BY o.amount DESC"), [4, 3, 2])
+        self.assertEqual(ask("SELECT MIN(o.amount), SUM(o.amount) FROM Order o"), [[1, 6]])
+        with self.em.transaction():
+            self.em.execute_update("UPDATE Order o SET o.amount = o.amount * 10 WHERE o.amount > 1")
+        self.assertEqual(ask("SELECT o.amount FROM Order o"), [1, 20, 30])
+
+    def test_null_counts_as_0(self) -> None:
+        self.assertEqual(self.em.query("SELECT o.count FROM Order o"), [1, 1, 5])
+
+
 if __name__ == "__main__":
     unittest.main()

@@ -187,6 +187,19 @@ class Lists(RelationsTest):
             person.orders = ["Ada"]
         self.assertEqual(person.orders, [*orders, orders[0]])
 
+    def test_an_inverse_list_raises_no_version_of_its_owner(self) -> None:
+        with karzhoul.open(ORPHANS, program=PROGRAM) as app, app.create_entity_manager() as manager:
+            person: Any = app.new("Person", name="Ada")
+            with manager.transaction():
+                manager.persist(person)
+            with manager.transaction():
+                person.orders.append(app.new("Order", number=1, person=person))
+            self.assertEqual((person.version, len(person.orders)), (0, 1))
+            with manager.transaction():
+                person.orders.append(app.new("Order", number=2, person=person))
+                manager.lock(person, karzhoul.LockModeType.OPTIMISTIC_FORCE_INCREMENT)
+            self.assertEqual(person.version, 1)
+
     def test_the_set_of_the_members_is_stored(self) -> None:
         with tempfile.TemporaryDirectory() as place:
             db = Path(place, "app.db")

@@ -1,0 +1,134 @@
+"""The transaction of a manager, with the names of the standard (chapter 7.5)."""
+
+from __future__ import annotations
+
+from contextlib import suppress
+from types import TracebackType
+from typing import TYPE_CHECKING, Iterator, Optional, Type
+
+from .interrupts import begin_of_block, carried_out, end_of_block, guard, unguard
+from .lines import line_of
+from .refusals import IllegalState, KarzhoulError, OptimisticLock, ProgramEnded, Restarted, Rollback
+
+if TYPE_CHECKING:
+    from .managers import EntityManager
+
+
+class EntityTransaction:
+    """The transaction of a manager; each manager has one of its own.
+
+    `is_active` says whether it is open. Where one of its calls was interrupted it may be over all the same: then `rollback` is refused.
+    """
+
+    def __init__(self, manager: EntityManager) -> None:
+        self._manager, self.is_active = manager, False
+
+    def begin(self) -> EntityTransaction:
+        """Opens it."""
+        was_active = self.is_active
+        try:
+            # Before it is, so that no interrupt leaves one open that isn't known to be.
+            self.is_active = True
+            self._ask("begin")
+        except KarzhoulError:
+            self.is_active = was_active
+            raise
+        return self
+
+    def commit(self) -> None:
+        """Stores the manager's new and changed objects, all or none. After a `Rollback` it is rolled back."""
+        try:
+            self._ask("commit")
+        except Rollback:
+            self.is_active = False
+            raise
+        self.is_active = False
+
+    def rollback(self) -> None:
+        """Gives up what isn't committed; the manager's objects are detached as they are."""
+        try:
+            self._ask("rollback")
+        except (IllegalState, ProgramEnded, Restarted):  # It is over already.
+            self.is_active = False
+            raise
+        self.is_active = False
+
+    def set_rollback_only(self) -> None:
+        """Leaves it able only to roll back."""
+        self._manager.factory.tell(line_of("setRollbackOnly", {"em": self._manager._em}))
+
+    def _ask(self, call: str) -> None:
+        self._manager.factory.ask(call, em=self._manager._em)
+
+    @begin_of_block
+    def __enter__(self) -> EntityTransaction:
+        try:
+            guard(self)
+            return self.begin()
+        except BaseException as fault:
+            if not isinstance(fault, KarzhoulError):  # Neither the block is run, nor its end.
+                carried_out(self._roll_back)
+            unguard(self)
+            raise
+
+    @end_of_block
+    def __exit__(self, kind: Optional[Type[BaseException]], *_: object) -> None:
+        try:
+            if self.is_active and kind is None:
+                self.commit()
+        finally:
+            try:
+                carried_out(self._roll_back)
+            finally:
+                unguard(self)
+
+    def _roll_back(self) -> None:
+        """Rolls it back where it is open, and raises no refusal of that: it is over already, or the
+        program is, or something else was raised, as of the calls of a pipeline around it."""
+        if self.is_active:
+            with suppress(KarzhoulError):
+                self._manager.factory.tell_kept()
+            with suppress(KarzhoulError):
+                self.rollback()
+
+
+class Attempt:
+    """One attempt of `EntityManager.attempts`, whose `with` block is a transaction. Where the block is
+    left by a `Rollback` since another manager's commit came first, it is to be made again."""
+
+    def __init__(self, transaction: EntityTransaction, is_last: bool) -> None:
+        self._transaction, self._is_last = transaction, is_last
+        self.is_done = False
+
+    @begin_of_block
+    def __enter__(self) -> EntityTransaction:
+        return self._transaction.__enter__()
+
+    @end_of_block
+    def __exit__(
+        self,
+        kind: Optional[Type[BaseException]],
+        fault: Optional[BaseException],
+        trace: Optional[TracebackType],
+    ) -> bool:
+        try:
+            self._transaction.__exit__(kind, fault, trace)
+        except Rollback as refused:
+            if not self._is_too_late(refused):
+                raise
+            return True
+        self.is_done = fault is None
+        return self._is_too_late(fault)
+
+    def _is_too_late(self, fault: Optional[BaseException]) -> bool:
+        is_stale = isinstance(fault, Rollback) and isinstance(fault.cause, OptimisticLock)
+        return is_stale and not self._is_last
+
+
+def attempts(transaction: EntityTransaction, most: int) -> Iterator[Attempt]:
+    """At most so many attempts at a transaction, until one is done."""
+    for number in range(1, most + 1):
+        attempt = Attempt(transaction, is_last=number == most)
+        yield attempt
+        if attempt.is_done:
+            return
