@@ -3,4 +3,5 @@ mod Placed
 mod First
 mod Staying
 mod Unlocked
+mod Listed
 mod Examples

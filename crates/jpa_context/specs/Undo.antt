@@ -7,7 +7,7 @@ use Rattle.jpa_heap.specs.declared.LiveObject.{LiveObject}
 use Rattle.jpa_heap.specs.Objects.{object_at, is_whole}
 use Rattle.jpa_heap.specs.Shape.{HasShape}
 use Rattle.jpa_context.specs.declared.Entry.{Entry}
-use Rattle.jpa_context.specs.declared.marks.Marks.{Marks}
+use Rattle.jpa_context.specs.Marks.{Marks}
 use Rattle.jpa_context.specs.declared.work.UnitOfWork.{UnitOfWork}
 use Rattle.jpa_context.specs.Work.{Work}
 

@@ -1,10 +1,11 @@
 //! The entries of a persistence context, found by key and by object.
-ghost use Rattle.std.specs.Prelude.{◌≡◌, ◌<◌, ◌≤◌, [], ◌∷◌, ◌++◌, length, map, take, slice_set, OnOk, OnErr};
+ghost use Rattle.std.specs.Prelude.{◌≡◌, ◌<◌, ◌≤◌, [], ◌∷◌, ◌++◌, length, take, slice_index_or, slice_set, OnOk, OnErr};
 ghost use Rattle.jpa_context.specs.Indexed as indexed;
-ghost use Rattle.jpa_context.specs.Marks.{all_marked, is_marked};
+ghost use Rattle.jpa_context.specs.Marks.{all_marked, is_marked, none_marked};
 ghost use Rattle.jpa_context.specs.Near.{places_near};
 ghost use Rattle.jpa_context.specs.Places.{StaysAt, entry_place, without_objects, without_removed};
 ghost use Rattle.jpa_context.specs.Work.{unlocked};
+ghost use Rattle.jpa_context.specs.declared.Entry.{Entry};
 ghost use Rattle.jpa_undo.specs.Undo.{put_back};
 
 use crate::Entry;
@@ -13,12 +14,13 @@ use crate::index::PlaceIndex;
 use crate::leaving::{any_removed, drop_unplaced, forget_objects, forget_removed};
 use crate::marks::Marks;
 use crate::object_places::ObjectPlaces;
-use crate::unlocking::unlock_each;
+use crate::unlocking::unlock_at;
 use jpa_heap::LiveObject;
 use jpa_undo::UndoList;
 use jpa_value::Value;
 use std::alloc::{AllocError, Global};
 use std::marker::Model;
+use std::mem;
 
 /// The entries of a context in the order in which they entered, with an index by key and one by object. Changes can be undone;
 /// entries that leave, leave for good.
@@ -65,18 +67,18 @@ fn forget(index: &mut PlaceIndex, at: &mut ObjectPlaces, entries: &[Entry], kept
 }
 
 impl PersistenceContext {
-    /// No entries. Takes no memory.
+    /// No entries, of which none is marked. Takes no memory.
     pub fn new(alloc: Global) -> PersistenceContext
         ensures now { result.now ≡ [] }
         ensures since { result.since ≡ [] }
-        ensures marks { result.marks ≡ all_marked }
+        ensures marks { result.marks ≡ none_marked }
     {
         PersistenceContext {
             list: UndoList::new(alloc),
             kept: 0,
             index: PlaceIndex::new(alloc),
             at: ObjectPlaces::new(alloc),
-            marks: Marks::all(alloc),
+            marks: Marks::none(alloc),
         }
     }
 
@@ -101,6 +103,16 @@ impl PersistenceContext {
         ensures marks { self.new.marks ≡ marks }
     {
         self.marks = marks;
+    }
+
+    /// Takes the marks, for good; each object is marked then. Takes no memory.
+    pub fn take_marks(&mut self, alloc: Global) -> Marks
+        ensures taken { result ≡ self.old.marks }
+        ensures now { self.new.now ≡ self.old.now }
+        ensures since { self.new.since ≡ self.old.since }
+        ensures marks { self.new.marks ≡ all_marked }
+    {
+        mem::replace(&mut self.marks, Marks::all(alloc))
     }
 
     /// What was overwritten since the changes were last kept, each entry with its place. Takes no memory.
@@ -232,22 +244,24 @@ impl PersistenceContext {
         self.kept = drop_unplaced(&mut self.list, &mut self.index, &mut self.at);
     }
 
-    /// The locks end, as at the end of a commit, for good: neither that nor a change before it can be undone. Takes no memory,
-    /// and time for each entry.
-    pub fn unlock(&mut self, alloc: Global)
-        ensures now { self.new.now ≡ map unlocked self.old.now }
+    /// The lock of the entry at a place ends, as at the end of a commit, for good: neither that nor a change before it can be undone.
+    /// Takes no memory, and looks at no other entry.
+    pub fn unlock_at(&mut self, alloc: Global, place: usize)
+        requires { place < length self.old.now }
+        ensures now { (e : Entry) → self.new.now
+            ≡ slice_set self.old.now place (unlocked (slice_index_or self.old.now place e)) }
         ensures since { self.new.since ≡ self.new.now }
         ensures marks { self.new.marks ≡ self.old.marks }
     {
-        unlock_each(alloc, &mut self.list);
+        unlock_at(alloc, &mut self.list, place);
         self.kept = self.list.len();
     }
 
-    /// All entries leave for good. Takes no memory.
+    /// All entries leave for good, and no mark is left. Takes no memory.
     pub fn clear(&mut self, alloc: Global)
         ensures now { self.new.now ≡ [] }
         ensures since { self.new.since ≡ [] }
-        ensures marks { self.new.marks ≡ all_marked }
+        ensures marks { self.new.marks ≡ none_marked }
     {
         *self = PersistenceContext::new(alloc);
     }

@@ -1,5 +1,5 @@
-//! How locks end for good, without memory.
-ghost use Rattle.std.specs.Prelude.{◌≡◌, ◌<◌, length, map, slice_set, slice_index_or};
+//! How a lock ends for good, without memory.
+ghost use Rattle.std.specs.Prelude.{◌≡◌, ◌<◌, length, slice_set, slice_index_or};
 ghost use Rattle.jpa_context.specs.Work.{unlocked};
 ghost use Rattle.jpa_context.specs.declared.Entry.{Entry};
 
@@ -19,7 +19,7 @@ fn no_entry(alloc: Global) -> Entry {
 }
 
 /// The lock of the entry at a place ends, for good. Takes no memory.
-fn unlock_at(alloc: Global, entries: &mut UndoList<Entry>, place: usize)
+pub(crate) fn unlock_at(alloc: Global, entries: &mut UndoList<Entry>, place: usize)
     requires { place < length entries.old.now }
     ensures now { (e : Entry) → entries.new.now
         ≡ slice_set entries.old.now place (unlocked (slice_index_or entries.old.now place e)) }
@@ -28,19 +28,4 @@ fn unlock_at(alloc: Global, entries: &mut UndoList<Entry>, place: usize)
     let mut entry = entries.put(place, no_entry(alloc));
     entry.lock = Lock::Unlocked;
     entries.put(place, entry);
-}
-
-/// The locks of all entries end, for good. Takes no memory, and time for each entry.
-pub(crate) fn unlock_each(alloc: Global, entries: &mut UndoList<Entry>)
-    ensures now { entries.new.now ≡ map unlocked entries.old.now }
-    ensures since { entries.new.since ≡ entries.new.now }
-{
-    entries.keep();
-    for place in 0..entries.len() {
-        let entry = &entries.as_slice()[place];
-        match entry.lock {
-            Lock::Unlocked => {}
-            Lock::Read | Lock::Write => unlock_at(alloc, entries, place),
-        }
-    }
 }

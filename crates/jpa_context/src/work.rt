@@ -38,6 +38,7 @@ impl UnitOfWork {
         ensures now { now self.new ≡ now_kept is_begun self.old }
         ensures kept { IsKept self.new }
         ensures view { self.new.view ≡ opened.after_keeping is_begun self.old.view }
+        ensures marks { self.new.context.marks ≡ self.old.context.marks }
     {
         self.objects.keep();
         self.context.keep();
@@ -54,6 +55,7 @@ impl UnitOfWork {
         ensures now { now self.new ≡ undone self.old.manager (since self.old) }
         ensures kept { IsKept self.new }
         ensures view { self.new.view ≡ opened.after_undoing self.old.view }
+        ensures marks { self.new.context.marks ≡ self.old.context.marks }
     {
         self.objects.undo();
         self.context.undo();

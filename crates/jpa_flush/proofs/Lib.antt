@@ -1,17 +1,22 @@
 pub mod Actions
 pub mod Alike
+pub mod Below
 pub mod Changed
+pub mod Choosing
 pub mod Converts
+pub mod Entered
 mod Examples
 pub mod Flushed
 pub mod Gaps
-pub mod InOrder
 pub mod Joined
 mod Linked
+mod Locked
 pub mod Names
 pub mod Noted
+pub mod OneEntry
 pub mod Orphaned
 pub mod Places
+pub mod Prefix
 pub mod Reached
 pub mod Remembered
 pub mod Rising

@@ -1,9 +1,9 @@
 -- Operations one after another.
 use Rattle.std.proofs.Common.{◌≡◌, ◌∙◌, ℕ, ◌+◌, ◌<◌, ◌≤◌, List, [], ◌∷◌, ◌++◌, map, take, drop, length, get_or, ap, sym, subst, arith}
 use Rattle.std.specs.Prelude.{Option, All}
-use Rattle.std.specs.List.{flat_map, enumerate_from}
+use Rattle.std.specs.List.{enumerate_from}
 use Rattle.std.specs.Option.{option_to_list}
-use Rattle.std.proofs.lemmas.List.{at_drop_more, take_more, take_all, flat_map_more}
+use Rattle.std.proofs.lemmas.List.{at_drop_more, take_more, take_all}
 use Rattle.std.proofs.lemmas.List.Elements.{All-append, All-nil, All-cons}
 use Rattle.std.proofs.lemmas.List.FromFn.{length-enumerate_from, get_or-enumerate_from}
 use Rattle.jpa_value.specs.declared.value.Identity.{Identity}
@@ -18,9 +18,9 @@ use Rattle.jpa_context.specs.Work.{Work}
 use Rattle.jpa_context.specs.Steps.{Outcome, Done, Op, after, each, IsRefusedAs}
 use Rattle.jpa_flush.specs.declared.steps.Step.{Step}
 use Rattle.jpa_flush.specs.declared.planning.Planned.{Planned}
-use Rattle.jpa_flush.specs.Flush.{pre_update_one, check_one, check_actions}
-use Rattle.jpa_flush.specs.Plan.{step_of, update, check, insertion, replacement, removal, planned, planned_of}
-use Rattle.jpa_flush.proofs.Actions.{one_checked, one_updated, one_planned, map_both}
+use Rattle.jpa_flush.specs.Flush.{pre_update_one}
+use Rattle.jpa_flush.specs.Plan.{step_of, update, insertion, replacement, removal, planned}
+use Rattle.jpa_flush.proofs.Actions.{one_updated, map_both}
 use Rattle.jpa_flush.proofs.Updated.{IsUpdated}
 
 -- what is refused on the way is refused
@@ -41,30 +41,7 @@ pub next_refused : {X : Type 0} (f : X → Op (Unit {0})) (xs : List X) (i : ℕ
 next_refused f xs i x w r events l read h =
     subst (IsRefusedAs r events) (sym (next f xs i x w l read)) (refused_after r events (f x w) (λ _. each f (drop (i + 1) xs)) h)
 
--- ---- the checks
-
-pub check_done : (world : World) (w : Work) (i : ℕ) (e : Entry) → i < length w.context → e ≡ get_or w.context i e → check world e.object (step_of world.model w e) w ≡ Done tt w →
-    each (check_one world) (drop (i + 1) w.context) w ≡ each (check_one world) (drop i w.context) w
-check_done world w i e l read done = next_done (check_one world) w.context i e w w l read (one_checked world e w ∙ done)
-
-pub check_refused : (world : World) (w : Work) (i : ℕ) (e : Entry) (r : Cause) → i < length w.context → e ≡ get_or w.context i e →
-    each (check_one world) (drop i w.context) w ≡ check_actions world w →
-    IsRefusedAs r w.events (check world e.object (step_of world.model w e) w) → IsRefusedAs r w.events (check_actions world w)
-check_refused world w i e r l read rest h =
-    subst (IsRefusedAs r w.events) rest
-    (next_refused (check_one world) w.context i e w r w.events l read (subst (IsRefusedAs r w.events) (sym (one_checked world e w)) h))
-
 -- ---- the plan by the next entry
-
-pub plan_round : (m : PersistenceUnit) (w : Work) (i : ℕ) (e : Entry) (plan plan' : List Planned) (o : Option Planned) → i < length w.context → e ≡ get_or w.context i e →
-    plan ≡ flat_map (planned_of m w) (take i w.context) → o ≡ planned m w e.object (step_of m w e) → plan' ≡ plan ++ option_to_list o →
-    plan' ≡ flat_map (planned_of m w) (take (i + 1) w.context)
-plan_round m w i e plan plan' o l read before this more =
-    more
-    ∙ (λ j. before j ++ (ap option_to_list this ∙ one_planned m w e) j)
-    ∙ flat_map_more (planned_of m w) [] (take i w.context) e
-    ∙ ap (λ x. flat_map (planned_of m w) (take i w.context ++ x ∷ [])) read
-    ∙ ap (flat_map (planned_of m w)) (sym (take_more w.context i e l))
 
 step_within : (m : PersistenceUnit) (w : Work) (n k : ℕ) (s : Step) → n < k → All (λ p. p.object < k) (option_to_list (planned m w n s))
 step_within m w n k Step.Keep l = All-nil (λ (p : Planned). p.object < k)

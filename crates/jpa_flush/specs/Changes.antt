@@ -1,5 +1,5 @@
 -- What a plan changes of a set: where it writes or takes out, and of which class what stood there was.
-use Rattle.std.specs.Prelude.{◌≡◌, ℕ, T, All, List, [], ◌∷◌, map, Option, Some, None}
+use Rattle.std.specs.Prelude.{◌≡◌, ℕ, T, true, All, List, [], ◌∷◌, map, Option, Some, None}
 use Rattle.std.specs.List.{flat_map}
 use Rattle.std.specs.FinMap.Entries.{is_sorted}
 use Rattle.jpa_value.specs.declared.value.Identity.{Identity}
@@ -8,6 +8,8 @@ use Rattle.jpa_model.specs.declared.unit.PersistenceUnit.{PersistenceUnit}
 use Rattle.jpa_stored.specs.Sets.{StoredSet, IsSound}
 use Rattle.jpa_judge.specs.declared.change.Change.{Change}
 use Rattle.jpa_context.specs.Work.{Work, row_at}
+use Rattle.jpa_fetch.specs.Grown.{IsReady}
+use Rattle.jpa_ops.specs.Names.{has_distinct_entries}
 use Rattle.jpa_flush.specs.declared.planning.Planned.{Planned}
 use Rattle.jpa_flush.specs.Plan.{class_there, write_each}
 
@@ -31,3 +33,10 @@ pub record IsWritten (m : PersistenceUnit) (w : Work) (plan : List Planned) (aft
   pub sound : IsSound m w.view
   pub classes : All (λ p. p.class_before ≡ class_there (row_at w p.id)) plan
   pub written : after ≡ write_each plan w.view
+
+-- what writing stands on: the work and its set are in order, and nothing comes twice
+pub record IsWritable (m : PersistenceUnit) (w : Work) : Type 0 where
+  pub ready : IsReady m w
+  pub sound : IsSound m w.view
+  pub rising : T (is_sorted identity_cmp w.view)
+  pub distinct : has_distinct_entries m w ≡ true

@@ -6,27 +6,28 @@ ghost use Rattle.jpa_context.specs.Steps.{Meets};
 ghost use Rattle.jpa_context.specs.Undo.{now, since};
 ghost use Rattle.jpa_fetch.specs.Grown.{IsReady};
 ghost use Rattle.jpa_fetch.specs.Orderly.{IsOrderly};
+ghost use Rattle.jpa_flush.specs.Changes.{IsWritable};
 ghost use Rattle.jpa_flush.specs.Flush as flushes;
+ghost use Rattle.jpa_flush.specs.Marked as marked;
 ghost use Rattle.jpa_flush.specs.Plan as plans;
 ghost use Rattle.jpa_ops.specs.Names.{has_distinct_entries};
 ghost use Rattle.jpa_stored.specs.Sets.{IsSound};
 ghost use Rattle.jpa_value.specs.Value.{identity_cmp};
 
 use crate::judging::judge_written;
-use crate::links::check_links;
-use crate::orphans::remove_orphans;
-use crate::planning::plan;
-use crate::reaching::persist_reachable;
-use crate::remembering::remember;
+use crate::passes::{check_links_looked, persist_looked, remember_looked, remove_orphans_looked};
 use crate::settling::settle;
-use crate::telling::{tell_updates, tell_written};
+use crate::telling::tell_written;
+use crate::touched::looked;
+use crate::walking::{plan_at, tell_updates_at};
 use crate::writing::write_all;
 use jpa_behaviour::{Behaviour, ServedUnit};
 use jpa_context::UnitOfWork;
 use jpa_value::Cause;
 use std::alloc::Global;
 
-/// Checks and writes what the objects of a context differ in from the set, as they are after PreUpdate, and tells of it.
+/// Checks and writes what the objects of a context differ in from the set, as they are after PreUpdate, and tells of it; nothing is
+/// written of the entries at other places.
 ///
 /// Objects and entries settle before the set is written and judged: what they remember is what they hold, of whatever set, and
 /// what was changed is undone where the new set is refused.
@@ -34,18 +35,19 @@ fn write_changes<B: Behaviour>(
     alloc: Global,
     unit: &ServedUnit<B>,
     work: &mut UnitOfWork,
+    places: &[usize],
 ) -> Result<(), Cause>
-    requires ready { IsReady unit.now.metamodel (now work.old) }
-    requires sound { IsSound unit.now.metamodel (now work.old).view }
-    requires rising { T (is_sorted identity_cmp (now work.old).view) }
-    requires distinct { has_distinct_entries unit.now.metamodel (now work.old) ≡ true }
+    requires writable { IsWritable unit.now.metamodel (now work.old) }
+    requires marked { marked.AreMarkedBefore unit.now.metamodel work.old }
+    requires looked { marked.AreLooked (λ e. marked.is_calm unit.now.metamodel (now work.old) e
+        ≡ true) work.old.context.now places.now }
     ensures meets { let world = world_of_unit B.meaning unit.now in
         Meets result (now work.new) (plans.writing world (now work.old)) }
     ensures since { since work.new ≡ since work.old }
 {
-    let plan = plan(alloc, unit, work)?;
+    let plan = plan_at(alloc, unit, work, places)?;
     settle(alloc, work, plan.as_slice())?;
-    remember(alloc, &unit.metamodel, work)?;
+    remember_looked(alloc, &unit.metamodel, work)?;
     write_all(work, plan.as_slice())?;
     judge_written(alloc, &unit.metamodel, work, plan.as_slice())?;
     tell_written(alloc, unit, work, plan.as_slice())
@@ -63,8 +65,9 @@ fn write_changes<B: Behaviour>(
 /// assigns what is not allowed; `OutOfMemory` where a growth was refused. What a refused call changed is undone by
 /// `UnitOfWork::undo`.
 ///
-/// It looks at each entry of the context and what its object holds, and of the set at what it writes, at what that leads to, and
-/// at what leads to what it takes out.
+/// It looks at the entries of marked objects and of what was touched since the call began, and what these objects hold; at each
+/// entry where one of them leads to an object that is to be persisted, or has an orphan, and where marks don't say to what the others
+/// lead. Of the set it looks at what it writes, at what that leads to, and at what leads to what it takes out.
 pub fn flush<B: Behaviour>(
     alloc: Global,
     unit: &ServedUnit<B>,
@@ -75,15 +78,18 @@ pub fn flush<B: Behaviour>(
     requires sound { IsSound unit.now.metamodel (now work.old).view }
     requires rising { T (is_sorted identity_cmp (now work.old).view) }
     requires distinct { has_distinct_entries unit.now.metamodel (now work.old) ≡ true }
+    requires marked { marked.IsMarked unit.now.metamodel work.old }
     ensures meets { Meets result (now work.new)
         (flushes.flush (world_of_unit B.meaning unit.now) (now work.old)) }
     ensures since { since work.new ≡ since work.old }
 {
-    persist_reachable(alloc, unit, work)?;
-    remove_orphans(alloc, unit, work)?;
-    check_links(&unit.metamodel, work)?;
-    tell_updates(alloc, unit, work)?;
-    write_changes(alloc, unit, work)
+    persist_looked(alloc, unit, work)?;
+    remove_orphans_looked(alloc, unit, work)?;
+    let found = looked(alloc, &unit.metamodel, work)?;
+    check_links_looked(&unit.metamodel, work, &found)?;
+    let places = found.places.as_slice();
+    tell_updates_at(alloc, unit, work, places)?;
+    write_changes(alloc, unit, work, places)
 }
 
 /// The flush before a query or a bulk statement, where there is one: in a transaction under flush mode AUTO (chapter 3.10.8).
@@ -99,6 +105,7 @@ pub fn flush_if<B: Behaviour>(
     requires sound { IsSound unit.now.metamodel (now work.old).view }
     requires rising { T (is_sorted identity_cmp (now work.old).view) }
     requires distinct { has_distinct_entries unit.now.metamodel (now work.old) ≡ true }
+    requires marked { marked.IsMarked unit.now.metamodel work.old }
     ensures meets { let world = world_of_unit B.meaning unit.now in
         Meets result (now work.new) (flushes.flush_if is_due world (now work.old)) }
     ensures since { since work.new ≡ since work.old }

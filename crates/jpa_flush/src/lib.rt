@@ -6,16 +6,18 @@
 
 mod calm;
 mod checking;
+mod chosen;
 mod differing;
 mod flushing;
 mod held;
 mod judging;
+mod keeping;
 mod laws;
 mod leading;
 mod links;
 mod locks;
-mod looked;
 mod orphans;
+mod passes;
 mod planning;
 mod reaching;
 mod remembering;
@@ -24,8 +26,15 @@ mod steps;
 mod still;
 mod storing;
 mod telling;
+mod touched;
+mod walking;
 mod writing;
 
+pub use calm::{is_calm, is_calm_unlocked};
+pub use chosen::Looked;
 pub use flushing::{flush, flush_if};
+pub use keeping::{keep_links, keep_names};
 pub use laws::{calm_laws, mark_laws};
+pub use leading::is_linked;
 pub use locks::reads_hold;
+pub use touched::looked;

@@ -1,9 +1,10 @@
 //! The locks of a context at a commit.
-ghost use Rattle.std.specs.Prelude.{◌≡◌, ◌<◌, ◌&&◌, length, IfOk, IfErr};
+ghost use Rattle.std.specs.Prelude.{◌≡◌, ◌<◌, ◌&&◌, length, true, IfOk, IfErr};
 ghost use Rattle.jpa_context.specs.Undo.{now};
 ghost use Rattle.jpa_context.specs.Work as works;
 ghost use Rattle.jpa_fetch.specs.Grown.{IsReady};
 ghost use Rattle.jpa_flush.specs.Flush as flushes;
+ghost use Rattle.jpa_flush.specs.Marked as marked;
 ghost use Rattle.jpa_value.specs.declared.refusal.Cause.{Cause};
 
 use crate::checking::is_current;
@@ -61,14 +62,17 @@ fn read_holds(metamodel: &Metamodel, work: &UnitOfWork, entry: &Entry) -> Result
 }
 
 /// Whether each managed object that is locked to be read has the version that the set has of it (Jakarta Persistence 3.1,
-/// chapter 3.4.4.1). Fails for want of memory alone, with `OutOfMemory`. Looks at each entry, and at the set for those that are
-/// locked so.
-pub fn reads_hold(metamodel: &Metamodel, work: &UnitOfWork) -> Result<bool, Cause>
+/// chapter 3.4.4.1), where the entries at other places are as their bases say and not locked. Fails for want of memory alone, with
+/// `OutOfMemory`. Looks at the entries at these places, and at the set for those that are locked so.
+pub fn reads_hold(metamodel: &Metamodel, work: &UnitOfWork, places: &[usize]) -> Result<bool, Cause>
     requires ready { IsReady metamodel.now (now work.now) }
+    requires looked { marked.AreLooked (λ e. marked.is_calm metamodel.now (now work.now) e ≡ true)
+        work.now.context.now places.now }
     ensures ok { IfOk result (λ hold. hold ≡ flushes.reads_hold metamodel.now (now work.now)) }
     ensures err { IfErr result (λ cause. cause ≡ Cause.OutOfMemory) }
 {
-    for entry in work.context.as_slice() {
+    for place in places {
+        let entry = &work.context.as_slice()[*place];
         if !read_holds(metamodel, work, entry)? {
             return Ok(false);
         }

@@ -1,11 +1,9 @@
 //! What the flush writes.
-ghost use Rattle.std.specs.Prelude.{◌≡◌, ◌<◌, All, length, IfOk, IfErr};
+ghost use Rattle.std.specs.Prelude.{◌≡◌, ◌<◌, length, IfOk};
 ghost use Rattle.jpa_behaviour.specs.Served.{world_of_unit};
 ghost use Rattle.jpa_context.specs.Steps.{Ends};
 ghost use Rattle.jpa_context.specs.Undo.{now};
 ghost use Rattle.jpa_fetch.specs.Grown.{IsReady};
-ghost use Rattle.jpa_value.specs.declared.refusal.Cause.{Cause};
-ghost use Rattle.jpa_flush.specs.Flush as flushes;
 ghost use Rattle.jpa_flush.specs.Plan as plans;
 
 use crate::checking::{all_convert, can_rise, class_there, is_current, is_stored, raised};
@@ -16,7 +14,7 @@ use jpa_context::UnitOfWork;
 use jpa_heap::identity_of;
 use jpa_model::Metamodel;
 use jpa_stored::Stored;
-use jpa_value::{Cause, Identity, LifecycleEvent, Persist, Seq};
+use jpa_value::{Cause, Identity, LifecycleEvent, Persist};
 use std::alloc::Global;
 
 /// An object that is to be written, with the event that is told of it then.
@@ -155,28 +153,4 @@ pub(crate) fn plan_one<B: Behaviour>(
         Step::Replace(version) => { Ok(Some(replacement(alloc, unit, work, object, version)?)) }
         Step::Drop(version) => Ok(Some(removal(&unit.metamodel, work, object, version)?)),
     }
-}
-
-/// What the flush writes, in the order of the context, each object checked against the set.
-pub fn plan<B: Behaviour>(
-    alloc: Global,
-    unit: &ServedUnit<B>,
-    work: &UnitOfWork,
-) -> Result<Seq<Planned>, Cause>
-    requires ready { IsReady unit.now.metamodel (now work.now) }
-    ensures planned { IfOk result (λ plan. plan ≡ plans.plan_of unit.now.metamodel
-        (now work.now)) }
-    ensures objects { IfOk result (λ plan. All (λ p. p.object < length work.now.objects.now)
-        plan) }
-    ensures ends { let world = world_of_unit B.meaning unit.now in
-        Ends result (now work.now) (flushes.check_actions world (now work.now)) }
-{
-    let mut plan = Seq::new(alloc);
-    for entry in work.context.as_slice() {
-        let step = step_of(&unit.metamodel, work, entry)?;
-        if let Some(planned) = plan_one(alloc, unit, work, entry.object, step)? {
-            plan.push(planned)?;
-        }
-    }
-    Ok(plan)
 }

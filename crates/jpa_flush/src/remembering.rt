@@ -1,6 +1,6 @@
 //! What bases remember of relations after a write.
-ghost use Rattle.std.specs.Prelude.{◌≡◌, ◌<◌, Some, length, IfOk, IfErr, OnOk};
-ghost use Rattle.jpa_context.specs.Undo.{now, since};
+ghost use Rattle.std.specs.Prelude.{◌≡◌, ◌<◌, Some, length, IfOk, IfErr};
+ghost use Rattle.jpa_context.specs.Undo.{now};
 ghost use Rattle.jpa_fetch.specs.Grown.{IsReady};
 ghost use Rattle.jpa_value.specs.declared.refusal.Cause.{Cause};
 ghost use Rattle.jpa_flush.specs.Flush as flushes;
@@ -77,23 +77,4 @@ pub(crate) fn outdated(
         return Ok(None);
     }
     relearned(alloc, metamodel, work, entry)
-}
-
-/// The base of each managed object takes the members that its relations have now (chapter 3.2.4), as far as they were read. An
-/// entry changes only where these are others, so that a context that nothing was done to takes no memory for good.
-/// `OutOfMemory` is the only refusal.
-pub fn remember(alloc: Global, metamodel: &Metamodel, work: &mut UnitOfWork) -> Result<(), Cause>
-    requires ready { IsReady metamodel.now (now work.old) }
-    ensures ok { OnOk result
-        (now work.new ≡ flushes.all_remembered metamodel.now (now work.old)) }
-    ensures err { IfErr result (λ cause. cause ≡ Cause.OutOfMemory) }
-    ensures since { since work.new ≡ since work.old }
-{
-    for i in 0..work.context.len() {
-        let entry = &work.context.as_slice()[i];
-        if let Some(current) = outdated(alloc, metamodel, work, entry)? {
-            work.context.set(i, current)?;
-        }
-    }
-    Ok(())
 }

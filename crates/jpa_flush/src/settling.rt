@@ -5,7 +5,7 @@ ghost use Rattle.jpa_context.specs.Work as works;
 ghost use Rattle.jpa_stored.specs.Sets.{all_distinct};
 ghost use Rattle.jpa_value.specs.declared.refusal.Cause.{Cause};
 ghost use Rattle.jpa_flush.specs.Flush as flushes;
-ghost use Rattle.jpa_flush.specs.Order.{is_in_order};
+ghost use Rattle.jpa_flush.specs.Entered.{are_entered};
 ghost use Rattle.jpa_flush.specs.Plan as plans;
 
 use crate::planning::Planned;
@@ -125,21 +125,18 @@ fn settle_at(
 }
 
 /// Each object of a plan takes the version that was written, and its base is what was written; one that was taken out has
-/// no base. The plan has its objects in the order of the context, so one walk along both meets each.
-pub fn settle(alloc: Global, work: &mut UnitOfWork, plan: &[Planned]) -> Result<(), Cause>
+/// no base. It looks at the entries of these objects alone.
+pub(crate) fn settle(alloc: Global, work: &mut UnitOfWork, plan: &[Planned]) -> Result<(), Cause>
     requires objects { All (λ p. p.object < length work.old.objects.now) plan.now }
     requires distinct { all_distinct (λ a b. a.object == b.object) work.old.context.now ≡ true }
-    requires order { is_in_order plan.now work.old.context.now ≡ true }
+    requires entered { are_entered plan.now work.old.context.now ≡ true }
     ensures ok { OnOk result (now work.new ≡ plans.settled_by plan.now (now work.old)) }
     ensures err { IfErr result (λ cause. cause ≡ Cause.OutOfMemory) }
     ensures since { since work.new ≡ since work.old }
 {
-    let mut next = 0;
-    for i in 0..work.context.len() {
-        if next < plan.len() && plan[next].object == work.context.as_slice()[i].object {
-            settle_at(alloc, work, i, &plan[next])?;
-            next += 1;
-        }
+    for planned in plan {
+        let place = work.context.place_of(planned.object).unwrap();
+        settle_at(alloc, work, place, planned)?;
     }
     Ok(())
 }

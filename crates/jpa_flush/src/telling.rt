@@ -5,12 +5,10 @@ ghost use Rattle.jpa_context.specs.Steps.{Meets};
 ghost use Rattle.jpa_context.specs.Undo.{now, since};
 ghost use Rattle.jpa_context.specs.Work as works;
 ghost use Rattle.jpa_heap.specs.Shape.{HasShape};
-ghost use Rattle.jpa_fetch.specs.Grown.{IsReady};
-ghost use Rattle.jpa_flush.specs.Flush as flushes;
 ghost use Rattle.jpa_flush.specs.Plan as plans;
 
 use crate::planning::Planned;
-use crate::steps::{Step, step_of};
+use crate::steps::Step;
 use jpa_behaviour::{Behaviour, ServedUnit};
 use jpa_context::UnitOfWork;
 use jpa_lifecycle::callback;
@@ -38,27 +36,6 @@ pub(crate) fn tell_update<B: Behaviour>(
             callback(alloc, unit, work, event, object)
         }
     }
-}
-
-/// PreUpdate happens to each object that replaces its row (chapter 3.5.2); what it assigns is what the flush finds then. Refused
-/// as the first listener or callback that refuses; `OutOfMemory` where a growth was refused.
-pub fn tell_updates<B: Behaviour>(
-    alloc: Global,
-    unit: &ServedUnit<B>,
-    work: &mut UnitOfWork,
-) -> Result<(), Cause>
-    requires ready { IsReady unit.now.metamodel (now work.old) }
-    ensures meets { let world = world_of_unit B.meaning unit.now in
-        Meets result (now work.new) (flushes.pre_update world (now work.old)) }
-    ensures since { since work.new ≡ since work.old }
-{
-    for i in 0..work.context.len() {
-        let entry = &work.context.as_slice()[i];
-        let object = entry.object;
-        let step = step_of(&unit.metamodel, work, entry)?;
-        tell_update(alloc, unit, work, object, step)?;
-    }
-    Ok(())
 }
 
 /// The event of each object that was written happens, in the order of the plan. Refused as the first listener or callback that

@@ -16,6 +16,7 @@ use std::io::{Read, Write};
 use std::process::Abort;
 use std::test::Fail;
 
+mod counts;
 mod hostile;
 mod refused;
 

@@ -1,5 +1,5 @@
 -- How close steps.
-use Rattle.jpa_context.specs.Marks.{all_marked}
+use Rattle.jpa_context.specs.Marks.{none_marked}
 use Rattle.std.proofs.Common.{◌≡◌, inl, ℕ, ℤ, true, false, [], ap, sym, ◌∙◌}
 use Rattle.std.specs.Prelude.{slice_set, Some, None, if◌then◌else◌}
 use Rattle.jpa_value.specs.declared.refusal.Cause.{Cause}
@@ -37,11 +37,11 @@ close_closes world s t em m e h f =
 
 -- of a session whose manager was cleared
 pub shut_there : (s u t : Session) (m : ℕ) → is_begun_status (manager_in s.managers.items m).status ≡ false → machine_of u ≡ cleared (machine_of s) m → u.work.view ≡ s.work.view →
-    t.managers.items ≡ slice_set s.managers.items m (record (manager_in s.managers.items m) { status = Status.Closed; context = record { now = []; since = []; marks = all_marked } }) → t.work ≡ u.work → t.stored ≡ u.stored → machine_of t ≡ closed (machine_of s) m
+    t.managers.items ≡ slice_set s.managers.items m (record (manager_in s.managers.items m) { status = Status.Closed; context = record { now = []; since = []; marks = none_marked } }) → t.work ≡ u.work → t.stored ≡ u.stored → machine_of t ≡ closed (machine_of s) m
 shut_there s u t m h clear v f w k =
     let M = machine_of s in
     let C = (s.work.view).committed in
-    let x : EntityManager = record (manager_in s.managers.items m) { status = Status.Closed; context = record { now = []; since = []; marks = all_marked } } in
+    let x : EntityManager = record (manager_in s.managers.items m) { status = Status.Closed; context = record { now = []; since = []; marks = none_marked } } in
     let mode : x.mode ≡ (manager_at M m).mode = sym (ap (λ (y : Manager). y.mode) (manager_there s m)) in
     let view : t.work.view ≡ s.work.view = ap (λ (y : UnitOfWork). y.view) w ∙ v in
     (λ i. record {

@@ -5,6 +5,8 @@ use Rattle.std.proofs.lemmas.Bool.{false≢true}
 use Rattle.std.proofs.lemmas.List.Elements.{All-weaker}
 use Rattle.jpa_behaviour.specs.Behaviour.{World}
 use Rattle.jpa_consistent.specs.Consistent.{IsEntry}
+use Rattle.jpa_consistent.proofs.Ready.{ready_at_work}
+use Rattle.jpa_fetch.specs.Grown.{IsReady}
 use Rattle.jpa_context.specs.declared.Entry.{Entry}
 use Rattle.jpa_context.specs.Work.{Work}
 use Rattle.jpa_context.specs.Steps.{Done}
@@ -68,6 +70,9 @@ module _ (world : World) (s : Session) (m : ℕ) (h : IsServing world s) (w : Wo
 
   pub worked_held : CanBeHeld world w.view w.numbers
   worked_held = after_it.view
+
+  pub worked_ready : IsReady world.model w
+  worked_ready = ready_at_work after_it
 
   pub worked_rising : each_fits nat_le (machine_of s).stored_numbers w.numbers ≡ true
   worked_rising = numbers_rise h.machine after_it

@@ -1,6 +1,9 @@
 pub mod Asked
 pub mod Sessions
 pub mod Counted
+pub mod Marked
+pub mod LetGo
+pub mod Operates
 pub mod Worked
 pub mod Called
 pub mod Unheld
@@ -15,3 +18,6 @@ pub mod Committed
 pub mod Active
 pub mod Crashed
 pub mod Told
+pub mod Walks
+pub mod Freed
+pub mod Ended

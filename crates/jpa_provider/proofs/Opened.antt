@@ -1,5 +1,5 @@
 -- How managers and objects are made, and transactions begin, are marked and roll back.
-use Rattle.jpa_context.specs.Marks.{all_marked}
+use Rattle.jpa_context.specs.Marks.{none_marked}
 use Rattle.jpa_value.specs.Limits.{most_managers, most_objects, most_open_managers}
 use Rattle.std.proofs.Common.{◌≡◌, ◌<◌, ◌≤◌, ◌+◌, inl, inr, ℕ, suc, ℤ, drop, get_or, Bool, true, false, List, [], ◌∷◌, ◌++◌, length, refl, ap, sym, ◌∙◌}
 use Rattle.std.specs.Prelude.{Option, Some, None, Ok, Err, if◌then◌else◌, slice_get, slice_set, nat_lt, count_by, ◌&&◌}
@@ -204,12 +204,12 @@ ended_twice xs m x l =
 
 -- of a session whose manager was cleared
 pub rolled_there : (s u t : Session) (m : ℕ) → is_begun_status (manager_in s.managers.items m).status ≡ true → machine_of u ≡ cleared (machine_of s) m → u.work.view ≡ s.work.view →
-    t.managers.items ≡ slice_set s.managers.items m (record (manager_in s.managers.items m) { status = Status.Inactive; layers = no_layers; context = record { now = []; since = []; marks = all_marked } }) →
+    t.managers.items ≡ slice_set s.managers.items m (record (manager_in s.managers.items m) { status = Status.Inactive; layers = no_layers; context = record { now = []; since = []; marks = none_marked } }) →
     t.work ≡ u.work → t.stored ≡ u.stored → machine_of t ≡ rolled_back (machine_of s) m
 rolled_there s u t m begun clear v f w k =
     let M = machine_of s in
     let C = (s.work.view).committed in
-    let x : EntityManager = record (manager_in s.managers.items m) { status = Status.Inactive; layers = no_layers; context = record { now = []; since = []; marks = all_marked } } in
+    let x : EntityManager = record (manager_in s.managers.items m) { status = Status.Inactive; layers = no_layers; context = record { now = []; since = []; marks = none_marked } } in
     let mode : x.mode ≡ (manager_at M m).mode = sym (ap (λ (y : Manager). y.mode) (manager_there s m)) in
     let is_open : true ≡ (manager_at M m).is_open = sym (ap (λ (y : Manager). y.is_open) (manager_there s m) ∙ begun_is_open (manager_in s.managers.items m) begun) in
     let view : t.work.view ≡ s.work.view = ap (λ (y : UnitOfWork). y.view) w ∙ v in

@@ -1,5 +1,5 @@
 -- What holds between calls holds after each step.
-use Rattle.std.proofs.Common.{◌≡◌, ◌<◌, inl, ℕ, Bool, true, false, List, length, refl, sym, subst}
+use Rattle.std.proofs.Common.{◌≡◌, ◌<◌, inl, ℕ, Bool, true, false, List, length, refl, ap, sym, subst}
 use Rattle.std.specs.Prelude.{All, OnOk}
 use Rattle.jpql_kept.specs.Fits.{AreInherited}
 use Rattle.jpa_machine.specs.Updating.{MakesRepresentable}
@@ -11,12 +11,13 @@ use Rattle.jpa_context.specs.declared.Entry.{Entry}
 use Rattle.jpa_protocol.specs.declared.call.Call.{Call}
 use Rattle.jpa_protocol.specs.declared.reply.Reply.{Reply}
 use Rattle.jpa_provider.specs.declared.session.Session.{Session}
-use Rattle.jpa_machine.specs.Machine.{Manager, manager_at, opened, IsStoredAs}
+use Rattle.jpa_machine.specs.Machine.{Machine, Manager, manager_at, opened, work_of, IsStoredAs}
 use Rattle.jpa_consistent.specs.Consistent.{IsEntry}
-use Rattle.jpa_machine.specs.Invariant.{IsMachine, hands_representable}
+use Rattle.jpa_machine.specs.Invariant.{IsMachine, context_of, hands_representable}
 use Rattle.jpa_machine.specs.Routes.{is_commit}
-use Rattle.jpa_provider.specs.Serving.{machine_of, manager_in, IsServing, IsSettled, Serves}
+use Rattle.jpa_provider.specs.Serving.{machine_of, manager_in, marks_in, AreAllMarked, IsServing, IsSettled, Serves}
 use Rattle.jpa_machine.proofs.AtWork.{each_manager}
+use Rattle.jpa_provider.proofs.Marked.{nothing_marked}
 use Rattle.jpa_provider.proofs.Sessions.{manager_there}
 use Rattle.jpa_machine.proofs.Settled.{opened_holds}
 use Rattle.jpa_machine.proofs.Outcome.{step_keeps}
@@ -25,14 +26,15 @@ use Rattle.jpa_fetch.specs.Orderly.{IsOrderly}
 
 -- whichever call it was
 pub serves_on : (world : World) (s t : Session) (call : Call) (reply : Reply) → IsServing world s → hands_representable call ≡ true → OnOk reply.answer (MakesRepresentable world (machine_of s) call) →
-    Serves world s call reply t → IsSettled t → IsServing world t
-serves_on world s t call reply h rep made step settled =
+    Serves world s call reply t → IsSettled t → AreAllMarked world.model t → IsServing world t
+serves_on world s t call reply h rep made step settled marked =
     record {
       orderly = h.orderly;
       regular = h.regular;
       inherited = h.inherited;
       machine = step_keeps h.orderly h.regular h.inherited call rep made h.machine step;
       settled = settled;
+      marked = marked;
     }
 
 pub stored_other : (world : World) (s t : Session) (call : Call) (reply : Reply) → IsServing world s → is_commit call ≡ false → Serves world s call reply t → IsStoredAs (machine_of s) (machine_of t)
@@ -69,4 +71,5 @@ opened_serving world s set numbers orderly regular inherited held e settled =
       inherited = inherited;
       machine = subst (IsMachine world) (sym e) (opened_holds held);
       settled = settled;
+      marked = λ k. nothing_marked world.model (marks_in s k) (work_of (machine_of s) k) (ap (λ (M : Machine). context_of M k) e);
     }

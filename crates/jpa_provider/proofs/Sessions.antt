@@ -226,6 +226,12 @@ module _ (s t : Session) (m : ℕ) (c : Entries) (zs : List EntityManager) (l : 
       (λ q. let x = turned.begun q in x.seen ∙ x.kept ∙ sym (view_begun X.status (begun_over X.layers C) (seen_over X.layers C) C q))
       (λ q. ap (λ (v : Opened). v.seen) (turned.none q).1 ∙ (h.kept).view ∙ (h.resting).kept ∙ sym (view_none X.status (begun_over X.layers C) (seen_over X.layers C) C q))
 
+  -- and what it wrote before is kept
+  pub seen_taken : (t.work.view).seen ≡ (t.work.view).kept
+  seen_taken =
+      either (is_begun_status X.status) (λ q. (turned.begun q).seen)
+      (λ q. let still = (turned.none q).1 in ap (λ (v : Opened). v.seen) still ∙ (h.kept).view ∙ sym (ap (λ (v : Opened). v.kept) still))
+
   pub taken_work : (w : Work) →
       w ≡ record { manager = m; objects = s.work.objects.now; context = X.context.now; numbers = s.work.numbers.now; view = (t.work.view).seen; events = s.work.events } → w ≡ work_of (machine_of s) m
   taken_work w is =

@@ -1,5 +1,5 @@
 -- What is done with a unit of work, as operations of the definition, and how it ends.
-use Rattle.std.specs.Prelude.{◌≡◌, ◌⊎◌, ℕ, ℤ, Bool, List, [], Option, Some, None, Result, Ok, Err}
+use Rattle.std.specs.Prelude.{◌≡◌, ◌⊎◌, ℕ, ℤ, Bool, true, List, [], Option, Some, None, Result, Ok, Err}
 use Rattle.jpa_value.specs.declared.refusal.Cause.{Cause}
 use Rattle.jpa_value.specs.declared.refusal.Refusal.{Refusal}
 use Rattle.jpa_behaviour.specs.Behaviour.{World}
@@ -19,6 +19,7 @@ use Rattle.jpa_machine.specs.Calls.{ended, marks, marks_if_callback, marked_if, 
 use Rattle.jpa_machine.specs.Routes.{get_call, set_call, add_call, take_out_call, persist_call, remove_call, refresh_call, detach_call, merge_call, lock_call, find_call, get_reference_call}
 use Rattle.jpa_machine.specs.Querying.{asked_of, query_call, query_single_call}
 use Rattle.jpa_machine.specs.Step.{IsGivenUp}
+use Rattle.jpa_machine.specs.Invariant.{given_representable}
 
 -- an operation on an object by its number
 abbrev pub on_numbered : ℤ → (World → ℕ → Op Answer) → World → Op Answer
@@ -40,6 +41,11 @@ operation_of (Operation.Merge object) = λ world. merge_call world object
 operation_of (Operation.Lock object mode) = λ world. lock_call world object mode
 operation_of (Operation.Find entity key) = λ world. find_call world entity key
 operation_of (Operation.GetReference entity key) = λ world. get_reference_call world entity key
+
+-- a value that it sets is one of the program
+abbrev pub sets_representable : Operation → Bool
+sets_representable (Operation.Set object name value) = given_representable value
+sets_representable _ = true
 
 -- ---- queries
 

@@ -1,6 +1,6 @@
 -- The machine that live data stand for: managers, each with the layers of its open transaction over the committed set, and one
 -- of them at work.
-use Rattle.jpa_context.specs.Marks.{all_marked}
+use Rattle.jpa_context.specs.Marks.{Marks, none_marked}
 use Rattle.std.specs.Prelude.{◌≡◌, ◌≢◌, ◌<◌, ◌⊎◌, ℕ, ℤ, Bool, true, false, List, [], ◌∷◌, length, map, count_by, Option, Some, None, Ok, Err, slice_index_or, slice_set, if◌then◌else◌}
 use Rattle.std.specs.List.{filter}
 use Rattle.jpa_value.specs.declared.refusal.Cause.{Cause}
@@ -17,14 +17,18 @@ use Rattle.jpa_protocol.specs.declared.reply.Answer.{Answer}
 use Rattle.jpa_protocol.specs.declared.reply.Reply.{Reply}
 use Rattle.jpa_context.specs.declared.Entry.{Entry}
 use Rattle.jpa_context.specs.Work.{Work}
-use Rattle.jpa_context.specs.Undo.{since, IsKept}
+use Rattle.jpa_context.specs.declared.work.UnitOfWork.{UnitOfWork}
+use Rattle.jpa_context.specs.Undo.{now, since, IsKept}
+use Rattle.jpa_flush.specs.Marked.{AreMarked, AreMarkedBefore, before}
+use Rattle.jpa_marking.specs.Shared.{seen_by}
+use Rattle.jpa_model.specs.declared.unit.PersistenceUnit.{PersistenceUnit}
 use Rattle.jpa_heap.specs.declared.Life.{Life}
 use Rattle.jpa_heap.specs.declared.LiveObject.{LiveObject}
 use Rattle.jpa_heap.specs.Objects.{place_of, object_at, with_life}
 use Rattle.jpa_provider.specs.declared.session.Status.{Status}
 use Rattle.jpa_provider.specs.declared.session.EntityManager.{EntityManager}
 use Rattle.jpa_provider.specs.declared.session.Session.{Session}
-use Rattle.jpa_machine.specs.Machine.{Machine, Manager, Transaction, manager_at, is_begun, with_manager, is_gone, committed_after, rolled_back}
+use Rattle.jpa_machine.specs.Machine.{Machine, Manager, Transaction, manager_at, is_begun, with_manager, work_of, is_gone, committed_after, rolled_back}
 use Rattle.jpa_machine.specs.Step.{Step, gives_up}
 use Rattle.jpa_machine.specs.Invariant.{IsMachine, context_of}
 use Rattle.jpa_fetch.specs.Orderly.{IsOrderly}
@@ -64,7 +68,7 @@ manager_of set x =
 
 -- what stands where a number names no manager
 abbrev pub nobody : EntityManager
-nobody = record { status = Status.Closed; mode = FlushMode.Auto; context = record { now = []; since = []; marks = all_marked }; layers = no_layers }
+nobody = record { status = Status.Closed; mode = FlushMode.Auto; context = record { now = []; since = []; marks = none_marked }; layers = no_layers }
 
 abbrev pub manager_in : List EntityManager → ℕ → EntityManager
 manager_in managers m = slice_index_or managers m nobody
@@ -113,6 +117,14 @@ pub record IsSettled (s : Session) : Type 0 where
   pub idle : (k : ℕ) → IsIdle s.managers.items k
   pub counted : IsCounted s
 
+-- the marks of a manager's context
+abbrev pub marks_in : Session → ℕ → Marks
+marks_in s k = ((manager_in s.managers.items k).context).marks
+
+-- what the marks say of each manager's context
+abbrev pub AreAllMarked : PersistenceUnit → Session → Type 0
+AreAllMarked u s = (k : ℕ) → AreMarked u (work_of (machine_of s) k) (marks_in s k)
+
 -- what holds between calls
 pub record IsServing (world : World) (s : Session) : Type 0 where
   pub orderly : IsOrderly world.model
@@ -120,6 +132,7 @@ pub record IsServing (world : World) (s : Session) : Type 0 where
   pub inherited : AreInherited world.model
   pub machine : IsMachine world (machine_of s)
   pub settled : IsSettled s
+  pub marked : AreAllMarked world.model s
 
 -- the reply to a call, and what stands afterwards, are those of a step of the machine
 abbrev pub Serves : World → Session → Call → Reply → Session → Type 0
@@ -149,6 +162,24 @@ pub record IsWorking (M : Machine) (m : ℕ) (s : Session) : Type 0 where
   pub objects : (since s.work).objects ≡ M.objects
   pub context : (since s.work).context ≡ context_of M m
   pub numbers : (since s.work).numbers ≡ M.numbers
+
+-- its marks say what undoing gives, and those of the others what it gives for them
+pub record AreMarkedAway (u : PersistenceUnit) (M : Machine) (m : ℕ) (s : Session) : Type 0 where
+  pub manager : s.work.manager ≡ m
+  pub own : AreMarkedBefore u s.work
+  pub others : (k : ℕ) → k ≢ m → AreMarked u (seen_by k (context_of M k) (before s.work)) (marks_in s k)
+
+-- what an operation leaves of marks, where it isn't refused
+pub record KeepsMarks (u : PersistenceUnit) (old new : UnitOfWork) : Type 0 where
+  pub manager : new.manager ≡ old.manager
+  pub own : AreMarkedBefore u old → AreMarkedBefore u new
+  pub others : (k : ℕ) (es : List Entry) (marks : Marks) → k ≢ old.manager → AreMarked u (seen_by k es (before old)) marks → AreMarked u (seen_by k es (before new)) marks
+
+-- at the end of an accepted call the marks say what its work is then, and so do those of the others
+pub record AreMarkedNow (u : PersistenceUnit) (M : Machine) (m : ℕ) (s : Session) : Type 0 where
+  pub manager : s.work.manager ≡ m
+  pub own : AreMarked u (now s.work) s.work.context.marks
+  pub others : (k : ℕ) → k ≢ m → AreMarked u (seen_by k (context_of M k) (now s.work)) (marks_in s k)
 
 -- the commit of its open transaction is under way
 pub record IsCommitting (M : Machine) (m : ℕ) (s : Session) : Type 0 where

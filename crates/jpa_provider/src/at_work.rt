@@ -1,16 +1,25 @@
 //! A manager at work: while a call of it is served, its context stands in the session's unit of work, and so do the layers of its
 //! open transaction.
-ghost use Rattle.std.specs.Prelude.{◌≡◌, ◌<◌, [], false, length, IfErr, IfSome, OnErr};
-ghost use Rattle.jpa_context.specs.Undo.{now, since};
+ghost use Rattle.std.specs.Prelude.{◌≡◌, ◌≢◌, ◌<◌, ℕ, [], false, true, length, IfErr, IfSome, OnErr, OnOk};
+ghost use Rattle.jpa_context.specs.Marks.{all_marked};
+ghost use Rattle.jpa_context.specs.Undo.{now, since, IsKept};
+ghost use Rattle.jpa_fetch.specs.Grown.{IsReady};
+ghost use Rattle.jpa_flush.specs.Marked.{AreMarkedBefore};
 ghost use Rattle.jpa_machine.specs.Faults.{is_store_fault, tells_fault};
 ghost use Rattle.jpa_machine.specs.Machine.{Machine, kept, marked, work_of};
+ghost use Rattle.jpa_model.specs.declared.unit.PersistenceUnit.{PersistenceUnit};
 ghost use Rattle.jpa_provider.specs.Operations.{Concludes};
 ghost use Rattle.jpa_provider.specs.Serving as serving;
-ghost use Rattle.jpa_provider.specs.Serving.{machine_of, manager_in, named, IsAway, IsSettled, IsWorking};
+ghost use Rattle.jpa_provider.specs.Serving.{machine_of, manager_in, marks_in, named, AreAllMarked, AreMarkedAway, AreMarkedNow, IsAway, IsSettled, IsWorking};
 
 use crate::handing::place_of;
 use crate::replies::{Rule, is_marked_by, told_of};
-use crate::session::{Session, Status, exchange, exchange_if_begun, set_status, status_of};
+use crate::session::{
+    Session, Status, exchange, exchange_if_begun, set_marks, set_status, status_of,
+};
+use jpa_context::Marks;
+use jpa_marking::{keep_others, mark_anew};
+use jpa_model::Metamodel;
 use jpa_protocol::{Answer, Reply};
 use jpa_value::{Cause, Refusal, Seq};
 use std::alloc::Global;
@@ -35,6 +44,9 @@ pub(crate) fn take_work(session: &mut Session, manager: usize)
     requires settled { IsSettled session.old }
     ensures working { IsWorking (machine_of session.old) manager session.new }
     ensures work { now session.new.work ≡ work_of (machine_of session.old) manager }
+    ensures kept { IsKept session.new.work }
+    ensures marked { (u : PersistenceUnit) → AreAllMarked u session.old
+        → AreMarkedAway u (machine_of session.old) manager session.new }
 {
     exchange_if_begun(&mut session.managers, manager, &mut session.work.view);
     exchange(&mut session.managers, manager, &mut session.work.context);
@@ -49,6 +61,8 @@ fn keep_work(session: &mut Session, manager: usize)
         → machine_of session.new ≡ kept M manager (now session.old.work) }
     ensures settled { (M : Machine) → IsAway M manager session.old
         → session.old.work.events ≡ [] → IsSettled session.new }
+    ensures marked { (u : PersistenceUnit) (M : Machine) → IsAway M manager session.old
+        → AreMarkedNow u M manager session.old → AreAllMarked u session.new }
 {
     let is_begun = status_of(&session.managers, manager).is_begun();
     session.work.keep(is_begun);
@@ -67,6 +81,8 @@ pub(crate) fn restore(alloc: Global, session: &mut Session, manager: usize)
     ensures context { (manager_in session.new.managers.items manager).context.now ≡
         (since session.old.work).context }
     ensures settled { (M : Machine) → IsWorking M manager session.old → IsSettled session.new }
+    ensures marked { (u : PersistenceUnit) (M : Machine) → IsWorking M manager session.old
+        → AreMarkedAway u M manager session.old → AreAllMarked u session.new }
 {
     session.work.undo(alloc);
     exchange_if_begun(&mut session.managers, manager, &mut session.work.view);
@@ -89,33 +105,96 @@ pub(crate) fn mark(session: &mut Session, manager: usize)
     requires within { manager < length session.old.managers.items }
     ensures marked { machine_of session.new ≡ marked (machine_of session.old) manager }
     ensures settled { IsSettled session.old → IsSettled session.new }
+    ensures marks { (u : PersistenceUnit) → AreAllMarked u session.old
+        → AreAllMarked u session.new }
 {
     let status = marked(status_of(&session.managers, manager));
     set_status(&mut session.managers, manager, status);
 }
 
+/// The manager looks at each object of its context when it flushes next. Takes no memory.
+fn mark_whole(alloc: Global, session: &mut Session, manager: usize)
+    requires within { manager < length session.old.managers.items }
+    ensures machine { machine_of session.new ≡ machine_of session.old }
+    ensures settled { IsSettled session.old → IsSettled session.new }
+    ensures count { length session.new.managers.items ≡ length session.old.managers.items }
+    ensures own { marks_in session.new manager ≡ all_marked }
+    ensures others { (k : ℕ) → k ≢ manager
+        → marks_in session.new k ≡ marks_in session.old k }
+{
+    set_marks(&mut session.managers, manager, Marks::all(alloc));
+}
+
+/// And so does each manager. Takes no memory.
+fn mark_all(alloc: Global, session: &mut Session)
+    ensures machine { machine_of session.new ≡ machine_of session.old }
+    ensures settled { IsSettled session.old → IsSettled session.new }
+    ensures marked { (u : PersistenceUnit) → AreAllMarked u session.new }
+{
+    for manager in 0..session.managers.len() {
+        mark_whole(alloc, session, manager);
+    }
+}
+
+/// All is marked, unless marks say still what they said, which they always do. Takes no memory.
+pub(crate) fn mark_unless(alloc: Global, session: &mut Session, stay: bool)
+    ensures machine { machine_of session.new ≡ machine_of session.old }
+    ensures settled { IsSettled session.old → IsSettled session.new }
+    ensures marked { (u : PersistenceUnit) → (stay ≡ true → AreAllMarked u session.old)
+        → AreAllMarked u session.new }
+{
+    if !stay {
+        mark_all(alloc, session);
+    }
+}
+
+/// What the manager's work changed is kept, and what it touched is marked. Takes no memory that a caller would see refused.
+fn keep_marked(alloc: Global, metamodel: &Metamodel, session: &mut Session, manager: usize)
+    requires within { manager < length session.old.managers.items }
+    requires ready { IsReady metamodel.now (now session.old.work) }
+    requires before { AreMarkedBefore metamodel.now session.old.work }
+    ensures kept { (M : Machine) → IsAway M manager session.old
+        → machine_of session.new ≡ kept M manager (now session.old.work) }
+    ensures settled { (M : Machine) → IsAway M manager session.old
+        → session.old.work.events ≡ [] → IsSettled session.new }
+    ensures marked { (M : Machine) → IsAway M manager session.old
+        → AreMarkedAway metamodel.now M manager session.old
+        → AreAllMarked metamodel.now session.new }
+{
+    mark_anew(alloc, metamodel, &mut session.work);
+    let stay = keep_others(&session.work);
+    keep_work(session, manager);
+    mark_unless(alloc, session, stay);
+}
+
 /// Ends an operation of the manager: what it changed is kept, or undone where it was refused. Takes
-/// no memory.
+/// no memory that a caller would see refused.
 pub(crate) fn conclude(
     alloc: Global,
+    metamodel: &Metamodel,
     session: &mut Session,
     manager: usize,
     answered: Result<Answer, Cause>,
     rule: Rule,
 ) -> Reply
     requires within { manager < length session.old.managers.items }
+    requires ready { OnOk answered (IsReady metamodel.now (now session.old.work)) }
+    requires before { AreMarkedBefore metamodel.now session.old.work }
     ensures concludes { (M : Machine) → IsAway M manager session.old →
         OnErr answered (IsWorking M manager session.old) →
         Concludes rule M manager (now session.old.work) answered result (machine_of session.new) }
     ensures settled { (M : Machine) → IsAway M manager session.old →
         OnErr answered (IsWorking M manager session.old) → IsSettled session.new }
+    ensures marked { (M : Machine) → IsAway M manager session.old →
+        OnErr answered (IsWorking M manager session.old) →
+        AreMarkedAway metamodel.now M manager session.old → AreAllMarked metamodel.now session.new }
     ensures untold { IfErr answered (λ cause. is_store_fault cause ≡ false)
         → tells_fault result ≡ false }
 {
     let events = mem::replace(&mut session.work.events, Seq::new(alloc));
     match answered {
         Ok(answer) => {
-            keep_work(session, manager);
+            keep_marked(alloc, metamodel, session, manager);
             Reply {
                 events,
                 answer: Ok(answer),

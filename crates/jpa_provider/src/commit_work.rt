@@ -9,6 +9,7 @@ ghost use Rattle.jpa_fetch.specs.Grown.{IsReady};
 ghost use Rattle.jpa_fetch.specs.Orderly.{IsOrderly};
 ghost use Rattle.jpa_flush.specs.Changes.{place_of};
 ghost use Rattle.jpa_flush.specs.Flush as flushes;
+ghost use Rattle.jpa_flush.specs.Marked.{is_calm, AreLooked, IsMarked, IsUntouched};
 ghost use Rattle.jpa_isolation.specs.Differences.{differing, merged};
 ghost use Rattle.jpa_judge.specs.Changed.{class_at};
 ghost use Rattle.jpa_machine.specs.Transactions as transactions;
@@ -22,7 +23,7 @@ ghost use Rattle.jpa_value.specs.Value.{identity_cmp};
 
 use jpa_behaviour::{Behaviour, ServedUnit};
 use jpa_context::{Entry, Lock, UnitOfWork};
-use jpa_flush::{flush, reads_hold};
+use jpa_flush::{Looked, calm_laws, flush, looked, reads_hold};
 use jpa_heap::{Life, identity_of};
 use jpa_judge::{Change, judge};
 use jpa_model::Metamodel;
@@ -72,32 +73,40 @@ fn push_locked(
     Ok(())
 }
 
-/// The identities of the managed objects that are locked to be read.
+/// The identities of the managed objects that are locked to be read; of the entries at other places than these none is.
 fn locked_ids(
     alloc: Global,
     metamodel: &Metamodel,
     work: &UnitOfWork,
+    places: &[usize],
 ) -> Result<Seq<Identity>, Cause>
     requires ready { IsReady metamodel.now (now work.now) }
+    requires looked { AreLooked (λ e. is_calm metamodel.now (now work.now) e ≡ true)
+        work.now.context.now places.now }
     ensures ok { IfOk result (λ ids. ids ≡ transactions.locked_ids metamodel.now (now work.now)) }
     ensures err { IfErr result (λ cause. cause ≡ Cause.OutOfMemory) }
 {
     let mut locked = Seq::new(alloc);
-    for entry in work.context.as_slice() {
+    for place in places {
+        let entry = &work.context.as_slice()[*place];
         push_locked(metamodel, work, entry, &mut locked)?;
     }
     Ok(locked)
 }
 
 /// Whether no other transaction committed, since this one's begin, what it changed, which is under these identities, or holds
-/// locked to be read (the first committer wins), and what it read under a lock has the version that it had then.
+/// locked to be read (the first committer wins), and what it read under a lock has the version that it had then. It looks at the
+/// entries at these places alone.
 fn is_current(
     alloc: Global,
     metamodel: &Metamodel,
     work: &UnitOfWork,
     ids: &[Identity],
+    places: &[usize],
 ) -> Result<bool, Cause>
     requires ready { IsReady metamodel.now (now work.now) }
+    requires looked { AreLooked (λ e. is_calm metamodel.now (now work.now) e ≡ true)
+        work.now.context.now places.now }
     requires ids { ids.now ≡ differing work.now.view.begun (now work.now).view }
     ensures ok { IfOk result (λ current. current ≡ (transactions.is_current metamodel.now
         work.now.view.committed work.now.view.begun (now work.now)
@@ -107,11 +116,11 @@ fn is_current(
     if !work.view.all_stand(ids) {
         return Ok(false);
     }
-    let locked = locked_ids(alloc, metamodel, work)?;
+    let locked = locked_ids(alloc, metamodel, work, places)?;
     if !work.view.all_stand(locked.as_slice()) {
         return Ok(false);
     }
-    reads_hold(metamodel, work)
+    reads_hold(metamodel, work, places)
 }
 
 /// The class of what is committed under an identity, if anything is.
@@ -162,6 +171,7 @@ fn merge(
         Meets result (now work.new) (after (flushes.sound_or (fault_of metamodel.now set)
         (now work.old)) (λ _. change (with_view set))) }
     ensures since { since work.new ≡ since work.old }
+    ensures others { work.new ≡ record work.old { view = work.new.view } }
     ensures elsewhere { OnOk result (AreAllChanged work.new.view ids.now) }
 {
     work.view.rebase()?;
@@ -169,16 +179,24 @@ fn merge(
     judge(metamodel, &work.view, changes.as_slice())
 }
 
+/// What a commit found before it stores: the identities under which the set that it sees differs from what is committed, rising,
+/// and the places of the entries that its end looks at.
+#[derive(Drop)]
+pub(crate) struct Found {
+    pub ids: Seq<Identity>,
+    pub looked: Looked,
+}
+
 /// What a commit does before it stores: the flush; then what the transaction changed, and what it holds locked to be read, is to
 /// be committed as it was at its begin, else `OptimisticLock` (chapter 3.4.4.1); then it sees what others committed since, too,
 /// and that set is to be sound, else `Persistence` with `Null`, `Reference` or `Unique`. Refused as the flush is, too.
 ///
-/// It answers the identities under which the set that it sees then differs from what is committed, in rising order.
+/// Entries at other places than those that it answers are untouched.
 pub(crate) fn commit_work<B: Behaviour>(
     alloc: Global,
     unit: &ServedUnit<B>,
     work: &mut UnitOfWork,
-) -> Result<Seq<Identity>, Cause>
+) -> Result<Found, Cause>
     requires orderly { IsOrderly unit.now.metamodel }
     requires ready { IsReady unit.now.metamodel (now work.old) }
     requires sound { IsSound unit.now.metamodel (now work.old).view }
@@ -187,18 +205,24 @@ pub(crate) fn commit_work<B: Behaviour>(
     requires goes { StaysReady true (world_of_unit B.meaning unit.now) (now work.old) }
     requires committed { IsSound unit.now.metamodel work.old.view.committed }
     requires committed_rising { T (is_sorted identity_cmp work.old.view.committed) }
+    requires marked { IsMarked unit.now.metamodel work.old }
     ensures meets { Ends result (now work.new)
         (transactions.commit_work (world_of_unit B.meaning unit.now) work.old.view.committed
         work.old.view.begun (now work.old)) }
     ensures since { since work.new ≡ since work.old }
-    ensures elsewhere { IfOk result (λ ids. AreAllChanged work.new.view ids) }
-    ensures once { IfOk result (λ ids. is_rising ids ≡ true) }
+    ensures elsewhere { IfOk result (λ found. AreAllChanged work.new.view found.ids) }
+    ensures once { IfOk result (λ found. is_rising found.ids ≡ true) }
+    ensures looked { IfOk result (λ found. AreLooked (IsUntouched unit.now.metamodel
+        (now work.new) found.looked.linked) work.new.context.now found.looked.places) }
 {
     flush(alloc, unit, work)?;
+    calm_laws();
+    let looked = looked(alloc, &unit.metamodel, work)?;
     let ids = work.view.differing()?;
-    if !is_current(alloc, &unit.metamodel, work, ids.as_slice())? {
+    let places = looked.places.as_slice();
+    if !is_current(alloc, &unit.metamodel, work, ids.as_slice(), places)? {
         return Err(Cause::OptimisticLock);
     }
     merge(alloc, &unit.metamodel, work, ids.as_slice())?;
-    Ok(ids)
+    Ok(Found { ids, looked })
 }

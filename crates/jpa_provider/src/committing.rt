@@ -1,32 +1,41 @@
 //! The call commit (Jakarta Persistence 3.1, chapters 7.5 and 3.4).
-ghost use Rattle.std.specs.Prelude.{◌≡◌, ◌<◌, ◌⊎◌, [], All, ℤ, false, true, length, nat_le, IfOk, OnOk, IsErr, Some};
+ghost use Rattle.std.specs.Prelude.{◌≡◌, ◌<◌, ◌⊎◌, [], All, ℤ, false, true, length, map, not, nat_le, IfOk, OnOk, IsErr, Some};
+ghost use Rattle.std.specs.List.{filter};
+ghost use Rattle.jpa_behaviour.specs.Behaviour.{World};
 ghost use Rattle.jpa_behaviour.specs.Served.{world_of_unit};
 ghost use Rattle.jpa_context.specs.Undo.{now, since};
-ghost use Rattle.jpa_context.specs.Work.{is_removed, state_from};
+ghost use Rattle.jpa_context.specs.Work.{is_managed, is_removed, state_from, state_of, unlocked};
+ghost use Rattle.jpa_context.specs.declared.Lock.{Lock};
+ghost use Rattle.jpa_fetch.specs.Grown.{IsReady};
+ghost use Rattle.jpa_flush.specs.Marked.{AreLooked, IsUntouched};
 ghost use Rattle.jpa_open.specs.Opened.{AreAllChanged};
 ghost use Rattle.jpa_protocol.specs.declared.call.Call.{Call};
 ghost use Rattle.jpa_machine.specs.Faults.{is_store_fault, tells_fault, faults_after_reply};
-ghost use Rattle.jpa_machine.specs.Machine.{Machine, committed_after};
+ghost use Rattle.jpa_machine.specs.Invariant.{IsMachine};
+ghost use Rattle.jpa_machine.specs.Machine.{Machine, committed_after, is_gone};
 ghost use Rattle.jpa_object_store.specs.Written.{RunsAtMost, RunsDifference};
 ghost use Rattle.jpa_provider.specs.Provided.{rows_kept, rows_made};
 ghost use Rattle.jpa_machine.specs.Step.{IsGivenUp};
 ghost use Rattle.jpa_provider.specs.Beside.{IsBeside};
 ghost use Rattle.jpa_provider.specs.declared.session.Status.{Status};
 ghost use Rattle.jpa_provider.specs.Serving as serving;
-ghost use Rattle.jpa_provider.specs.Serving.{machine_of, manager_in, named, rows_before, rows_seen, IsCommitting, IsCounted, IsServing, IsSettled, Serves};
+ghost use Rattle.jpa_provider.specs.Serving.{machine_of, manager_in, named, rows_before, rows_seen, AreAllMarked, AreMarkedAway, IsCommitting, IsCounted, IsServing, IsSettled, Serves};
 ghost use Rattle.jpa_rows.specs.Cells.{CanBeHeld};
 ghost use Rattle.jpa_rows.specs.Tables.{schema_of};
 ghost use Rattle.jpa_stored.specs.Sets.{each_fits, is_rising};
 
-use crate::at_work::{manager_named, restore, take_work};
+use crate::at_work::{manager_named, mark_unless, restore, take_work};
 use crate::beside::make_room;
 use crate::commit_work::commit_work;
 use crate::ending::{detach_objects, release};
 use crate::replies::because;
 use crate::session::{Session, Status, end_transaction, exchange, status_of};
 use jpa_behaviour::{Behaviour, ServedUnit};
-use jpa_context::UnitOfWork;
+use jpa_context::{Entry, PersistenceContext, UnitOfWork};
+use jpa_flush::Looked;
 use jpa_heap::Life;
+use jpa_marking::{keep_others, mark_committed, other_laws};
+use jpa_model::Metamodel;
 use jpa_object_store::write;
 use jpa_protocol::{Answer, Reply};
 use jpa_rows::RowSource;
@@ -50,6 +59,9 @@ fn refuse_commit(alloc: Global, session: &mut Session, manager: usize, cause: Ca
         serving.Refuses M manager session.old.work.events cause result (machine_of session.new) }
     ensures settled { (M : Machine) → IsCommitting M manager session.old →
         IsSettled session.new }
+    ensures marked { (world : World) (M : Machine) → IsMachine world M
+        → IsCommitting M manager session.old → AreMarkedAway world.model M manager session.old
+        → AreAllMarked world.model session.new }
     ensures untold { is_store_fault cause ≡ false → tells_fault result ≡ false }
 {
     let events = mem::replace(&mut session.work.events, Seq::new(alloc));
@@ -64,18 +76,30 @@ fn refuse_commit(alloc: Global, session: &mut Session, manager: usize, cause: Ca
     }
 }
 
-/// The objects of a context that are removed, in its order.
-fn removed_of(alloc: Global, work: &UnitOfWork) -> Result<Seq<usize>, AllocError>
+/// The objects of a context that are removed, in its order; those of the entries at other places than these are managed.
+fn removed_of(alloc: Global, work: &UnitOfWork, places: &[usize]) -> Result<Seq<usize>, AllocError>
     requires entries { All (λ e. e.object < length work.now.objects.now) work.now.context.now }
+    requires looked { AreLooked (λ e. is_managed (state_of (now work.now) e.object) ≡ true)
+        work.now.context.now places.now }
     ensures { IfOk result (λ gone. gone ≡ serving.gone_objects (now work.now)) }
 {
     let mut gone = Seq::new(alloc);
-    for entry in work.context.as_slice() {
-        if is_removed_by(work.objects.as_slice()[entry.object].life, work.manager) {
+    for place in places {
+        let entry = &work.context.as_slice()[*place];
+        if leaves(work, entry) {
             gone.push(entry.object)?;
         }
     }
     Ok(gone)
+}
+
+/// Whether an entry leaves with the commit: whether its object is removed.
+fn leaves(work: &UnitOfWork, entry: &Entry) -> bool
+    requires { entry.now.object < length work.now.objects.now }
+    ensures { result ≡ is_gone (now work.now) entry.now }
+{
+    let life = work.objects.as_slice()[entry.object].life;
+    is_removed_by(life, work.manager)
 }
 
 /// Whether an object in this state is removed for the manager.
@@ -99,9 +123,47 @@ fn copied(alloc: Global, numbers: &[u64]) -> Result<Seq<u64>, AllocError>
     Ok(copy)
 }
 
+/// The locks of a context end; at other places than these there is none. Takes no memory.
+fn end_locks(alloc: Global, context: &mut PersistenceContext, places: &[usize])
+    requires { AreLooked (λ e. e.lock ≡ Lock.Unlocked) context.old.now places.now }
+    ensures now { context.new.now ≡ map unlocked context.old.now }
+    ensures marks { context.new.marks ≡ context.old.marks }
+{
+    for place in places {
+        context.unlock_at(alloc, *place);
+    }
+}
+
+/// The context as a commit leaves it: its locks end, and the entries of the removed objects, which are these, leave. At other places
+/// than these there is no lock. Takes no memory, and looks at other entries only where an object is removed.
+fn end_context(alloc: Global, work: &mut UnitOfWork, places: &[usize], gone: &[usize])
+    requires looked { AreLooked (λ e. e.lock ≡ Lock.Unlocked)
+        work.old.context.now places.now }
+    requires gone { gone.now ≡ serving.gone_objects (now work.old) }
+    ensures now { work.new.context.now ≡ map unlocked
+        (filter (λ e. not (is_gone (now work.old) e)) work.old.context.now) }
+    ensures marks { work.new.context.marks ≡ work.old.context.marks }
+    ensures others { work.new ≡ record work.old { context = work.new.context } }
+{
+    end_locks(alloc, &mut work.context, places);
+    if gone.is_empty() {
+        return;
+    }
+    work.context
+        .leave_removed(work.objects.as_slice(), work.manager);
+}
+
 /// Ends a commit that was stored: what the manager's work changed is kept, the removed objects are detached, its locks end,
-/// and its transaction is over. The transactions of others see what they saw. Takes no memory.
-fn end_commit(alloc: Global, session: &mut Session, manager: usize, next: Seq<u64>, gone: &[usize])
+/// and its transaction is over. The transactions of others see what they saw. Takes no memory that could be refused.
+fn end_commit(
+    alloc: Global,
+    metamodel: &Metamodel,
+    session: &mut Session,
+    manager: usize,
+    next: Seq<u64>,
+    gone: &[usize],
+    looked: &Looked,
+)
     requires within { manager < length session.old.managers.items }
     requires next { next ≡ session.old.work.numbers.now }
     requires gone { gone.now ≡ serving.gone_objects (now session.old.work) }
@@ -109,17 +171,21 @@ fn end_commit(alloc: Global, session: &mut Session, manager: usize, next: Seq<u6
         session.old.work.context.now }
     requires room { (session.old.work.view).is_ready ≡ true }
     requires beside { IsBeside manager session.old }
+    requires ready { IsReady metamodel.now (now session.old.work) }
+    requires looked { AreLooked (IsUntouched metamodel.now (now session.old.work)
+        looked.now.linked) session.old.work.context.now looked.now.places }
     ensures ended { (M : Machine) → IsCommitting M manager session.old
         → machine_of session.new ≡ committed_after M manager (now session.old.work) }
     ensures settled { (M : Machine) → IsCommitting M manager session.old
         → session.old.work.events ≡ [] → IsSettled session.new }
+    ensures marked { (M : Machine) → IsCommitting M manager session.old
+        → AreMarkedAway metamodel.now M manager session.old
+        → AreAllMarked metamodel.now session.new }
 {
-    let holder = session.work.manager;
-    session
-        .work
-        .context
-        .leave_removed(session.work.objects.as_slice(), holder);
-    session.work.context.unlock(alloc);
+    other_laws();
+    mark_committed(alloc, metamodel, &mut session.work, looked);
+    let stay = keep_others(&session.work);
+    end_context(alloc, &mut session.work, looked.places.as_slice(), gone);
     detach_objects(alloc, &mut session.work.objects, gone);
     session.work.view.commit();
     session.work.keep(true);
@@ -127,6 +193,7 @@ fn end_commit(alloc: Global, session: &mut Session, manager: usize, next: Seq<u6
     session.work.context.keep();
     end_transaction(alloc, &mut session.managers, manager);
     session.stored = next;
+    mark_unless(alloc, session, stay);
 }
 
 /// Stores what the transaction changed, which stands under these identities alone, and the next numbers; the transaction is
@@ -139,6 +206,7 @@ fn store_commit<R: RowSource, B: Behaviour>(
     rows: &mut R,
     manager: usize,
     ids: &[Identity],
+    looked: &Looked,
 ) -> Reply
     requires within { manager < length session.old.managers.items }
     requires counted { IsCounted session.old }
@@ -152,10 +220,16 @@ fn store_commit<R: RowSource, B: Behaviour>(
     requires rising { each_fits nat_le session.old.stored session.old.work.numbers.now ≡ true }
     requires entries { All (λ e. e.object < length session.old.work.objects.now)
         session.old.work.context.now }
+    requires ready { IsReady unit.now.metamodel (now session.old.work) }
+    requires looked { AreLooked (IsUntouched unit.now.metamodel (now session.old.work)
+        looked.now.linked) session.old.work.context.now looked.now.places }
     ensures stores { (M : Machine) → IsCommitting M manager session.old
         → serving.Stores M manager (now session.old.work) result (machine_of session.new) }
     ensures settled { (M : Machine) → IsCommitting M manager session.old →
         IsSettled session.new }
+    ensures marked { (M : Machine) → IsCommitting M manager session.old
+        → AreMarkedAway unit.now.metamodel M manager session.old
+        → AreAllMarked unit.now.metamodel session.new }
     ensures holds { (M : Machine) → IsCommitting M manager session.old
         → let world = world_of_unit B.meaning unit.now in
         R.holds rows.old (rows_kept world M)
@@ -175,7 +249,7 @@ fn store_commit<R: RowSource, B: Behaviour>(
     ensures told { R.faults rows.new ≡ faults_after_reply result (R.faults rows.old) }
     ensures refused { IsErr result.answer → IsGivenUp result }
 {
-    let (next, gone) = match at_hand(alloc, &session.work) {
+    let (next, gone) = match at_hand(alloc, &session.work, looked) {
         Ok(both) => both,
         Err(_) => {
             restore(alloc, session, manager);
@@ -208,21 +282,29 @@ fn store_commit<R: RowSource, B: Behaviour>(
         return because(alloc, cause);
     }
     let events = mem::replace(&mut session.work.events, Seq::new(alloc));
-    end_commit(alloc, session, manager, next, gone.as_slice());
+    let gone = gone.as_slice();
+    end_commit(alloc, &unit.metamodel, session, manager, next, gone, looked);
     Reply {
         events,
         answer: Ok(Answer::Null),
     }
 }
 
-/// What the end of a commit needs, so that it takes no memory: the next numbers, and the objects that are removed.
-fn at_hand(alloc: Global, work: &UnitOfWork) -> Result<(Seq<u64>, Seq<usize>), AllocError>
+/// What the end of a commit needs, so that it takes no memory: the next numbers, and the objects that are removed; those of the
+/// entries at other places than these are managed.
+fn at_hand(
+    alloc: Global,
+    work: &UnitOfWork,
+    looked: &Looked,
+) -> Result<(Seq<u64>, Seq<usize>), AllocError>
     requires entries { All (λ e. e.object < length work.now.objects.now) work.now.context.now }
+    requires looked { AreLooked (λ e. is_managed (state_of (now work.now) e.object) ≡ true)
+        work.now.context.now looked.now.places }
     ensures next { IfOk result (λ both. both.0 ≡ work.now.numbers.now) }
     ensures gone { IfOk result (λ both. both.1 ≡ serving.gone_objects (now work.now)) }
 {
     let next = copied(alloc, work.numbers.as_slice())?;
-    let gone = removed_of(alloc, work)?;
+    let gone = removed_of(alloc, work, looked.places.as_slice())?;
     Ok((next, gone))
 }
 
@@ -245,6 +327,7 @@ fn commit_active<R: RowSource, B: Behaviour>(
         (em : ℤ) → named session.old em ≡ Some manager
         → Serves world session.old (Call.Commit em) result session.new }
     ensures settled { IsSettled session.new }
+    ensures marked { AreAllMarked unit.now.metamodel session.new }
     ensures holds { let world = world_of_unit B.meaning unit.now in
         R.clean rows.new → R.holds rows.new (rows_kept world (machine_of session.new)) }
     ensures was_clean { R.clean rows.new → R.clean rows.old }
@@ -270,7 +353,10 @@ fn commit_active<R: RowSource, B: Behaviour>(
     take_work(session, manager);
     match commit_work(alloc, unit, &mut session.work) {
         Err(cause) => refuse_commit(alloc, session, manager, cause),
-        Ok(ids) => store_commit(alloc, unit, session, rows, manager, ids.as_slice()),
+        Ok(found) => {
+            let ids = found.ids.as_slice();
+            store_commit(alloc, unit, session, rows, manager, ids, &found.looked)
+        }
     }
 }
 
@@ -290,6 +376,7 @@ pub(crate) fn commit_call<R: RowSource, B: Behaviour>(
     ensures step { let world = world_of_unit B.meaning unit.now in
         Serves world session.old (Call.Commit em) result session.new }
     ensures settled { IsSettled session.new }
+    ensures marked { AreAllMarked unit.now.metamodel session.new }
     ensures holds { let world = world_of_unit B.meaning unit.now in
         R.clean rows.new → R.holds rows.new (rows_kept world (machine_of session.new)) }
     ensures was_clean { R.clean rows.new → R.clean rows.old }

@@ -1,12 +1,14 @@
 //! The ends of transactions but for commit (Jakarta Persistence 3.1, chapter 7.5).
-ghost use Rattle.jpa_context.specs.Marks.{all_marked};
+ghost use Rattle.jpa_context.specs.Marks.{none_marked};
 ghost use Rattle.std.specs.Prelude.{◌≡◌, ◌<◌, [], ℕ, All, false, true, length, slice_set};
 ghost use Rattle.jpa_behaviour.specs.Served.{world_of_unit};
 ghost use Rattle.jpa_ops.specs.States.{detach_each};
 ghost use Rattle.jpa_protocol.specs.declared.call.Call.{Call};
 ghost use Rattle.jpa_machine.specs.Faults.{tells_fault};
+ghost use Rattle.jpa_behaviour.specs.Behaviour.{World};
+ghost use Rattle.jpa_machine.specs.Invariant.{IsMachine};
 ghost use Rattle.jpa_machine.specs.Machine.{cleared, closed, rolled_back};
-ghost use Rattle.jpa_provider.specs.Serving.{machine_of, manager_in, detached_all, detached_at, is_open_status, is_begun_status, IsSettled, Serves};
+ghost use Rattle.jpa_provider.specs.Serving.{machine_of, manager_in, detached_all, detached_at, is_open_status, is_begun_status, AreAllMarked, IsServing, IsSettled, Serves};
 
 use crate::at_work::{manager_named, mark};
 use crate::replies::{accepted, because};
@@ -16,6 +18,7 @@ use crate::session::{
 use jpa_behaviour::{Behaviour, ServedUnit};
 use jpa_context::{Entry, PersistenceContext};
 use jpa_heap::{Life, LiveObject};
+use jpa_marking::other_laws;
 use jpa_protocol::{Answer, Reply};
 use jpa_undo::UndoList;
 use jpa_value::{Cause, Seq, State};
@@ -75,11 +78,14 @@ fn clear(alloc: Global, session: &mut Session, manager: usize)
     ensures managers { session.new.managers.items
         ≡ slice_set session.old.managers.items manager
         (record (manager_in session.old.managers.items manager)
-        { context = record { now = []; since = []; marks = all_marked } }) }
+        { context = record { now = []; since = []; marks = none_marked } }) }
     ensures settled { IsSettled session.old → IsSettled session.new }
+    ensures marked { (world : World) → IsMachine world (machine_of session.old)
+        → AreAllMarked world.model session.old → AreAllMarked world.model session.new }
     ensures view { session.new.work.view ≡ session.old.work.view }
     ensures count { session.new.open_managers ≡ session.old.open_managers }
 {
+    other_laws();
     detach_each(
         alloc,
         &mut session.work.objects,
@@ -104,6 +110,8 @@ pub(crate) fn clear_call<B: Behaviour>(
         Serves world session.old (Call.Clear em) result session.new }
     ensures untold { tells_fault result ≡ false }
     ensures settled { IsSettled session.new }
+    ensures marked { IsServing (world_of_unit B.meaning _unit.now) session.old
+        → AreAllMarked _unit.now.metamodel session.new }
 {
     let Some(manager) = manager_named(session, em) else {
         return because(alloc, Cause::NoSuchManager);
@@ -128,6 +136,8 @@ pub(crate) fn close_call<B: Behaviour>(
         (Call.Close em) result session.new }
     ensures untold { tells_fault result ≡ false }
     ensures settled { IsSettled session.new }
+    ensures marked { IsServing (world_of_unit B.meaning _unit.now) session.old
+        → AreAllMarked _unit.now.metamodel session.new }
 {
     let Some(manager) = manager_named(session, em) else {
         return because(alloc, Cause::NoSuchManager);
@@ -150,6 +160,8 @@ fn shut(alloc: Global, session: &mut Session, manager: usize)
         ≡ false }
     ensures closed { machine_of session.new ≡ closed (machine_of session.old) manager }
     ensures settled { IsSettled session.new }
+    ensures marked { (world : World) → IsMachine world (machine_of session.old)
+        → AreAllMarked world.model session.old → AreAllMarked world.model session.new }
 {
     clear(alloc, session, manager);
     set_status(&mut session.managers, manager, Status::Closed);
@@ -168,6 +180,8 @@ pub(crate) fn release(alloc: Global, session: &mut Session, manager: usize)
     ensures settled { IsSettled session.old
         → is_begun_status (manager_in session.old.managers.items manager).status ≡ true
         → IsSettled session.new }
+    ensures marked { (world : World) → IsMachine world (machine_of session.old)
+        → AreAllMarked world.model session.old → AreAllMarked world.model session.new }
 {
     clear(alloc, session, manager);
     end_transaction(alloc, &mut session.managers, manager);
@@ -188,6 +202,8 @@ pub(crate) fn rollback_call<B: Behaviour>(
         Serves world session.old (Call.Rollback em) result session.new }
     ensures untold { tells_fault result ≡ false }
     ensures settled { IsSettled session.new }
+    ensures marked { IsServing (world_of_unit B.meaning _unit.now) session.old
+        → AreAllMarked _unit.now.metamodel session.new }
 {
     let Some(manager) = manager_named(session, em) else {
         return because(alloc, Cause::NoSuchManager);
@@ -212,6 +228,8 @@ pub(crate) fn set_rollback_only_call<B: Behaviour>(
         Serves world session.old (Call.SetRollbackOnly em) result session.new }
     ensures untold { tells_fault result ≡ false }
     ensures settled { IsSettled session.new }
+    ensures marked { IsServing (world_of_unit B.meaning _unit.now) session.old
+        → AreAllMarked _unit.now.metamodel session.new }
 {
     let Some(manager) = manager_named(session, em) else {
         return because(alloc, Cause::NoSuchManager);

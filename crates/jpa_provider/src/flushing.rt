@@ -6,13 +6,14 @@ ghost use Rattle.jpa_context.specs.Steps.{Meets};
 ghost use Rattle.jpa_context.specs.Undo.{now, since};
 ghost use Rattle.jpa_fetch.specs.Grown.{IsReady};
 ghost use Rattle.jpa_fetch.specs.Orderly.{IsOrderly};
+ghost use Rattle.jpa_flush.specs.Marked.{IsMarked};
 ghost use Rattle.jpa_ops.specs.Names.{has_distinct_entries};
 ghost use Rattle.jpa_protocol.specs.declared.call.Call.{Call};
 ghost use Rattle.jpa_machine.specs.Faults.{tells_fault};
 ghost use Rattle.jpa_machine.specs.Routes as routes;
 ghost use Rattle.jpa_stored.specs.Sets.{IsSound};
 ghost use Rattle.jpa_value.specs.Value.{identity_cmp};
-ghost use Rattle.jpa_provider.specs.Serving.{IsServing, IsSettled, Serves};
+ghost use Rattle.jpa_provider.specs.Serving.{AreAllMarked, IsServing, IsSettled, Serves};
 
 use crate::at_work::{conclude, manager_named, take_work};
 use crate::replies::{Rule, because};
@@ -35,6 +36,7 @@ fn flush_work<B: Behaviour>(
     requires sound { IsSound unit.now.metamodel (now work.old).view }
     requires rising { T (is_sorted identity_cmp (now work.old).view) }
     requires distinct { has_distinct_entries unit.now.metamodel (now work.old) ≡ true }
+    requires marked { IsMarked unit.now.metamodel work.old }
     ensures meets { Meets result (now work.new)
         (routes.flush_call (world_of_unit B.meaning unit.now) (now work.old)) }
     ensures since { since work.new ≡ since work.old }
@@ -57,6 +59,7 @@ pub(crate) fn flush_call<B: Behaviour>(
         (Call.Flush em) result session.new }
     ensures untold { tells_fault result ≡ false }
     ensures settled { IsSettled session.new }
+    ensures marked { AreAllMarked unit.now.metamodel session.new }
 {
     let Some(manager) = manager_named(session, em) else {
         return because(alloc, Cause::NoSuchManager);
@@ -66,5 +69,12 @@ pub(crate) fn flush_call<B: Behaviour>(
     }
     take_work(session, manager);
     let answered = flush_work(alloc, unit, &mut session.work);
-    conclude(alloc, session, manager, answered, Rule::OfManager)
+    conclude(
+        alloc,
+        &unit.metamodel,
+        session,
+        manager,
+        answered,
+        Rule::OfManager,
+    )
 }

@@ -116,7 +116,7 @@ pub(crate) fn whole_key(
 }
 
 /// What is handed in as a value is one of the program.
-fn given_representable(given: &Given)
+pub(crate) fn given_representable(given: &Given)
     ensures { invariant.given_representable given.now ≡ true }
 {
     match given {

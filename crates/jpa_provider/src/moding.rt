@@ -1,10 +1,11 @@
 //! The call setFlushMode (Jakarta Persistence 3.1, chapter 3.10.8).
 ghost use Rattle.std.specs.Prelude.{◌≡◌, ◌<◌, false, length};
 ghost use Rattle.jpa_behaviour.specs.Served.{world_of_unit};
+ghost use Rattle.jpa_model.specs.declared.unit.PersistenceUnit.{PersistenceUnit};
 ghost use Rattle.jpa_protocol.specs.declared.call.Call.{Call};
 ghost use Rattle.jpa_machine.specs.Faults.{tells_fault};
 ghost use Rattle.jpa_machine.specs.Machine.{with_mode};
-ghost use Rattle.jpa_provider.specs.Serving.{machine_of, IsSettled, Serves};
+ghost use Rattle.jpa_provider.specs.Serving.{machine_of, AreAllMarked, IsSettled, Serves};
 
 use crate::at_work::manager_named;
 use crate::replies::{accepted, because};
@@ -19,6 +20,8 @@ fn change_mode(session: &mut Session, manager: usize, mode: FlushMode)
     requires within { manager < length session.old.managers.items }
     ensures mode { machine_of session.new ≡ with_mode (machine_of session.old) manager mode }
     ensures settled { IsSettled session.old → IsSettled session.new }
+    ensures marked { (u : PersistenceUnit) → AreAllMarked u session.old
+        → AreAllMarked u session.new }
 {
     set_mode(&mut session.managers, manager, mode);
 }
@@ -37,6 +40,8 @@ pub(crate) fn set_flush_mode_call<B: Behaviour>(
         (Call.SetFlushMode em mode) result session.new }
     ensures untold { tells_fault result ≡ false }
     ensures settled { IsSettled session.new }
+    ensures marked { (u : PersistenceUnit) → AreAllMarked u session.old
+        → AreAllMarked u session.new }
 {
     let Some(manager) = manager_named(session, em) else {
         return because(alloc, Cause::NoSuchManager);

@@ -1,9 +1,10 @@
 //! Calls that make managers and objects, and begin transactions (Jakarta Persistence 3.1, chapters 3.1.1 and 7.5).
 ghost use Rattle.std.specs.Prelude.{◌≡◌, false};
 ghost use Rattle.jpa_behaviour.specs.Served.{world_of_unit};
+ghost use Rattle.jpa_model.specs.declared.unit.PersistenceUnit.{PersistenceUnit};
 ghost use Rattle.jpa_protocol.specs.declared.call.Call.{Call};
 ghost use Rattle.jpa_machine.specs.Faults.{tells_fault};
-ghost use Rattle.jpa_provider.specs.Serving.{IsSettled, Serves};
+ghost use Rattle.jpa_provider.specs.Serving.{AreAllMarked, IsSettled, Serves};
 
 use crate::at_work::manager_named;
 use crate::replies::{accepted, because};
@@ -11,6 +12,7 @@ use crate::session::{EntityManager, Session, Status, set_status, status_of};
 use jpa_behaviour::{Behaviour, ServedUnit};
 use jpa_context::PersistenceContext;
 use jpa_heap::new_object;
+use jpa_marking::other_laws;
 use jpa_open::TransactionLayers;
 use jpa_protocol::{Answer, FlushMode, Reply};
 use jpa_value::{Argument, Cause, MOST_OBJECTS, MOST_OPEN_MANAGERS, State};
@@ -31,6 +33,8 @@ pub(crate) fn create_call<B: Behaviour>(
         Call.CreateEntityManager result session.new }
     ensures untold { tells_fault result ≡ false }
     ensures settled { IsSettled session.new }
+    ensures marked { (u : PersistenceUnit) → AreAllMarked u session.old
+        → AreAllMarked u session.new }
 {
     let count = session.managers.len();
     if session.open_managers >= MOST_OPEN_MANAGERS || count >= MOST_MANAGERS {
@@ -62,6 +66,8 @@ pub(crate) fn begin_call<B: Behaviour>(
         (Call.Begin em) result session.new }
     ensures untold { tells_fault result ≡ false }
     ensures settled { IsSettled session.new }
+    ensures marked { (u : PersistenceUnit) → AreAllMarked u session.old
+        → AreAllMarked u session.new }
 {
     let Some(manager) = manager_named(session, em) else {
         return because(alloc, Cause::NoSuchManager);
@@ -85,7 +91,10 @@ pub(crate) fn new_call<B: Behaviour>(
         Serves world session.old (Call.NewObject entity.now) result session.new }
     ensures untold { tells_fault result ≡ false }
     ensures settled { IsSettled session.new }
+    ensures marked { (u : PersistenceUnit) → AreAllMarked u session.old
+        → AreAllMarked u session.new }
 {
+    other_laws();
     let count = session.work.objects.len();
     if count >= MOST_OBJECTS {
         return because(alloc, Cause::Limit);

@@ -1,11 +1,11 @@
 //! Operations on a unit of work, with what their calls hand in (Jakarta Persistence 3.1, chapters
 //! 2.2 and 3.1.1).
-ghost use Rattle.std.specs.Prelude.{◌≡◌, ◌<◌, suc, All, IfOk, IfErr, OnErr, length, map};
+ghost use Rattle.std.specs.Prelude.{◌≡◌, ◌<◌, suc, true, All, IfOk, IfErr, OnErr, length, map};
 ghost use Rattle.jpa_value.specs.declared.refusal.Cause.{Cause};
 ghost use Rattle.jpa_behaviour.specs.Served.{world_of_unit};
 ghost use Rattle.jpa_context.specs.Steps.{Meets};
 ghost use Rattle.jpa_context.specs.Work.{Work};
-ghost use Rattle.jpa_context.specs.Undo.{now, since};
+ghost use Rattle.jpa_context.specs.Undo.{now, since, IsKept};
 ghost use Rattle.jpa_heap.specs.Shape.{HasShape};
 ghost use Rattle.jpa_fetch.specs.Grown.{IsReady};
 ghost use Rattle.jpa_fetch.specs.Members.{IsGotWithin};
@@ -14,13 +14,15 @@ ghost use Rattle.jpa_fetch.specs.declared.getting.Got.{Got};
 ghost use Rattle.jpa_machine.specs.Calls as calls;
 ghost use Rattle.jpa_machine.specs.Routes as routes;
 ghost use Rattle.jpa_provider.specs.Operations as operations;
+ghost use Rattle.jpa_provider.specs.Serving.{KeepsMarks};
 ghost use Rattle.jpa_provider.specs.declared.operating.Operation.{Operation};
 
-use crate::handing::{are_short, handed, place_of, whole_key};
+use crate::handing::{are_short, given_representable, handed, place_of, whole_key};
 use jpa_behaviour::{Behaviour, ServedUnit};
-use jpa_context::{Lock, UnitOfWork};
+use jpa_context::{Lock, Marks, UnitOfWork};
 use jpa_fetch::{Got, add, find, get, take_out};
 use jpa_heap::assign;
+use jpa_marking::other_laws;
 use jpa_merge::merge;
 use jpa_ops::{detach, lock, persist, refresh, remove};
 use jpa_protocol::{Answer, Given, LockMode};
@@ -299,6 +301,7 @@ fn refresh_numbered<B: Behaviour>(
 }
 
 /// Detaches an object, by its number.
+#[tactic(auto, using(crate::proofs::Marked::kept_since))]
 fn detach_numbered<B: Behaviour>(
     alloc: Global,
     unit: &ServedUnit<B>,
@@ -306,16 +309,21 @@ fn detach_numbered<B: Behaviour>(
     object: i64,
 ) -> Result<Answer, Cause>
     requires ready { IsReady unit.now.metamodel (now work.old) }
+    requires kept { IsKept work.old }
     ensures meets { let world = world_of_unit B.meaning unit.now in
         Meets result (now work.new) (operations.operation_of (Operation.Detach object) world
         (now work.old)) }
     ensures view { work.new.view ≡ work.old.view }
     ensures since { OnErr result (since work.new ≡ since work.old) }
+    ensures marked { KeepsMarks unit.now.metamodel work.old work.new }
 {
+    other_laws();
     let Some(place) = place_of(work.objects.len(), object) else {
         return Err(Cause::NoSuchObject);
     };
     detach(alloc, &unit.metamodel, work, place)?;
+    // What leads to a detached object is not noted.
+    work.context.mark(Marks::all(alloc));
     Ok(Answer::Null)
 }
 
@@ -454,8 +462,19 @@ fn get_reference_by_key<B: Behaviour>(
     there_must_be(found)
 }
 
+/// A value that an operation sets is one of the program.
+pub(crate) fn sets_representable(operation: &Operation)
+    ensures { operations.sets_representable operation.now ≡ true }
+{
+    match operation {
+        Operation::Set { value, .. } => given_representable(value),
+        _ => {}
+    }
+}
+
 /// Does an operation on the unit of work. Refused as the operation is; what a refused one changed
 /// is undone by `UnitOfWork::undo`.
+#[tactic(auto, using(crate::proofs::Marked::kept_since))]
 pub(crate) fn operate<B: Behaviour>(
     alloc: Global,
     unit: &ServedUnit<B>,
@@ -464,10 +483,12 @@ pub(crate) fn operate<B: Behaviour>(
 ) -> Result<Answer, Cause>
     requires orderly { IsOrderly unit.now.metamodel }
     requires ready { IsReady unit.now.metamodel (now work.old) }
+    requires kept { IsKept work.old }
     ensures meets { let world = world_of_unit B.meaning unit.now in
         Meets result (now work.new) (operations.operation_of operation world (now work.old)) }
     ensures view { work.new.view ≡ work.old.view }
     ensures since { OnErr result (since work.new ≡ since work.old) }
+    ensures marked { KeepsMarks unit.now.metamodel work.old work.new }
 {
     match operation {
         Operation::Get { object, name } => {

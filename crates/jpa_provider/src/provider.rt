@@ -21,7 +21,7 @@ ghost use Rattle.jpa_machine.specs.Routes.{is_commit, is_rollback};
 ghost use Rattle.jpa_object_store.specs.Written.{RunsAtMost, RunsDifference};
 ghost use Rattle.jpa_provider.specs.Provided.{rows_kept, rows_made, world_in, Stands};
 ghost use Rattle.jpa_machine.specs.Updating.{MakesRepresentable, is_bulk};
-ghost use Rattle.jpa_provider.specs.Serving.{machine_of, IsServing, IsSettled, Serves};
+ghost use Rattle.jpa_provider.specs.Serving.{machine_of, AreAllMarked, IsServing, IsSettled, Serves};
 
 use crate::asking::contains_call;
 use crate::committing::commit_call;
@@ -200,6 +200,7 @@ fn served<R: RowSource, B: Behaviour>(
     ensures step { let world = world_of_unit B.meaning unit.now in
         Serves world session.old call result session.new }
     ensures settled { IsSettled session.new }
+    ensures marked { AreAllMarked unit.now.metamodel session.new }
     ensures holds { let world = world_of_unit B.meaning unit.now in
         is_commit call ≡ true → R.clean rows.new
         → R.holds rows.new (rows_kept world (machine_of session.new)) }

@@ -11,6 +11,7 @@ ghost use Rattle.jpa_machine.specs.Updating.{MakesRepresentable};
 ghost use Rattle.jpa_context.specs.Undo.{now, since};
 ghost use Rattle.jpa_fetch.specs.Grown.{IsReady};
 ghost use Rattle.jpa_fetch.specs.Orderly.{IsOrderly};
+ghost use Rattle.jpa_flush.specs.Marked.{IsMarked};
 ghost use Rattle.jpa_heap.specs.Shape.{IsInHeap};
 ghost use Rattle.jpa_ops.specs.Names.{has_distinct_entries};
 ghost use Rattle.jpa_protocol.specs.declared.call.Call.{Call};
@@ -19,7 +20,7 @@ ghost use Rattle.jpa_machine.specs.Machine as machine;
 ghost use Rattle.jpa_machine.specs.Querying as querying;
 ghost use Rattle.jpa_provider.specs.Operations as operations;
 ghost use Rattle.jpa_machine.specs.Routes.{route, ToQuery};
-ghost use Rattle.jpa_provider.specs.Serving.{machine_of, IsServing, IsSettled, Serves, is_begun_status};
+ghost use Rattle.jpa_provider.specs.Serving.{machine_of, AreAllMarked, IsServing, IsSettled, Serves, is_begun_status};
 ghost use Rattle.jpa_asked.specs.Premises.{AreInHeap};
 ghost use Rattle.jpa_queries.specs.Premises.{StaysReady};
 ghost use Rattle.jpa_stored.specs.Sets.{IsSound};
@@ -153,6 +154,7 @@ fn query_work<B: Behaviour>(
     requires sound { IsSound unit.now.metamodel (now work.old).view }
     requires rising { T (is_sorted identity_cmp (now work.old).view) }
     requires distinct { has_distinct_entries unit.now.metamodel (now work.old) ≡ true }
+    requires marked { IsMarked unit.now.metamodel work.old }
     requires then_ready { StaysReady flushes (world_of_unit B.meaning unit.now)
         (now work.old) }
     ensures meets { let world = world_of_unit B.meaning unit.now in
@@ -198,6 +200,7 @@ pub(crate) fn query_call<B: Behaviour>(
         → Serves world session.old call result session.new }
     ensures untold { tells_fault result ≡ false }
     ensures settled { IsSettled session.new }
+    ensures marked { AreAllMarked unit.now.metamodel session.new }
 {
     let Some(manager) = manager_named(session, em) else {
         return because(alloc, Cause::NoSuchManager);
@@ -209,7 +212,14 @@ pub(crate) fn query_call<B: Behaviour>(
     take_work(session, manager);
     let work = &mut session.work;
     let answered = query_work(alloc, unit, work, flushes, wanted, told);
-    conclude(alloc, session, manager, answered, Rule::OfManager)
+    conclude(
+        alloc,
+        &unit.metamodel,
+        session,
+        manager,
+        answered,
+        Rule::OfManager,
+    )
 }
 
 /// An UPDATE or DELETE of a manager at work, and its answer. Refused as `bound` and `execute_update` are.
@@ -228,6 +238,7 @@ fn update_work<B: Behaviour>(
     requires sound { IsSound unit.now.metamodel (now work.old).view }
     requires rising { T (is_sorted identity_cmp (now work.old).view) }
     requires distinct { has_distinct_entries unit.now.metamodel (now work.old) ≡ true }
+    requires marked { IsMarked unit.now.metamodel work.old }
     requires then_sound { StaysSound flushes (world_of_unit B.meaning unit.now)
         (now work.old) }
     ensures meets { let world = world_of_unit B.meaning unit.now in
@@ -260,6 +271,7 @@ pub(crate) fn update_call<B: Behaviour>(
         (Call.ExecuteUpdate em text.now parameters.now) result session.new }
     ensures untold { tells_fault result ≡ false }
     ensures settled { IsSettled session.new }
+    ensures marked { AreAllMarked unit.now.metamodel session.new }
     ensures made { let world = world_of_unit B.meaning unit.now in
         OnOk result.answer (MakesRepresentable world (machine_of session.old)
         (Call.ExecuteUpdate em text.now parameters.now)) }
@@ -280,5 +292,12 @@ pub(crate) fn update_call<B: Behaviour>(
         text,
         parameters,
     );
-    conclude(alloc, session, manager, answered, Rule::OfManager)
+    conclude(
+        alloc,
+        &unit.metamodel,
+        session,
+        manager,
+        answered,
+        Rule::OfManager,
+    )
 }

@@ -5,7 +5,7 @@ ghost use Rattle.jpa_provider.specs.Serving.{manager_in};
 ghost use Rattle.jpa_provider.specs.Turns.{HaveTurned};
 ghost use Rattle.jpa_provider.specs.declared.session.Status.{Status};
 
-use jpa_context::{Entry, PersistenceContext, UnitOfWork};
+use jpa_context::{Entry, Marks, PersistenceContext, UnitOfWork};
 use jpa_open::{OpenSet, TransactionLayers};
 use jpa_protocol::FlushMode;
 use jpa_value::Seq;
@@ -144,6 +144,19 @@ pub(crate) fn set_status(managers: &mut Vec<EntityManager>, manager: usize, stat
         (record (manager_in managers.old.items manager) { status = status }) }
 {
     managers[manager].status = status;
+}
+
+/// The manager's context has other marks. Takes no memory.
+pub(crate) fn set_marks(managers: &mut Vec<EntityManager>, manager: usize, marks: Marks)
+    requires { manager < length managers.old.items }
+    ensures set { managers.new.items ≡ slice_set managers.old.items manager
+        (record (manager_in managers.old.items manager)
+        { context = (manager_in managers.new.items manager).context }) }
+    ensures entries { (manager_in managers.new.items manager).context.now
+        ≡ (manager_in managers.old.items manager).context.now }
+    ensures marks { (manager_in managers.new.items manager).context.marks ≡ marks }
+{
+    managers[manager].context.mark(marks);
 }
 
 /// The manager's flush mode.

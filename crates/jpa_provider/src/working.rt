@@ -14,17 +14,18 @@ ghost use Rattle.jpa_provider.specs.Operations as operations;
 ghost use Rattle.jpa_machine.specs.Routes.{route, OfManager, OfObject};
 ghost use Rattle.jpa_machine.specs.Routes as routes;
 ghost use Rattle.jpa_heap.specs.Objects as objects;
-ghost use Rattle.jpa_provider.specs.Serving.{machine_of, IsServing, IsSettled, Serves};
+ghost use Rattle.jpa_provider.specs.Serving.{machine_of, AreAllMarked, IsServing, IsSettled, Serves};
 ghost use Rattle.jpa_provider.specs.declared.replies.Rule.{Rule};
 
-use crate::at_work::{conclude, manager_named, take_work};
+use crate::at_work::{conclude, manager_named, mark_unless, take_work};
 use crate::handing::place_of;
-use crate::operating::{Operation, operate};
+use crate::operating::{Operation, operate, sets_representable};
 use crate::replies::{Rule, because, told_of};
 use crate::session::{Session, status_of};
 use jpa_behaviour::{Behaviour, ServedUnit};
 use jpa_context::PersistenceContext;
 use jpa_heap::Life;
+use jpa_marking::keep_others;
 use jpa_protocol::{LockMode, Reply};
 use jpa_value::{Cause, Refusal, Seq};
 use std::alloc::Global;
@@ -48,10 +49,12 @@ fn at_work<B: Behaviour>(
         EndsSo rule M manager outcome result (machine_of session.new) }
     ensures untold { tells_fault result ≡ false }
     ensures settled { IsSettled session.new }
+    ensures marked { AreAllMarked unit.now.metamodel session.new }
 {
+    sets_representable(&operation);
     take_work(session, manager);
     let answered = operate(alloc, unit, &mut session.work, operation);
-    conclude(alloc, session, manager, answered, rule)
+    conclude(alloc, &unit.metamodel, session, manager, answered, rule)
 }
 
 /// Nobody's manager does an operation, on an object that no manager holds: it sees what is
@@ -70,6 +73,7 @@ fn unheld<B: Behaviour>(
         EndsSo Rule.OfObject M nobody outcome result (machine_of session.new) }
     ensures untold { tells_fault result ≡ false }
     ensures settled { IsSettled session.new }
+    ensures marked { AreAllMarked unit.now.metamodel session.new }
 {
     session.work.manager = session.managers.len();
     session.work.context = PersistenceContext::new(alloc);
@@ -77,7 +81,9 @@ fn unheld<B: Behaviour>(
     let events = mem::replace(&mut session.work.events, Seq::new(alloc));
     match answered {
         Ok(answer) => {
+            let stay = keep_others(&session.work);
             session.work.keep(false);
+            mark_unless(alloc, session, stay);
             Reply {
                 events,
                 answer: Ok(answer),
@@ -120,6 +126,7 @@ pub(crate) fn lock_call<B: Behaviour>(
         (Call.Lock em object mode) result session.new }
     ensures untold { tells_fault result ≡ false }
     ensures settled { IsSettled session.new }
+    ensures marked { AreAllMarked unit.now.metamodel session.new }
 {
     let Some(manager) = manager_named(session, em) else {
         return because(alloc, Cause::NoSuchManager);
@@ -161,6 +168,7 @@ pub(crate) fn worked<B: Behaviour>(
         → Serves world session.old call result session.new }
     ensures untold { tells_fault result ≡ false }
     ensures settled { IsSettled session.new }
+    ensures marked { AreAllMarked unit.now.metamodel session.new }
 {
     let Some(manager) = manager_named(session, em) else {
         return because(alloc, Cause::NoSuchManager);
@@ -183,6 +191,7 @@ pub(crate) fn held<B: Behaviour>(
         → Serves world session.old call result session.new }
     ensures untold { tells_fault result ≡ false }
     ensures settled { IsSettled session.new }
+    ensures marked { AreAllMarked unit.now.metamodel session.new }
 {
     let Some(place) = place_of(session.work.objects.len(), object) else {
         return because(alloc, Cause::NoSuchObject);

@@ -6,6 +6,7 @@ ghost use Rattle.jpa_context.specs.Steps.{Meets};
 ghost use Rattle.jpa_context.specs.Undo.{now, since};
 ghost use Rattle.jpa_fetch.specs.Grown.{IsReady};
 ghost use Rattle.jpa_fetch.specs.Orderly.{IsOrderly};
+ghost use Rattle.jpa_flush.specs.Marked.{IsMarked};
 ghost use Rattle.jpa_ops.specs.Names.{has_distinct_entries};
 ghost use Rattle.jpa_asked.specs.Premises.{AreInHeap};
 ghost use Rattle.jpa_queries.specs.Premises.{IsReadyToAsk, StaysReady};
@@ -89,6 +90,7 @@ fn rows_asked<B: Behaviour>(
     requires sound { IsSound unit.now.metamodel (now work.old).view }
     requires rising { T (is_sorted identity_cmp (now work.old).view) }
     requires distinct { has_distinct_entries unit.now.metamodel (now work.old) ≡ true }
+    requires marked { IsMarked unit.now.metamodel work.old }
     requires then_ready { StaysReady flushes (world_of_unit B.meaning unit.now)
         (now work.old) }
     requires bound { AreInHeap work.old.objects.now asked.now.bindings }
@@ -154,6 +156,7 @@ pub fn query<B: Behaviour>(
     requires sound { IsSound unit.now.metamodel (now work.old).view }
     requires rising { T (is_sorted identity_cmp (now work.old).view) }
     requires distinct { has_distinct_entries unit.now.metamodel (now work.old) ≡ true }
+    requires marked { IsMarked unit.now.metamodel work.old }
     requires then_ready { StaysReady flushes (world_of_unit B.meaning unit.now)
         (now work.old) }
     requires bound { AreInHeap work.old.objects.now asked.now.bindings }
@@ -180,6 +183,7 @@ pub fn query_single<B: Behaviour>(
     requires sound { IsSound unit.now.metamodel (now work.old).view }
     requires rising { T (is_sorted identity_cmp (now work.old).view) }
     requires distinct { has_distinct_entries unit.now.metamodel (now work.old) ≡ true }
+    requires marked { IsMarked unit.now.metamodel work.old }
     requires then_ready { StaysReady flushes (world_of_unit B.meaning unit.now)
         (now work.old) }
     requires bound { AreInHeap work.old.objects.now asked.now.bindings }

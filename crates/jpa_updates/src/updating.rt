@@ -10,6 +10,7 @@ ghost use Rattle.jpa_fetch.specs.Orderly.{IsOrderly};
 ghost use Rattle.jpa_ops.specs.Names.{has_distinct_entries};
 ghost use Rattle.jpa_asked.specs.Premises.{AreInHeap};
 ghost use Rattle.jpa_flush.specs.Flush.{flush_if};
+ghost use Rattle.jpa_flush.specs.Marked.{IsMarked};
 ghost use Rattle.jpa_updates.specs.Updates as updates;
 ghost use Rattle.jpa_rows.specs.Cells.{all_representable};
 ghost use Rattle.jpa_stored.specs.Sets.{IsSound};
@@ -194,6 +195,7 @@ pub fn execute_update<B: Behaviour>(
     requires sound { IsSound unit.now.metamodel (now work.old).view }
     requires rising { T (is_sorted identity_cmp (now work.old).view) }
     requires distinct { has_distinct_entries unit.now.metamodel (now work.old) ≡ true }
+    requires marked { IsMarked unit.now.metamodel work.old }
     requires then_sound { updates.StaysSound flushes
         (world_of_unit B.meaning unit.now) (now work.old) }
     requires bound { AreInHeap work.old.objects.now bindings.now }

@@ -1,7 +1,8 @@
-use Rattle.std.proofs.Common.{◌≡◌, ap, length, List}
+use Rattle.std.proofs.Common.{ap, length, List}
 use Rattle.std.specs.Prelude.{◌==◌}
 use Rattle.jpa_value.specs.declared.value.Identity.{Identity}
-use Rattle.jpa_flush.proofs.Silent.{calm_action, calm_orphans, calm_remembered, linked_stored}
+use Rattle.jpa_flush.proofs.Silent.{calm_action, calm_orphans, calm_parts, calm_remembered, linked_stored}
+use Rattle.jpa_flush.proofs.Locked.{calm_unlocked, untouched_calm}
 use Rattle.jpa_flush.proofs.laws.calm_laws.Goals as goal
 
 pub returns-clause-action : goal.returns-clause-action
@@ -15,3 +16,12 @@ returns-clause-remembered c = calm_remembered
 
 pub returns-clause-stored : goal.returns-clause-stored
 returns-clause-stored c = linked_stored
+
+pub returns-clause-managed : goal.returns-clause-managed
+returns-clause-managed c = λ m w e h. (calm_parts m w e h).managed
+
+pub returns-clause-unlocked : goal.returns-clause-unlocked
+returns-clause-unlocked c = calm_unlocked
+
+pub returns-clause-looked : goal.returns-clause-looked
+returns-clause-looked c = untouched_calm

@@ -2,7 +2,7 @@ use Rattle.std.proofs.Common.{◌≡◌, ◌∙◌, ap, get_or, map, List}
 use Rattle.std.specs.Prelude.{slice_set, None}
 use Rattle.jpa_context.specs.declared.Entry.{Entry}
 use Rattle.jpa_context.specs.Undo.{now}
-use Rattle.jpa_flush.proofs.InOrder.{named_at, one_settled}
+use Rattle.jpa_flush.proofs.OneEntry.{named_at, one_settled}
 use Rattle.jpa_flush.proofs.Settled.{settled_as, settled_if}
 use Rattle.jpa_flush.proofs.settling.settle_taken.Goals as goal
 

@@ -4,7 +4,7 @@ use Rattle.jpa_context.specs.declared.Entry.{Entry}
 use Rattle.jpa_context.specs.Undo.{now}
 use Rattle.jpa_context.specs.Work.{Work}
 use Rattle.jpa_flush.specs.Flush.{settled_entry}
-use Rattle.jpa_flush.proofs.InOrder.{named_at, one_settled}
+use Rattle.jpa_flush.proofs.OneEntry.{named_at, one_settled}
 use Rattle.jpa_flush.proofs.Settled.{settled_if}
 use Rattle.jpa_flush.proofs.settling.settle_written.Goals as goal
 

@@ -5,6 +5,7 @@ use Rattle.jpa_provider.specs.declared.session.Session.{Session}
 use Rattle.jpa_provider.specs.declared.session.Status.{Status}
 use Rattle.jpa_provider.specs.Serving.{manager_in, marked_status}
 use Rattle.jpa_provider.proofs.Counted.{counted_same}
+use Rattle.jpa_provider.proofs.Marked.{context_kept, same_marked}
 use Rattle.jpa_provider.proofs.Sessions.{marked_there, marked_open, marked_begun, idle_changed}
 use Rattle.jpa_provider.proofs.at_work.mark.Goals as goal
 
@@ -33,3 +34,11 @@ returns-clause-settled c = λ settled.
       idle = idle_changed xs t.managers.items c.args.manager y c.requires.within e (λ none. settled.idle c.args.manager (sym (marked_begun x.status) ∙ none)) settled.idle;
       counted = counted_same s t c.args.manager y c.requires.within settled.counted e (marked_open x.status) refl;
     }
+
+pub returns-clause-marks : goal.returns-clause-marks
+returns-clause-marks c = λ model marks.
+    let s = c.args.session.now in
+    let t : Session = record s { managers = c.set_status.new.managers } in
+    let xs : List EntityManager = s.managers.items in
+    let x : EntityManager = record (manager_in xs c.args.manager) { status = c.marked-status.result } in
+    same_marked model s t refl (context_kept xs t.managers.items c.args.manager x c.requires.within c.set_status.ensures refl) marks

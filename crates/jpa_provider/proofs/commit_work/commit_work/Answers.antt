@@ -1,13 +1,17 @@
-use Rattle.std.proofs.Common.{◌≡◌, sym, subst}
+use Rattle.std.proofs.Common.{◌≡◌, true, sym, subst}
 use Rattle.std.proofs.lemmas.Result.{err_from_is_err_and}
 use Rattle.jpa_value.specs.declared.refusal.Cause.{Cause}
 use Rattle.jpa_behaviour.specs.Served.{world_of_unit}
 use Rattle.jpa_context.specs.Steps.{Outcome, Done, Refused, IsRefusedAs}
-use Rattle.jpa_context.specs.Undo.{now, Since}
+use Rattle.jpa_context.specs.declared.Entry.{Entry}
+use Rattle.jpa_context.specs.declared.work.UnitOfWork.{UnitOfWork}
+use Rattle.jpa_context.specs.Undo.{now, undone, Since}
 use Rattle.jpa_flush.specs.Flush.{flush}
+use Rattle.jpa_flush.specs.Marked.{AreLooked, AreMarked, IsUntouched, is_calm}
 use Rattle.jpa_flush.proofs.Rounds.{refused_after}
 use Rattle.jpa_machine.specs.Transactions.{commit_work}
 use Rattle.jpa_provider.proofs.Current.{deciding, joined, not_current}
+use Rattle.jpa_provider.proofs.Walks.{looked_as, untouched_seen}
 use Rattle.jpa_provider.proofs.commit_work.commit_work.Goals as goal
 
 pub returns-in_err-flush-clause-meets : goal.returns-in_err-flush-clause-meets
@@ -20,6 +24,27 @@ returns-in_err-flush-clause-meets g c =
 -- what was flushed is ready for what comes next, and rises
 pub is_current-requires-clause-ready : goal.is_current-requires-clause-ready
 is_current-requires-clause-ready g c = (c.requires.goes (now c.flush.new.work) c.in_ok-flush.ensures.meets).ready
+
+-- nothing changes what undoing gives, nor marks
+pub looked-requires-clause-marked : goal.looked-requires-clause-marked
+looked-requires-clause-marked g c = subst (λ (x : Since). AreMarked c.args.unit.now.metamodel (undone x.manager x) x.marks) (sym c.flush.ensures.since) (c.requires.marked).before
+
+pub looked-requires-clause-ready : goal.looked-requires-clause-ready
+looked-requires-clause-ready g c = (c.requires.goes (now c.flush.new.work) c.in_ok-flush.ensures.meets).ready
+
+pub is_current-requires-clause-looked : goal.is_current-requires-clause-looked
+is_current-requires-clause-looked g c =
+    let w = now c.flush.new.work in
+    subst (AreLooked (λ (e : Entry). is_calm c.args.unit.now.metamodel w e ≡ true) w.context) (sym c.as_slice-places.ensures)
+    (c.calm_laws.ensures.looked c.args.unit.now.metamodel w c.in_ok-looked.looked.linked w.context c.in_ok-looked.looked.places c.in_ok-looked.ensures.ok)
+
+pub returns-clause-looked : goal.returns-clause-looked
+returns-clause-looked g c =
+    let m = c.args.unit.now.metamodel in
+    let w = now c.flush.new.work in
+    let found = c.in_ok-looked.looked in
+    subst (λ (v : UnitOfWork). AreLooked (IsUntouched m (now v) found.linked) v.context.now found.places) (sym c.merge.ensures.others)
+    (looked_as (untouched_seen m w (c.merge.new.work.view).seen w.events found.linked) c.in_ok-looked.ensures.ok)
 
 pub returns-then-not-branch-clause-meets : goal.returns-then-not-branch-clause-meets
 returns-then-not-branch-clause-meets g c =

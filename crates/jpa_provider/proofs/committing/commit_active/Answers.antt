@@ -19,10 +19,11 @@ use Rattle.jpa_provider.specs.Provided.{rows_made}
 use Rattle.jpa_provider.specs.Serving.{machine_of, is_begun_status}
 use Rattle.jpa_provider.specs.Beside.{Rises}
 use Rattle.jpa_provider.proofs.Active.{entries_since, entries_apart, view_sound, view_rises, query_ready}
-use Rattle.jpa_provider.proofs.Committed.{committing, same_work, worked_held, worked_rising, worked_within}
+use Rattle.jpa_provider.proofs.Committed.{committing, same_work, worked_held, worked_ready, worked_rising, worked_within}
 use Rattle.jpa_provider.proofs.Commits.{refused_step, stored_step, refused_still}
 use Rattle.jpa_provider.proofs.Crashed.{made_by, not_accepted}
 use Rattle.jpa_machine.proofs.AtWork.{work_ready}
+use Rattle.jpa_provider.proofs.Marked.{still_marked, taken_marked}
 use Rattle.jpa_provider.proofs.Worked.{still_working}
 use Rattle.jpa_provider.proofs.committing.commit_active.Goals as goal
 
@@ -102,6 +103,22 @@ store_commit-requires-clause-entries g c =
     let done = sym (same_work c.take_work.new.session taken world c.take_work.ensures.work) ∙ c.in-Ok.ensures.meets in
     worked_within world s m c.requires.serving w done
 
+pub commit_work-requires-clause-marked : goal.commit_work-requires-clause-marked
+commit_work-requires-clause-marked g c =
+    let s = c.args.session.now in
+    let world = world_of_unit g.B.Behaviour.meaning c.args.unit.now in
+    taken_marked world s c.take_work.new.session c.args.manager c.requires.serving c.take_work.ensures.work (c.take_work.ensures.marked world.model (c.requires.serving).marked)
+
+pub store_commit-requires-clause-ready : goal.store_commit-requires-clause-ready
+store_commit-requires-clause-ready g c =
+    let s = c.args.session.now in
+    let m = c.args.manager in
+    let world = world_of_unit g.B.Behaviour.meaning c.args.unit.now in
+    let w : Work = now c.commit_work.new.work in
+    let taken = committing s c.take_work.new.session m (ap is_begun_status c.requires.active) c.take_work.ensures.working in
+    let done = sym (same_work c.take_work.new.session taken world c.take_work.ensures.work) ∙ c.in-Ok.ensures.meets in
+    worked_ready world s m c.requires.serving w done
+
 -- ---- a commit that was refused
 
 pub returns-in-Err-clause-step : goal.returns-in-Err-clause-step
@@ -122,6 +139,15 @@ returns-in-Err-clause-settled g c =
     let u = c.commit_work.new.work in
     let working = still_working c.take_work.new.session u c.take_work.ensures.working c.commit_work.ensures.since in
     c.refuse_commit.ensures.settled (machine_of s) (committing s _ c.args.manager (ap is_begun_status c.requires.active) working)
+
+pub returns-in-Err-clause-marked : goal.returns-in-Err-clause-marked
+returns-in-Err-clause-marked g c =
+    let s = c.args.session.now in
+    let world = world_of_unit g.B.Behaviour.meaning c.args.unit.now in
+    let u = c.commit_work.new.work in
+    let working = still_working c.take_work.new.session u c.take_work.ensures.working c.commit_work.ensures.since in
+    let away = still_marked c.take_work.new.session u (c.take_work.ensures.marked world.model (c.requires.serving).marked) c.commit_work.ensures.since in
+    c.refuse_commit.ensures.marked world (machine_of s) (c.requires.serving).machine (committing s _ c.args.manager (ap is_begun_status c.requires.active) working) away
 
 pub returns-in-Err-clause-holds : goal.returns-in-Err-clause-holds
 returns-in-Err-clause-holds g c = λ clean.
@@ -172,6 +198,15 @@ returns-in-Ok-clause-settled g c =
     let u = c.commit_work.new.work in
     let working = still_working c.take_work.new.session u c.take_work.ensures.working c.commit_work.ensures.since in
     c.store_commit.ensures.settled (machine_of s) (committing s _ c.args.manager (ap is_begun_status c.requires.active) working)
+
+pub returns-in-Ok-clause-marked : goal.returns-in-Ok-clause-marked
+returns-in-Ok-clause-marked g c =
+    let s = c.args.session.now in
+    let world = world_of_unit g.B.Behaviour.meaning c.args.unit.now in
+    let u = c.commit_work.new.work in
+    let working = still_working c.take_work.new.session u c.take_work.ensures.working c.commit_work.ensures.since in
+    let away = still_marked c.take_work.new.session u (c.take_work.ensures.marked world.model (c.requires.serving).marked) c.commit_work.ensures.since in
+    c.store_commit.ensures.marked (machine_of s) (committing s _ c.args.manager (ap is_begun_status c.requires.active) working) away
 
 pub returns-in-Ok-clause-holds : goal.returns-in-Ok-clause-holds
 returns-in-Ok-clause-holds g c = λ clean.

@@ -1,6 +1,7 @@
 use Rattle.std.proofs.Common.{◌≡◌, ap, sym, ◌∙◌}
 use Rattle.std.specs.Prelude.{Some}
 use Rattle.std.proofs.Math.Facts.{to_z-of_z}
+use Rattle.jpa_behaviour.specs.Served.{world_of_unit}
 use Rattle.jpa_provider.specs.Serving.{named}
 use Rattle.jpa_provider.proofs.Serving.{entries_in}
 use Rattle.jpa_provider.proofs.committing.commit_call.Goals as goal
@@ -40,3 +41,6 @@ returns-in-Active-clause-bounded g c =
     let s = c.args.session.now in
     let is : named s c.args.em ≡ Some c.in-Some.manager = ap (named s) (sym (to_z-of_z c.ranges.em)) ∙ sym c.in-Some.ensures.named in
     c.commit_active.ensures.bounded c.args.em is
+
+pub returns-in-RollbackOnly-clause-marked : goal.returns-in-RollbackOnly-clause-marked
+returns-in-RollbackOnly-clause-marked g c = c.release.ensures.marked (world_of_unit g.B.Behaviour.meaning c.args.unit.now) (c.requires.serving).machine (c.requires.serving).marked

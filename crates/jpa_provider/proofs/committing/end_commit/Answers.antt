@@ -1,20 +1,52 @@
-use Rattle.jpa_context.specs.Marks.{Entries}
-use Rattle.std.proofs.Common.{◌≡◌, ◌<◌, List, length, refl, ap, sym, subst, ◌∙◌}
-use Rattle.std.specs.Prelude.{map, slice_set, All}
+use Rattle.std.proofs.Common.{◌≡◌, ◌<◌, List, true, length, refl, ap, sym, subst, ◌∙◌}
+use Rattle.std.specs.Prelude.{slice_set, All}
 use Rattle.std.specs.List.{filter}
 use Rattle.jpa_open.specs.Opened.{Opened, no_layers, unwritten, with_kept}
-use Rattle.jpa_heap.specs.declared.LiveObject.{LiveObject}
-use Rattle.jpa_context.specs.Places.{without_removed}
+use Rattle.jpa_context.specs.declared.Entry.{Entry}
+use Rattle.jpa_context.specs.declared.Lock.{Lock}
+use Rattle.jpa_context.specs.declared.work.UnitOfWork.{UnitOfWork}
+use Rattle.jpa_context.specs.Marks.{Entries, Marks}
 use Rattle.jpa_context.specs.Undo.{now}
-use Rattle.jpa_context.specs.Work.{Work, unlocked}
+use Rattle.jpa_context.specs.Work.{Work}
+use Rattle.jpa_flush.specs.Marked.{AreLooked, AreMarked}
+use Rattle.jpa_marking.specs.Shared as marking
+use Rattle.jpa_machine.specs.Machine.{is_gone}
 use Rattle.jpa_provider.specs.declared.session.EntityManager.{EntityManager}
 use Rattle.jpa_provider.specs.declared.session.Session.{Session}
 use Rattle.jpa_provider.specs.declared.session.Status.{Status}
-use Rattle.jpa_machine.specs.Machine.{is_gone}
-use Rattle.jpa_provider.specs.Serving.{manager_in, detached_all, IsResting}
+use Rattle.jpa_provider.specs.Serving.{manager_in, detached_all, gone_objects, IsResting}
 use Rattle.jpa_provider.proofs.Commits.{committed_there, idle_there, counted_there, detached_entries, gone_within}
+use Rattle.jpa_provider.proofs.Ended.{committed_marks, others_stay, same_work}
 use Rattle.jpa_provider.proofs.Opened.{ended_twice}
+use Rattle.jpa_provider.proofs.Walks.{looked_as, untouched_lock}
 use Rattle.jpa_provider.proofs.committing.end_commit.Goals as goal
+
+-- ---- marks alone have changed then
+
+pub end_context-requires-clause-looked : goal.end_context-requires-clause-looked
+end_context-requires-clause-looked c =
+    let w = now c.args.session.now.work in
+    subst (λ (v : UnitOfWork). AreLooked (λ (e : Entry). e.lock ≡ Lock.Unlocked) v.context.now c.as_slice.result.now) (sym c.mark_committed.ensures.others)
+    (subst (AreLooked (λ (e : Entry). e.lock ≡ Lock.Unlocked) w.context) (sym c.as_slice.ensures)
+    (looked_as (untouched_lock c.args.metamodel.now w c.args.looked.now.linked) c.requires.looked))
+
+pub end_context-requires-clause-gone : goal.end_context-requires-clause-gone
+end_context-requires-clause-gone c = c.requires.gone ∙ ap (λ (v : UnitOfWork). gone_objects (now v)) (sym c.mark_committed.ensures.others)
+
+pub detach_objects-requires : goal.detach_objects-requires
+detach_objects-requires c =
+    let u = c.args.session.now.work in
+    let whole = same_work u c.mark_committed.new.work c.end_context.new.work c.mark_committed.ensures.others c.end_context.ensures.others in
+    subst (λ (v : UnitOfWork). All (λ n. n < length v.objects.now) c.args.gone.now) (sym whole)
+    (subst (λ ns. All (λ n. n < length u.objects.now) ns) (sym c.requires.gone) (gone_within (now u) (length u.objects.now) c.requires.entries))
+
+pub commit-requires : goal.commit-requires
+commit-requires c =
+    let u = c.args.session.now.work in
+    let whole = same_work u c.mark_committed.new.work c.end_context.new.work c.mark_committed.ensures.others c.end_context.ensures.others in
+    subst (λ (v : UnitOfWork). (v.view).is_ready ≡ true) (sym whole) c.requires.room
+
+-- ---- what is left
 
 pub returns-clause-ended : goal.returns-clause-ended
 returns-clause-ended c = λ M h.
@@ -26,16 +58,15 @@ returns-clause-ended c = λ M h.
     let x : EntityManager = record (manager_in xs m) { context = context } in
     let t : Session = record s { managers = c.end_transaction.new.managers; work = record c.keep.new.self { context = c.keep-2.new.self }; stored = c.args.next } in
     let end : List EntityManager → List EntityManager = λ ys. slice_set ys m (record (manager_in ys m) { status = Status.Inactive; layers = no_layers }) in
+    let whole = same_work u c.mark_committed.new.work c.end_context.new.work c.mark_committed.ensures.others c.end_context.ensures.others in
     let same = c.keep.ensures.now in
-    let stay = ap (λ (w : Work). w.context) same ∙ c.unlock.ensures.now ∙ ap (map unlocked) (c.leave_removed.ensures.now ∙ ap (λ (os : List LiveObject). without_removed os u.manager u.context.now) c.as_slice.ensures) in
-    let gone = ap (λ (w : Work). w.objects) same ∙ c.detach_objects.ensures.now ∙ ap (λ ns. detached_all ns u.objects.now) c.requires.gone ∙ detached_entries (filter (is_gone (now u)) u.context.now) u.objects.now in
-    let view = ap (λ (v : Opened). v.committed) c.keep.ensures.view ∙ ap (λ (v : Opened). v.committed) c.commit.ensures in
-    committed_there M s t m context h c.requires.beside (c.end_transaction.ensures ∙ ap end c.exchange.ensures.managers ∙ ended_twice xs m x c.requires.within) stay gone
-    (ap (λ (w : Work). w.numbers) same) view c.requires.next
-
-pub detach_objects-requires : goal.detach_objects-requires
-detach_objects-requires c =
-    subst (λ ns. All (λ n. n < length c.args.session.now.work.objects.now) ns) (sym c.requires.gone) (gone_within (now c.args.session.now.work) (length c.args.session.now.work.objects.now) c.requires.entries)
+    let stay = ap (λ (w : Work). w.context) same ∙ c.end_context.ensures.now ∙ ap (λ (v : UnitOfWork). (marking.ended (now v)).context) c.mark_committed.ensures.others in
+    let gone =
+    ap (λ (w : Work). w.objects) same ∙ c.detach_objects.ensures.now ∙ (λ i. detached_all (c.requires.gone i) ((whole i).objects.now)) ∙ detached_entries (filter (is_gone (now u)) u.context.now) u.objects.now in
+    let view = ap (λ (v : Opened). v.committed) c.keep.ensures.view ∙ ap (λ (v : Opened). v.committed) c.commit.ensures ∙ ap (λ (v : UnitOfWork). (v.view).seen) whole in
+    c.mark_unless.ensures.machine
+    ∙ committed_there M s t m context h c.requires.beside (c.end_transaction.ensures ∙ ap end c.exchange.ensures.managers ∙ ended_twice xs m x c.requires.within) stay gone
+    (ap (λ (w : Work). w.numbers) same ∙ ap (λ (v : UnitOfWork). v.numbers.now) whole) view c.requires.next
 
 pub returns-clause-settled : goal.returns-clause-settled
 returns-clause-settled c = λ M h quiet.
@@ -47,13 +78,41 @@ returns-clause-settled c = λ M h quiet.
     let x : EntityManager = record (manager_in xs m) { context = context } in
     let t : Session = record s { managers = c.end_transaction.new.managers; work = record c.keep.new.self { context = c.keep-2.new.self }; stored = c.args.next } in
     let end : List EntityManager → List EntityManager = λ ys. slice_set ys m (record (manager_in ys m) { status = Status.Inactive; layers = no_layers }) in
+    let whole = same_work u c.mark_committed.new.work c.end_context.new.work c.mark_committed.ensures.others c.end_context.ensures.others in
     let managers = c.end_transaction.ensures ∙ ap end c.exchange.ensures.managers ∙ ended_twice xs m x c.requires.within in
     let kept = c.keep.ensures.kept in
-    let rests : c.keep.new.self.view ≡ unwritten (u.view).seen = c.keep.ensures.view ∙ ap (λ (v : Opened). with_kept v.seen v) c.commit.ensures in
-    record {
+    let rests : c.keep.new.self.view ≡ unwritten (c.end_context.new.work.view).seen = c.keep.ensures.view ∙ ap (λ (v : Opened). with_kept v.seen v) c.commit.ensures in
+    c.mark_unless.ensures.settled
+    (record {
       kept = record { objects = kept.objects; context = c.keep-2.ensures.since ∙ sym c.keep-2.ensures.now; numbers = kept.numbers; view = kept.view };
-      quiet = ap (λ (w : Work). w.events) c.keep.ensures.now ∙ quiet;
+      quiet = ap (λ (w : Work). w.events) c.keep.ensures.now ∙ ap (λ (v : UnitOfWork). v.events) whole ∙ quiet;
       resting = subst IsResting (sym rests) (record { begun = refl; kept = refl });
       idle = idle_there M s t m context h c.requires.beside managers;
       counted = counted_there M s t m context h c.requires.beside managers refl;
-    }
+    })
+
+pub returns-clause-marked : goal.returns-clause-marked
+returns-clause-marked c = λ M h away.
+    let s = c.args.session.now in
+    let m = c.args.manager in
+    let u = s.work in
+    let w = c.mark_committed.new.work in
+    let xs : List EntityManager = s.managers.items in
+    let context : Entries = c.keep.new.self.context in
+    let x : EntityManager = record (manager_in xs m) { context = context } in
+    let t : Session = record s { managers = c.end_transaction.new.managers; work = record c.keep.new.self { context = c.keep-2.new.self }; stored = c.args.next } in
+    let end : List EntityManager → List EntityManager = λ ys. slice_set ys m (record (manager_in ys m) { status = Status.Inactive; layers = no_layers }) in
+    let whole = same_work u w c.end_context.new.work c.mark_committed.ensures.others c.end_context.ensures.others in
+    let same = c.keep.ensures.now in
+    let managers = c.end_transaction.ensures ∙ ap end c.exchange.ensures.managers ∙ ended_twice xs m x c.requires.within in
+    let stay = ap (λ (v : Work). v.context) same ∙ c.end_context.ensures.now ∙ ap (λ (v : UnitOfWork). (marking.ended (now v)).context) c.mark_committed.ensures.others in
+    let gone =
+    ap (λ (v : Work). v.objects) same ∙ c.detach_objects.ensures.now ∙ (λ i. detached_all (c.requires.gone i) ((whole i).objects.now)) ∙ detached_entries (filter (is_gone (now u)) u.context.now) u.objects.now in
+    let view = ap (λ (v : Opened). v.committed) c.keep.ensures.view ∙ ap (λ (v : Opened). v.committed) c.commit.ensures ∙ ap (λ (v : UnitOfWork). (v.view).seen) whole in
+    let marks : context.marks ≡ w.context.marks = c.keep.ensures.marks ∙ c.end_context.ensures.marks in
+    let anew : AreMarked c.args.metamodel.now (marking.ended (now u)) context.marks =
+    subst (AreMarked c.args.metamodel.now (marking.ended (now u))) (sym marks)
+    (subst (λ (v : UnitOfWork). AreMarked c.args.metamodel.now (marking.ended (now v)) w.context.marks) c.mark_committed.ensures.others c.mark_committed.ensures.marked) in
+    c.mark_unless.ensures.marked c.args.metamodel.now (λ stays.
+    committed_marks c.other_laws.ensures.own c.other_laws.ensures.let_go c.args.metamodel.now M s t m context c.requires.within away managers stay gone
+    (committed_there M s t m context h c.requires.beside managers stay gone (ap (λ (v : Work). v.numbers) same ∙ ap (λ (v : UnitOfWork). v.numbers.now) whole) view c.requires.next) anew (others_stay w.context.marks w c.mark_committed.ensures.others away (c.keep_others-stay.ensures stays)))

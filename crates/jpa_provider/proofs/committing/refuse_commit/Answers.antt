@@ -1,8 +1,10 @@
-use Rattle.std.proofs.Common.{inl, inr, refl, ap, sym, ◌∙◌}
+use Rattle.std.proofs.Common.{inl, inr, refl, ap, sym, subst, ◌∙◌}
 use Rattle.std.specs.Prelude.{Err}
 use Rattle.jpa_value.specs.declared.refusal.Refusal.{Refusal}
 use Rattle.jpa_machine.specs.Machine.{Machine, rolled_back}
+use Rattle.jpa_machine.specs.Invariant.{IsMachine}
 use Rattle.jpa_provider.proofs.Committed.{begun_still}
+use Rattle.jpa_provider.proofs.Marked.{still_marked}
 use Rattle.jpa_provider.proofs.Worked.{still_working}
 use Rattle.jpa_provider.proofs.committing.refuse_commit.Goals as goal
 
@@ -36,3 +38,17 @@ returns-clause-settled c = λ M h.
     let working = still_working s (record s.work { events = c.replace-events.new.dest }) h.working refl in
     let back = c.restore.ensures.back M working in
     c.release.ensures.settled (c.restore.ensures.settled M working) (begun_still c.restore.new.session c.args.manager back h.begun)
+
+pub returns-then-gave_up-clause-marked : goal.returns-then-gave_up-clause-marked
+returns-then-gave_up-clause-marked c = λ world M machine h away.
+    let s = c.args.session.now in
+    let working = still_working s (record s.work { events = c.replace-events.new.dest }) h.working refl in
+    c.restore.ensures.marked world.model M working (still_marked s (record s.work { events = c.replace-events.new.dest }) away refl)
+
+-- restored, its contexts are those of the machine
+pub returns-clause-marked : goal.returns-clause-marked
+returns-clause-marked c = λ world M machine h away.
+    let s = c.args.session.now in
+    let working = still_working s (record s.work { events = c.replace-events.new.dest }) h.working refl in
+    let all = c.restore.ensures.marked world.model M working (still_marked s (record s.work { events = c.replace-events.new.dest }) away refl) in
+    c.release.ensures.marked world (subst (IsMachine world) (sym (c.restore.ensures.back M working)) machine) all

@@ -12,12 +12,32 @@ use Rattle.jpa_machine.specs.Step.{gives_up}
 use Rattle.jpa_provider.specs.declared.session.Session.{Session}
 use Rattle.jpa_provider.specs.Provided.{rows_kept}
 use Rattle.jpa_provider.proofs.Committed.{still_committing}
+use Rattle.jpa_provider.proofs.Ended.{away_beside}
+use Rattle.jpa_provider.proofs.Walks.{looked_as, ready_seen, untouched_managed, untouched_seen}
 use Rattle.jpa_provider.proofs.committing.store_commit.Goals as goal
 
 pub returns-in-Err-clause-crash : goal.returns-in-Err-clause-crash
 returns-in-Err-clause-crash g c = λ held.
     let rows = c.args.rows.now in
     g.R.RowSource.wider rows rows _ _ (λ left none. absurd none) (g.met.R.RowSource.still rows)
+
+pub returns-in-Err-clause-marked : goal.returns-in-Err-clause-marked
+returns-in-Err-clause-marked g c = λ M h away. c.restore.ensures.marked c.args.unit.now.metamodel M h.working away
+
+-- ---- what it looks at
+
+pub at_hand-requires-clause-looked : goal.at_hand-requires-clause-looked
+at_hand-requires-clause-looked g c =
+    looked_as (untouched_managed c.args.unit.now.metamodel (now c.args.session.now.work) c.args.looked.now.linked) c.requires.looked
+
+pub end_commit-requires-clause-ready : goal.end_commit-requires-clause-ready
+end_commit-requires-clause-ready g c =
+    let room = c.make_room-room in
+    ready_seen c.args.unit.now.metamodel (now c.args.session.now.work) room.new.view.seen c.replace-events.new.dest room.ensures.seen c.requires.ready
+
+pub end_commit-requires-clause-looked : goal.end_commit-requires-clause-looked
+end_commit-requires-clause-looked g c =
+    looked_as (untouched_seen c.args.unit.now.metamodel (now c.args.session.now.work) (c.make_room-room.new.view).seen c.replace-events.new.dest c.args.looked.now.linked) c.requires.looked
 
 -- ---- there was no room
 
@@ -41,6 +61,14 @@ returns-in-Err-room-clause-settled g c = λ M h.
     let t : Session = record s { managers = room.new.managers; work = record s.work { view = room.new.view } } in
     let there = still_committing s t room.ensures.undone room.ensures.held refl refl refl refl refl h in
     c.restore-in-Err-room.ensures.settled M there.working
+
+pub returns-in-Err-room-clause-marked : goal.returns-in-Err-room-clause-marked
+returns-in-Err-room-clause-marked g c = λ M h away.
+    let s = c.args.session.now in
+    let room = c.make_room-room in
+    let t : Session = record s { managers = room.new.managers; work = record s.work { view = room.new.view } } in
+    let there = still_committing s t room.ensures.undone room.ensures.held refl refl refl refl refl h in
+    c.restore-in-Err-room.ensures.marked c.args.unit.now.metamodel M there.working (away_beside c.args.unit.now.metamodel M c.args.manager s t refl refl refl room.ensures.held away)
 
 pub returns-in-Err-room-clause-holds : goal.returns-in-Err-room-clause-holds
 returns-in-Err-room-clause-holds g c = λ M h held.
@@ -73,6 +101,14 @@ returns-in-Err-stored-clause-settled g c = λ M h.
     let there = still_committing s t room.ensures.undone room.ensures.held refl refl refl refl refl h in
     c.restore-in-Err-stored.ensures.settled M there.working
 
+pub returns-in-Err-stored-clause-marked : goal.returns-in-Err-stored-clause-marked
+returns-in-Err-stored-clause-marked g c = λ M h away.
+    let s = c.args.session.now in
+    let room = c.make_room-room in
+    let t : Session = record s { managers = room.new.managers; work = record s.work { view = room.new.view } } in
+    let there = still_committing s t room.ensures.undone room.ensures.held refl refl refl refl refl h in
+    c.restore-in-Err-stored.ensures.marked c.args.unit.now.metamodel M there.working (away_beside c.args.unit.now.metamodel M c.args.manager s t refl refl refl room.ensures.held away)
+
 pub returns-in-Err-stored-clause-holds : goal.returns-in-Err-stored-clause-holds
 returns-in-Err-stored-clause-holds g c = λ M h held.
     let s = c.args.session.now in
@@ -102,6 +138,14 @@ returns-clause-settled g c = λ M h.
     let t : Session = record s { managers = room.new.managers; work = record s.work { view = room.new.view; events = c.replace-events.new.dest } } in
     let there = still_committing s t room.ensures.undone room.ensures.held refl refl refl refl refl h in
     c.end_commit.ensures.settled M there (c.replace-events.ensures.after ∙ c.new.ensures)
+
+pub returns-clause-marked : goal.returns-clause-marked
+returns-clause-marked g c = λ M h away.
+    let s = c.args.session.now in
+    let room = c.make_room-room in
+    let t : Session = record s { managers = room.new.managers; work = record s.work { view = room.new.view; events = c.replace-events.new.dest } } in
+    let there = still_committing s t room.ensures.undone room.ensures.held refl refl refl refl refl h in
+    c.end_commit.ensures.marked M there (away_beside c.args.unit.now.metamodel M c.args.manager s t refl refl refl room.ensures.held away)
 
 pub returns-clause-holds : goal.returns-clause-holds
 returns-clause-holds g c = λ M h held.

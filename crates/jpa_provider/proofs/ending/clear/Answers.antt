@@ -1,5 +1,5 @@
-use Rattle.jpa_context.specs.Marks.{all_marked, Entries}
-use Rattle.std.proofs.Common.{◌≡◌, [], refl, ap, ◌∙◌}
+use Rattle.jpa_context.specs.Marks.{none_marked, Entries}
+use Rattle.std.proofs.Common.{◌≡◌, [], refl, ap, sym, ◌∙◌}
 use Rattle.std.specs.Prelude.{slice_set}
 use Rattle.jpa_context.specs.declared.Entry.{Entry}
 use Rattle.jpa_ops.specs.States.{detach_each}
@@ -7,6 +7,9 @@ use Rattle.jpa_provider.specs.declared.session.Session.{Session}
 use Rattle.jpa_provider.specs.Serving.{manager_in}
 use Rattle.jpa_provider.proofs.Asked.{cleared_there}
 use Rattle.jpa_provider.proofs.Counted.{counted_same}
+use Rattle.jpa_provider.proofs.Ended.{cleared_marks}
+use Rattle.jpa_machine.specs.Machine.{Machine}
+use Rattle.jpa_provider.proofs.Marked.{context_there}
 use Rattle.jpa_provider.proofs.Sessions.{idle_changed}
 use Rattle.jpa_provider.specs.declared.session.EntityManager.{EntityManager}
 use Rattle.jpa_provider.proofs.ending.clear.Goals as goal
@@ -23,7 +26,7 @@ pub returns-clause-managers : goal.returns-clause-managers
 returns-clause-managers c =
     let xs = c.args.session.now.managers.items in
     let m = c.args.manager in
-    let empty : c.new-empty.result ≡ record { now = []; since = []; marks = all_marked } = λ i. record { now = c.new-empty.ensures.now i; since = c.new-empty.ensures.since i; marks = c.new-empty.ensures.marks i } in
+    let empty : c.new-empty.result ≡ record { now = []; since = []; marks = none_marked } = λ i. record { now = c.new-empty.ensures.now i; since = c.new-empty.ensures.since i; marks = c.new-empty.ensures.marks i } in
     c.exchange.ensures.managers ∙ ap (λ (e : Entries). slice_set xs m (record (manager_in xs m) { context = e })) empty
 
 pub returns-clause-settled : goal.returns-clause-settled
@@ -40,3 +43,12 @@ returns-clause-settled c = λ settled.
       idle = idle_changed s.managers.items t.managers.items m y c.requires.within c.exchange.ensures.managers (settled.idle m) settled.idle;
       counted = counted_same s t m y c.requires.within settled.counted c.exchange.ensures.managers refl refl;
     }
+
+pub returns-clause-marked : goal.returns-clause-marked
+returns-clause-marked c = λ world machine all.
+    let s = c.args.session.now in
+    let m = c.args.manager in
+    let y : EntityManager = record (manager_in s.managers.items m) { context = c.new-empty.result } in
+    let t : Session = record s { managers = c.exchange.new.managers; work = record s.work { objects = c.detach_each.new.objects } } in
+    let gone = c.detach_each.ensures.now ∙ ap (λ es. detach_each es s.work.objects.now) (c.context_of.ensures ∙ sym (context_there s m)) in
+    cleared_marks c.other_laws.ensures.let_go s t m y c.requires.within c.exchange.ensures.managers c.new-empty.ensures.now gone machine all

@@ -15,3 +15,6 @@ returns-clause-step g c =
     let m = c.in-Some.manager in
     let is : named s c.args.em ≡ Some m = ap (named s) (sym (to_z-of_z c.ranges.em)) ∙ sym c.in-Some.ensures.named in
     subst (λ r. Serves world s (Call.Clear c.args.em) r t) (sym c.accepted.ensures) (clear_clears world s t c.args.em m is c.clear.ensures.cleared)
+
+pub returns-clause-marked : goal.returns-clause-marked
+returns-clause-marked g c = λ serving. c.clear.ensures.marked (world_of_unit g.B.Behaviour.meaning c.args._unit.now) serving.machine serving.marked

@@ -1,10 +1,12 @@
-use Rattle.jpa_context.specs.Marks.{all_marked}
-use Rattle.std.proofs.Common.{◌≡◌, ◌+◌, ◌-◌, List, [], refl, ap, ◌∙◌, arith}
+use Rattle.jpa_context.specs.Marks.{none_marked}
+use Rattle.std.proofs.Common.{◌≡◌, ◌<◌, ◌+◌, ◌-◌, List, [], length, refl, ap, sym, subst, ◌∙◌, arith}
 use Rattle.std.specs.Prelude.{slice_set}
+use Rattle.std.proofs.lemmas.List.{length-set}
 use Rattle.jpa_provider.specs.declared.session.EntityManager.{EntityManager}
 use Rattle.jpa_provider.specs.declared.session.Session.{Session}
 use Rattle.jpa_provider.specs.declared.session.Status.{Status}
 use Rattle.jpa_provider.specs.Serving.{manager_in}
+use Rattle.jpa_provider.proofs.Marked.{context_kept, same_marked}
 use Rattle.jpa_provider.proofs.Opened.{twice}
 use Rattle.jpa_provider.proofs.Closing.{shut_there}
 use Rattle.jpa_provider.proofs.Counted.{counted_closed, one_open}
@@ -16,7 +18,7 @@ returns-clause-closed c =
     let s = c.args.session.now in
     let m = c.args.manager in
     let u = c.clear.new.session in
-    let x : EntityManager = record (manager_in s.managers.items m) { context = record { now = []; since = []; marks = all_marked } } in
+    let x : EntityManager = record (manager_in s.managers.items m) { context = record { now = []; since = []; marks = none_marked } } in
     let t : Session = record u { managers = c.set_status.new.managers } in
     let status : List EntityManager → List EntityManager = λ ys. slice_set ys m (record (manager_in ys m) { status = Status.Closed }) in
     shut_there s u t m c.requires.idle c.clear.ensures.cleared c.clear.ensures.view (c.set_status.ensures ∙ ap status c.clear.ensures.managers ∙ twice s.managers.items m x Status.Closed c.requires.within) refl refl
@@ -27,7 +29,7 @@ returns-clause-settled c =
     let m = c.args.manager in
     let u = c.clear.new.session in
     let settled = c.clear.ensures.settled c.requires.settled in
-    let x : EntityManager = record (manager_in s.managers.items m) { context = record { now = []; since = []; marks = all_marked } } in
+    let x : EntityManager = record (manager_in s.managers.items m) { context = record { now = []; since = []; marks = none_marked } } in
     let t : Session = record u { managers = c.set_status.new.managers; open_managers = u.open_managers - 1 } in
     let status : List EntityManager → List EntityManager = λ ys. slice_set ys m (record (manager_in ys m) { status = Status.Closed }) in
     let same = c.clear.ensures.count in
@@ -43,3 +45,14 @@ returns-clause-settled c =
       idle = idle_changed xs t.managers.items m y c.requires.within e (λ none. (c.requires.settled).idle m c.requires.idle) (c.requires.settled).idle;
       counted = counted_closed s t m y c.requires.within (c.requires.settled).counted e refl c.requires.open less;
     }
+
+pub returns-clause-marked : goal.returns-clause-marked
+returns-clause-marked c = λ world machine all.
+    let m = c.args.manager in
+    let u = c.clear.new.session in
+    let xs = c.args.session.now.managers.items in
+    let x : EntityManager = record (manager_in xs m) { context = record { now = []; since = []; marks = none_marked } } in
+    let within = subst (λ n. m < n) (sym (ap (λ (ys : List EntityManager). length ys) c.clear.ensures.managers ∙ length-set xs m x)) c.requires.within in
+    let y : EntityManager = record (manager_in u.managers.items m) { status = Status.Closed } in
+    let t : Session = record u { managers = c.set_status.new.managers; open_managers = u.open_managers - 1 } in
+    same_marked world.model u t refl (context_kept u.managers.items t.managers.items m y within c.set_status.ensures refl) (c.clear.ensures.marked world machine all)

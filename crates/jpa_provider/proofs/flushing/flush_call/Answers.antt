@@ -16,8 +16,10 @@ use Rattle.jpa_machine.specs.Machine.{work_of}
 use Rattle.jpa_machine.specs.Routes.{flush_call}
 use Rattle.jpa_provider.specs.Serving.{machine_of, manager_in, is_begun_status, named, Serves}
 use Rattle.jpa_provider.proofs.Active.{entries_apart, view_sound, view_rises}
+use Rattle.jpa_provider.proofs.Operates.{flushes}
 use Rattle.jpa_machine.proofs.AtWork.{work_ready}
 use Rattle.jpa_provider.proofs.Routed.{flush_idle, flush_so}
+use Rattle.jpa_provider.proofs.Marked.{ready_after, still_marked, taken_marked}
 use Rattle.jpa_provider.proofs.Told.{no_fault}
 use Rattle.jpa_provider.proofs.Worked.{still_working, if_refused, ends_so}
 use Rattle.jpa_provider.proofs.flushing.flush_call.Goals as goal
@@ -40,6 +42,28 @@ flush_work-answered-requires-clause-distinct g c =
     let world = world_of_unit g.B.Behaviour.meaning c.args.unit.now in
     subst (λ (v : Work). has_distinct_entries c.args.unit.now.metamodel v ≡ true) (sym c.take_work.ensures.work) (entries_apart world c.args.session.now c.in-Some.manager c.requires.serving)
 
+pub flush_work-answered-requires-clause-marked : goal.flush_work-answered-requires-clause-marked
+flush_work-answered-requires-clause-marked g c =
+    let world = world_of_unit g.B.Behaviour.meaning c.args.unit.now in
+    let serving = c.requires.serving in
+    taken_marked world c.args.session.now c.take_work.new.session c.in-Some.manager serving c.take_work.ensures.work (c.take_work.ensures.marked world.model serving.marked)
+
+pub conclude-requires-clause-ready : goal.conclude-requires-clause-ready
+conclude-requires-clause-ready g c =
+    let M = machine_of c.args.session.now in
+    let m = c.in-Some.manager in
+    let world = world_of_unit g.B.Behaviour.meaning c.args.unit.now in
+    let done = c.flush_work-answered in
+    let serving = c.requires.serving in
+    let w : Work = work_of M m in
+    let met = subst (λ (v : Work). Meets done.result (now done.new.work) (flush_call world v)) c.take_work.ensures.work done.ensures.meets in
+    ready_after world M m done.result (now done.new.work) (flush_call world w) met (flushes world M m serving.orderly serving.regular serving.machine)
+
+pub conclude-requires-clause-before : goal.conclude-requires-clause-before
+conclude-requires-clause-before g c =
+    let done = c.flush_work-answered in
+    (still_marked c.take_work.new.session done.new.work (c.take_work.ensures.marked c.args.unit.now.metamodel (c.requires.serving).marked) done.ensures.since).own
+
 pub returns-clause-step : goal.returns-clause-step
 returns-clause-step g c =
     let s = c.args.session.now in
@@ -60,6 +84,13 @@ returns-clause-settled g c =
     let done = c.flush_work-answered in
     let working = still_working c.take_work.new.session done.new.work c.take_work.ensures.working done.ensures.since in
     c.conclude.ensures.settled (machine_of c.args.session.now) working.away (if_refused done.result working)
+
+pub returns-clause-marked : goal.returns-clause-marked
+returns-clause-marked g c =
+    let done = c.flush_work-answered in
+    let working = still_working c.take_work.new.session done.new.work c.take_work.ensures.working done.ensures.since in
+    c.conclude.ensures.marked (machine_of c.args.session.now) working.away (if_refused done.result working)
+    (still_marked c.take_work.new.session done.new.work (c.take_work.ensures.marked c.args.unit.now.metamodel (c.requires.serving).marked) done.ensures.since)
 
 pub returns-clause-untold : goal.returns-clause-untold
 returns-clause-untold g c =

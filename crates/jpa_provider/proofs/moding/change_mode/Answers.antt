@@ -3,6 +3,7 @@ use Rattle.jpa_provider.specs.declared.session.EntityManager.{EntityManager}
 use Rattle.jpa_provider.specs.declared.session.Session.{Session}
 use Rattle.jpa_provider.specs.Serving.{manager_in}
 use Rattle.jpa_provider.proofs.Counted.{counted_same}
+use Rattle.jpa_provider.proofs.Marked.{context_kept, same_marked}
 use Rattle.jpa_provider.proofs.Sessions.{mode_there, idle_changed}
 use Rattle.jpa_provider.proofs.moding.change_mode.Goals as goal
 
@@ -25,3 +26,10 @@ returns-clause-settled c = λ settled.
       idle = idle_changed s.managers.items t.managers.items c.args.manager y c.requires.within c.set_mode.ensures (settled.idle c.args.manager) settled.idle;
       counted = counted_same s t c.args.manager y c.requires.within settled.counted c.set_mode.ensures refl refl;
     }
+
+pub returns-clause-marked : goal.returns-clause-marked
+returns-clause-marked c = λ model marked.
+    let s = c.args.session.now in
+    let t : Session = record s { managers = c.set_mode.new.managers } in
+    let y : EntityManager = record (manager_in s.managers.items c.args.manager) { mode = c.args.mode } in
+    same_marked model s t refl (context_kept s.managers.items t.managers.items c.args.manager y c.requires.within c.set_mode.ensures refl) marked

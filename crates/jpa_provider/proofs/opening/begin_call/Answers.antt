@@ -9,6 +9,7 @@ use Rattle.jpa_provider.specs.declared.session.Session.{Session}
 use Rattle.jpa_provider.specs.declared.session.Status.{Status}
 use Rattle.jpa_provider.specs.Serving.{is_begun_status, manager_in, named, Serves}
 use Rattle.jpa_provider.proofs.Counted.{counted_same}
+use Rattle.jpa_provider.proofs.Marked.{context_kept, same_marked}
 use Rattle.jpa_provider.proofs.Opened.{begin_begins}
 use Rattle.jpa_provider.proofs.Sessions.{idle_changed}
 use Rattle.jpa_provider.proofs.Worked.{named_open}
@@ -40,3 +41,11 @@ returns-clause-settled g c =
       idle = idle_changed s.managers.items t.managers.items m y c.in-Some.ensures.within c.set_status.ensures (λ none. absurd (true≢false none)) settled.idle;
       counted = counted_same s t m y c.in-Some.ensures.within settled.counted c.set_status.ensures (sym (named_open s c.args.em m is)) refl;
     }
+
+pub returns-clause-marked : goal.returns-clause-marked
+returns-clause-marked g c = λ model marked.
+    let s = c.args.session.now in
+    let m = c.in-Some.manager in
+    let t : Session = record s { managers = c.set_status.new.managers } in
+    let y : EntityManager = record (manager_in s.managers.items m) { status = Status.Active } in
+    same_marked model s t refl (context_kept s.managers.items t.managers.items m y c.in-Some.ensures.within c.set_status.ensures refl) marked

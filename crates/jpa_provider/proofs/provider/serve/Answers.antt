@@ -20,7 +20,7 @@ returns-clause-serving g c =
     serves_on (world_of_unit g.B.Behaviour.meaning c.args.unit.now) c.args.session.now c.served.new.session c.args.call c.served.result c.requires.serving c.hands_representable.ensures
     (either_way (is_bulk c.args.call) (λ bulk. c.served.ensures.made bulk)
     (λ other. ok_from c.served.result.answer (plain_made (world_of_unit g.B.Behaviour.meaning c.args.unit.now) (machine_of c.args.session.now) c.args.call (ap not other))))
-    c.served.ensures.step c.served.ensures.settled
+    c.served.ensures.step c.served.ensures.settled c.served.ensures.marked
 
 pub returns-clause-holds : goal.returns-clause-holds
 returns-clause-holds g c = λ clean.

@@ -19,6 +19,8 @@ use Rattle.jpa_provider.proofs.Active.{entries_apart, view_sound, view_rises, qu
 use Rattle.jpa_machine.proofs.AtWork.{work_ready}
 use Rattle.jpa_provider.proofs.Routed.{asked_so}
 use Rattle.jpa_provider.proofs.Sessions.{begun_there, manager_there}
+use Rattle.jpa_provider.proofs.Marked.{ready_after, still_marked, taken_marked}
+use Rattle.jpa_provider.proofs.Operates.{asks}
 use Rattle.jpa_provider.proofs.Told.{no_fault}
 use Rattle.jpa_provider.proofs.Worked.{still_working, if_refused, ends_so}
 use Rattle.jpa_provider.proofs.querying.query_call.Goals as goal
@@ -46,6 +48,29 @@ query_work-answered-requires-clause-then_ready g c =
     let world = world_of_unit g.B.Behaviour.meaning c.args.unit.now in
     subst (StaysReady c.flushes_first-flushes.result world) (sym c.take_work.ensures.work) (query_ready world c.args.session.now c.in-Some.manager c.requires.serving c.flushes_first-flushes.result)
 
+pub query_work-answered-requires-clause-marked : goal.query_work-answered-requires-clause-marked
+query_work-answered-requires-clause-marked g c =
+    let world = world_of_unit g.B.Behaviour.meaning c.args.unit.now in
+    let serving = c.requires.serving in
+    taken_marked world c.args.session.now c.take_work.new.session c.in-Some.manager serving c.take_work.ensures.work (c.take_work.ensures.marked world.model serving.marked)
+
+pub conclude-requires-clause-ready : goal.conclude-requires-clause-ready
+conclude-requires-clause-ready g c =
+    let M = machine_of c.args.session.now in
+    let m = c.in-Some.manager in
+    let world = world_of_unit g.B.Behaviour.meaning c.args.unit.now in
+    let done = c.query_work-answered in
+    let serving = c.requires.serving in
+    let first = c.flushes_first-flushes.result in
+    let op = query_told c.args.told c.args.wanted first world in
+    ready_after world M m done.result (now done.new.work) (op (work_of M m)) (subst (λ (w : Work). Meets done.result (now done.new.work) (op w)) c.take_work.ensures.work done.ensures.meets)
+    (asks world M m serving.orderly serving.regular serving.machine c.args.told c.args.wanted first)
+
+pub conclude-requires-clause-before : goal.conclude-requires-clause-before
+conclude-requires-clause-before g c =
+    let done = c.query_work-answered in
+    (still_marked c.take_work.new.session done.new.work (c.take_work.ensures.marked c.args.unit.now.metamodel (c.requires.serving).marked) done.ensures.since).own
+
 pub returns-clause-step : goal.returns-clause-step
 returns-clause-step g c = λ call e.
     let s = c.args.session.now in
@@ -71,6 +96,13 @@ returns-clause-settled g c =
     let done = c.query_work-answered in
     let working = still_working c.take_work.new.session done.new.work c.take_work.ensures.working done.ensures.since in
     c.conclude.ensures.settled (machine_of c.args.session.now) working.away (if_refused done.result working)
+
+pub returns-clause-marked : goal.returns-clause-marked
+returns-clause-marked g c =
+    let done = c.query_work-answered in
+    let working = still_working c.take_work.new.session done.new.work c.take_work.ensures.working done.ensures.since in
+    c.conclude.ensures.marked (machine_of c.args.session.now) working.away (if_refused done.result working)
+    (still_marked c.take_work.new.session done.new.work (c.take_work.ensures.marked c.args.unit.now.metamodel (c.requires.serving).marked) done.ensures.since)
 
 pub returns-clause-untold : goal.returns-clause-untold
 returns-clause-untold g c =

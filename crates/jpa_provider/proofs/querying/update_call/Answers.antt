@@ -27,6 +27,8 @@ use Rattle.jpa_machine.proofs.AtWork.{work_ready}
 use Rattle.jpa_provider.proofs.Routed.{update_so}
 use Rattle.jpa_machine.proofs.Updated.{made_so, ok_weaker}
 use Rattle.jpa_provider.proofs.Sessions.{begun_there, manager_there}
+use Rattle.jpa_provider.proofs.Marked.{ready_if, still_marked, taken_marked}
+use Rattle.jpa_provider.proofs.Operates.{updates}
 use Rattle.jpa_provider.proofs.Told.{no_fault}
 use Rattle.jpa_provider.proofs.Worked.{still_working, if_refused, ends_so, named_same, told_ok}
 use Rattle.jpa_provider.proofs.querying.update_call.Goals as goal
@@ -62,6 +64,37 @@ pub update_work-answered-requires-clause-then_sound : goal.update_work-answered-
 update_work-answered-requires-clause-then_sound g c =
     let world = world_of_unit g.B.Behaviour.meaning c.args.unit.now in
     subst (StaysSound c.flushes_first-flushes.result world) (sym c.take_work.ensures.work) (update_sound world c.args.session.now c.in-Some.manager c.requires.serving c.flushes_first-flushes.result)
+
+pub update_work-answered-requires-clause-marked : goal.update_work-answered-requires-clause-marked
+update_work-answered-requires-clause-marked g c =
+    let world = world_of_unit g.B.Behaviour.meaning c.args.unit.now in
+    let serving = c.requires.serving in
+    taken_marked world c.args.session.now c.take_work.new.session c.in-Some.manager serving c.take_work.ensures.work (c.take_work.ensures.marked world.model serving.marked)
+
+pub conclude-requires-clause-ready : goal.conclude-requires-clause-ready
+conclude-requires-clause-ready g c =
+    let s = c.args.session.now in
+    let M = machine_of s in
+    let m = c.in-Some.manager in
+    let world = world_of_unit g.B.Behaviour.meaning c.args.unit.now in
+    let done = c.update_work-answered in
+    let serving = c.requires.serving in
+    let text = c.args.text.now in
+    let ps = c.args.parameters.now in
+    let active = c.is_begun.result in
+    let first = c.flushes_first-flushes.result in
+    let w : Work = work_of M m in
+    let new : Work = now done.new.work in
+    let met = subst (λ (v : Work). Meets done.result new (update_call text ps active first world v)) c.take_work.ensures.work done.ensures.meets in
+    let made = made_so world text ps active first w new done.result met
+    (subst (λ (u : Work). OnOk done.result ((v : Work) → flush_if first world u ≡ Done tt v → all_representable v.view ≡ true → all_representable new.view ≡ true)) c.take_work.ensures.work done.ensures.representable)
+    (update_representable world s m serving first) in
+    ready_if world M m done.result new (update_call text ps active first world w) met (ok_weaker done.result (updates world M m serving.orderly serving.regular serving.machine serving.inherited text ps active first) made)
+
+pub conclude-requires-clause-before : goal.conclude-requires-clause-before
+conclude-requires-clause-before g c =
+    let done = c.update_work-answered in
+    (still_marked c.take_work.new.session done.new.work (c.take_work.ensures.marked c.args.unit.now.metamodel (c.requires.serving).marked) done.ensures.since).own
 
 pub returns-clause-step : goal.returns-clause-step
 returns-clause-step g c =
@@ -116,6 +149,13 @@ returns-clause-settled g c =
     let done = c.update_work-answered in
     let working = still_working c.take_work.new.session done.new.work c.take_work.ensures.working done.ensures.since in
     c.conclude.ensures.settled (machine_of c.args.session.now) working.away (if_refused done.result working)
+
+pub returns-clause-marked : goal.returns-clause-marked
+returns-clause-marked g c =
+    let done = c.update_work-answered in
+    let working = still_working c.take_work.new.session done.new.work c.take_work.ensures.working done.ensures.since in
+    c.conclude.ensures.marked (machine_of c.args.session.now) working.away (if_refused done.result working)
+    (still_marked c.take_work.new.session done.new.work (c.take_work.ensures.marked c.args.unit.now.metamodel (c.requires.serving).marked) done.ensures.since)
 
 pub returns-clause-untold : goal.returns-clause-untold
 returns-clause-untold g c =

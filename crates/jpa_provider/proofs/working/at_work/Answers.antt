@@ -9,6 +9,8 @@ use Rattle.jpa_machine.specs.Machine.{work_of}
 use Rattle.jpa_provider.specs.Operations.{operation_of}
 use Rattle.jpa_provider.specs.Serving.{machine_of}
 use Rattle.jpa_machine.proofs.AtWork.{work_ready}
+use Rattle.jpa_provider.proofs.Marked.{keeps_away, ready_after}
+use Rattle.jpa_provider.proofs.Operates.{operates}
 use Rattle.jpa_provider.proofs.Told.{no_fault}
 use Rattle.jpa_provider.proofs.Worked.{still_away, still_working, on_err, ends_so}
 use Rattle.jpa_provider.proofs.working.at_work.Goals as goal
@@ -16,6 +18,22 @@ use Rattle.jpa_provider.proofs.working.at_work.Goals as goal
 pub operate-answered-requires-clause-ready : goal.operate-answered-requires-clause-ready
 operate-answered-requires-clause-ready g c =
     subst (IsReady c.args.unit.now.metamodel) (sym c.take_work.ensures.work) (work_ready c.args.manager (c.requires.serving).machine)
+
+pub conclude-requires-clause-ready : goal.conclude-requires-clause-ready
+conclude-requires-clause-ready g c =
+    let M = machine_of c.args.session.now in
+    let m = c.args.manager in
+    let world = world_of_unit g.B.Behaviour.meaning c.args.unit.now in
+    let op = operation_of c.args.operation world in
+    let done = c.operate-answered in
+    let serving = c.requires.serving in
+    let met = subst (λ (w : Work). Meets done.result (now done.new.work) (op w)) c.take_work.ensures.work done.ensures.meets in
+    ready_after world M m done.result (now done.new.work) (op (work_of M m)) met (operates world M m serving.orderly serving.regular serving.machine c.args.operation c.sets_representable.ensures)
+
+pub conclude-requires-clause-before : goal.conclude-requires-clause-before
+conclude-requires-clause-before g c =
+    let done = c.operate-answered in
+    (keeps_away c.take_work.new.session done.new.work done.ensures.marked (c.take_work.ensures.marked c.args.unit.now.metamodel (c.requires.serving).marked)).own
 
 pub returns-clause-ends : goal.returns-clause-ends
 returns-clause-ends g c =
@@ -44,3 +62,12 @@ returns-clause-untold g c =
     let world = world_of_unit g.B.Behaviour.meaning c.args.unit.now in
     let done = c.operate-answered in
     c.conclude.ensures.untold (no_fault done.result (now done.new.work) (operation_of c.args.operation world (now c.take_work.new.session.work)) done.ensures.meets)
+
+pub returns-clause-marked : goal.returns-clause-marked
+returns-clause-marked g c =
+    let done = c.operate-answered in
+    let s = c.take_work.new.session in
+    c.conclude.ensures.marked (machine_of c.args.session.now)
+    (still_away s done.new.work (c.take_work.ensures.working).away (ap (λ (w : Opened). w.kept) done.ensures.view) (ap (λ (w : Opened). w.begun) done.ensures.view) (ap (λ (w : Opened). w.committed) done.ensures.view))
+    (on_err done.result (still_working s done.new.work c.take_work.ensures.working) done.ensures.since)
+    (keeps_away s done.new.work done.ensures.marked (c.take_work.ensures.marked c.args.unit.now.metamodel (c.requires.serving).marked))

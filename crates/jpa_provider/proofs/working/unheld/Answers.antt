@@ -9,12 +9,15 @@ use Rattle.jpa_context.specs.Steps.{Meets}
 use Rattle.jpa_context.specs.Undo.{now, Since}
 use Rattle.jpa_fetch.specs.Grown.{IsReady}
 use Rattle.jpa_provider.specs.declared.replies.Rule.{Rule}
+use Rattle.jpa_provider.specs.declared.session.EntityManager.{EntityManager}
 use Rattle.jpa_provider.specs.declared.session.Session.{Session}
+use Rattle.jpa_context.specs.declared.work.UnitOfWork.{UnitOfWork}
 use Rattle.jpa_machine.specs.Machine.{work_of}
 use Rattle.jpa_provider.specs.Operations.{operation_of, is_marked_by, told_of}
 use Rattle.jpa_provider.specs.Serving.{machine_of}
 use Rattle.jpa_machine.proofs.AtWork.{work_ready}
 use Rattle.jpa_provider.proofs.Counted.{counted_here}
+use Rattle.jpa_provider.proofs.Marked.{keeps_away, marked_away, nobody_in, nobody_marked, same_marked}
 use Rattle.jpa_provider.proofs.Unheld.{still_resting, nobody_works, nobody_keeps, nobody_restores}
 use Rattle.jpa_provider.proofs.Worked.{ends_so}
 use Rattle.jpa_provider.proofs.working.unheld.Goals as goal
@@ -44,9 +47,9 @@ returns-in-Ok-clause-ends g c =
     let t : Session = record s { work = c.keep.new.self } in
     let kept = c.keep.ensures.now in
     let view : c.keep.new.self.view ≡ with_seen (s.work.view).kept s.work.view = c.keep.ensures.view ∙ ap (after_keeping false) done.ensures.view in
-    ends_so Rule.OfObject M (machine_of t) n (op (work_of M n)) (Ok c.in-Ok.answer) w (record { events = c.replace-events.result; answer = Ok c.in-Ok.answer }) met (
+    ends_so Rule.OfObject M (machine_of c.mark_unless.new.session) n (op (work_of M n)) (Ok c.in-Ok.answer) w (record { events = c.replace-events.result; answer = Ok c.in-Ok.answer }) met (
       (λ i. record { events = c.replace-events.ensures.value i; answer = Ok c.in-Ok.answer }),
-      nobody_keeps s t refl refl (ap (λ (x : Opened). x.committed) view) w (ap (λ (x : Work). x.objects) kept) (ap (λ (x : Work). x.numbers) kept),
+      c.mark_unless.ensures.machine ∙ nobody_keeps s t refl refl (ap (λ (x : Opened). x.committed) view) w (ap (λ (x : Work). x.objects) kept) (ap (λ (x : Work). x.numbers) kept),
     )
 
 pub returns-in-Err-clause-ends : goal.returns-in-Err-clause-ends
@@ -80,13 +83,14 @@ returns-in-Ok-clause-settled g c =
     let done = c.operate-answered in
     let settled = (c.requires.serving).settled in
     let t : Session = record s { work = c.keep.new.self } in
-    record {
+    c.mark_unless.ensures.settled
+    (record {
       kept = c.keep.ensures.kept;
       quiet = ap (λ (u : Work). u.events) c.keep.ensures.now ∙ c.replace-events.ensures.after ∙ c.new-2.ensures;
       resting = still_resting s.work.view c.keep.new.self.view settled.resting (c.keep.ensures.view ∙ ap (after_keeping false) done.ensures.view);
       idle = settled.idle;
       counted = counted_here s t settled.counted refl refl;
-    }
+    })
 
 pub returns-in-Err-clause-settled : goal.returns-in-Err-clause-settled
 returns-in-Err-clause-settled g c =
@@ -101,3 +105,34 @@ returns-in-Err-clause-settled g c =
       idle = settled.idle;
       counted = counted_here s t settled.counted refl refl;
     }
+
+pub operate-answered-requires-clause-kept : goal.operate-answered-requires-clause-kept
+operate-answered-requires-clause-kept g c =
+    let kept = ((c.requires.serving).settled).kept in
+    record { objects = kept.objects; context = c.new.ensures.since ∙ sym c.new.ensures.now; numbers = kept.numbers; view = kept.view }
+
+pub returns-in-Ok-clause-marked : goal.returns-in-Ok-clause-marked
+returns-in-Ok-clause-marked g c =
+    let s = c.args.session.now in
+    let n = length s.managers.items in
+    let model = c.args.unit.now.metamodel in
+    let serving = c.requires.serving in
+    let done = c.operate-answered in
+    let counted : c.len-session.result ≡ n = let a = c.len-session.ensures in omega (arith, a) in
+    let nowhere = nobody_in s.managers.items n (omega arith) in
+    let t : Session = record s { work = record s.work { manager = c.len-session.result; context = c.new.result } } in
+    let away = keeps_away t done.new.work done.ensures.marked
+    (marked_away model s t n (serving.settled).kept counted refl (c.new.ensures.since ∙ sym (ap (λ (x : EntityManager). x.context.now) nowhere))
+    (c.new.ensures.marks ∙ sym (ap (λ (x : EntityManager). (x.context).marks) nowhere)) (λ k d. refl) serving.marked) in
+    let silent : UnitOfWork = record (done.new.work) { events = c.replace-events.new.dest } in
+    c.mark_unless.ensures.marked model (λ stay. nobody_marked model s c.keep.new.self silent (ap (λ (w : Work). w.objects) c.keep.ensures.now) away.manager
+    (λ k es marks d h. c.keep_others-stay.ensures stay model k es marks d h) (λ k d. away.others k d))
+
+pub returns-in-Err-clause-marked : goal.returns-in-Err-clause-marked
+returns-in-Err-clause-marked g c =
+    let s = c.args.session.now in
+    let done = c.operate-answered in
+    let serving = c.requires.serving in
+    let t : Session = record s { work = c.undo.new.self } in
+    let since = subst (λ x. OnErr x (undoing.since done.new.work ≡ undoing.since (record s.work { manager = c.len-session.result; context = c.new.result }))) c.in-Err.is done.ensures.since in
+    same_marked c.args.unit.now.metamodel s t (ap (λ (u : Work). u.objects) c.undo.ensures.now ∙ ap (λ (x : Since). x.objects) since ∙ (serving.settled).kept.objects) (λ k. refl) serving.marked

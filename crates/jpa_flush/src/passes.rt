@@ -1,0 +1,103 @@
+//! The passes of a flush over the entries that it looks at, found anew where the pass before may have touched others.
+ghost use Rattle.std.specs.Prelude.{◌≡◌, true, IfErr, OnOk};
+ghost use Rattle.jpa_behaviour.specs.Behaviour.{World};
+ghost use Rattle.jpa_behaviour.specs.Served.{world_of_unit};
+ghost use Rattle.jpa_context.specs.Steps.{Meets};
+ghost use Rattle.jpa_context.specs.Undo.{now, since};
+ghost use Rattle.jpa_fetch.specs.Grown.{IsReady};
+ghost use Rattle.jpa_fetch.specs.Orderly.{IsOrderly};
+ghost use Rattle.jpa_flush.specs.Flush as flushes;
+ghost use Rattle.jpa_flush.specs.Marked as marked;
+ghost use Rattle.jpa_ops.specs.Names.{has_distinct_entries};
+ghost use Rattle.jpa_value.specs.declared.refusal.Cause.{Cause};
+
+use crate::chosen::Looked;
+use crate::links::check_links;
+use crate::reaching::persist_reachable;
+use crate::touched::looked;
+use crate::walking::{check_links_at, persist_from_looked, remember_at, remove_orphans_at};
+use jpa_behaviour::{Behaviour, ServedUnit};
+use jpa_context::UnitOfWork;
+use jpa_model::Metamodel;
+use jpa_value::Cause;
+use std::alloc::Global;
+
+/// `persist_reachable`, which looks at each entry only where one that is marked leads to an object that is not managed, or where marks
+/// don't say to what the others lead.
+pub(crate) fn persist_looked<B: Behaviour>(
+    alloc: Global,
+    unit: &ServedUnit<B>,
+    work: &mut UnitOfWork,
+) -> Result<(), Cause>
+    requires orderly { IsOrderly unit.now.metamodel }
+    requires ready { IsReady unit.now.metamodel (now work.old) }
+    requires marked { marked.IsMarked unit.now.metamodel work.old }
+    ensures meets { let world = world_of_unit B.meaning unit.now in
+        Meets result (now work.new) (flushes.persist_reachable world (now work.old)) }
+    ensures ready { OnOk result (IsReady unit.now.metamodel (now work.new)) }
+    ensures named { has_distinct_entries unit.now.metamodel (now work.old) ≡ true →
+        OnOk result (has_distinct_entries unit.now.metamodel (now work.new) ≡ true) }
+    ensures view { work.new.view ≡ work.old.view }
+    ensures since { since work.new ≡ since work.old }
+{
+    let found = looked(alloc, &unit.metamodel, work)?;
+    if found.linked {
+        return persist_from_looked(alloc, unit, work, found.places.as_slice());
+    }
+    persist_reachable(alloc, unit, work)
+}
+
+/// `remove_orphans`, which looks at each entry only where one of those that are marked or were touched has an orphan.
+pub(crate) fn remove_orphans_looked<B: Behaviour>(
+    alloc: Global,
+    unit: &ServedUnit<B>,
+    work: &mut UnitOfWork,
+) -> Result<(), Cause>
+    requires ready { IsReady unit.now.metamodel (now work.old) }
+    requires marked { marked.AreMarkedBefore unit.now.metamodel work.old }
+    ensures meets { let world = world_of_unit B.meaning unit.now in
+        Meets result (now work.new) (flushes.remove_orphans world (now work.old)) }
+    ensures ready { OnOk result (IsReady unit.now.metamodel (now work.new)) }
+    ensures named { has_distinct_entries unit.now.metamodel (now work.old) ≡ true →
+        OnOk result (has_distinct_entries unit.now.metamodel (now work.new) ≡ true) }
+    ensures view { work.new.view ≡ work.old.view }
+    ensures since { since work.new ≡ since work.old }
+{
+    let found = looked(alloc, &unit.metamodel, work)?;
+    remove_orphans_at(alloc, unit, work, found.places.as_slice())
+}
+
+/// `check_links`, which looks at the entries elsewhere only where it is not known to what they lead. Takes no memory.
+pub(crate) fn check_links_looked(
+    metamodel: &Metamodel,
+    work: &UnitOfWork,
+    found: &Looked,
+) -> Result<(), Cause>
+    requires ready { IsReady metamodel.now (now work.now) }
+    requires looked { marked.AreLooked (marked.IsUntouched metamodel.now (now work.now)
+        found.now.linked) work.now.context.now found.now.places }
+    ensures meets { (world : World) → Meets result (now work.now)
+        (flushes.check_links (record world { model = metamodel.now }) (now work.now)) }
+{
+    if found.linked {
+        return check_links_at(metamodel, work, found.places.as_slice());
+    }
+    check_links(metamodel, work)
+}
+
+/// `remember_at`, over the entries that are marked or were touched.
+pub(crate) fn remember_looked(
+    alloc: Global,
+    metamodel: &Metamodel,
+    work: &mut UnitOfWork,
+) -> Result<(), Cause>
+    requires ready { IsReady metamodel.now (now work.old) }
+    requires marked { marked.AreMarkedBefore metamodel.now work.old }
+    ensures ok { OnOk result
+        (now work.new ≡ flushes.all_remembered metamodel.now (now work.old)) }
+    ensures err { IfErr result (λ cause. cause ≡ Cause.OutOfMemory) }
+    ensures since { since work.new ≡ since work.old }
+{
+    let found = looked(alloc, metamodel, work)?;
+    remember_at(alloc, metamodel, work, found.places.as_slice())
+}

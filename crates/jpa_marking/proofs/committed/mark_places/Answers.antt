@@ -1,0 +1,19 @@
+use Rattle.std.proofs.Common.{get_or}
+use Rattle.std.proofs.lemmas.List.{get_or_default}
+use Rattle.jpa_context.specs.Undo.{now}
+use Rattle.jpa_flush.proofs.Prefix.{before_next}
+use Rattle.jpa_marking.specs.Committed.{IsSeenAt}
+use Rattle.jpa_marking.proofs.Ending.{seen_more}
+use Rattle.jpa_marking.proofs.committed.mark_places.Goals as goal
+
+pub loop-place-preserved : goal.loop-place-preserved
+loop-place-preserved c =
+    let m = c.args.metamodel.now in
+    let w = now c.args.work.now in
+    let places = c.args.places.now in
+    let i = c.loop-place.place-index in
+    let p = get_or places i 0 in
+    let a = c.loop-place.marks in
+    let b = c.mark_at.new.marks in
+    before_next (IsSeenAt m w b) i p places (get_or_default places i 0 p c.loop-place-test.true) c.in_ok-mark_at.ensures.seen
+    (λ k d l n. seen_more m w a b c.in_ok-mark_at.ensures.more (get_or places k d) (c.loop-place.invariant k d l n))

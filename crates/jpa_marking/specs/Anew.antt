@@ -1,0 +1,40 @@
+-- How marks are made anew at the end of a call: entries that it may have touched are looked at, and each other one stands as it did
+-- and keeps its mark (Jakarta Persistence 3.1, chapter 3.2.4).
+use Rattle.std.specs.Prelude.{◌≡◌, ◌<◌, ◌⊎◌, ℕ, false, length, slice_index_or}
+use Rattle.jpa_model.specs.declared.unit.PersistenceUnit.{PersistenceUnit}
+use Rattle.jpa_heap.specs.Objects.{object_at}
+use Rattle.jpa_context.specs.declared.Entry.{Entry}
+use Rattle.jpa_context.specs.declared.work.UnitOfWork.{UnitOfWork}
+use Rattle.jpa_context.specs.Marks.{Marks, is_marked}
+use Rattle.jpa_context.specs.Work.{Work}
+use Rattle.jpa_flush.specs.Marked.{IsUntouched}
+
+-- where its object is not marked, the entry is untouched
+abbrev pub IsTold : PersistenceUnit → Work → Marks → Entry → Type 0
+IsTold m w k e = is_marked k e.object ≡ false → IsUntouched m w k.linked e
+
+-- of each entry the marks say what is so; but those that were missed, by their places, have the marks that they had
+pub record IsGoneOver (m : PersistenceUnit) (w : Work) (Missed : ℕ → Type 0) (old new : Marks) : Type 0 where
+  pub linked : new.linked ≡ old.linked
+  pub each : (i : ℕ) (d : Entry) → i < length w.context → IsTold m w new (slice_index_or w.context i d)
+      ⊎ ((is_marked new (slice_index_or w.context i d).object ≡ is_marked old (slice_index_or w.context i d).object) × Missed i)
+
+-- ---- since the changes were last kept
+
+-- the entry at a place is as it was, where there was one
+abbrev pub StandsAt : UnitOfWork → ℕ → Type 0
+StandsAt u i = (d : Entry) → i < length u.context.since → slice_index_or u.context.since i d ≡ slice_index_or u.context.now i d
+
+-- the object of the entry at a place is as it was, where there was one
+abbrev pub HasObjectAsItWas : UnitOfWork → ℕ → Type 0
+HasObjectAsItWas u i =
+    (d : Entry) → (slice_index_or u.context.now i d).object < length u.objects.since →
+    object_at u.objects.since (slice_index_or u.context.now i d).object ≡ object_at u.objects.now (slice_index_or u.context.now i d).object
+
+-- there was an entry at a place
+abbrev pub WasThere : UnitOfWork → ℕ → Type 0
+WasThere u i = i < length u.context.since
+
+-- nothing of it was touched
+abbrev pub IsMissed : UnitOfWork → ℕ → Type 0
+IsMissed u i = StandsAt u i × (HasObjectAsItWas u i × WasThere u i)

@@ -1,0 +1,33 @@
+use Rattle.std.proofs.Common.{◌≡◌, refl, sym, subst}
+use Rattle.std.specs.Prelude.{OnErr, OnOk}
+use Rattle.jpa_context.specs.declared.work.UnitOfWork.{UnitOfWork}
+use Rattle.jpa_context.specs.Undo.{now}
+use Rattle.jpa_fetch.specs.Grown.{IsReady}
+use Rattle.jpa_provider.specs.Serving.{AreAllMarked, IsWorking}
+use Rattle.jpa_provider.proofs.Marked.{ready_silent, still_marked}
+use Rattle.jpa_provider.proofs.Worked.{still_away, still_working}
+use Rattle.jpa_provider.proofs.at_work.conclude.Goals.{then-is_marked_by, else-is_marked_by}
+use Rattle.jpa_provider.proofs.at_work.conclude.Goals as goal
+
+pub keep_marked-requires-clause-ready : goal.keep_marked-requires-clause-ready
+keep_marked-requires-clause-ready c =
+    let w = now c.args.session.now.work in
+    ready_silent c.args.metamodel.now w c.replace-events.new.dest (subst (λ r. OnOk r (IsReady c.args.metamodel.now w)) c.in-Ok.is c.requires.ready)
+
+-- the events were taken out before
+pub returns-in-Ok-clause-marked : goal.returns-in-Ok-clause-marked
+returns-in-Ok-clause-marked c = λ M away working marked.
+    let s = c.args.session.now in
+    let w : UnitOfWork = record (s.work) { events = c.replace-events.new.dest } in
+    c.keep_marked.ensures.marked M (still_away s w away refl refl refl) (still_marked s w marked refl)
+
+pub returns-after-is_marked_by-clause-marked : goal.returns-after-is_marked_by-clause-marked
+returns-after-is_marked_by-clause-marked c = λ M away working marked.
+    let s = c.args.session.now in
+    let u = c.args.metamodel.now in
+    let w : UnitOfWork = record (s.work) { events = c.replace-events.new.dest } in
+    let back = c.restore.ensures.marked u M (still_working s w (subst (λ r. OnErr r (IsWorking M c.args.manager s)) c.in-Err.is working) refl) (still_marked s w marked refl) in
+    elim c.if-is_marked_by.branch [
+      | then-is_marked_by v ↦ subst (AreAllMarked u) (sym v.session-is) (v.mark.ensures.marks u back)
+      | else-is_marked_by v ↦ subst (AreAllMarked u) (sym v.session-is) back
+    ]

@@ -1,0 +1,28 @@
+use Rattle.std.proofs.Common.{◌≡◌, ◌∙◌, List, [], ap, sym}
+use Rattle.std.specs.Prelude.{map, not}
+use Rattle.std.specs.List.{filter}
+use Rattle.std.proofs.lemmas.Bool.{eqb-true}
+use Rattle.std.proofs.lemmas.List.{nil_from_length}
+use Rattle.jpa_heap.specs.declared.LiveObject.{LiveObject}
+use Rattle.jpa_context.specs.declared.Entry.{Entry}
+use Rattle.jpa_context.specs.Places.{without_removed}
+use Rattle.jpa_context.specs.Undo.{now}
+use Rattle.jpa_context.specs.Work.{is_removed, state_from, unlocked}
+use Rattle.jpa_heap.specs.Objects.{object_at}
+use Rattle.jpa_provider.proofs.Walks.{leave_unlocked, none_leaves}
+use Rattle.jpa_provider.proofs.committing.end_context.Goals as goal
+
+-- none is removed
+pub returns-then-is_empty-clause-now : goal.returns-then-is_empty-clause-now
+returns-then-is_empty-clause-now c =
+    let w = now c.args.work.now in
+    let none : c.args.gone.now ≡ [] = nil_from_length c.args.gone.now (eqb-true _ _ (sym c.is_empty.ensures ∙ c.if-is_empty.true)) in
+    c.end_locks.ensures.now ∙ ap (map unlocked) (sym (none_leaves w w.context (sym c.requires.gone ∙ none)))
+
+pub returns-clause-now : goal.returns-clause-now
+returns-clause-now c =
+    let u = c.args.work.now in
+    c.leave_removed.ensures.now
+    ∙ ap (λ (os : List LiveObject). without_removed os u.manager c.end_locks.new.context.now) c.as_slice.ensures
+    ∙ ap (without_removed u.objects.now u.manager) c.end_locks.ensures.now
+    ∙ leave_unlocked (λ n. is_removed (state_from u.manager (object_at u.objects.now n).life)) u.context.now
