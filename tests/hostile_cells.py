@@ -10,7 +10,7 @@ class Stored:
 
     def __init__(self, entity, version, values, links=None):
         self.entity, self.version, self.values = entity, version, values
-        self.links = links or {relation.name: frozenset() if relation.is_many else None for relation in entity.owned()}
+        self.links = links or {relation.name: frozenset() if relation.is_many else None for relation in entity.owned}
 
     def with_link(self, name, held):
         return Stored(self.entity, self.version, self.values, {**self.links, name: held})
@@ -20,8 +20,8 @@ class Stored:
 
     def lacks(self):
         """Whether a required value or link is null."""
-        values = any(each.get("required") and self.values[name] is None for name, each in self.entity.attributes.items())
-        return values or any(relation.is_required and self.links[relation.name] is None for relation in self.entity.owned())
+        return any(self.values[name] is None for name in self.entity.required) or any(
+            relation.is_required and self.links[relation.name] is None for relation in self.entity.owned)
 
     def linked(self, relation):
         """The identities that it owns in a relation."""
@@ -43,14 +43,16 @@ def members(objects, identity, relation):
         return []
     if relation.owns:
         return sorted(stored.linked(relation))
-    return sorted(other for other, each in objects.items() if each.entity.is_a(relation.target) and identity in each.linked(relation.owner))
+    name, is_many = relation.owner.name, relation.owner.is_many
+    return sorted(other for other, each in objects.items() if (held := each.links.get(name)) is not None
+                  and (identity in held if is_many else identity == held) and each.entity.is_a(relation.target))
 
 
 def unsound(objects):
     """What keeps a set from being sound, or None: a null, a reference to what isn't there, or two owners of one target."""
     if any(stored.lacks() for stored in objects.values()):
         return "null"
-    claims, taken, is_twice = [(relation, target) for stored in objects.values() for relation in stored.entity.owned()
+    claims, taken, is_twice = [(relation, target) for stored in objects.values() for relation in stored.entity.owned
                                for target in stored.linked(relation)], set(), False
     for relation, target in claims:
         if target not in objects or not objects[target].entity.is_a(relation.target):
@@ -95,7 +97,7 @@ class State:
         for (_, key), stored in self.objects.items():
             row = key_bytes(key)
             rows += [(stored.entity.table, row, column, value) for column, value in columns_of(unit, stored)]
-            for relation in stored.entity.owned():
+            for relation in stored.entity.owned:
                 if relation.is_many:
                     rows += [(relation.table, row + key_bytes(other), 0, integer_bytes(1)) for _, other in stored.linked(relation)]
         return sorted(rows)
@@ -111,7 +113,7 @@ def columns_of(unit, stored):
         value = unit.column(attribute, stored.values[attribute["name"]])
         if value is not None:
             yield attribute["column"], cell_bytes(value)
-    for relation in entity.owned():
+    for relation in entity.owned:
         if not relation.is_many:
             for _, key in stored.linked(relation):
                 yield relation.column, b"\x04" + key_bytes(key)
@@ -202,13 +204,13 @@ def object_of(unit, classes, cells):
     if entity is None:
         raise ValueError("class")
     columns = {0} | {each["column"] for each in entity.attributes.values()} | ({entity.version["column"]} if entity.version else set())
-    if not set(cells) <= columns | {relation.column for relation in entity.owned() if not relation.is_many}:
+    if not set(cells) <= columns | {relation.column for relation in entity.owned if not relation.is_many}:
         raise ValueError("columns")
     version = value_of(cells.get(entity.version["column"], b"")) if entity.version else None
     if entity.version and not isinstance(version, int):
         raise ValueError("version")
     values = {name: attribute_of(unit, each, cells.get(each["column"])) for name, each in entity.attributes.items()}
-    return Stored(entity, version, values, {relation.name: link_of(relation, cells.get(relation.column)) for relation in entity.owned()})
+    return Stored(entity, version, values, {relation.name: link_of(relation, cells.get(relation.column)) for relation in entity.owned})
 
 
 def number_of(unit, row, cells):

@@ -102,7 +102,7 @@ class Texts:
         variable = self.variable()
         block = Block({variable: entity})
         sets = []
-        links = [relation.name for relation in entity.owned() if not relation.is_many]
+        links = [relation.name for relation in entity.owned if not relation.is_many]
         names = [*entity.attributes, *([entity.version["name"]] if entity.version else []), *links]
         for name in self.random.sample(names, min(len(names), self.some([1, 1, 2]))):
             sets.append([self.cased(variable), ".", name, "=", *self.assigned(entity, name, block)])

@@ -61,7 +61,7 @@ class Tables:
         names = dict.fromkeys([*root.key, *([root.version["name"]] if root.version else [])])
         for entity in self.unit.entities.values():
             if entity.root is root:
-                names.update(dict.fromkeys([*entity.attributes, *[each.name for each in entity.owned() if not each.is_many]]))
+                names.update(dict.fromkeys([*entity.attributes, *[each.name for each in entity.owned if not each.is_many]]))
         return list(names)
 
     def fill(self, identity, stored):
@@ -70,7 +70,7 @@ class Tables:
         row.update({column(name): stored.values[name] for name in entity.attributes})
         if entity.version:
             row[column(entity.version["name"])] = stored.version
-        for relation in entity.owned():
+        for relation in entity.owned:
             targets = [self.numbers[target] for target in stored.linked(relation)]
             if relation.is_many:
                 self.store.executemany("INSERT INTO pair VALUES (?, ?, ?)", [(relation.table, number, target) for target in targets])
@@ -270,7 +270,7 @@ def some_objects(chance, unit):
         objects.setdefault(identity, Stored(entity, 0 if entity.version else None, values))
     taken = set()
     for stored in objects.values():
-        for relation in stored.entity.owned():
+        for relation in stored.entity.owned:
             fitting = [each for each, other in objects.items() if other.entity.is_a(relation.target) and (relation, each) not in taken]
             chosen = chance.sample(fitting, min(len(fitting), chance.randint(0, 3)))
             stored.links[relation.name] = frozenset(chosen) if relation.is_many else next(iter(chosen), None)

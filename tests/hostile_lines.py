@@ -38,6 +38,7 @@ class Calls(Plots, QueryCalls):
         # How many managers there are mostly; up to 16 may have a transaction open.
         self.crowd = random.choice([2, 3, 3, 6, 16])
         self.has_relations = any(entity.relations for entity in machine.unit.entities.values())
+        self.mutated_share = 0.12 if self.has_relations else 0.3
 
     def line(self):
         """A line, and whether a plot wants it as it stands."""
@@ -389,26 +390,30 @@ class Case:
         return Case(self.mapping, self.unit, self.state, lines)
 
 
-def made(seed, mapping, unit, state, count):
+def made(seed, mapping, unit, state, count, maker=Calls):
     """A case of so many lines, of which some hold line feeds by mutation."""
-    chance, machine, lines = random.Random(seed), Machine(unit, state), []
-    calls = Calls(chance, machine)
+    chance, machine, lines, heard, replies = random.Random(seed), Machine(unit, state), [], [], []
+    calls = maker(chance, machine)
 
     def take(line):
         lines.append(line + b"\n")
         for each in lines_of(lines[-1]):
-            machine.answer(each)
+            heard.append(each)
+            replies.append(machine.answer(each))
 
     while len(lines) < count:
         line, is_wanted = calls.line()
-        is_mutated = chance.random() < (0.12 if calls.has_relations else 0.3)
+        is_mutated = chance.random() < calls.mutated_share
         if is_mutated:
             take(mutated(chance, line))
         if not is_mutated or (is_wanted and chance.random() < 0.85):
             take(line)
     if chance.random() < 0.5:
         lines[-1] = lines[-1].removesuffix(b"\n")
-    return Case(mapping, unit, state, lines[:count])
+    case = Case(mapping, unit, state, lines[:count])
+    if lines_of(b"".join(case.lines)) == heard:
+        case.known = replies, machine.committed
+    return case
 
 
 def fill(store, cells):

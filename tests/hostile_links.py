@@ -201,7 +201,7 @@ class LinkPlots:
             elif word == "null":
                 yield self.unlinked(live, relation)
             elif word == "required":
-                needed = [(each, one) for each in [live, *others] for one in each.entity.owned() if one.is_required]
+                needed = [(each, one) for each in [live, *others] for one in each.entity.owned if one.is_required]
                 if needed:
                     yield self.unlinked(*self.random.choice(needed))
         yield self.random.choice(["flush", "commit"]), {"em": em}

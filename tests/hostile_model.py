@@ -43,7 +43,7 @@ class Live:
         self.held, self.is_removed, self.lock, self.base, self.known = "new", False, None, None, {}
 
     def key(self):
-        return tuple(self.values[name] for name in self.entity.key)
+        return tuple([self.values[name] for name in self.entity.key])
 
     def identity(self):
         return self.entity.root.name, self.key()
@@ -89,7 +89,7 @@ class Live:
         self.known = {relation.name: self.identities_of(relation) for relation in self.entity.relations.values()}
 
     def differs(self):
-        return self.attributes() != self.base.values or any(map(self.differs_along, self.entity.owned()))
+        return self.attributes() != self.base.values or any(map(self.differs_along, self.entity.owned))
 
     def differs_along(self, relation):
         before, now = self.known[relation.name], self.identities_of(relation)
@@ -119,17 +119,18 @@ class Manager:
 
 
 class Before:
-    """What a refused call may have changed, as it was."""
+    """What a refused call may have changed, as it was: no detached object, since what changes one is not refused afterwards."""
 
     def __init__(self, machine):
         self.machine, self.numbers, self.objects = machine, dict(machine.numbers), list(machine.objects)
-        self.lives = [(dict(live.values), dict(live.links), live.held, live.is_removed, live.lock, live.base, live.known) for live in machine.objects]
+        self.lives = [(live, dict(live.values), dict(live.links), live.held, live.is_removed, live.lock, live.base, live.known)
+                      for live in machine.objects if live.held != "detached"]
         self.managers = [(list(manager.context), manager.seen) for manager in machine.managers]
 
     def restore(self):
         self.machine.numbers, self.machine.objects = self.numbers, self.objects
-        for live, (live.values, live.links, live.held, live.is_removed, live.lock, live.base, live.known) in zip(self.objects, self.lives):
-            pass
+        for live, *before in self.lives:
+            live.values, live.links, live.held, live.is_removed, live.lock, live.base, live.known = before
         for manager, (manager.context, manager.seen) in zip(self.machine.managers, self.managers):
             pass
 
@@ -270,7 +271,8 @@ class Machine(Merging, Queries):
         return manager.seen if manager.is_begun else self.committed.objects
 
     def instance(self, manager, identity):
-        return next((live for live in manager.context if live.identity() == identity), None)
+        name, key = identity
+        return next((live for live in manager.context if live.entity.root.name == name and live.key() == key), None)
 
     def reached(self, events, manager, identity):
         """The manager's instance of an identity, which is loaded where it has none."""
@@ -539,6 +541,10 @@ class Machine(Merging, Queries):
         """The flush: what the manager's objects say is written to the objects that its transaction sees."""
         self.persist_targets(events, manager)
         self.remove_orphans(events, manager)
+        self.write_held(events, manager)
+
+    def write_held(self, events, manager):
+        """The flush of what is managed and removed, once cascades and orphans are done."""
         self.see_references(manager)
         for live in manager.context:
             if not live.is_removed and live.is_due():
@@ -619,7 +625,7 @@ class Machine(Merging, Queries):
         for name, attribute in live.entity.attributes.items():
             self.unit.column(attribute, live.values[name])
         links = {}
-        for relation in live.entity.owned():
+        for relation in live.entity.owned:
             found = live.identities_of(relation)
             found = frozenset(members(manager.seen, live.identity(), relation)) if found is None else found
             links[relation.name] = found if relation.is_many else next(iter(found), None)

@@ -79,7 +79,7 @@ class Plots(LinkPlots):
                 yield "set", {"object": number, "name": name, "value": self.a_value(live, name)}
         if entity.version and self.random.random() < 0.1:
             yield "set", {"object": number, "name": entity.version["name"], "value": self.random.randint(-1, 3)}
-        for relation in entity.owned():
+        for relation in entity.owned:
             if relation.is_required and depth < 3:
                 yield from self.requiring(em, live, relation, depth)
         return live

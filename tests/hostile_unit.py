@@ -28,10 +28,12 @@ class Relation:
 
 
 class Entity:
-    """An entity of a mapping: its members and relations by their names, in order, the root's first."""
+    """An entity of a mapping: its members and relations by their names, in order, the root's first; its chain are the entities from the root
+    to it."""
 
     def __init__(self, described, above=None):
         self.name, self.above, self.root = described["name"], above, above.root if above else self
+        self.chain = [*(above.chain if above else []), self]
         self.discriminator = described.get("discriminator", self.name)
         if above:
             self.table, self.key, self.generated, self.version = above.table, above.key, above.generated, above.version
@@ -43,21 +45,16 @@ class Entity:
             self.version = described.get("version")
         self.attributes = {**(above.attributes if above else {}), **{each["name"]: each for each in described.get("attributes", [])}}
         self.relations = {**(above.relations if above else {}), **{each["name"]: Relation(each, self) for each in described.get("relations", [])}}
+        self.owned = [relation for relation in self.relations.values() if relation.owns]
+        self.required = [name for name, each in self.attributes.items() if each.get("required")]
         self.listeners, self.callbacks = described.get("listeners", []), described.get("callbacks", [])
         self.excludes_default, self.excludes_super = described.get("excludeDefault", False), described.get("excludeSuper", False)
 
-    def chain(self):
-        """The entities from the root to this one."""
-        return [*self.above.chain(), self] if self.above else [self]
-
     def is_a(self, other):
-        return other in self.chain()
+        return other in self.chain
 
     def has(self, relation):
         return self.relations.get(relation.name) is relation
-
-    def owned(self):
-        return [relation for relation in self.relations.values() if relation.owns]
 
     def kind(self, name):
         """The kind of a value's member, if the entity has one of this name."""
@@ -99,7 +96,7 @@ class Unit:
 
     def joined(self):
         """The relations with a join table, by its number."""
-        return {relation.table: relation for entity in self.entities.values() for relation in entity.owned() if relation.table}
+        return {relation.table: relation for entity in self.entities.values() for relation in entity.owned if relation.table}
 
     def column(self, attribute, value):
         """What the attribute's column holds for a value."""
@@ -112,7 +109,7 @@ class Unit:
 
     def heard_by(self, entity, event):
         """The functions that hear an event of an entity, in order."""
-        chain, entries = entity.chain(), []
+        chain, entries = entity.chain, []
         if not any(each.excludes_default for each in chain):
             entries += self.default
         lowest = max((at for at, each in enumerate(chain) if each.excludes_super), default=0)

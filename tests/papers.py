@@ -1,0 +1,218 @@
+#!/usr/bin/env python3
+"""tests/papers.py: holds the papers against the repository, from whose top it is started.
+
+- Links between papers, into folders and files, and to headings lead somewhere. Files that are
+  named as code are there.
+- Names behind a link into crates/, in a table of an index, are declared in that file.
+- docs/CHAPTERS.md cites each folder of tests/runs, and no other. Titles of worked examples are
+  those of their files.
+- `CRATE: NAME` in docs/WORDS.md is a file of definitions.
+- The version of CHANGELOG.md is that of the program and of the client.
+- The calls are as many as docs/GUIDE.md says, all are in its tables and those of docs/QUERIES.md,
+  and no other paper counts them.
+
+It prints what is not so. Exit status 0 where all of it is so.
+"""
+import pathlib
+import re
+import sys
+from urllib.parse import unquote
+
+PAGES = ("*.md", "docs/*.md", "clients/python/*.md", "examples/*/*.md", "crates/*/README.md")
+INDEXES = ("docs/CHAPTERS.md", "docs/PROMISES.md")
+EXAMPLES = dict.fromkeys(("mappings", "limits", "functions", "stores"), "jpa_examples")
+EXAMPLES.update(dict.fromkeys(("queries", "typed"), "jpql_examples"))
+TITLE = re.compile(r"^(?:mapping|limit|functions|store|query|typed) (.+)$", re.MULTILINE)
+VERSIONS = {
+    "crates/jpa_settings/src/settings.rt": r'\.version\("([^"]+)"\)',
+    "clients/python/karzhoul/__init__.py": r'^__version__ = "([^"]+)"',
+}
+COUNTS = {26: "twenty-six", 27: "twenty-seven", 28: "twenty-eight", 29: "twenty-nine"}
+TOPS = "bench|clients|crates|dist|docs|examples|planted|tests|tools"
+LINK = re.compile(r"\[([^][]*)\]\(([^()\s]+)\)")
+CODE = re.compile(r"`([^`]+)`")
+DECLARING = r"(?:(?:abbrev|opaque|record|data|pub)\s+)+"
+faults = []
+
+
+def fault(page, words):
+    faults.append(f"{page}: {words}")
+
+
+def read(name):
+    return pathlib.Path(name).read_text(encoding="utf-8")
+
+
+def found_in(pattern, text):
+    return re.findall(pattern, text, re.MULTILINE)
+
+
+def pages():
+    paths = [path for pattern in PAGES for path in sorted(pathlib.Path().glob(pattern))]
+    return [path.as_posix() for path in paths]
+
+
+def prose(text):
+    """A page without its blocks of code, with as many lines."""
+    kept, fenced = [], False
+    for line in text.split("\n"):
+        if line.startswith("```"):
+            fenced = not fenced
+            line = ""
+        indented = line.startswith("    ") and not line.lstrip().startswith(("-", "["))
+        kept.append("" if fenced or indented else line)
+    return "\n".join(kept)
+
+
+def anchors(name):
+    """What a link can name in a page: its headings, as they are spelled in links."""
+    found = set()
+    for heading in found_in(r"^#+ (.*)$", prose(read(name))):
+        plain = LINK.sub(r"\1", heading).replace("`", "").replace("*", "").lower()
+        found.add(re.sub(r"[^\w\- ]", "", plain).replace(" ", "-"))
+    return found
+
+
+def check_links(page):
+    for text, target in LINK.findall(prose(read(page))):
+        if re.match(r"\w+:", target):
+            continue
+        name, _, anchor = unquote(target).partition("#")
+        path = pathlib.Path(page).parent / name if name else pathlib.Path(page)
+        if not path.exists():
+            fault(page, f"[{text}] leads to {target}, which is not there")
+        elif anchor and anchor not in anchors(path):
+            fault(page, f"[{text}] leads to {target}, and there is no such heading")
+
+
+def check_files(page):
+    """Papers at the top and in docs/ name files from the top."""
+    text = read(page)
+    named = [code.split()[0] for code in CODE.findall(prose(text)) if code.strip()]
+    for name in named + found_in(r"\b(docs/[A-Z-]+\.md)\b", text):
+        name = re.sub(r"^\./", "", name.rstrip(",:;"))
+        if not re.match(rf"({TOPS})/", name):
+            continue
+        # (a name in capitals stands for others, and what is built need not be there)
+        if re.search(r"[A-Z]{4,}(/|$)|[*{]|\.\.|/out/", name):
+            continue
+        if not pathlib.Path(name).exists():
+            fault(page, f"{name} is not there")
+
+
+def is_declared(name, path):
+    """Whether a file of definitions or of code declares a name; clauses of contracts count too."""
+    text, word = read(path), re.escape(name)
+    if path.suffix == ".antt":
+        return found_in(rf"^\s*{DECLARING}{word}(?=[\s:(])|^{word} :", text)
+    return found_in(rf"\b(?:fn|struct|enum|trait|const|ensures|requires)\s+{word}\b", text)
+
+
+def rows(page):
+    """The rows of a page's tables, each as its cells by the titles of the table."""
+    titles = None
+    for line in read(page).split("\n"):
+        if not line.startswith("|"):
+            titles = None
+            continue
+        cells = [cell.strip() for cell in line.strip().strip("|").split("|")]
+        if titles is None:
+            titles = cells
+        elif set(line) - set("|-: "):
+            yield dict(zip(titles, cells))
+
+
+def check_cited(page, cell):
+    """Names behind a link into crates/ are declared in its file, up to the next link."""
+    for part in re.split(r"(?=\[[^][]*\]\()", cell):
+        link = LINK.match(part)
+        if not link or not link.group(2).endswith((".antt", ".rt")):
+            continue
+        path = pathlib.Path(page).parent / link.group(2)
+        for name in CODE.findall(part):
+            if path.exists() and not is_declared(name, path):
+                fault(page, f"{link.group(2)} doesn't declare {name}")
+
+
+def check_index(page):
+    for row in rows(page):
+        for cell in row.values():
+            check_cited(page, cell)
+
+
+def has_title(word, title):
+    titles = TITLE.findall(read(f"crates/{EXAMPLES[word]}/data/{word}"))
+    if title.endswith(" .."):
+        return any(name.startswith(title[:-3]) for name in titles)
+    return title in titles
+
+
+def check_titles(page, cell):
+    for word, title in re.findall(r"\b(\w+): \*([^*]+)\*", cell):
+        if word not in EXAMPLES:
+            fault(page, f"{word} is no file of worked examples")
+        elif not has_title(word, title):
+            fault(page, f"{word} has no example '{title}'")
+
+
+def check_runs(page):
+    runs = {path.name for path in pathlib.Path("tests/runs").iterdir() if path.is_dir()}
+    cited = set()
+    for row in rows(page):
+        cell = row.get("Shown by", "")
+        check_titles(page, cell)
+        # (names behind a link are declared in its file)
+        cited.update(CODE.findall(re.sub(r"\[[^][]*\]\([^()]*\)(?:,? `[^`]+`)*", "", cell)))
+    for name in sorted(cited - runs):
+        fault(page, f"{name} is no run of tests/runs")
+    for name in sorted(runs - cited):
+        fault(page, f"no row cites tests/runs/{name}")
+
+
+def check_words(page):
+    for crate, name in re.findall(r"\b(jp[aq]\w*): ([A-Z]\w+)", prose(read(page))):
+        if not pathlib.Path(f"crates/{crate}/specs/{name}.antt").exists():
+            fault(page, f"{crate}: {name} is no file of definitions")
+
+
+def check_version(page):
+    version = found_in(r"^## (\d+\.\d+\.\d+)", read(page))[:1]
+    for name, pattern in VERSIONS.items():
+        if not version or found_in(pattern, read(name)) != version:
+            fault(page, f"its first version {version} is not that of {name}")
+
+
+def check_calls(guide):
+    words = found_in(r'^ +"(\w+)" => Ok\(Word::', read("crates/jpa_lines/src/reading.rt"))
+    tables = read(guide) + read("docs/QUERIES.md")
+    for word in sorted(set(words) - set(found_in(r'^\| `\{"call":"(\w+)"', tables))):
+        fault(guide, f"neither its table of calls nor that of docs/QUERIES.md has {word}")
+    wanted = f"{COUNTS[len(words)]} calls"
+    counts = re.compile(rf"\b(?:twenty-\w+|{len(words)})(?: \w+)? calls\b", re.IGNORECASE)
+    for page in pages():
+        text = "" if page.startswith("crates/") else " ".join(prose(read(page)).split())
+        for count in counts.findall(text):
+            if page != guide or count.lower() != wanted:
+                fault(page, f"'{count}': {guide} alone counts the calls, as '{wanted}'")
+
+
+def main():
+    found = pages()
+    for page in found:
+        check_links(page)
+        if "/" not in page or page.startswith("docs/"):
+            check_files(page)
+    for page in INDEXES:
+        check_index(page)
+    check_runs("docs/CHAPTERS.md")
+    check_words("docs/WORDS.md")
+    check_version("CHANGELOG.md")
+    check_calls("docs/GUIDE.md")
+    for line in faults:
+        print(line)
+    print(f"{len(found)} papers, {len(faults)} faults")
+    return 1 if faults else 0
+
+
+if __name__ == "__main__":
+    sys.exit(main())
