@@ -1,4 +1,5 @@
-"""Builds the package for pip (PEP 517 and 660) by Python's own library, and the wheel that brings the program."""
+"""Builds the package for pip (PEP 517 and 660) by Python's own library, and the wheel that brings
+the program. Its metadata are those of pyproject.toml."""
 
 from __future__ import annotations
 
@@ -11,37 +12,63 @@ from pathlib import Path
 from typing import Any, Dict, List, Optional
 
 TOP = Path(__file__).resolve().parents[1]
-NAME = "karzhoul"
-VERSION = re.findall(r'^__version__ = "(.+)"$', (TOP / NAME / "__init__.py").read_text(encoding="utf-8"), re.MULTILINE)[0]
+LINE = re.compile(r'^([a-z-]+) = "([^"]*)"$', re.MULTILINE)
+VERSION_LINE = re.compile(r'^__version__ = "([^"]+)"$', re.MULTILINE)
+
+
+def _read(name: str) -> str:
+    return (TOP / name).read_text(encoding="utf-8")
+
+
+def _table(title: str) -> Dict[str, str]:
+    """The lines of a table of pyproject.toml whose values are plain texts: Python reads TOML from
+    version 3.11 on, and this builds from 3.9 on."""
+    _, _, rest = _read("pyproject.toml").partition(f"[{title}]\n")
+    return dict(LINE.findall(rest.partition("\n[")[0]))
+
+
+PROJECT = _table("project")
+NAME = PROJECT["name"]
+VERSION = VERSION_LINE.findall(_read(f"{NAME}/__init__.py"))[0]
 RELEASE = f"{NAME}-{VERSION}"
 INFO = f"{RELEASE}.dist-info"
 SCRIPTS = f"{RELEASE}.data/scripts/"
 METADATA = f"""Metadata-Version: 2.1
 Name: {NAME}
 Version: {VERSION}
-Summary: A client of Karzhoul, a provider with the behaviour of Jakarta Persistence 3.1
-Requires-Python: >=3.9
-"""
+Summary: {PROJECT["description"]}
+Requires-Python: {PROJECT["requires-python"]}
+Description-Content-Type: text/markdown
+
+{_read(PROJECT["readme"])}"""
 PLAIN_TAG, PROGRAM_TAG = "py3-none-any", "py3-none-manylinux_2_34_x86_64"
-ENTRY_POINTS = f"[console_scripts]\n{NAME} = {NAME}.command:main\n"
+COMMANDS = [f"{name} = {place}\n" for name, place in _table("project.scripts").items()]
+ENTRY_POINTS = f"[console_scripts]\n{''.join(COMMANDS)}"
 
 Settings = Optional[Dict[str, Any]]
 
 
-def build_wheel(wheel_directory: str, config_settings: Settings = None, metadata_directory: Optional[str] = None) -> str:
+def build_wheel(
+    wheel_directory: str, config_settings: Settings = None, metadata_directory: Optional[str] = None
+) -> str:
     """Writes a wheel with the package alone, for any system, and gives its name."""
-    return _write_wheel(wheel_directory, {f"{NAME}/{path.name}": path.read_bytes() for path in _modules()})
+    return _write_wheel(
+        wheel_directory, {f"{NAME}/{path.name}": path.read_bytes() for path in _modules()}
+    )
 
 
 def build_program_wheel(wheel_directory: str, program: bytes, notices: bytes) -> str:
-    """Writes a wheel that brings the program with the package, as the command `jpa`, and gives its name."""
+    """Writes a wheel that brings the program with the package, as the command `jpa`, and gives its
+    name."""
     files = {f"{NAME}/{path.name}": path.read_bytes() for path in _modules()}
     files[f"{SCRIPTS}jpa"] = program
     files[f"{INFO}/NOTICES"] = notices
     return _write_wheel(wheel_directory, files, PROGRAM_TAG)
 
 
-def build_editable(wheel_directory: str, config_settings: Settings = None, metadata_directory: Optional[str] = None) -> str:
+def build_editable(
+    wheel_directory: str, config_settings: Settings = None, metadata_directory: Optional[str] = None
+) -> str:
     """Writes a wheel that leads to the sources, and gives its name."""
     return _write_wheel(wheel_directory, {f"{NAME}.pth": f"{TOP}\n".encode()})
 
@@ -63,10 +90,15 @@ def _modules() -> List[Path]:
 
 def _write_wheel(folder: str, files: Dict[str, bytes], tag: str = PLAIN_TAG) -> str:
     is_plain = str(tag == PLAIN_TAG).lower()
-    wheel = f"Wheel-Version: 1.0\nGenerator: wheel_builder\nRoot-Is-Purelib: {is_plain}\nTag: {tag}\n"
+    wheel = (
+        f"Wheel-Version: 1.0\nGenerator: wheel_builder\nRoot-Is-Purelib: {is_plain}\nTag: {tag}\n"
+    )
     told = {"METADATA": METADATA, "WHEEL": wheel, "entry_points.txt": ENTRY_POINTS}
     files = {**files, **{f"{INFO}/{name}": text.encode() for name, text in told.items()}}
-    record = "".join(f"{name},sha256={_sum(data)},{len(data)}\n" for name, data in files.items()) + f"{INFO}/RECORD,,\n"
+    record = (
+        "".join(f"{name},sha256={_sum(data)},{len(data)}\n" for name, data in files.items())
+        + f"{INFO}/RECORD,,\n"
+    )
     archive = f"{RELEASE}-{tag}.whl"
     with zipfile.ZipFile(Path(folder, archive), "w", zipfile.ZIP_DEFLATED, compresslevel=9) as out:
         for name, data in {**files, f"{INFO}/RECORD": record.encode()}.items():

@@ -1,17 +1,20 @@
-"""The command `karzhoul`: check, stubs, show and shell."""
+"""The command `karzhoul`: check, stubs, migrate, show, shell, dump and load."""
 
 from __future__ import annotations
 
 import argparse
 import json
 import os
+import sqlite3
 import sys
+import tempfile
+from contextlib import closing
 from pathlib import Path
-from typing import List, Optional
+from typing import Any, List, Mapping, Optional, Union
 
-from . import factory, show, stubs
+from . import carrying, factory, migration, show, stubs
 from .linter import lint
-from .refusals import KarzhoulError, StoreFault
+from .refusals import Damaged, KarzhoulError, StoreFault
 from .refusals import Mapping as MappingRefused
 from .unit import entities_of
 
@@ -20,7 +23,7 @@ WRONG, REFUSED, FAILED, INTERRUPTED = 1, 3, 4, 130
 
 def main(words: Optional[List[str]] = None) -> int:
     """Runs the command; its status is 0, or 1 for a mapping that is wrong, 2 for a wrong command line, 3 for a well-formed mapping that
-    the program refuses, 4 for what else failed, and 130 after Ctrl-C."""
+    the program refuses, or refuses over a store, 4 for what else failed, and 130 after Ctrl-C."""
     said = _parser().parse_args(words)
     try:
         status = int(said.run(said))
@@ -54,6 +57,16 @@ def _parser() -> argparse.ArgumentParser:
     typed.add_argument("-o", "--output", metavar="FILE", help="write to this file, and not to standard output")
     typed.set_defaults(run=run_stubs)
 
+    migrated = commands.add_parser("migrate", parents=[common], help="tell what an opening with another mapping changes in a database file")
+    migrated.add_argument("mapping", help="the mapping file, or a pipe")
+    migrated.add_argument("db")
+    way = migrated.add_mutually_exclusive_group(required=True)
+    way.add_argument("--dry-run", action="store_true", help="only tell, and write nothing")
+    way.add_argument("--copy", metavar="FILE", help="copy the database to this new file, and then open it, which changes it")
+    asked = "in a dry run, ask the program too, over a copy, which --program says as well"
+    migrated.add_argument("--with-program", action="store_true", help=asked)
+    migrated.set_defaults(run=run_migrate)
+
     over = argparse.ArgumentParser(add_help=False, parents=[common])
     over.add_argument("--mapping", required=True, help="the mapping file")
 
@@ -68,6 +81,7 @@ def _parser() -> argparse.ArgumentParser:
     shell = commands.add_parser("shell", parents=[over], help="a prompt for calls")
     shell.add_argument("db", nargs="?", help="the database file; without one the store is in memory")
     shell.set_defaults(run=run_shell)
+    carrying.add_commands(commands, over, _opened_over)
     return parser
 
 
@@ -79,7 +93,7 @@ def run_check(said: argparse.Namespace) -> int:
         print(f"{said.mapping}:{finding}")
     if report.findings:
         return WRONG
-    refused = _refusal(data, said.program) if said.with_program or said.program else None
+    refused = _refusal(json.loads(data), None, said.program) if said.with_program or said.program else None
     if refused is None:
         print(f"{said.mapping}: good")
         return 0
@@ -87,11 +101,11 @@ def run_check(said: argparse.Namespace) -> int:
     return REFUSED
 
 
-def _refusal(data: bytes, program: Optional[str]) -> Optional[str]:
-    """What the program says of a well-formed mapping, if it refuses it."""
+def _refusal(mapping: Any, db: Optional[Path], program: Optional[str]) -> Optional[str]:
+    """What the program says of a well-formed mapping, over a database if one is named, where it refuses it."""
     try:
-        factory.open(json.loads(data), program=program).close()
-    except MappingRefused as refused:
+        factory.open(mapping, db, program=program).close()
+    except (MappingRefused, Damaged) as refused:
         return str(refused)
     return None
 
@@ -112,12 +126,72 @@ def run_stubs(said: argparse.Namespace) -> int:
     return 0
 
 
+def run_migrate(said: argparse.Namespace) -> int:
+    """Tells what an opening would change; then opens the database, once it is copied, or in a dry run a copy of it, if that is wanted."""
+    data, db = Path(said.mapping).read_bytes(), _there(said.db)
+    if said.copy is not None and os.path.lexists(said.copy):
+        raise FileExistsError(f"there is a file {said.copy} already")
+    report = lint(data)
+    for finding in report.findings:
+        print(f"{said.mapping}:{finding}")
+    if report.findings:
+        return WRONG
+    mapping = json.loads(data)
+    try:
+        found = migration.outlook(mapping, db)
+        print("\n".join(found.told()))
+        if found.refused:
+            return REFUSED
+        if said.copy is not None and found.is_due:
+            return _migrated(mapping, db, said)
+        return _tried(mapping, db, said) if said.dry_run and (said.with_program or said.program) else 0
+    except sqlite3.Error as fault:
+        raise KarzhoulError(f"{said.db} can't be read ({fault}): {_why_unopened(db)}") from fault
+
+
+def _migrated(mapping: Any, db: Path, said: argparse.Namespace) -> int:
+    _copy(db, Path(said.copy))
+    print(f"{said.copy} is a copy of it as it is")
+    refused = _refusal(mapping, db, said.program)
+    print("it is written" if refused is None else f"the program refused that, and left it as it was: {refused}")
+    return 0 if refused is None else REFUSED
+
+
+def _tried(mapping: Any, db: Path, said: argparse.Namespace) -> int:
+    with tempfile.TemporaryDirectory(prefix="karzhoul-") as place:
+        copy = Path(place, "copy.db")
+        _copy(db, copy)
+        refused = _refusal(mapping, copy, said.program)
+    print("the program opens a copy of it so" if refused is None else f"the program refuses that, tried on a copy: {refused}")
+    return 0 if refused is None else REFUSED
+
+
+def _copy(db: Path, copy: Path) -> None:
+    """Copies a database with its log."""
+    with migration.opened_to_read(db) as source, closing(sqlite3.connect(copy)) as target:
+        source.backup(target)
+
+
 def _opened(said: argparse.Namespace) -> factory.EntityManagerFactory:
     """The unit over the mapping and the database that a command names."""
+    return _opened_over(said, said.mapping, said.db)
+
+
+def _opened_over(
+    said: argparse.Namespace, mapping: Union[str, Mapping[str, Any]], db: Optional[str]
+) -> factory.EntityManagerFactory:
+    """The unit over a mapping and a database."""
     try:
-        return factory.open(said.mapping, said.db, program=said.program)
+        return factory.open(mapping, db, program=said.program)
     except StoreFault as fault:
         raise KarzhoulError(f"{said.db} can't be opened ({fault}): {_why_unopened(Path(said.db))}") from fault
+
+
+def _there(db: str) -> Path:
+    """The path of a database file that must be there."""
+    if not Path(db).is_file():
+        raise FileNotFoundError(f"there is no file {db}")
+    return Path(db)
 
 
 def _why_unopened(db: Path) -> str:
@@ -133,8 +207,7 @@ def _why_unopened(db: Path) -> str:
 
 def run_show(said: argparse.Namespace) -> int:
     """Prints the stored objects as tables, or writes a page."""
-    if not Path(said.db).is_file():
-        raise FileNotFoundError(f"there is no file {said.db}")
+    _there(said.db)
     with _opened(said) as app:
         try:
             shown = show.tables(app, show.keys_of(said.key, entities_of(app.mapping)), said.most)

@@ -9,9 +9,10 @@ import enum
 import json
 import re
 from dataclasses import dataclass, field
-from typing import Callable, Dict, Iterable, Iterator, List, Mapping, Optional, Sequence, Set, Tuple, Union
+from typing import Any, Callable, Dict, Iterable, Iterator, List, Mapping, Optional, Sequence, Set, Tuple, Union
 
 from .arguments import meant
+from .converters import MOST_BYTES, Plain, column_value, length, value_of
 from .lines import LifecycleEvent
 from .strict_json import Lines, NoJson, Value, read, text_of
 
@@ -21,7 +22,7 @@ MOST_ENTITIES = 64
 MOST_MEMBERS = 64
 MOST_KEY_PARTS = 4
 MOST_NUMBER = 1_000_000
-MOST_BYTES = 65_535
+REVISIONS = (1, 2)
 
 
 class Fault(str, enum.Enum):
@@ -80,6 +81,7 @@ def lint(data: bytes) -> Report:
         made = _functions(teller, root)
         if is_well_formed and made is not None:
             _unknown(teller, root, made)
+            _thrown(teller, unit, made)
             _lost(teller, unit)
     return report
 
@@ -131,12 +133,32 @@ _FORMS: Dict[str, _Form] = {
     "mapping": _Form("mapping", {"revision": "integer", "listeners?": "list listener", "entities": "list entity", "functions?": "any"}),
     "root": _Form(
         "root entity",
-        {"table": "integer", "key": "list part", "embedded?": "text", "generated?": "flag", "version?": "version", **_COMMON},
+        {
+            "table": "integer",
+            "key": "list part",
+            "embedded?": "text",
+            "generated?": "flag",
+            "version?": "version",
+            "dropped?": "list integer",
+            **_COMMON,
+        },
     ),
     "subclass": _Form("subclass", {"extends": "text", **_COMMON}),
     "part": _Form("key part", {"name": "text", "type": "type"}),
     "version": _Form("version", {"name": "text", "column": "integer"}),
-    "attribute": _Form("attribute", {"name": "text", "type": "type", "column": "integer", "required?": "flag", "converter?": "text"}),
+    "attribute": _Form(
+        "attribute",
+        {
+            "name": "text",
+            "type": "type",
+            "column": "integer",
+            "required?": "flag",
+            "converter?": "text",
+            "since?": "integer",
+            "default?": "value",
+            "was?": "integer",
+        },
+    ),
     "relation": _Form(
         "relation",
         {
@@ -159,6 +181,7 @@ _WORDS: Dict[str, Tuple[str, ...]] = {
     "kind": ("manyToOne", "oneToMany", "oneToOne", "manyToMany"),
     "cascade": ("PERSIST", "MERGE", "REMOVE", "REFRESH", "DETACH", "ALL"),
 }
+_VALUES = 'an integer of 64 bits, a text, or bytes as {"hex":"0aff"}'
 _PLAIN: Dict[str, Tuple[type, str]] = {
     "text": (str, "a text"),
     "integer": (int, "a whole number of 64 bits"),
@@ -180,6 +203,9 @@ class _Shape:
             self._list(check[len("list ") :], path, value)
         elif check in _WORDS:
             self._word(check, path, value)
+        elif check == "value":
+            if value.data is not None and _value(value) is None:
+                self._tell(path, value, f"this must be {_VALUES}")
         elif check in _PLAIN:
             kind, what = _PLAIN[check]
             if type(value.data) is not kind:
@@ -337,6 +363,8 @@ _SIDES_OF = {
     "manyToMany": ("joinTable", "mappedBy"),
 }
 _EVENTS = {event.value for event in LifecycleEvent}
+_OF_REVISION_2 = ("since", "default", "was")
+_TYPES = {"int": int, "text": str, "bytes": bytes}
 
 
 class _Model:
@@ -347,8 +375,8 @@ class _Model:
 
     def check(self) -> None:
         root = self._unit.root
-        if root.at("revision").value.data != 1:
-            self._tell(root.at("revision"), "the revision is 1")
+        if root.at("revision").value.data not in REVISIONS:
+            self._tell(root.at("revision"), f"the revision is {' or '.join(map(str, REVISIONS))}")
         self._entities()
         self._names()
         for place, entity in enumerate(self._unit.entities):
@@ -360,6 +388,7 @@ class _Model:
                 self._relation(place, relation)
         self._inverses()
         self._events()
+        self._revised()
 
     def _tell(self, where: _Placed, message: str) -> None:
         self._teller.tell(Fault.MODEL, where.path, where.value, message)
@@ -427,7 +456,8 @@ class _Model:
         self._apart(tables, "table")
         for root, entity in enumerate(self._unit.entities):
             hierarchy = [self._unit.entities[place] for place in self._unit.hierarchy(root)]
-            self._apart([column for member in hierarchy for column in self._columns(member)], "column")
+            columns = [column for member in hierarchy for column in self._columns(member)]
+            self._apart([*columns, *(column for member in hierarchy for column in self._old_columns(member))], "column")
             marks = ((self._discriminator(member)[0], self._discriminator(member)[1]) for member in hierarchy)
             self._repeated(marks, lambda mark: f"a second class of the hierarchy has the discriminator {mark!r}")
         for entity in self._unit.entities:
@@ -454,6 +484,12 @@ class _Model:
             yield entity.at("version").at("column")
         yield from (attribute.at("column") for attribute in entity.items("attributes"))
         yield from (relation.at("column") for relation in entity.items("relations") if relation.has("column"))
+
+    def _old_columns(self, entity: _Placed) -> Iterator[_Placed]:
+        """The columns that revision 1 had and revision 2 has no more."""
+        if self._unit.root.at("revision").value.data == REVISIONS[-1]:
+            yield from (attribute.at("was") for attribute in entity.items("attributes") if attribute.has("was"))
+            yield from entity.items("dropped")
 
     @staticmethod
     def _discriminator(entity: _Placed) -> Tuple[str, _Placed]:
@@ -535,6 +571,43 @@ class _Model:
                 self._tell(event, f"the events are {', '.join(sorted(_EVENTS))}")
         self._repeated(((event.value.data, event) for event in listener.items("events")), lambda event: f"{event} stands here twice")
 
+    # 8. what a second revision says of the first
+
+    def _revised(self) -> None:
+        revision = self._unit.root.at("revision").value.data
+        for entity in self._unit.entities:
+            attributes = list(entity.items("attributes"))
+            if revision == 1:
+                own = [attribute.at(name) for attribute in attributes for name in _OF_REVISION_2 if attribute.has(name)]
+                for where in [*own, *([entity.at("dropped")] if entity.has("dropped") else [])]:
+                    self._tell(where, f"{str(where.path[-1])!r} goes with revision 2, and this mapping is of revision 1")
+            elif revision == 2:
+                for attribute in attributes:
+                    self._change(attribute)
+
+    def _change(self, attribute: _Placed) -> None:
+        is_new = attribute.has("since")
+        if is_new and attribute.at("since").value.data != 2:
+            self._tell(attribute.at("since"), "an attribute that is new is so since 2, the revision of its mapping")
+        if is_new and attribute.has("was"):
+            self._tell(attribute.at("was"), "an attribute that is new ('since') had no column before")
+        if attribute.has("default"):
+            if not is_new:
+                self._tell(attribute.at("default"), "'default' goes with 'since', for an attribute that is new")
+            self._default(attribute)
+        elif is_new and _flag(attribute.value, "required"):
+            self._tell(attribute.at("since"), "an attribute that is new and required needs a 'default', which the rows of before get")
+
+    def _default(self, attribute: _Placed) -> None:
+        where, kind = attribute.at("default"), attribute.text("type")
+        found = _value(where.value)
+        if found is None:
+            self._tell(where, "a default is not null: without one, the attribute is null in the rows of before")
+        elif found[0] is not _TYPES[kind]:
+            self._tell(where, f"a default is of its attribute's type, which is {kind}")
+        elif length(found[1]) > MOST_BYTES:
+            self._tell(where, f"a default has at most {MOST_BYTES:,} bytes")
+
 
 # ---- functions
 
@@ -553,10 +626,10 @@ _MAKES: Dict[str, Tuple[bool, Tuple[str, ...]]] = {
 
 @dataclass
 class _Made:
-    """The names of the listeners and of the converters that the functions make."""
+    """The listeners and the converters that the functions make, by their names."""
 
-    listeners: Set[str] = field(default_factory=set)
-    converters: Set[str] = field(default_factory=set)
+    listeners: Dict[str, Any] = field(default_factory=dict)
+    converters: Dict[str, Any] = field(default_factory=dict)
 
 
 def _functions(teller: _Teller, root: Value) -> Optional[_Made]:
@@ -594,10 +667,10 @@ def _function(teller: _Teller, made: _Made, path: Path, value: Value) -> bool:
             return refuse("this must be a text", name)
     if "pairs" in own and not _pairs(teller, (*path, "pairs"), _at(value, "pairs")):
         return False
-    names, name = made.listeners if is_listener else made.converters, _text(value, "name")
-    if name in names:
+    functions, name = made.listeners if is_listener else made.converters, _text(value, "name")
+    if name in functions:
         return refuse(f"a second {'listener' if is_listener else 'converter'} has the name {name!r}", "name")
-    names.add(name)
+    functions[name] = value.plain()
     return True
 
 
@@ -621,17 +694,17 @@ def _pair(sides: Tuple[Set[object], Set[object]], pair: Value) -> Optional[str]:
     for seen, side in zip(sides, pair.data):
         value = _value(side)
         if value is None:
-            return "a value of a pair is an integer of 64 bits, a text, or bytes as {\"hex\":\"0aff\"}"
+            return f"a value of a pair is {_VALUES}"
         if value in seen:
             return "a value stands on this side already"
         seen.add(value)
     return None
 
 
-def _value(value: Value) -> Optional[Tuple[type, object]]:
-    """A value of a pair, with its type."""
+def _value(value: Value) -> Optional[Tuple[type, Plain]]:
+    """A value of a pair, or a default, with its type."""
     data = value.data
-    if type(data) in (int, str):
+    if isinstance(data, (int, str)) and not isinstance(data, bool):
         return type(data), data
     if isinstance(data, dict) and set(data) == {"hex"}:
         digits = data["hex"].data
@@ -651,6 +724,16 @@ def _unknown(teller: _Teller, root: Value, made: _Made) -> None:
     for where, names, what in named:
         if where.value.data not in names:
             teller.tell(Fault.FUNCTION, where.path, where.value, f"'functions' makes no {what} of this name")
+
+
+def _thrown(teller: _Teller, unit: _Unit, made: _Made) -> None:
+    """Tells the defaults for which their converters throw."""
+    for attribute in (each for entity in unit.entities for each in entity.items("attributes")):
+        function = made.converters.get(attribute.text("converter")) if attribute.has("converter") else None
+        if function is not None and attribute.has("default"):
+            where = attribute.at("default")
+            if column_value(function, value_of(where.value.plain())) is None:
+                teller.tell(Fault.FUNCTION, where.path, where.value, f"the converter {function['name']!r} throws for this default")
 
 
 def _lost(teller: _Teller, unit: _Unit) -> None:

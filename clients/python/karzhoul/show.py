@@ -11,6 +11,7 @@ from typing import Any, Dict, Iterable, List, Mapping, Optional, Sequence, Tuple
 from .diagram import diagram
 from .entities import Entity
 from .factory import EntityManagerFactory
+from .managers import EntityManager
 from .refusals import NotServed, Refused
 from .unit import EntityDescription, entities_of
 

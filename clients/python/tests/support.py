@@ -7,6 +7,7 @@ import os
 import re
 import shutil
 import subprocess
+import sys
 import tempfile
 import unittest
 from pathlib import Path
@@ -19,8 +20,15 @@ from karzhoul.program import Exchange
 HERE = Path(__file__).resolve().parent
 TOP = HERE.parents[2]
 DATA = TOP / "crates" / "jpa_examples" / "data"
-FLAT = TOP / "tests" / "flat.json"
+FLAT = TOP / "tests" / "mappings" / "flat.json"
 STUB = HERE / "stub.py"
+
+sys.path.append(str(TOP / "tests"))
+from model.reading import STAGES  # noqa: E402
+
+SERVES_REVISION_2 = "mapping revision 2" not in STAGES
+"""Whether the program serves mappings of revision 2."""
+needs_revision_2 = unittest.skipUnless(SERVES_REVISION_2, "the program serves no mapping of revision 2 yet")
 
 
 def tested_program() -> Optional[str]:

@@ -275,7 +275,7 @@ class Marks(unittest.TestCase):
 
     @needs_program
     def test_the_image_of_an_object_is_of_its_class(self) -> None:
-        with karzhoul.open(TOP / "tests" / "sub.json", program=PROGRAM) as app:
+        with karzhoul.open(TOP / "tests" / "mappings" / "sub.json", program=PROGRAM) as app:
             em, told = app.create_entity_manager(), []
             app.listen(told.append)
             order, note = app.new("Order", at=(1, "a")), app.new("Note", at=(1, "b"))

@@ -10,22 +10,25 @@ import subprocess
 import tempfile
 import unittest
 from pathlib import Path
-from typing import Any, Callable, Dict, Iterator, List, Optional, Tuple
+from typing import Any, Callable, Dict, Iterator, List, Optional, Sequence, Set, Tuple
 
 from karzhoul.linter import Fault, Report, lint
 
-from .support import HERE, PERSONS, PROGRAM, TOP, examples, long_text, needs_program
+from .support import HERE, PERSONS, PROGRAM, SERVES_REVISION_2, TOP, examples, long_text, needs_program, needs_revision_2
 
 MUTATIONS = 160
+# Titles of examples whose answers are another one once revision 2 is read.
+OF_REVISION_2 = ("a second revision", "members of a second revision, which this one lacks")
 
 
 def worked_mappings() -> Iterator[Tuple[str, str]]:
     """The mappings of the worked examples, by title: mappings, limits and functions."""
-    for name in ("mappings", "functions"):
+    for name in ("mappings", "functions", "limits", *(("revisions",) if SERVES_REVISION_2 else ())):
         for example in examples(name):
-            yield f"{name}: {example.title}", "\n".join(example.given)
-    for example in examples("limits"):
-        yield f"limits: {example.title}", long_text(example.given)
+            if not SERVES_REVISION_2 and example.title in OF_REVISION_2:
+                continue
+            if example.kind != "members":
+                yield f"{name}: {example.title}", long_text(example.given) if example.kind == "limit" else "\n".join(example.given)
 
 
 def verdict(text: str) -> Optional[str]:
@@ -36,15 +39,17 @@ def verdict(text: str) -> Optional[str]:
 class Examples(unittest.TestCase):
     def test_mappings_and_limits(self) -> None:
         count = 0
-        for name in ("mappings", "limits"):
+        for name in ("mappings", "limits", "revisions"):
             for example in examples(name):
-                text = long_text(example.given) if name == "limits" else "\n".join(example.given)
+                if example.kind == "members" or not SERVES_REVISION_2 and example.title in OF_REVISION_2:
+                    continue
+                text = long_text(example.given) if example.kind == "limit" else "\n".join(example.given)
                 found, (wanted,) = verdict(text), example.wanted
                 with self.subTest(example.title):
                     # These examples are of mappings without a look at their functions.
                     self.assertEqual("read" if found in (None, "function") else found, wanted)
                 count += 1
-        self.assertGreater(count, 70)
+        self.assertGreater(count, 150)
 
     def test_functions(self) -> None:
         for example in examples("functions"):
@@ -60,7 +65,7 @@ class Examples(unittest.TestCase):
 
     def test_members(self) -> None:
         count = 0
-        for example in examples("members"):
+        for example in [*examples("members"), *(each for each in examples("revisions") if each.kind == "members")]:
             frame, values = example.rows
             for line, wanted in zip(example.given, example.wanted):
                 for value, word in zip(values.split(" ") if "#" in line else [""], wanted.split(" ")):
@@ -79,7 +84,7 @@ class Places(unittest.TestCase):
 
     def test_each_rule_names_its_place(self) -> None:
         changes: List[Tuple[str, Callable[[Any], None], str, str]] = [
-            ("revision", lambda m: m.update(revision=2), "model", "$.revision"),
+            ("revision", lambda m: m.update(revision=3), "model", "$.revision"),
             ("a member too many", lambda m: m["entities"][0].update(colour=1), "shape", "$.entities[0].colour"),
             ("a member too few", lambda m: m["entities"][0].pop("table"), "shape", "$.entities[0]"),
             ("a wrong type", lambda m: m["entities"][0].update(table="1"), "shape", "$.entities[0].table"),
@@ -99,6 +104,52 @@ class Places(unittest.TestCase):
             with self.subTest(title):
                 self.assertIn((fault, path), self.told(change))
         self.assertEqual(self.told(lambda m: None), [])
+
+    def test_each_rule_of_revision_2_names_its_place(self) -> None:
+        def new(**members: Any) -> Callable[[Any], None]:
+            """A change that adds an attribute to persons, of which column 2 is taken."""
+            return lambda m: (m.update(revision=2), m["entities"][0]["attributes"].append({"name": "hits", "type": "int", "column": 9, **members}))
+
+        def dropped(*columns: Any) -> Callable[[Any], None]:
+            return lambda m: (m.update(revision=2), m["entities"][0].update(dropped=list(columns)))
+
+        def converted(default: Any) -> Callable[[Any], None]:
+            return lambda m: (m.update(revision=2), m["entities"][1]["attributes"][2].update(since=2, default=default))
+
+        place, root = "$.entities[0].attributes[1]", "$.entities[0].dropped"
+        rules: List[Tuple[Callable[[Any], None], List[Tuple[str, str]]]] = [
+            (new(), []),
+            (new(since=2), []),
+            (new(since=2, default=0, required=True), []),
+            (new(was=3), []),
+            (dropped(3, 4), []),
+            (dropped(), []),
+            (converted("glad"), []),
+            (new(since=1), [("model", f"{place}.since")]),
+            (new(since="2"), [("shape", f"{place}.since")]),
+            (new(since=2, default=None), [("model", f"{place}.default")]),
+            (new(since=2, default=1.5), [("shape", f"{place}.default")]),
+            (new(since=2, default={"object": 1}), [("shape", f"{place}.default")]),
+            (new(since=2, default="0"), [("model", f"{place}.default")]),
+            (new(since=2, type="text", default="a" * 65_536), [("model", f"{place}.default")]),
+            (new(default=0), [("model", f"{place}.default")]),
+            (new(since=2, required=True), [("model", f"{place}.since")]),
+            (new(since=2, was=3), [("model", f"{place}.was")]),
+            (new(was=9), [("model", f"{place}.was")]),
+            (new(was=2), [("model", f"{place}.was")]),
+            (new(was=0), [("model", f"{place}.was")]),
+            (dropped(2), [("model", f"{root}[0]")]),
+            (dropped(3, 3), [("model", f"{root}[1]")]),
+            (dropped(3, 1_000_001), [("model", f"{root}[1]")]),
+            (dropped(3, "4"), [("shape", f"{root}[1]")]),
+            (converted("cross"), [("function", "$.entities[1].attributes[2].default")]),
+            (converted(1), [("model", "$.entities[1].attributes[2].default")]),
+            (lambda m: (new(since=2, default=0)(m), m.update(revision=1)), [("model", f"{place}.since"), ("model", f"{place}.default")]),
+            (lambda m: (dropped()(m), m.update(revision=1)), [("model", root)]),
+        ]
+        for number, (change, wanted) in enumerate(rules):
+            with self.subTest(number):
+                self.assertEqual(self.told(change), wanted)
 
     def test_an_attribute_that_no_entity_has_is_warned_of(self) -> None:
         mapping = copy.deepcopy(PERSONS)
@@ -152,6 +203,35 @@ def agrees(report: Report, said: Optional[str]) -> bool:
 RICH: Dict[str, Any] = json.loads((HERE / "data" / "relations.json").read_text(encoding="utf-8"))
 """Relations of each kind but one."""
 
+REVISED: Dict[str, Any] = {
+    "revision": 2,
+    "entities": [
+        {
+            "name": "Person",
+            "table": 1,
+            "key": [{"name": "id", "type": "int"}],
+            "version": {"name": "version", "column": 1},
+            "dropped": [3, 4],
+            "attributes": [
+                {"name": "name", "type": "text", "column": 5, "was": 2},
+                {"name": "hits", "type": "int", "column": 6, "since": 2, "default": 0, "required": True},
+                {"name": "mood", "type": "text", "column": 7, "converter": "mood", "since": 2, "default": "glad"},
+            ],
+        },
+        {
+            "name": "Clerk",
+            "extends": "Person",
+            "attributes": [
+                {"name": "room", "type": "int", "column": 8, "was": 9},
+                {"name": "seal", "type": "bytes", "column": 10, "since": 2, "default": {"hex": "0a"}},
+                {"name": "note", "type": "text", "column": 11, "since": 2},
+            ],
+        },
+    ],
+    "functions": [{"name": "mood", "make": "table", "pairs": [["glad", 1], ["sad", 2]]}],
+}
+"""All that is said of a first revision."""
+
 WORDS: List[Any] = [None, True, 0, 1, 2, -1, 1_000_000, 1_000_001, 1.5, [], {}, [{}]]
 WORDS += ["", "x", "id", "Person", "int", "PERSIST", "PrePersist", "a" * 65]
 
@@ -184,7 +264,7 @@ class Mutator:
         elif roll < 0.3 and isinstance(holder, list):
             holder.append(copy.deepcopy(holder[name]))
         elif roll < 0.4 and isinstance(holder, dict):
-            holder[self.random.choice(["name", "column", "required", "extends", "embedded", "events", "mappedBy", "x"])] = holder[name]
+            holder[self.random.choice(["name", "column", "required", "extends", "embedded", "events", "mappedBy", "since", "was", "dropped", "default", "x"])] = holder[name]
         elif roll < 0.6 and isinstance(holder[name], (int, str)) and not isinstance(holder[name], bool):
             holder[name] = holder[name] + (self.random.choice([1, -1]) if isinstance(holder[name], int) else "x")
         else:
@@ -202,22 +282,33 @@ class AgainstTheProgram(unittest.TestCase):
         self.assertGreater(count, 120)
 
     def test_files_of_the_repository(self) -> None:
-        for path in [*TOP.glob("tests/*.json"), *TOP.glob("tests/runs/*/mapping.json"), *HERE.glob("data/*.json")]:
+        for path in [*TOP.glob("tests/mappings/*.json"), *TOP.glob("tests/runs/*/mapping.json"), *HERE.glob("data/*.json")]:
+            if not SERVES_REVISION_2 and (path.parent / "stage").exists():
+                continue
             data = path.read_bytes()
             with self.subTest(str(path)):
                 self.assertTrue(agrees(lint(data), answer(data)), lint(data))
 
+    @needs_revision_2
+    def test_mutated_mappings_of_revision_2(self) -> None:
+        self.mutated((REVISED,), {None, "shape", "model", "function"})
+
     def test_mutated_mappings(self) -> None:
-        wide = json.loads((TOP / "tests" / "wide.json").read_text(encoding="utf-8"))
-        refused: Dict[Optional[str], int] = {}
+        wide = json.loads((TOP / "tests" / "mappings" / "wide.json").read_text(encoding="utf-8"))
+        self.mutated((PERSONS, wide, RICH), {None, "shape", "model", "function"})
+
+    def mutated(self, mappings: Sequence[Any], wanted: Set[Optional[str]]) -> None:
+        found = set()
         for seed in range(MUTATIONS):
-            mapping = Mutator(seed).mutated((PERSONS, wide, RICH)[seed % 3])
+            mapping = Mutator(seed).mutated(mappings[seed % len(mappings)])
             text = json.dumps(mapping).encode()
+            if mapping.get("revision") == 2 and not SERVES_REVISION_2:
+                continue
             said = answer(text)
-            refused[said] = refused.get(said, 0) + 1
+            found.add(said)
             if not agrees(lint(text), said):
                 self.fail(f"seed {seed}: the program says {said} of {text.decode()}, and the check {lint(text)}")
-        self.assertEqual(set(refused), {None, "shape", "model", "function"})
+        self.assertEqual(found, wanted)
 
     def test_mutated_texts(self) -> None:
         text = json.dumps(PERSONS, indent=1)

@@ -1,4 +1,4 @@
-"""Merge and locks over the program: tests/persons.json has persons, whose orders go along with them and are removed as orphans."""
+"""Merge and locks over the program: tests/mappings/persons.json has persons, whose orders go along with them and are removed as orphans."""
 
 from __future__ import annotations
 
@@ -16,7 +16,7 @@ class MergeAndLocksTest(unittest.TestCase):
     """A test over a program of its own, with its store in memory."""
 
     def setUp(self) -> None:
-        self.app = karzhoul.open(TOP / "tests" / "persons.json", program=PROGRAM)
+        self.app = karzhoul.open(TOP / "tests" / "mappings" / "persons.json", program=PROGRAM)
         self.addCleanup(self.app.close)
         self.em = self.app.create_entity_manager()
         self.Person, self.Order = map(self.app.entity, ("Person", "Order"))

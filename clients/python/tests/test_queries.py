@@ -1,4 +1,4 @@
-"""Queries over the program: tests/persons.json has persons and their orders."""
+"""Queries over the program: tests/mappings/persons.json has persons and their orders."""
 
 from __future__ import annotations
 
@@ -16,7 +16,7 @@ class Queries(unittest.TestCase):
     """A test over a program of its own, with its store in memory: Ada has the orders 10 and 11, and nobody has the order 12."""
 
     def setUp(self) -> None:
-        self.app = karzhoul.open(TOP / "tests" / "persons.json", program=PROGRAM)
+        self.app = karzhoul.open(TOP / "tests" / "mappings" / "persons.json", program=PROGRAM)
         self.addCleanup(self.app.close)
         self.em = self.app.create_entity_manager()
         self.Person, self.Order = map(self.app.entity, ("Person", "Order"))

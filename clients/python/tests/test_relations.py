@@ -1,4 +1,4 @@
-"""Links and collections, over the program: tests/linked.json has persons, their orders and badges, and items."""
+"""Links and collections, over the program: tests/mappings/linked.json has persons, their orders and badges, and items."""
 
 from __future__ import annotations
 
@@ -12,8 +12,8 @@ from karzhoul import LifecycleEvent
 
 from .support import PROGRAM, TOP, counted, needs_program
 
-LINKED = TOP / "tests" / "linked.json"
-ORPHANS = TOP / "tests" / "persons.json"
+LINKED = TOP / "tests" / "mappings" / "linked.json"
+ORPHANS = TOP / "tests" / "mappings" / "persons.json"
 
 
 @needs_program

@@ -94,9 +94,9 @@ class Command(unittest.TestCase):
 
     def test_a_wrong_mapping_writes_nothing(self) -> None:
         file = self.place / "entities.py"
-        status, out, err = self.ran("-o", str(file), mapping={**PERSONS, "revision": 2})
+        status, out, err = self.ran("-o", str(file), mapping={**PERSONS, "revision": 3})
         self.assertEqual((status, out, file.exists()), (1, "", False))
-        self.assertIn("$.revision: the revision is 1", err)
+        self.assertIn("$.revision: the revision is 1 or 2", err)
 
 
 @needs_program

@@ -25,14 +25,14 @@ class Block(NamedTuple):
     text: str
 
 
-def blocks() -> List[Block]:
-    text = TUTORIAL.read_text(encoding="utf-8")
+def blocks(page: Path = TUTORIAL) -> List[Block]:
+    text = page.read_text(encoding="utf-8")
     return [Block(*found) for found in re.findall(r"^```(\w+) ?(\S*)\n(.*?)^```$", text, re.MULTILINE | re.DOTALL)]
 
 
-def script() -> Iterator[str]:
+def script(page: Path) -> Iterator[str]:
     yield "set -eu\n"
-    for place, block in enumerate(blocks()):
+    for place, block in enumerate(blocks(page)):
         if block.kind == "sh":
             yield f"{block.text}\n"
         elif block.kind == "text":
@@ -53,24 +53,24 @@ class Tutorial(unittest.TestCase):
         with tempfile.TemporaryDirectory() as place:
             package_elsewhere(place)
             follow(self, place, sys.executable, KARZHOUL_PROGRAM=str(PROGRAM))
+            self.assertIn("<svg", Path(place, "library", "library.html").read_text(encoding="utf-8"))
 
 
-def follow(test: unittest.TestCase, top: str, python: str, **env: str) -> None:
-    """Runs each block of the tutorial with this Python, at the top of a folder that may have the package as a clone has it."""
+def follow(test: unittest.TestCase, top: str, python: str, page: Path = TUTORIAL, **env: str) -> None:
+    """Runs each block of a page with this Python, at the top of a folder that may have the package as a clone has it."""
     python3 = Path(top, "bin", "python3")
     python3.parent.mkdir()
     python3.write_text(f'#!/bin/sh\nexec {shlex.quote(python)} "$@"\n', encoding="utf-8")
     python3.chmod(0o755)
     own = {"TMPDIR": top, "PATH": f"{python3.parent}:{os.environ['PATH']}", "PYTHONDONTWRITEBYTECODE": "1"}
-    ran = subprocess.run(["bash", "-c", "".join(script())], cwd=top, env={**os.environ, **own, **env}, capture_output=True, text=True, timeout=100)
+    ran = subprocess.run(["bash", "-c", "".join(script(page))], cwd=top, env={**os.environ, **own, **env}, capture_output=True, text=True, timeout=100)
     test.assertEqual((ran.returncode, ran.stderr), (0, ""))
     parts = re.split(r"^end of block (\d+)\n", ran.stdout, flags=re.MULTILINE)
-    told = blocks()
+    told = blocks(page)
     for output, place in zip(parts[::2], map(int, parts[1::2])):
         following = told[place + 1] if place + 1 < len(told) else None
         wanted = following.text if following is not None and following.kind == "text" else ""
         test.assertEqual(output, wanted, told[place].text)
-    test.assertIn("<svg", Path(top, "library", "library.html").read_text(encoding="utf-8"))
 
 
 if __name__ == "__main__":

@@ -4,6 +4,7 @@ from __future__ import annotations
 
 import builtins
 import os
+import shutil
 import subprocess
 import tempfile
 import typing
@@ -16,8 +17,8 @@ from karzhoul.stubs import module_of
 
 from .support import HERE
 
-MYPY = "/usr/bin/mypy"
-needs_mypy = unittest.skipUnless(os.access(MYPY, os.X_OK), f"there is no {MYPY}: Debian's package mypy has it")
+MYPY = shutil.which("mypy") or ""
+needs_mypy = unittest.skipUnless(MYPY, "there is no mypy on the PATH: Debian's package mypy has it")
 
 SHOP = {
     "revision": 1,

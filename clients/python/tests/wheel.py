@@ -30,7 +30,9 @@ class Wheel(unittest.TestCase):
             wheel = ran(str(TOP / "tools" / "wheel"), place).rstrip("\n")
             ran(sys.executable, "-m", "venv", f"{place}/env")
             ran(f"{place}/env/bin/python", "-m", "pip", "install", "--quiet", "--no-index", wheel)
-            self.assertEqual(Path(place, "env/bin/jpa").read_bytes(), (TOP / "dist/jpa").read_bytes())
+            self.assertEqual(
+                Path(place, "env/bin/jpa").read_bytes(), (TOP / "dist/jpa").read_bytes()
+            )
             self.assertIn("check", ran(f"{place}/env/bin/karzhoul", "--help"))
             os.environ.pop("KARZHOUL_PROGRAM", None)
             test_tutorial.follow(self, place, f"{place}/env/bin/python")
