@@ -1,6 +1,7 @@
 #!/usr/bin/env bash
-# Each edit that must be refused, of must-fail/ and of planted/, is held against the text that it changes: what it replaces stands
-# there once, so that it can be laid when its turn comes. Nothing is proved.
+# Each edit that must be refused, of must-fail/ and of planted/, is held against the text that it
+# changes: what it replaces stands there once, so that it can be laid when its turn comes. Nothing
+# is proved.
 set -u
 cd "$(dirname "$0")/.." || exit 1
 if ! command -v python3 >/dev/null 2>&1; then
@@ -11,7 +12,8 @@ python3 - <<'END'
 import glob, sys
 
 edits = wrong = 0
-for path in sorted(glob.glob("crates/*/must-fail/*.edit") + glob.glob("planted/*/*.edit") + glob.glob("planted/untried/*/*.edit")):
+FOLDERS = ("crates/*/must-fail", "planted/*", "planted/untried/*")
+for path in sorted(path for folder in FOLDERS for path in glob.glob(f"{folder}/*.edit")):
     crate = path.split("/")[1] if path.startswith("crates/") else path.split("/")[-2]
     texts, name, old = {}, None, None
     edits += 1
@@ -27,7 +29,8 @@ for path in sorted(glob.glob("crates/*/must-fail/*.edit") + glob.glob("planted/*
             texts[name] = texts[name].replace(old, rest)
         else:
             wrong += 1
-            print(f"{path}: what it replaces stands {texts[name].count(old)} times in {name}: {old}")
+            count = texts[name].count(old)
+            print(f"{path}: what it replaces stands {count} times in {name}: {old}")
 print(f"{edits} edits, {wrong} of them can't be laid")
 sys.exit(1 if wrong or not edits else 0)
 END

@@ -1,24 +1,28 @@
 #!/usr/bin/env python3
-"""tests/papers.py: holds the papers against the repository, from whose top it is started.
+"""tests/papers.py [--index]: holds the papers against the repository, from whose top it is started.
 
 - Links between papers, into folders and files, and to headings lead somewhere. Files that are
   named as code are there.
 - Names behind a link into crates/, in a table of an index, are declared in that file.
 - docs/CHAPTERS.md cites each folder of tests/runs, and no other. Titles of worked examples are
-  those of their files.
+  those of their files. The index of tests/runs/README.md has the same runs by chapter.
 - `CRATE: NAME` in docs/WORDS.md is a file of definitions.
 - The version of CHANGELOG.md is that of the program and of the client.
 - The calls are as many as docs/GUIDE.md says, all are in its tables and those of docs/QUERIES.md,
   and no other paper counts them.
 
-It prints what is not so. Exit status 0 where all of it is so.
+It prints what is not so. Exit status 0 where all of it is so. With --index it first writes the
+index of tests/runs/README.md.
 """
 import pathlib
 import re
 import sys
+import textwrap
 from urllib.parse import unquote
 
-PAGES = ("*.md", "docs/*.md", "clients/python/*.md", "examples/*/*.md", "crates/*/README.md")
+PAGES = ("*.md", "docs/*.md", "tests/*.md", "tests/*/*.md", "clients/python/*.md",
+         "examples/*/*.md", "crates/*/README.md")
+RUNS = "tests/runs/README.md"
 INDEXES = ("docs/CHAPTERS.md", "docs/PROMISES.md")
 EXAMPLES = dict.fromkeys(("mappings", "limits", "functions", "stores"), "jpa_examples")
 EXAMPLES.update(dict.fromkeys(("queries", "typed"), "jpql_examples"))
@@ -31,7 +35,7 @@ COUNTS = {26: "twenty-six", 27: "twenty-seven", 28: "twenty-eight", 29: "twenty-
 TOPS = "bench|clients|crates|dist|docs|examples|planted|tests|tools"
 LINK = re.compile(r"\[([^][]*)\]\(([^()\s]+)\)")
 CODE = re.compile(r"`([^`]+)`")
-DECLARING = r"(?:(?:abbrev|opaque|record|data|pub)\s+)+"
+DECLARING = r"(?:(?:abbrev|opaque|unfoldable|record|data|pub)\s+)+"
 faults = []
 
 
@@ -86,7 +90,7 @@ def check_links(page):
 
 
 def check_files(page):
-    """Papers at the top and in docs/ name files from the top."""
+    """Papers at the top, in docs/ and in tests/ name files from the top."""
     text = read(page)
     named = [code.split()[0] for code in CODE.findall(prose(text)) if code.strip()]
     for name in named + found_in(r"\b(docs/[A-Z-]+\.md)\b", text):
@@ -110,8 +114,12 @@ def is_declared(name, path):
 
 def rows(page):
     """The rows of a page's tables, each as its cells by the titles of the table."""
+    return rows_in(read(page))
+
+
+def rows_in(text):
     titles = None
-    for line in read(page).split("\n"):
+    for line in text.split("\n"):
         if not line.startswith("|"):
             titles = None
             continue
@@ -155,14 +163,40 @@ def check_titles(page, cell):
             fault(page, f"{word} has no example '{title}'")
 
 
+def cited_runs(cell):
+    """The runs that a cell names: names behind a link are declared in its file instead."""
+    return CODE.findall(re.sub(r"\[[^][]*\]\([^()]*\)(?:,? `[^`]+`)*", "", cell))
+
+
+def run_index(page):
+    """The runs that an index of chapters cites, by its headings."""
+    found = []
+    for part in re.split(r"^##+ ", read(page), flags=re.MULTILINE):
+        heading, _, body = part.partition("\n")
+        cells = [row.get("Shown by", "") for row in rows_in(body)]
+        names = sorted({f"`{name}`" for cell in cells for name in cited_runs(cell)})
+        if names:
+            lines = textwrap.wrap(" ".join(names), 118, break_on_hyphens=False)
+            found.append("\n".join([f"### {heading}", "", *lines, ""]))
+    return "\n".join(found)
+
+
+def check_run_index(page, is_written):
+    head, title, index = read(RUNS).partition("## By chapter\n\n")
+    wanted = run_index(page)
+    if is_written:
+        pathlib.Path(RUNS).write_text(head + title + wanted, encoding="utf-8")
+    elif index != wanted:
+        fault(RUNS, f"its index is not that of {page}: 'python3 tests/papers.py --index' writes it")
+
+
 def check_runs(page):
     runs = {path.name for path in pathlib.Path("tests/runs").iterdir() if path.is_dir()}
     cited = set()
     for row in rows(page):
         cell = row.get("Shown by", "")
         check_titles(page, cell)
-        # (names behind a link are declared in its file)
-        cited.update(CODE.findall(re.sub(r"\[[^][]*\]\([^()]*\)(?:,? `[^`]+`)*", "", cell)))
+        cited.update(cited_runs(cell))
     for name in sorted(cited - runs):
         fault(page, f"{name} is no run of tests/runs")
     for name in sorted(runs - cited):
@@ -196,15 +230,19 @@ def check_calls(guide):
                 fault(page, f"'{count}': {guide} alone counts the calls, as '{wanted}'")
 
 
-def main():
+def main(words):
+    if words not in ([], ["--index"]):
+        print(__doc__)
+        return 2
     found = pages()
     for page in found:
         check_links(page)
-        if "/" not in page or page.startswith("docs/"):
+        if "/" not in page or page.startswith(("docs/", "tests/")):
             check_files(page)
     for page in INDEXES:
         check_index(page)
     check_runs("docs/CHAPTERS.md")
+    check_run_index("docs/CHAPTERS.md", bool(words))
     check_words("docs/WORDS.md")
     check_version("CHANGELOG.md")
     check_calls("docs/GUIDE.md")
@@ -215,4 +253,4 @@ def main():
 
 
 if __name__ == "__main__":
-    sys.exit(main())
+    sys.exit(main(sys.argv[1:]))

@@ -8,7 +8,7 @@ if ! command -v python3 >/dev/null 2>&1; then
     exit 77
 fi
 python3 tests/papers.py || exit 1
-programs=$(bash tests/built) || exit $?
+programs=$(bash tools/built) || exit $?
 failed=0
 for program in $programs; do
     echo "$(basename "$program"):"

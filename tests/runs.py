@@ -1,25 +1,28 @@
 #!/usr/bin/env python3
-"""tests/runs.py [--any] PROGRAM FOLDER..: runs the program over each run in these folders, with a file as its store.
+"""tests/runs.py [--any] PROGRAM FOLDER..: runs the program over each run in these folders, with a
+file as its store.
 
-A run is a folder with calls.jsonl (the lines in), replies.jsonl (the lines out) and cells.txt (the cells afterwards, one a line:
-table, row, column, value; row and value in hex), and, where it has them,
-- mapping.json; where there is none, the program gets none, and serves persons and orders (tests/persons.json),
+A run is a folder with calls.jsonl (the lines in), replies.jsonl (the lines out) and cells.txt (the
+cells afterwards, one a line: table, row, column, value; row and value in hex), and, where it has
+them,
+- mapping.json; where there is none, the program gets none, and serves persons and orders
+  (tests/mappings/persons.json),
 - cells-before.txt, the cells that the store has before,
 - calls-2.jsonl and replies-2.jsonl, a second process over the file that the first left,
 - status and stderr, where the program ends with another status than 0,
 - words, a word a line, which the program gets in the place of a mapping and a store,
-- stage: what it needs that is not there yet.
-All is compared byte for byte. With --any, a run with a call or a mapping that the program does not serve yet is skipped, and said so.
-Exit status 0 where all that ran agree.
+- stage: what it needs, where the program did not serve that from its first version on. All is
+  compared byte for byte. A run of a stage that the program does not serve yet (STAGES of
+  tests/model/reading.py) is skipped, and said so; with --any, one with a call that it does not
+  serve yet too. Exit status 0 where all that ran agree.
 """
 import json, os, sqlite3, subprocess, sys, tempfile
 
 sys.dont_write_bytecode = True
-from hostile_reading import UNSERVED
+from model.reading import STAGES, UNSERVED
 
-STAGES = {b"mapping revision 2"}
 HERE = os.path.dirname(os.path.abspath(__file__))
-FLAT = os.path.join(HERE, "flat.json")
+FLAT = os.path.join(HERE, "mappings", "flat.json")
 TABLE = ("CREATE TABLE cell (t INTEGER NOT NULL, r BLOB NOT NULL, c INTEGER NOT NULL,\n"
          "  v BLOB NOT NULL, PRIMARY KEY (t, r, c)) STRICT")
 SECONDS = 60
@@ -33,11 +36,17 @@ def read(folder, name):
         return file.read()
 
 
+def unserved_stage(folder):
+    """The stage that a run needs and the program does not serve, or None."""
+    stage = (read(folder, "stage") or b"").decode().strip()
+    return stage if stage in STAGES else None
+
+
 def unserved(folder):
     """Why a run can't be made today, or None."""
-    stage = read(folder, "stage")
-    if stage and stage.strip() in STAGES:
-        return stage.decode().strip()
+    stage = unserved_stage(folder)
+    if stage:
+        return stage
     for line in read(folder, "calls.jsonl").splitlines():
         try:
             call = json.loads(line)
@@ -65,7 +74,10 @@ def fill(path, text):
         store.execute(TABLE)
         for line in text.decode().splitlines():
             table, row, column, value = [part.strip() for part in line.split(",")]
-            store.execute("INSERT INTO cell VALUES (?, ?, ?, ?)", (int(table), bytes.fromhex(row), int(column), bytes.fromhex(value)))
+            store.execute(
+                "INSERT INTO cell VALUES (?, ?, ?, ?)",
+                (int(table), bytes.fromhex(row), int(column), bytes.fromhex(value)),
+            )
 
 
 def run(program, words, calls):
@@ -87,7 +99,8 @@ def other_replies(found, wanted):
         return None
     for at, (one, other) in enumerate(zip(found.splitlines(), wanted.splitlines())):
         if one != other:
-            return f"reply {at + 1}: {one.decode(errors='replace')[:200]}, and not {other.decode(errors='replace')[:200]}"
+            seen, meant = (text.decode(errors="replace")[:200] for text in (one, other))
+            return f"reply {at + 1}: {seen}, and not {meant}"
     return f"{len(found.splitlines())} lines, and not {len(wanted.splitlines())}"
 
 
@@ -98,14 +111,16 @@ def difference(program, folder):
         before = read(folder, "cells-before.txt")
         if before is not None:
             fill(store, before)
-        words, status, stderr = words_of(folder, store), int(read(folder, "status") or b"0"), read(folder, "stderr") or b""
+        words, stderr = words_of(folder, store), read(folder, "stderr") or b""
+        status = int(read(folder, "status") or b"0")
         for ending in ("", "-2"):
             calls = read(folder, f"calls{ending}.jsonl")
             if calls is None:
                 continue
             ran = run(program, words, calls)
             if ran.returncode != status:
-                return f"status {ran.returncode}, not {status}: {ran.stderr.decode(errors='replace').strip()}"
+                said = ran.stderr.decode(errors="replace").strip()
+                return f"status {ran.returncode}, not {status}: {said}"
             if ran.stderr.strip() != stderr.strip():
                 return f"standard error {ran.stderr!r}, not {stderr!r}"
             found = other_replies(ran.stdout, read(folder, f"replies{ending}.jsonl") or b"")
@@ -128,12 +143,17 @@ def main(words):
             folder = os.path.join(top, name)
             if read(folder, "calls.jsonl") is None:
                 continue
-            why = unserved(folder) if is_any else None
+            why = unserved(folder) if is_any else unserved_stage(folder)
             found = None if why else difference(words[0], folder)
-            agree, differ, skipped = agree + (not why and not found), differ + bool(found), skipped + bool(why)
+            agree, differ, skipped = (
+                agree + (not why and not found), differ + bool(found), skipped + bool(why),
+            )
             if why or found:
                 print(f"skipped {name}: {why}" if why else f"differs {name}: {found}")
-    print(f"{agree} runs agree, {differ} differ" + (f", {skipped} are skipped" if is_any else ""))
+    print(
+        f"{agree} runs agree, {differ} differ"
+        + (f", {skipped} are skipped" if is_any or skipped else "")
+    )
     return 1 if differ or not agree else 0
 
 

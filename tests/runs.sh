@@ -1,12 +1,13 @@
 #!/usr/bin/env bash
-# The runs of tests/runs, over the program that the gate has built, as each of the two compilers makes it.
+# The runs of tests/runs, over the program that the gate has built, as each of the two compilers
+# makes it.
 set -u
 cd "$(dirname "$0")/.." || exit 1
 if ! command -v python3 >/dev/null 2>&1; then
     echo "python3 is not on this machine, so no run was tried"
     exit 77
 fi
-programs=$(bash tests/built) || exit $?
+programs=$(bash tools/built) || exit $?
 failed=0
 for program in $programs; do
     echo "$(basename "$program"):"

@@ -3,8 +3,9 @@
 # the tutorial is followed there.
 set -u
 cd "$(dirname "$0")/.." || exit 1
-if ! command -v python3 >/dev/null 2>&1 || ! python3 -c 'import ensurepip, sys, venv; sys.exit(sys.version_info < (3, 9))' 2>/dev/null; then
-    echo "there is no python3 of version 3.9 or later with venv and pip on this machine, so no wheel was tried"
+later='import ensurepip, sys, venv; sys.exit(sys.version_info < (3, 9))'
+if ! command -v python3 >/dev/null 2>&1 || ! python3 -c "$later" 2>/dev/null; then
+    echo "there is no python3 of version 3.9 or later with venv and pip here, so no wheel was tried"
     exit 77
 fi
 if ! tools/dist fits || ! dist/jpa --version >/dev/null 2>&1; then

@@ -1,0 +1,687 @@
+"""Texts of queries for tests/fuzz/hostile-lines: statements over the entities of a unit that are
+well typed, in words and blanks that vary, and damaged ones; and the parameters that they take."""
+
+KINDS = {int: "int", str: "text", bytes: "bytes"}
+BLANKS = [" ", " ", " ", " ", "  ", "\t", "\n", "\r\n", " \t "]
+WIDEST, MOST_TUPLES = 8, 1500
+PATTERNS = [
+    "%", "_", "a%", "%a", "%a%", "A_a", "a_", "__", "", "%%", "\\%", "Ada", "a%a%", "_%", "é%",
+    "%é",
+]
+ODD = [
+    "(", ")", ",", ".", "=", "<>", "<", "*", "-", "+", "'", "''", ":", "?", "?0", "?01", ":x", "?1",
+    "9223372036854775807", "9223372036854775808", "007", "1", "0", "x", "p", "\u00a0", "\0", "ALL",
+    "TRUE", ";", "!=",
+    *"""NULL NOT AND OR SELECT FROM IS IN AS ON DISTINCT ORDER BY GROUP HAVING COUNT MIN SUM EMPTY
+       MEMBER OF TYPE EXISTS LIKE ESCAPE BETWEEN JOIN LEFT SET UPDATE DELETE WHERE""".split(),
+]
+NAMES = ["a", "n", "X", "x", "select", "name", "p1", "1", "2", "10", "99999999999999999999"]
+JOINS = [["JOIN"], ["INNER", "JOIN"], ["LEFT", "JOIN"], ["LEFT", "JOIN"], ["LEFT", "OUTER", "JOIN"]]
+TESTS = {
+    "compare": 10, "entity": 4, "between": 3, "in": 4, "like": 4, "null": 4, "empty": 3,
+    "member": 4, "type": 3, "exists": 4,
+}
+
+
+class Block:
+    """The variables in scope, and what may stand here."""
+
+    def __init__(self, variables, steps=3, takes_aggregates=False, groups=None, depth=0):
+        self.variables, self.steps, self.takes_aggregates, self.groups, self.depth = (
+            variables, steps, takes_aggregates, groups, depth,
+        )
+
+    def but(self, **others):
+        return Block(**{**vars(self), **others})
+
+
+class Texts:
+    """Makes statements by chance over a unit. Values come from the maker of calls; objects that a
+    manager sees are counted, so that a query has no more tuples than it should."""
+
+    def __init__(self, calls, objects):
+        self.calls, self.random, self.unit, self.objects = (
+            calls, calls.random, calls.machine.unit, objects,
+        )
+        self.parameters, self.names, self.product = {}, [], 1
+
+    def chance(self, most):
+        return self.random.random() < most
+
+    def some(self, choices):
+        return self.random.choice(choices)
+
+    # -- statements: lists of tokens
+
+    def statement(self, is_bulk):
+        tokens = (
+            self.select() if not is_bulk else self.update() if self.chance(0.65) else self.delete()
+        )
+        self.parameters = {
+            name: given
+            for name, given in self.parameters.items()
+            if f"?{name}" in tokens or f":{name}" in tokens
+        }
+        return tokens
+
+    def select(self):
+        variables, sources = self.sources({}, 0)
+        block = Block(variables)
+        where = (
+            ["WHERE", *self.condition(block, self.some([1, 2, 2, 3]))] if self.chance(0.55) else []
+        )
+        form = self.random.random()
+        if form < 0.25:
+            return self.grouped(block, sources, where)
+        is_distinct = self.chance(0.2)
+        if form < 0.35:
+            items = [
+                self.item(self.aggregate(int, block), block) for _ in range(self.some([1, 1, 2]))
+            ]
+            return self.whole(is_distinct, items, sources, where, [], [], [])
+        items, keys = [], []
+        for _ in range(self.some([1, 1, 1, 2, 3])):
+            tokens, kind = (
+                ([self.cased(self.some(list(variables)))], None)
+                if self.chance(0.4)
+                else self.any_value(block)
+            )
+            name = self.variable() if self.chance(0.2) else None
+            items.append(self.item(tokens, block, name))
+            if name and kind in KINDS:
+                keys.append([name])
+            if kind in KINDS and self.is_path(tokens):
+                keys.append(tokens)
+        if not is_distinct:
+            keys += [tokens for tokens in (self.path(kind, block) for kind in KINDS) if tokens]
+        return self.whole(is_distinct, items, sources, where, [], [], self.ordering(keys))
+
+    def grouped(self, block, sources, where):
+        found = [
+            (path, kind)
+            for kind in (*KINDS, *self.roots())
+            for path in [self.path(kind, block)]
+            if path
+        ]
+        chosen = self.random.sample(found, min(len(found), self.some([1, 1, 2])))
+        if self.chance(0.05):
+            chosen.append(([self.cased(self.some(list(block.variables)))], None))
+        inner = block.but(takes_aggregates=True, groups=chosen)
+        items = [self.item(path, inner) for path, _ in chosen if self.chance(0.8)]
+        items += [
+            self.item(self.aggregate(self.some(list(KINDS)), inner), inner)
+            for _ in range(self.some([0, 1, 1, 2]))
+        ]
+        items = items or [self.item(["COUNT", "(", *self.any_value(block)[0], ")"], inner)]
+        having = ["HAVING", *self.condition(inner, 1)] if self.chance(0.4) else []
+        groups = (
+            [["GROUP", "BY", *self.listed([path for path, _ in chosen])]]
+            if chosen and self.chance(0.93)
+            else [[]]
+        )
+        keys = [path for path, kind in chosen if kind in KINDS]
+        return self.whole(
+            self.chance(0.1), items, sources, where, groups[0], having, self.ordering(keys)
+        )
+
+    def whole(self, is_distinct, items, sources, where, groups, having, ordering):
+        return [
+            "SELECT", *(["DISTINCT"] if is_distinct else []), *self.listed(items), "FROM", *sources,
+            *where, *groups, *having, *ordering,
+        ]
+
+    def item(self, tokens, block, name=None):
+        if name is None and self.chance(0.05):
+            name = self.variable()
+        return [*tokens, *([*(["AS"] if self.chance(0.5) else []), name] if name else [])]
+
+    def ordering(self, keys):
+        keys = self.random.sample(keys, min(len(keys), self.some([0, 1, 1, 2])))
+        return (
+            [
+                "ORDER",
+                "BY",
+                *self.listed(
+                    [[*key, *self.some([[], [], ["ASC"], ["DESC"], ["DESC"]])] for key in keys]
+                ),
+            ]
+            if keys
+            else []
+        )
+
+    def listed(self, parts):
+        return [
+            token
+            for place, part in enumerate(parts)
+            for token in ([","] if place else []) + list(part)
+        ]
+
+    def update(self):
+        entity = self.some_entity()
+        variable = self.variable()
+        block = Block({variable: entity})
+        sets = []
+        links = [relation.name for relation in entity.owned if not relation.is_many]
+        names = [*entity.attributes, *([entity.version["name"]] if entity.version else []), *links]
+        for name in self.random.sample(names, min(len(names), self.some([1, 1, 2]))):
+            sets.append([self.cased(variable), ".", name, "=", *self.assigned(entity, name, block)])
+        sets = sets or [[variable, ".", self.some(list(entity.key)), "=", "1"]]
+        where = ["WHERE", *self.condition(block, 2)] if self.chance(0.75) else []
+        return [
+            "UPDATE", entity.name, *(["AS"] if self.chance(0.3) else []), variable, "SET",
+            *self.listed(sets), *where,
+        ]
+
+    def assigned(self, entity, name, block):
+        if name in entity.relations:
+            return (
+                ["NULL"] if self.chance(0.3) else self.parameter(entity.relations[name].target.root)
+            )
+        if self.chance(0.12) and name in entity.attributes:
+            return ["NULL"]
+        return self.value(entity.kind(name), block, 2)
+
+    def delete(self):
+        entity = self.some_entity()
+        variable = self.variable() if self.chance(0.85) else None
+        block = Block({variable: entity} if variable else {})
+        where = ["WHERE", *self.condition(block, 2)] if self.chance(0.85) else []
+        return [
+            "DELETE", "FROM", entity.name,
+            *([*(["AS"] if self.chance(0.3) else []), variable] if variable else []),
+            *where,
+        ]
+
+    # -- FROM
+
+    def roots(self):
+        return list(
+            {entity.root.name: entity.root for entity in self.unit.entities.values()}.values()
+        )
+
+    def some_entity(self):
+        """An entity, mostly one that has objects."""
+        entities = list(self.unit.entities.values())
+        full = [entity for entity in entities if self.count(entity)]
+        return self.some(full if full and self.chance(0.85) else entities)
+
+    def count(self, entity):
+        return sum(stored.entity.is_a(entity) for stored in self.objects.values())
+
+    def variable(self):
+        """A name that nothing has yet, ignoring case."""
+        for _ in range(50):
+            name = self.some("pqrxyzabnov") + self.some(["", "", "1", "_", "2x"])
+            name = name.upper() if self.chance(0.15) else name
+            if name.lower() not in self.names:
+                break
+        self.names.append(name.lower())
+        return name
+
+    def cased(self, variable):
+        return variable.swapcase() if self.chance(0.08) else variable
+
+    def sources(self, outer, depth):
+        """What FROM has, and the variables that are in scope then."""
+        variables, tokens, count = dict(outer), [], 0
+        while count == 0 or count < 3 and self.chance(0.3) and len(self.names) < WIDEST - 1:
+            related = [
+                (variable, relation)
+                for variable, entity in outer.items()
+                for relation in entity.relations.values()
+            ]
+            if depth and related and self.chance(0.5):
+                start, relation = self.some(related)
+                range_, entity = [self.cased(start), ".", relation.name], relation.target
+                self.product *= 2
+            else:
+                entity = self.some_entity()
+                if count and self.product * max(1, self.count(entity)) > MOST_TUPLES:
+                    break
+                range_ = [entity.name]
+                self.product *= max(1, self.count(entity))
+            variable = self.variable()
+            tokens += [
+                *([","] if count else []), *range_, *(["AS"] if self.chance(0.3) else []), variable,
+            ]
+            variables[variable] = entity
+            count += 1
+            while self.chance(0.35) and len(self.names) < WIDEST:
+                tokens += self.join(variables)
+        return variables, tokens
+
+    def join(self, variables):
+        related = [
+            (variable, relation)
+            for variable, entity in variables.items()
+            for relation in entity.relations.values()
+        ]
+        if not related:
+            return []
+        start, relation = self.some(related)
+        variable = self.variable()
+        variables[variable] = relation.target
+        self.product *= 2
+        tokens = [
+            *self.some(JOINS), self.cased(start), ".", relation.name,
+            *(["AS"] if self.chance(0.3) else []), variable,
+        ]
+        return [
+            *tokens,
+            *(
+                ["ON", *self.condition(Block(dict(variables), steps=1), 1)]
+                if self.chance(0.3)
+                else []
+            ),
+        ]
+
+    # -- conditions
+
+    def condition(self, block, depth):
+        if depth and self.chance(0.4):
+            word = self.some(["AND", "AND", "OR"])
+            parts = [self.part(block, depth - 1) for _ in range(self.some([2, 2, 3]))]
+            return [
+                token
+                for place, part in enumerate(parts)
+                for token in ([word] if place else []) + part
+            ]
+        return self.part(block, depth)
+
+    def part(self, block, depth):
+        """A condition that AND and OR may join: a test, or one in parentheses; NOT may stand
+        before."""
+        within = depth and self.chance(0.3)
+        found = ["(", *self.condition(block, depth - 1), ")"] if within else self.test(block, depth)
+        return ["NOT", *found] if self.chance(0.15) else found
+
+    def test(self, block, depth):
+        kind = self.some([int, int, int, str, str, bytes])
+        negation = self.some([[], [], [], ["NOT"]])
+        word = self.random.choices(list(TESTS), TESTS.values())[0]
+        if (
+            word == "exists"
+            and block.depth < 2
+            and block.groups is None
+            and self.product < MOST_TUPLES / 4
+        ):
+            return self.exists(block)
+        if word in ("empty", "member") and block.groups is None:
+            found = self.collection(block)
+            if found:
+                path, relation = found
+                member = [
+                    *self.value(relation.target.root, block, 1),
+                    *negation, "MEMBER", *self.some([[], ["OF"]]), *path,
+                ]
+                return member if word == "member" else [*path, "IS", *negation, "EMPTY"]
+        if word == "type" and block.variables:
+            return self.type_test(block, negation)
+        if word == "entity" and block.groups is None and self.roots():
+            root = self.some(self.roots())
+            return [
+                *self.value(root, block, 1), self.some(["=", "<>"]), *self.value(root, block, 1),
+            ]
+        return self.value_test(word, kind, negation, block, depth)
+
+    def exists(self, block):
+        variables, sources = self.sources(block.variables, block.depth + 1)
+        inner = Block(variables, depth=block.depth + 1)
+        where = ["WHERE", *self.condition(inner, 1)] if self.chance(0.7) else []
+        item = ["1"] if self.chance(0.5) else self.any_value(inner)[0]
+        return [
+            "EXISTS", "(", "SELECT",
+            *(["DISTINCT"] if self.chance(0.1) else []),
+            *item, "FROM", *sources, *where, ")",
+        ]
+
+    def type_test(self, block, negation):
+        grouped = [path[0] for path, _ in block.groups or [] if len(path) == 1]
+        if block.groups is not None and not grouped:
+            return self.value_test("compare", int, negation, block, 0)
+        variable = self.some(grouped or list(block.variables))
+        entity = next(
+            (entity for name, entity in block.variables.items() if name.lower() == variable.lower())
+        )
+        classes = [[each.name] for each in self.unit.entities.values() if each.root is entity.root]
+        if self.chance(0.5):
+            return [
+                "TYPE", "(", self.cased(variable), ")", self.some(["=", "<>"]), *self.some(classes),
+            ]
+        some = self.random.sample(classes, self.random.randint(1, len(classes)))
+        return [
+            "TYPE", "(", self.cased(variable), ")", *negation, "IN", "(", *self.listed(some), ")",
+        ]
+
+    def value_test(self, word, kind, negation, block, depth):
+        left = self.value(kind, block, 2)
+        if word == "between":
+            return [
+                *left, *negation, "BETWEEN", *self.value(kind, block, 1), "AND",
+                *self.value(kind, block, 1),
+            ]
+        if word == "in":
+            return [
+                *left, *negation, "IN", "(",
+                *self.listed([self.value(kind, block, 1) for _ in range(self.some([1, 2, 3]))]),
+                ")",
+            ]
+        if word == "like":
+            pattern = (
+                self.quoted(self.some(PATTERNS)) if self.chance(0.8) else self.value(str, block, 1)
+            )
+            escape = (
+                ["ESCAPE", *self.quoted(self.some(["\\", "a", "%", "_", "é", "'"]))]
+                if self.chance(0.3)
+                else []
+            )
+            return [*self.value(str, block, 2), *negation, "LIKE", *pattern, *escape]
+        if word == "null":
+            return [*left, "IS", *negation, "NULL"]
+        return [
+            *left,
+            self.some(["=", "=", "<>", "<", "<=", ">", ">="]),
+            *self.value(kind, block, 1),
+        ]
+
+    # -- values
+
+    def any_value(self, block):
+        kind = self.some([int, int, str, bytes])
+        if self.chance(0.25):
+            kind = self.some(self.roots() or [int])
+        return self.value(kind, block, 2), kind
+
+    def value(self, kind, block, depth):
+        """The tokens of a value of a kind, or the root of entities."""
+        if kind not in KINDS:
+            path = self.path(kind, block)
+            return path if path and self.chance(0.75) else self.parameter(kind)
+        roll = self.random.random()
+        path = self.path(kind, block) if roll < 0.5 else None
+        if path:
+            return path
+        if depth and roll < 0.78:
+            made = (
+                self.int_value(block, depth - 1)
+                if kind is int
+                else self.call(kind, block, depth - 1)
+            )
+            if made:
+                return made
+        return self.literal(kind)
+
+    def int_value(self, block, depth):
+        word = self.random.choices(
+            ["arithmetic", "signed", "LENGTH", "LOCATE", "ABS", "MOD", "SIZE", "call"],
+            [6, 2, 2, 2, 1, 2, 2, 4],
+        )[0]
+        if word == "SIZE" and block.groups is None:
+            found = self.collection(block)
+            if found:
+                return ["SIZE", "(", *found[0], ")"]
+        if word == "arithmetic":
+            return self.arithmetic(block, depth)
+        if word == "signed":
+            found = self.value(int, block, depth)
+            return [self.some("+--"), *(found if len(found) == 1 else ["(", *found, ")"])]
+        if word == "LENGTH":
+            return ["LENGTH", "(", *self.value(str, block, depth), ")"]
+        if word == "LOCATE":
+            start = [self.value(int, block, 0)] if self.chance(0.4) else []
+            return [
+                "LOCATE",
+                "(",
+                *self.listed([self.value(str, block, 0), self.value(str, block, depth), *start]),
+                ")",
+            ]
+        if word in ("ABS", "MOD"):
+            return [
+                word, "(", *self.value(int, block, depth),
+                *([",", *self.value(int, block, 0)] if word == "MOD" else []),
+                ")",
+            ]
+        return self.call(int, block, depth)
+
+    def arithmetic(self, block, depth):
+        parts = [self.value(int, block, depth) for _ in range(self.some([2, 2, 3]))]
+        parts = [
+            part if len(part) == 1 or "." in part and len(part) < 6 else ["(", *part, ")"]
+            for part in parts
+        ]
+        return [
+            token
+            for place, part in enumerate(parts)
+            for token in ([self.some("+-*")] if place else []) + part
+        ]
+
+    def call(self, kind, block, depth):
+        if block.takes_aggregates and self.chance(0.5):
+            return self.aggregate(kind, block)
+        word = self.some(
+            ["COALESCE", "NULLIF"]
+            if kind is not str
+            else ["COALESCE", "NULLIF", "CONCAT", "CONCAT", "SUBSTRING", "SUBSTRING"]
+        )
+        if word == "SUBSTRING":
+            places = [self.value(int, block, 0) for _ in range(self.some([1, 2, 2]))]
+            return [word, "(", *self.listed([self.value(str, block, depth), *places]), ")"]
+        count = 2 if word == "NULLIF" or self.chance(0.7) else 3
+        return [
+            word,
+            "(",
+            *self.listed([self.value(kind, block, depth) for _ in range(count)]),
+            ")",
+        ]
+
+    def aggregate(self, kind, block):
+        inner = block.but(takes_aggregates=False, groups=None)
+        word = self.some(["COUNT", "SUM", "MIN", "MAX"] if kind is int else ["MIN", "MAX"])
+        value = self.any_value(inner)[0] if word == "COUNT" else self.value(kind, inner, 1)
+        return [word, "(", *(["DISTINCT"] if self.chance(0.25) else []), *value, ")"]
+
+    def literal(self, kind):
+        value = self.calls.value(kind)
+        if (
+            kind is bytes
+            or self.chance(0.3)
+            or not isinstance(value, kind)
+            or isinstance(value, str)
+            and len(value) > 100
+        ):
+            return self.parameter(kind)
+        if isinstance(value, str):
+            return self.quoted(value)
+        return [str(value)] if value >= 0 else ["-", str(min(-value, 2**63 - 1))]
+
+    def quoted(self, text):
+        return ["'" + text.replace("'", "''") + "'"]
+
+    def parameter(self, kind):
+        """A parameter of a kind: one that is there, or another one."""
+        same = [name for name, (other, _) in self.parameters.items() if other is kind]
+        if same and self.chance(0.25):
+            name = self.some(same)
+        else:
+            name = self.some(NAMES) + self.some(["", "", "_", "0", "0", "0"])
+            name = name.replace("_", "") if name[0].isdigit() else name
+            while name in self.parameters:
+                name += self.some("0123456789")
+            self.parameters[name] = (kind, self.handed(kind))
+        return [("?" if name[0].isdigit() else ":") + name]
+
+    def handed(self, kind):
+        """The value that a call hands in for a parameter of a kind, as JSON says it."""
+        if self.chance(0.06):
+            return None
+        if kind in KINDS:
+            value = self.calls.value(kind)
+            return self.calls.given(
+                value
+                if isinstance(value, kind)
+                else 1
+                if kind is int
+                else "a"
+                if kind is str
+                else b"a"
+            )
+        fitting = [
+            live.number
+            for live in self.calls.machine.objects[-30:]
+            if live.entity.root is kind and None not in live.key()
+        ]
+        return {
+            "object": self.some(fitting) if fitting and self.chance(0.97) else self.calls.object()
+        }
+
+    # -- paths
+
+    def is_path(self, tokens):
+        return "." in tokens and not {"(", ",", "+", "-", "*"} & set(tokens)
+
+    def path(self, kind, block):
+        """The tokens of some path of a kind, if there is one."""
+        if block.groups is not None:
+            found = [path for path, other in block.groups if other is kind]
+            return list(self.some(found)) if found else None
+        names = list(block.variables)
+        self.random.shuffle(names)
+        for variable in names:
+            entity = block.variables[variable]
+            if entity.root is kind and self.chance(0.7):
+                return [self.cased(variable)]
+            steps = self.steps(entity, block.steps, lambda entity: self.ends(entity, kind))
+            if steps:
+                return [self.cased(variable), *steps]
+        return None
+
+    def ends(self, entity, kind):
+        """The members of an entity that are of a kind."""
+        if kind in KINDS:
+            members = [
+                *entity.key,
+                *entity.attributes,
+                *([entity.version["name"]] if entity.version else []),
+            ]
+            return [name for name in members if entity.kind(name) is kind]
+        return [
+            relation.name
+            for relation in entity.relations.values()
+            if not relation.is_many and relation.target.root is kind
+        ]
+
+    def steps(self, entity, most, ends):
+        """Steps along to-one relations to one of the ends that the last entity has, or none."""
+        tokens = []
+        for left in reversed(range(most)):
+            found, onward = ends(entity), [
+                relation for relation in entity.relations.values() if not relation.is_many
+            ]
+            if found and (not left or not onward or self.chance(0.7)):
+                return [
+                    *tokens,
+                    *[token for name in self.some(found).split(".") for token in (".", name)],
+                ]
+            if not left or not onward:
+                return None
+            relation = self.some(onward)
+            tokens += [".", relation.name]
+            entity = relation.target
+        return None
+
+    def collection(self, block):
+        """The tokens of a path to a collection, and the relation, if there is one."""
+        names = list(block.variables)
+        self.random.shuffle(names)
+        for variable in names:
+            entity = block.variables[variable]
+            steps = self.steps(
+                entity,
+                block.steps,
+                lambda entity: [
+                    relation.name for relation in entity.relations.values() if relation.is_many
+                ],
+            )
+            if steps:
+                for name in steps[1::2]:
+                    relation = entity.relations[name]
+                    entity = relation.target
+                return [self.cased(variable), *steps], relation
+        return None
+
+    # -- texts
+
+    def text(self, tokens):
+        """The tokens as a text: keywords in either case, with blanks of any sort, none where there
+        need be none."""
+        parts = []
+        for token in tokens:
+            token = (
+                token.lower() if token.isupper() and token.isalpha() and self.chance(0.1) else token
+            )
+            before = parts[-1][-1:] if parts else ""
+            is_of_word = [
+                character.isalnum() or character == "_" for character in (before, token[:1])
+            ]
+            is_needed = all(is_of_word) or before + token[:1] in ("''", "<=", ">=", "<>")
+            if parts and parts[-1].strip().isdigit() and token[:1].isalpha():
+                is_needed = False
+            parts.append(
+                (
+                    self.some(BLANKS)
+                    if is_needed or self.chance(0.03 if "." in (token, before) else 0.5)
+                    else ""
+                )
+                + token
+            )
+        return "".join(parts) + (self.some(BLANKS) if self.chance(0.05) else "")
+
+    def damaged(self, tokens):
+        """The tokens with something left out, doubled, moved or put in."""
+        tokens = list(tokens)
+        for _ in range(self.some([1, 1, 1, 2])):
+            at = self.random.randrange(len(tokens))
+            word = self.some(["drop", "drop", "double", "swap", "odd", "odd", "put", "name"])
+            if word == "drop" and len(tokens) > 1:
+                tokens.pop(at)
+            elif word == "double":
+                tokens.insert(at, tokens[at])
+            elif word == "swap" and at:
+                tokens[at - 1], tokens[at] = tokens[at], tokens[at - 1]
+            elif word == "name":
+                names = [
+                    place
+                    for place, token in enumerate(tokens)
+                    if token[0].isalpha() and not token.isupper()
+                ]
+                if names:
+                    one, other = self.some(names), self.some(names)
+                    tokens[one] = self.some(
+                        [
+                            tokens[other], tokens[other], "nothing", tokens[one].upper(),
+                            *self.unit.entities,
+                        ]
+                    )
+            else:
+                tokens[at:at + (word == "odd")] = [self.some(ODD)]
+        return tokens
+
+    def deep(self):
+        """A text with parentheses about as deep as is allowed, or with about as many variables."""
+        entity = self.some_entity()
+        if self.chance(0.5):
+            depth = self.some([31, 32, 33])
+            return f"SELECT {'(' * depth}1{')' * depth} FROM {entity.name} p"
+        least = min(self.unit.entities.values(), key=self.count)
+        wide = [
+            f"{least.name} v{place}"
+            for place in range(self.some([8, 9, 12] if self.count(least) < 2 else [9, 12]))
+        ]
+        return f"SELECT 1 FROM {', '.join(wide)}" + (" WHERE" if self.chance(0.2) else "")
+
+    def long(self):
+        """A text about as long as is allowed."""
+        entity, length = self.some_entity(), self.some([16384, 16385, 16383, 20000])
+        before, after = f"SELECT p FROM {entity.name} p WHERE '", "' = 'a'"
+        filled = length - len(before) - len(after)
+        return before + self.some(["a" * filled, "é" * (filled // 2) + "a" * (filled % 2)]) + after

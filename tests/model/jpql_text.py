@@ -1,0 +1,584 @@
+"""The texts of queries, as the model reads them: words, marks and numbers, and the statement that
+they make by the grammar, with the limits of a text. A statement is a `Node`; parentheses leave
+none.
+"""
+import re
+
+from model.reading import GREATEST, Refused
+
+TEXT_LENGTH, NESTING, VARIABLES = 16384, 32, 8
+KEYWORDS = set(
+    """SELECT DISTINCT FROM WHERE GROUP BY HAVING ORDER AS INNER LEFT OUTER JOIN ON ASC DESC
+    UPDATE SET NULL DELETE OR AND NOT BETWEEN IN LIKE ESCAPE IS EMPTY MEMBER OF EXISTS TYPE LENGTH
+    CONCAT SUBSTRING LOCATE ABS MOD SIZE COALESCE NULLIF COUNT SUM MIN MAX""".split()
+)
+# How many values a function takes, from and to.
+FUNCTIONS = {
+    "LENGTH": (1, 1), "CONCAT": (2, None), "SUBSTRING": (2, 3), "LOCATE": (2, 3), "ABS": (1, 1),
+    "MOD": (2, 2), "COALESCE": (2, None), "NULLIF": (2, 2),
+}
+AGGREGATES = {"COUNT", "SUM", "MIN", "MAX"}
+TOKEN = re.compile(
+    r"[ \t\r\n]*(?:(?P<word>[A-Za-z_][A-Za-z0-9_]*)|(?P<integer>[0-9]+)"
+    r"|'(?P<text>(?:[^']|'')*)'|:(?P<named>[A-Za-z_][A-Za-z0-9_]*)"
+    r"|\?(?P<numbered>[0-9]+)|(?P<mark><>|<=|>=|[(),.+*=<>-]))"
+)
+BLANKS = re.compile(r"[ \t\r\n]*")
+
+
+class Syntax(Exception):
+    """The text is outside the grammar."""
+
+
+class Node:
+    """A part of a statement: its sort, and its members by name."""
+
+    def __init__(self, sort, **members):
+        self.sort = sort
+        self.__dict__.update(members)
+
+    def __repr__(self):
+        members = [f"{name}={value!r}" for name, value in vars(self).items() if name != "sort"]
+        return f"{self.sort}({', '.join(members)})"
+
+
+def tokens_of(text):
+    """The tokens of a text: pairs of a sort and what it says."""
+    found, at = [], 0
+    while True:
+        at = BLANKS.match(text, at).end()
+        if at == len(text):
+            return found
+        token = TOKEN.match(text, at)
+        if not token:
+            raise Syntax(text[at:at + 20])
+        sort, said = token.lastgroup, token.group(token.lastgroup)
+        if sort == "integer":
+            said = said.lstrip("0") or "0"
+            if len(said) > 19 or int(said) > GREATEST:
+                raise Syntax(said)
+        elif sort == "numbered" and said.startswith("0"):
+            raise Syntax(said)
+        elif sort == "text":
+            said = said.replace("''", "'")
+        found.append(("parameter" if sort in ("named", "numbered") else sort, said))
+        at = token.end()
+
+
+def nesting(text):
+    """The most parentheses that are open at a place outside quotes."""
+    depth = most = 0
+    is_quoted = False
+    for character in text:
+        if character == "'":
+            is_quoted = not is_quoted
+        elif not is_quoted:
+            depth = (
+                depth + 1 if character == "(" else max(0, depth - 1) if character == ")" else depth
+            )
+            most = max(most, depth)
+    return most
+
+
+class Reader:
+    """A reader of tokens. Each rule of the grammar is a method from a place to what it reads and
+    the place after it, or None."""
+
+    def __init__(self, tokens):
+        self.tokens, self.known = tokens, {}
+
+    # -- tokens
+
+    def is_mark(self, at, mark):
+        return at < len(self.tokens) and self.tokens[at] == ("mark", mark)
+
+    def is_word(self, at, *words):
+        """Whether these keywords stand here."""
+        there = self.tokens[at:at + len(words)]
+        return [sort == "word" and said.upper() for sort, said in there] == list(words)
+
+    def word(self, at):
+        """Any word: an entity, or a name after a dot."""
+        return (
+            (self.tokens[at][1], at + 1)
+            if at < len(self.tokens) and self.tokens[at][0] == "word"
+            else None
+        )
+
+    def name(self, at):
+        """A variable or an item's name, which is no keyword."""
+        found = self.word(at)
+        return found if found and found[0].upper() not in KEYWORDS else None
+
+    def named(self, at):
+        """A variable, which AS may stand before."""
+        return self.name(at + 1 if self.is_word(at, "AS") else at)
+
+    def listed(self, rule, at):
+        """What a rule reads once or more, with commas between."""
+        found = rule(at)
+        if not found:
+            return None
+        read = [found[0]]
+        while self.is_mark(found[1], ","):
+            found = rule(found[1] + 1)
+            if not found:
+                return None
+            read.append(found[0])
+        return read, found[1]
+
+    def closed(self, rule, at):
+        """What a rule reads, in parentheses."""
+        found = rule(at + 1) if self.is_mark(at, "(") else None
+        return (found[0], found[1] + 1) if found and self.is_mark(found[1], ")") else None
+
+    def once(self, rule, at):
+        """What a rule reads here, remembered."""
+        if (rule, at) not in self.known:
+            self.known[rule, at] = getattr(self, rule)(at)
+        return self.known[rule, at]
+
+    # -- statements
+
+    def statement(self):
+        for rule in (self.select, self.update, self.delete):
+            found = rule(0)
+            if found and found[1] == len(self.tokens):
+                return found[0]
+        raise Syntax("statement")
+
+    def clause(self, words, rule, at):
+        """What a rule reads after these words, or nothing where they don't stand here."""
+        return rule(at + len(words)) if self.is_word(at, *words) else (None, at)
+
+    def clauses(self, at, *clauses):
+        """What clauses read that follow on one another."""
+        read = []
+        for words, rule in clauses:
+            found = self.clause(words, rule, at)
+            if not found:
+                return None
+            read.append(found[0])
+            at = found[1]
+        return read, at
+
+    def select(self, at):
+        if not self.is_word(at, "SELECT"):
+            return None
+        is_distinct = self.is_word(at + 1, "DISTINCT")
+        items = self.listed(self.item, at + 1 + is_distinct)
+        sources = (
+            items and self.is_word(items[1], "FROM") and self.sources(self.range, items[1] + 1)
+        )
+        found = sources and self.clauses(
+            sources[1],
+            (["WHERE"], self.condition),
+            (["GROUP", "BY"], lambda at: self.listed(self.path, at)),
+            (["HAVING"], self.condition),
+            (["ORDER", "BY"], lambda at: self.listed(self.key, at)),
+        )
+        if not found:
+            return None
+        where, groups, having, keys = found[0]
+        select = Node(
+            "select", is_distinct=is_distinct, items=items[0], sources=sources[0], where=where,
+            groups=groups, having=having, keys=keys,
+        )
+        return select, found[1]
+
+    def nested(self, at):
+        """A nested SELECT."""
+        if not self.is_word(at, "SELECT"):
+            return None
+        is_distinct = self.is_word(at + 1, "DISTINCT")
+        item = self.item(at + 1 + is_distinct)
+        sources = (
+            item and self.is_word(item[1], "FROM") and self.sources(self.nested_range, item[1] + 1)
+        )
+        found = sources and self.clauses(sources[1], (["WHERE"], self.condition))
+        if not found:
+            return None
+        nested = Node(
+            "select", is_distinct=is_distinct, items=[item[0]], sources=sources[0],
+            where=found[0][0], groups=None, having=None, keys=None,
+        )
+        return nested, found[1]
+
+    def item(self, at):
+        found = self.value(at)
+        if not found:
+            return None
+        value, at = found
+        named = self.named(at)
+        if self.is_word(at, "AS") and not named:
+            return None
+        return (
+            (Node("item", value=value, name=named[0]), named[1])
+            if named
+            else (Node("item", value=value, name=None), at)
+        )
+
+    def key(self, at):
+        """An ORDER BY key: a path, or the name of an item."""
+        found = self.path(at)
+        if not found:
+            return None
+        path, at = found
+        direction = next((word for word in ("ASC", "DESC") if self.is_word(at, word)), None)
+        key = path if path.names else Node("name", name=path.variable)
+        return Node("key", value=key, is_falling=direction == "DESC"), at + (direction is not None)
+
+    # -- FROM
+
+    def sources(self, rule, at):
+        """Ranges with their joins, as one list."""
+        found = self.listed(lambda at: self.joined(rule, at), at)
+        return ([source for sources in found[0] for source in sources], found[1]) if found else None
+
+    def joined(self, rule, at):
+        found = rule(at)
+        if not found:
+            return None
+        read, at = [found[0]], found[1]
+        while self.is_word(at, "JOIN") or self.is_word(at, "INNER") or self.is_word(at, "LEFT"):
+            found = self.join(at)
+            if not found:
+                return None
+            read.append(found[0])
+            at = found[1]
+        return read, at
+
+    def range(self, at):
+        entity = self.word(at)
+        variable = entity and self.named(entity[1])
+        return (
+            (Node("range", entity=entity[0], variable=variable[0]), variable[1])
+            if variable
+            else None
+        )
+
+    def nested_range(self, at):
+        return self.range(at) or self.related(at)
+
+    def related(self, at):
+        """What a variable leads to along a relation, under a variable."""
+        start = self.name(at)
+        relation = start and self.is_mark(start[1], ".") and self.word(start[1] + 1)
+        variable = relation and self.named(relation[1])
+        return (
+            (
+                Node(
+                    "related", start=start[0], relation=relation[0], variable=variable[0], on=None,
+                    is_left=False,
+                ),
+                variable[1],
+            )
+            if variable
+            else None
+        )
+
+    def join(self, at):
+        is_left = self.is_word(at, "LEFT")
+        at += is_left or self.is_word(at, "INNER")
+        at += is_left and self.is_word(at, "OUTER")
+        found = self.related(at + 1) if self.is_word(at, "JOIN") else None
+        if not found:
+            return None
+        join, at = found
+        found = self.clause(["ON"], self.condition, at)
+        if not found:
+            return None
+        join.on, join.is_left = found[0], is_left
+        return join, found[1]
+
+    # -- UPDATE and DELETE
+
+    def update(self, at):
+        if not self.is_word(at, "UPDATE"):
+            return None
+        found = self.range(at + 1)
+        sets = (
+            found and self.is_word(found[1], "SET") and self.listed(self.assignment, found[1] + 1)
+        )
+        where = sets and self.clauses(sets[1], (["WHERE"], self.condition))
+        return (
+            (Node("update", source=found[0], sets=sets[0], where=where[0][0]), where[1])
+            if where
+            else None
+        )
+
+    def assignment(self, at):
+        variable = self.name(at)
+        name = variable and self.is_mark(variable[1], ".") and self.word(variable[1] + 1)
+        if not name or not self.is_mark(name[1], "="):
+            return None
+        at = name[1] + 1
+        found = (None, at + 1) if self.is_word(at, "NULL") else self.value(at)
+        return (
+            (Node("set", variable=variable[0], name=name[0], value=found[0]), found[1])
+            if found
+            else None
+        )
+
+    def delete(self, at):
+        entity = self.word(at + 2) if self.is_word(at, "DELETE", "FROM") else None
+        if not entity:
+            return None
+        variable = self.named(entity[1])
+        if self.is_word(entity[1], "AS") and not variable:
+            return None
+        source = Node("range", entity=entity[0], variable=variable[0] if variable else None)
+        where = self.clauses(variable[1] if variable else entity[1], (["WHERE"], self.condition))
+        return (Node("delete", source=source, where=where[0][0]), where[1]) if where else None
+
+    # -- conditions
+
+    def condition(self, at):
+        return self.once("alternatives", at)
+
+    def joined_by(self, word, rule, sort, at):
+        found = rule(at)
+        if not found:
+            return None
+        parts = [found[0]]
+        while self.is_word(found[1], word):
+            found = rule(found[1] + 1)
+            if not found:
+                return None
+            parts.append(found[0])
+        return (parts[0] if len(parts) == 1 else Node(sort, parts=parts)), found[1]
+
+    def alternatives(self, at):
+        return self.joined_by(
+            "OR", lambda at: self.joined_by("AND", self.negation, "and", at), "or", at
+        )
+
+    def negation(self, at):
+        if not self.is_word(at, "NOT"):
+            return self.once("test", at)
+        found = self.once("test", at + 1)
+        return (Node("not", part=found[0]), found[1]) if found else None
+
+    def test(self, at):
+        if self.is_word(at, "EXISTS"):
+            found = self.closed(self.nested, at + 1)
+            return (Node("exists", block=found[0]), found[1]) if found else None
+        if self.is_word(at, "TYPE"):
+            return self.type_test(at + 1)
+        return self.closed(self.condition, at) or self.value_test(at) or self.empty_test(at)
+
+    def type_test(self, at):
+        variable = self.closed(self.name, at)
+        if not variable:
+            return None
+        at = variable[1]
+        if self.is_mark(at, "=") or self.is_mark(at, "<>"):
+            entity = self.word(at + 1)
+            return entity and (
+                self.negated(
+                    self.is_mark(at, "<>"), Node("type", variable=variable[0], entities=[entity[0]])
+                ),
+                entity[1],
+            )
+        is_not = self.is_word(at, "NOT")
+        entities = (
+            self.closed(lambda at: self.listed(self.word, at), at + is_not + 1)
+            if self.is_word(at + is_not, "IN")
+            else None
+        )
+        return (
+            (
+                self.negated(is_not, Node("type", variable=variable[0], entities=entities[0])),
+                entities[1],
+            )
+            if entities
+            else None
+        )
+
+    def negated(self, is_not, test):
+        return Node("not", part=test) if is_not else test
+
+    def empty_test(self, at):
+        path = self.path(at)
+        if not path or not self.is_word(path[1], "IS"):
+            return None
+        is_not = self.is_word(path[1] + 1, "NOT")
+        at = path[1] + 1 + is_not
+        return (
+            (self.negated(is_not, Node("empty", path=path[0])), at + 1)
+            if self.is_word(at, "EMPTY")
+            else None
+        )
+
+    def value_test(self, at):
+        found = self.value(at)
+        if not found:
+            return None
+        value, at = found
+        sort, said = self.tokens[at] if at < len(self.tokens) else ("end", "")
+        if sort == "mark" and said in ("=", "<>", "<", "<=", ">", ">="):
+            other = self.value(at + 1)
+            return (
+                (Node("compare", operator=said, left=value, right=other[0]), other[1])
+                if other
+                else None
+            )
+        if self.is_word(at, "IS"):
+            is_not = self.is_word(at + 1, "NOT")
+            return (
+                (self.negated(is_not, Node("null", value=value)), at + is_not + 2)
+                if self.is_word(at + is_not + 1, "NULL")
+                else None
+            )
+        is_not = self.is_word(at, "NOT")
+        found = self.worded_test(value, at + is_not)
+        return (self.negated(is_not, found[0]), found[1]) if found else None
+
+    def worded_test(self, value, at):
+        """A test of a value by BETWEEN, IN, LIKE or MEMBER, which NOT may stand before."""
+        if self.is_word(at, "BETWEEN"):
+            low = self.value(at + 1)
+            high = low and self.is_word(low[1], "AND") and self.value(low[1] + 1)
+            return (
+                (Node("between", value=value, low=low[0], high=high[0]), high[1]) if high else None
+            )
+        if self.is_word(at, "IN"):
+            values = self.closed(lambda at: self.listed(self.value, at), at + 1)
+            return (Node("in", value=value, values=values[0]), values[1]) if values else None
+        if self.is_word(at, "LIKE"):
+            return self.like_test(value, self.value(at + 1))
+        if self.is_word(at, "MEMBER"):
+            path = self.path(at + 1 + self.is_word(at + 1, "OF"))
+            return (Node("member", value=value, path=path[0]), path[1]) if path else None
+        return None
+
+    def like_test(self, value, pattern):
+        if not pattern:
+            return None
+        at, escape = pattern[1], None
+        if self.is_word(at, "ESCAPE"):
+            if at + 1 >= len(self.tokens) or self.tokens[at + 1][0] != "text":
+                return None
+            at, escape = at + 2, self.tokens[at + 1][1]
+        return Node("like", value=value, pattern=pattern[0], escape=escape), at
+
+    # -- values
+
+    def value(self, at):
+        return self.once("sum", at)
+
+    def folded(self, marks, rule, at):
+        """What a rule reads once or more, with these marks between: one node with the marks and
+        parts."""
+        found = rule(at)
+        if not found:
+            return None
+        parts = [(None, found[0])]
+        while any(self.is_mark(found[1], mark) for mark in marks):
+            mark = self.tokens[found[1]][1]
+            found = rule(found[1] + 1)
+            if not found:
+                return None
+            parts.append((mark, found[0]))
+        return (parts[0][1] if len(parts) == 1 else Node("arithmetic", parts=parts)), found[1]
+
+    def sum(self, at):
+        return self.folded("+-", lambda at: self.folded("*", self.signed, at), at)
+
+    def signed(self, at):
+        sign = next((mark for mark in "+-" if self.is_mark(at, mark)), None)
+        if not sign:
+            return self.once("atom", at)
+        found = self.once("atom", at + 1)
+        return (Node("signed", sign=sign, value=found[0]), found[1]) if found else None
+
+    def atom(self, at):
+        if at >= len(self.tokens):
+            return None
+        sort, said = self.tokens[at]
+        if sort == "integer":
+            return Node("literal", value=int(said)), at + 1
+        if sort == "text":
+            return Node("literal", value=said), at + 1
+        if sort == "parameter":
+            return Node("parameter", name=said), at + 1
+        if sort == "mark":
+            return self.closed(self.value, at)
+        return self.path(at) or self.call(at)
+
+    def path(self, at):
+        found = self.name(at)
+        if not found:
+            return None
+        variable, at = found
+        names = []
+        while self.is_mark(at, "."):
+            found = self.word(at + 1)
+            if not found:
+                return None
+            names.append(found[0])
+            at = found[1]
+        return Node("path", variable=variable, names=names), at
+
+    def call(self, at):
+        word = self.tokens[at][1].upper()
+        if word == "SIZE":
+            path = self.closed(self.path, at + 1)
+            return (Node("size", path=path[0]), path[1]) if path else None
+        if word in AGGREGATES:
+            is_distinct = self.is_word(at + 2, "DISTINCT") and self.is_mark(at + 1, "(")
+            found = self.closed(lambda at: self.value(at + is_distinct), at + 1)
+            return (
+                (
+                    Node("aggregate", function=word, is_distinct=is_distinct, value=found[0]),
+                    found[1],
+                )
+                if found
+                else None
+            )
+        least, most = FUNCTIONS.get(word, (0, -1))
+        found = (
+            self.closed(lambda at: self.listed(self.value, at), at + 1)
+            if word in FUNCTIONS
+            else None
+        )
+        return (
+            (Node("call", function=word, values=found[0]), found[1])
+            if found and least <= len(found[0]) <= (most or len(found[0]))
+            else None
+        )
+
+
+# ---- statements
+
+def parts_of(node):
+    """A part of a statement with all parts below it."""
+    yield node
+    for member in vars(node).values():
+        for part in member if isinstance(member, list) else [member]:
+            part = part[1] if isinstance(part, tuple) else part
+            if isinstance(part, Node):
+                yield from parts_of(part)
+
+
+def variables_of(statement):
+    """The variables that a statement declares."""
+    return [
+        node.variable
+        for node in parts_of(statement)
+        if node.sort in ("range", "related") and node.variable is not None
+    ]
+
+
+def statement_of(text):
+    """The statement that a text is; None where it is outside the grammar, and a refusal where it is
+    past a limit."""
+    if len(text.encode()) > TEXT_LENGTH or nesting(text) > NESTING:
+        raise Refused("Limit")
+    try:
+        statement = Reader(tokens_of(text)).statement()
+    except Syntax:
+        return None
+    if len(variables_of(statement)) > VARIABLES:
+        raise Refused("Limit")
+    return statement

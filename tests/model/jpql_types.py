@@ -1,0 +1,310 @@
+"""The typing of statements in the model: by the members of a unit's entities and the kinds of
+parameters.
+
+A kind is int, str, bytes, the root of a hierarchy (of entities), or None of what is null, which
+goes with all. Each path is given its steps here: the names of its members, of which a part of an
+embedded id is one.
+"""
+from model.jpql_text import parts_of, variables_of
+
+ORDERED = (int, str, bytes)
+
+
+class IllTyped(Exception):
+    """The statement is ill-typed."""
+
+
+def see(is_so, why):
+    if not is_so:
+        raise IllTyped(why)
+
+
+def joined(kinds):
+    """The kind of what is of all these kinds, which must be one."""
+    found = {kind for kind in kinds if kind is not None}
+    see(len(found) <= 1, "kinds")
+    return next(iter(found), None)
+
+
+class Scope:
+    """The variables that can be used at a place, with their entities, and what is allowed there."""
+
+    def __init__(
+        self, variables, in_on=False, groups=None, takes_aggregates=False, takes_exists=True
+    ):
+        self.variables, self.in_on, self.groups = variables, in_on, groups
+        self.takes_aggregates, self.takes_exists = takes_aggregates, takes_exists
+
+    def within_aggregate(self):
+        return Scope(self.variables)
+
+
+class Typing:
+    """The typing of a statement over a unit, with the kinds of the parameters by their names."""
+
+    def __init__(self, unit, parameters):
+        self.unit, self.parameters = unit, parameters
+
+    def statement(self, statement):
+        variables = [variable.lower() for variable in variables_of(statement)]
+        see(len(set(variables)) == len(variables), "a variable twice")
+        names = [
+            node.name
+            for node in parts_of(statement)
+            if node.sort == "item" and node.name is not None
+        ]
+        see(
+            len(set(names)) == len(names) and not {name.lower() for name in names} & set(variables),
+            "an item's name",
+        )
+        if statement.sort == "select":
+            self.select(statement)
+        else:
+            self.bulk(statement)
+
+    # -- blocks
+
+    def entity(self, name):
+        see(name in self.unit.entities, "entity")
+        return self.unit.entities[name]
+
+    def sources(self, block, outer):
+        """The variables of a block with those around it."""
+        variables = dict(outer)
+        for source in block.sources:
+            if source.sort == "range":
+                variables[source.variable.lower()] = self.entity(source.entity)
+                continue
+            relation = self.variable(source.start, variables).relations.get(source.relation)
+            see(relation, "relation")
+            variables[source.variable.lower()] = relation.target
+            if source.on:
+                self.condition(source.on, Scope(dict(variables), in_on=True))
+        return variables
+
+    def variable(self, name, variables):
+        see(name.lower() in variables, "variable")
+        return variables[name.lower()]
+
+    def nested(self, block, outer):
+        variables = self.sources(block, outer)
+        self.value(block.items[0].value, Scope(variables))
+        if block.where:
+            self.condition(block.where, Scope(variables))
+
+    def select(self, block):
+        variables = self.sources(block, {})
+        if block.where:
+            self.condition(block.where, Scope(variables))
+        for path in block.groups or []:
+            self.path(path, Scope(variables))
+        heads = [item.value for item in block.items] + ([block.having] if block.having else [])
+        has_aggregates = any(part.sort == "aggregate" for head in heads for part in parts_of(head))
+        block.is_grouped = block.groups is not None or block.having is not None or has_aggregates
+        groups = {self.spelled(path) for path in block.groups or []} if block.is_grouped else None
+        scope = Scope(variables, groups=groups, takes_aggregates=True, takes_exists=False)
+        kinds = [self.value(item.value, scope) for item in block.items]
+        if block.having:
+            self.condition(block.having, scope)
+        for key in block.keys or []:
+            self.key(block, key.value, kinds, Scope(variables, groups=groups))
+
+    def key(self, block, key, kinds, scope):
+        if key.sort == "name":
+            places = [place for place, item in enumerate(block.items) if item.name == key.name]
+            see(places, "name")
+            key.place = places[0]
+            kind = kinds[places[0]]
+        else:
+            kind = self.path(key, scope)
+            if block.is_distinct:
+                paths = [
+                    self.spelled(item.value) for item in block.items if item.value.sort == "path"
+                ]
+                variable, steps = self.spelled(key)
+                see(
+                    (variable, steps) in paths or len(steps) == 1 and (variable, ()) in paths,
+                    "key of DISTINCT",
+                )
+        see(kind is None or kind in ORDERED, "key")
+
+    def spelled(self, path):
+        return path.variable.lower(), tuple(path.steps)
+
+    # -- UPDATE and DELETE
+
+    def bulk(self, statement):
+        entity, variable = self.entity(statement.source.entity), statement.source.variable
+        scope = Scope({variable.lower(): entity} if variable is not None else {})
+        if statement.sort == "update":
+            names = [assignment.name for assignment in statement.sets]
+            see(len(set(names)) == len(names), "a member twice")
+            for assignment in statement.sets:
+                see(assignment.variable.lower() == variable.lower(), "variable")
+                self.assignment(entity, assignment, scope)
+        if statement.where:
+            self.condition(statement.where, scope)
+
+    def assignment(self, entity, assignment, scope):
+        name, value = assignment.name, assignment.value
+        relation = entity.relations.get(name)
+        kind = None if value is None else self.value(value, scope)
+        if relation:
+            see(relation.owns and not relation.is_many, "relation")
+            see(
+                value is None or value.sort == "parameter" and kind in (None, relation.target.root),
+                "relation's value",
+            )
+        elif entity.version and name == entity.version["name"]:
+            see(value is not None and kind in (None, int), "version")
+        else:
+            see(name in entity.attributes, "attribute")
+            see(kind in (None, entity.kind(name)), "attribute's value")
+
+    # -- conditions
+
+    def condition(self, node, scope):
+        getattr(self, f"{node.sort}_condition")(node, scope)
+
+    def or_condition(self, node, scope):
+        for part in node.parts:
+            self.condition(part, scope)
+
+    and_condition = or_condition
+
+    def not_condition(self, node, scope):
+        self.condition(node.part, scope)
+
+    def exists_condition(self, node, scope):
+        see(scope.takes_exists, "EXISTS in HAVING")
+        self.nested(node.block, scope.variables)
+
+    def type_condition(self, node, scope):
+        entity = self.variable(node.variable, scope.variables)
+        see(
+            scope.groups is None or (node.variable.lower(), ()) in scope.groups,
+            "TYPE of what is no group",
+        )
+        see(all(self.entity(name).root is entity.root for name in node.entities), "TYPE")
+
+    def compare_condition(self, node, scope):
+        kind = joined([self.value(node.left, scope), self.value(node.right, scope)])
+        see(node.operator in ("=", "<>") or kind is None or kind in ORDERED, "order")
+
+    def null_condition(self, node, scope):
+        self.value(node.value, scope)
+
+    def between_condition(self, node, scope):
+        kind = joined([self.value(part, scope) for part in (node.value, node.low, node.high)])
+        see(kind is None or kind in ORDERED, "order")
+
+    def in_condition(self, node, scope):
+        joined([self.value(part, scope) for part in [node.value, *node.values]])
+
+    def like_condition(self, node, scope):
+        self.of(str, [node.value, node.pattern], scope)
+        see(node.escape is None or len(node.escape) == 1, "ESCAPE")
+
+    def empty_condition(self, node, scope):
+        self.collection(node.path, scope)
+
+    def member_condition(self, node, scope):
+        kind = self.value(node.value, scope)
+        relation = self.collection(node.path, scope)
+        see(kind in (None, relation.target.root), "MEMBER")
+
+    # -- values
+
+    def of(self, kind, values, scope):
+        for value in values:
+            see(self.value(value, scope) in (None, kind), "kind")
+
+    def value(self, node, scope):
+        return getattr(self, f"{node.sort}_value")(node, scope)
+
+    def literal_value(self, node, scope):
+        return type(node.value)
+
+    def parameter_value(self, node, scope):
+        return self.parameters.get(node.name)
+
+    def path_value(self, node, scope):
+        return self.path(node, scope)
+
+    def arithmetic_value(self, node, scope):
+        self.of(int, [part for _, part in node.parts], scope)
+        return int
+
+    def signed_value(self, node, scope):
+        self.of(int, [node.value], scope)
+        return int
+
+    def size_value(self, node, scope):
+        self.collection(node.path, scope)
+        return int
+
+    def aggregate_value(self, node, scope):
+        see(scope.takes_aggregates, "an aggregate")
+        kind = self.value(node.value, scope.within_aggregate())
+        if node.function == "COUNT":
+            return int
+        see(kind is None or kind in (ORDERED if node.function != "SUM" else (int,)), node.function)
+        return int if node.function == "SUM" else kind
+
+    def call_value(self, node, scope):
+        if node.function in ("COALESCE", "NULLIF"):
+            kind = joined([self.value(value, scope) for value in node.values])
+            see(kind is None or kind in ORDERED, node.function)
+            return kind
+        taken = {
+            "LENGTH": [str], "CONCAT": [str] * len(node.values), "SUBSTRING": [str, int, int],
+            "LOCATE": [str, str, int], "ABS": [int], "MOD": [int, int],
+        }
+        for kind, value in zip(taken[node.function], node.values):
+            self.of(kind, [value], scope)
+        return str if node.function in ("CONCAT", "SUBSTRING") else int
+
+    # -- paths
+
+    def path(self, path, scope):
+        """The kind of a path that ends in a value or in one object."""
+        entity, last = self.walk(path, scope)
+        if last is None:
+            return entity.root
+        if last in entity.relations:
+            relation = entity.relations[last]
+            see(not relation.is_many, "a collection")
+            return relation.target.root
+        see(
+            last in entity.key
+            or last in entity.attributes
+            or entity.version
+            and last == entity.version["name"],
+            "member",
+        )
+        return entity.kind(last)
+
+    def collection(self, path, scope):
+        """The relation of a path that ends in a collection."""
+        entity, last = self.walk(path, scope)
+        relation = entity.relations.get(last)
+        see(relation and relation.is_many, "no collection")
+        return relation
+
+    def walk(self, path, scope):
+        """The entity that a path's last step is a member of, and this step; the path gets its
+        steps."""
+        entity = self.variable(path.variable, scope.variables)
+        path.steps, names, last = [], list(path.names), None
+        while names:
+            if last is not None:
+                relation = entity.relations.get(last)
+                see(relation and not relation.is_many, "a step")
+                entity = relation.target
+            last = names.pop(0)
+            if names and f"{last}.{names[0]}" in entity.key:
+                last = f"{last}.{names.pop(0)}"
+            path.steps.append(last)
+        see(not scope.in_on or len(path.steps) <= 1, "a path in ON")
+        see(scope.groups is None or self.spelled(path) in scope.groups, "what is no group")
+        return entity, last

@@ -1,0 +1,104 @@
+"""The queries of the model: the calls that take the text of a statement (tests/model/jpql_text.py
+reads it, model/jpql_types.py types it, model/jpql_run.py says what it means)."""
+from model.jpql_run import Meaning
+from model.jpql_text import parts_of, statement_of
+from model.jpql_types import IllTyped, Typing
+from model.reading import Number, Refused
+from model.unit import LENGTH, size
+
+
+class Given:
+    """The parameters that a call hands in: what each is, and an object's identity in its place."""
+
+    def __init__(self, machine, params):
+        self.values = {
+            name: machine.object(value.number) if isinstance(value, Number) else value
+            for name, value in params.items()
+        }
+        if any(size(value) > LENGTH for value in self.values.values()):
+            raise Refused("Limit")
+
+    def objects(self):
+        """The live objects among them."""
+        return {
+            name: value
+            for name, value in self.values.items()
+            if value is not None and not isinstance(value, (int, str, bytes))
+        }
+
+    def kinds(self):
+        kinds = {
+            name: None if value is None else type(value) for name, value in self.values.items()
+        }
+        return {**kinds, **{name: live.entity.root for name, live in self.objects().items()}}
+
+    def meant(self):
+        return {**self.values, **{name: live.identity() for name, live in self.objects().items()}}
+
+    def has_keyless(self):
+        return any(None in live.key() for live in self.objects().values())
+
+
+class Queries:
+    """The part of the machine that queries."""
+
+    def setFlushMode(self, events, em, mode):
+        self.manager(em).flush_mode = mode
+
+    def query(self, events, em, text, params, first, most):
+        return self.selected(events, em, text, params, first, most, False)
+
+    def querySingle(self, events, em, text, params, first, most):
+        return self.selected(events, em, text, params, first, most, True)
+
+    def selected(self, events, em, text, params, first, most, is_single):
+        manager, given = self.manager(em), Given(self, params)
+        statement = statement_of(text)
+        if any(number is not None and number < 0 for number in (first, most)):
+            raise Refused("IllegalArgument", "range")
+        self.typed(statement, given)
+        if statement.sort != "select":
+            raise Refused("IllegalState", "statement")
+        self.flush_before(events, manager)
+        rows = Meaning(self.unit, self.view(manager), given.meant()).rows(statement)[first or 0:]
+        rows = rows if most is None else rows[:most]
+        if is_single and len(rows) != 1:
+            raise Refused("NonUniqueResult" if rows else "NoResult")
+        rows = [[self.resulting(events, manager, value) for value in row] for row in rows]
+        rows = [row[0] if len(row) == 1 else row for row in rows]
+        return rows[0] if is_single else rows
+
+    def executeUpdate(self, events, em, text, params):
+        manager, given = self.manager(em), Given(self, params)
+        statement = statement_of(text)
+        if not manager.is_begun:
+            raise Refused("TransactionRequired")
+        self.typed(statement, given)
+        if statement.sort == "select":
+            raise Refused("IllegalState", "statement")
+        self.flush_before(events, manager)
+        manager.seen, count = Meaning(self.unit, manager.seen, given.meant()).changed(statement)
+        return count
+
+    def typed(self, statement, given):
+        """The statement is one of the grammar, is well typed, and has exactly the parameters that
+        are given."""
+        if statement is None:
+            raise Refused("IllegalArgument", "syntax")
+        try:
+            Typing(self.unit, given.kinds()).statement(statement)
+        except IllTyped:
+            raise Refused("IllegalArgument", "typing") from None
+        if {node.name for node in parts_of(statement) if node.sort == "parameter"} != set(
+            given.values
+        ) or given.has_keyless():
+            raise Refused("IllegalArgument", "parameter")
+
+    def flush_before(self, events, manager):
+        if manager.is_begun and manager.flush_mode == "AUTO":
+            self.write(events, manager)
+
+    def resulting(self, events, manager, value):
+        """What a row shows of a value: of an identity the manager's instance, which is loaded where
+        it has none."""
+        return self.reached(events, manager, value) if isinstance(value, tuple) else value
