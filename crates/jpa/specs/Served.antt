@@ -1,14 +1,16 @@
 -- Which unit the program serves, and what a store that was served holds.
-use Rattle.std.specs.Prelude.{◌≡◌, ◌⊎◌, ℕ, List, [], Option, Some, None, Result, Ok, Err, IsErrAnd, true}
+use Rattle.std.specs.Prelude.{◌≡◌, ◌⊎◌, ◌==◌, ℕ, List, [], if◌then◌else◌, Option, Some, None, Result, Ok, Err, IsErrAnd, true}
 use Rattle.sqlite_trees.specs.declared.store.Store.{Ghosts}
 use Rattle.sqlite.specs.Held.{Held}
 use Rattle.jpa_value.specs.declared.refusal.Cause.{Cause}
 use Rattle.jpa_value.specs.declared.refusal.MappingFault.{MappingFault}
+use Rattle.jpa_model.specs.declared.unit.PersistenceUnit.{PersistenceUnit}
 use Rattle.jpa_behaviour.specs.Served.{world_of_unit}
 use Rattle.jpa_behaviour.specs.declared.served_unit.ServedUnit.{ServedUnit}
 use Rattle.jpa_stored.specs.Sets.{StoredSet}
 use Rattle.jpa_json.specs.Outcome.{and_then}
 use Rattle.jpa_mapping.specs.MappingOf.{mapping_of}
+use Rattle.jpa_mapping.specs.declared.reading.Mapping.{Mapping}
 use Rattle.jpa_functions.specs.declared.behaviour.ProgramFunctions.{ProgramFunctions}
 use Rattle.jpa_functions.specs.declared.make.Listener.{Listener}
 use Rattle.jpa_functions.specs.declared.make.Converter.{Converter}
@@ -23,12 +25,18 @@ use Rattle.jpa_program.specs.Persons.{persons}
 abbrev pub ProgramUnit : Type 0
 ProgramUnit = ServedUnit ProgramFunctions Listener Converter
 
+-- no later revision than the first is served
+abbrev pub first_revision : Mapping → Result PersistenceUnit Cause
+first_revision mapping =
+    if mapping.metamodel.revision == 1 then Ok mapping.metamodel else Err (Cause.Mapping MappingFault.Model)
+
 -- the unit that the bytes of a mapping describe, or the first that is wrong: with its entities, then with its functions
 abbrev pub unit_in : List ℕ → Result ProgramUnit Cause
 unit_in bytes =
-    and_then (mapping_of bytes) (λ metamodel.
+    and_then (mapping_of bytes) (λ mapping.
+    and_then (first_revision mapping) (λ metamodel.
     and_then (functions_in bytes) (λ functions.
-    and_then (registered functions) (λ registry. Ok (record { metamodel = metamodel; registry = registry }))))
+    and_then (registered functions) (λ registry. Ok (record { metamodel = metamodel; registry = registry })))))
 
 -- the unit that is served without a mapping: the program's own persons with their orders, and no function
 abbrev pub own_unit : ProgramUnit

@@ -12,7 +12,8 @@ ghost use Rattle.jpa.specs.Served as spec;
 
 use jpa_behaviour::{Registry, ServedUnit};
 use jpa_functions::{ProgramFunctions, read_functions, registry_of};
-use jpa_mapping::read_mapping;
+use jpa_mapping::{Mapping, read_mapping};
+use jpa_model::Metamodel;
 use jpa_program::{first_unit, open, run};
 use jpa_settings::{Settings, Stop, read_settings, status};
 use jpa_value::{Cause, MappingFault, Refusal, Text, refusal_text};
@@ -74,12 +75,27 @@ fn mapping_bytes(rt: &HostRuntime, settings: &Settings) -> Result<Option<Vec<u8>
     }
 }
 
+/// The metamodel of a mapping, where it is of revision 1: no later one is served.
+fn first_revision(mapping: Mapping) -> Result<Metamodel, Cause>
+    ensures { result ≡ spec.first_revision mapping }
+{
+    if mapping.metamodel.unit().revision != 1 {
+        return Err(Cause::Mapping(MappingFault::Model));
+    }
+    let Mapping {
+        metamodel,
+        history: _,
+    } = mapping;
+    Ok(metamodel)
+}
+
 /// The unit that a mapping's bytes describe: its entities are read before its functions.
 fn described(alloc: Global, bytes: &[u8]) -> Result<ServedUnit<ProgramFunctions>, Cause>
     ensures unit { IsUnlessMemory result (spec.unit_in bytes.now) }
     ensures refused { IfErr result spec.IsMappingCause }
 {
-    let metamodel = read_mapping(alloc, bytes)?;
+    let mapping = read_mapping(alloc, bytes)?;
+    let metamodel = first_revision(mapping)?;
     let functions = read_functions(alloc, bytes)?;
     let registry = registry_of(alloc, functions)?;
     Ok(ServedUnit {

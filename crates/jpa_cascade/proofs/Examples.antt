@@ -38,6 +38,7 @@ cut_off = refl
 -- persist and remove go on to friends
 abbrev unit : PersistenceUnit
 unit = record {
+  revision = 1;
   listeners = [];
   entities = record {
     name = 112 ∷ [];

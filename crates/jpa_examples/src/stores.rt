@@ -188,17 +188,15 @@ fn told(alloc: Global, answered: Result<String, Cause>) -> Result<String, Stop> 
 
 /// How many objects rows stand for, the next numbers, and the rows that at most two objects are written as; or the refusal.
 pub(crate) fn store_answer(alloc: Global, unit: Unit<'_>, rows: &str) -> Result<String, Stop> {
-    let metamodel = read_mapping(alloc, unit.mapping.as_bytes())?;
-    let committed = match committed_of(alloc, &metamodel, unit.mapping, rows) {
+    let mapping = read_mapping(alloc, unit.mapping.as_bytes())?;
+    let metamodel = &mapping.metamodel;
+    let committed = match committed_of(alloc, metamodel, unit.mapping, rows) {
         Ok(committed) => committed,
         Err(Stop::Refused(cause)) => return told(alloc, Err(cause)),
         Err(stop) => return Err(stop),
     };
     let mut out = counted(alloc, &committed)?;
-    let rows = told(
-        alloc,
-        written(alloc, &metamodel, unit.functions, &committed),
-    )?;
+    let rows = told(alloc, written(alloc, metamodel, unit.functions, &committed))?;
     out.push_str(rows.as_str())?;
     Ok(out)
 }

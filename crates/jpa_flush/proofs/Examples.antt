@@ -27,6 +27,7 @@ use Rattle.jpa_flush.specs.Plan.{plan_of, write_each}
 -- persons with a name and a version
 abbrev unit : PersistenceUnit
 unit = record {
+  revision = 1;
   listeners = [];
   entities =
       record {

@@ -38,6 +38,7 @@ relation name side cascades =
 
 abbrev unit : Bool → PersistenceUnit
 unit cascades = record {
+  revision = 1;
   listeners = [];
   entities =
       record {

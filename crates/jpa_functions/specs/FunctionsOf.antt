@@ -1,13 +1,11 @@
 -- Which functions JSON data describes: each object has its name, its make, and the members of the make and no others.
-use Rattle.std.specs.Prelude.{ℕ, ℤ, ◌==◌, List, [], codes, bytes_eq, if◌then◌else◌, Option, Some, None, Result, Ok, Err}
+use Rattle.std.specs.Prelude.{ℕ, ◌==◌, List, [], codes, bytes_eq, if◌then◌else◌, Option, Some, None}
 use Rattle.std.specs.Str.{is_utf8}
-use Rattle.hex.specs.Hex.{decode_of}
-use Rattle.hex.specs.declared.error.FromHexError.{FromHexError}
-use Rattle.jpa_value.specs.declared.value.Value.{Value}
-use Rattle.serde_json.specs.Data.{Data, null, boolean, number, string, array, object, Items, no_items, item}
-use Rattle.serde_json.specs.Find.{get, as_array, as_i64}
+use Rattle.serde_json.specs.Data.{Data, Items, no_items, item}
+use Rattle.serde_json.specs.Find.{get, as_array}
 use Rattle.jpa_json.specs.Members.{count_of, text_at, list_of}
 use Rattle.jpa_json.specs.Outcome.{◌>>=◌, guard, proof_of}
+use Rattle.jpa_json.specs.Values.{value_of}
 use Rattle.jpa_functions.specs.declared.make.Function.{Function}
 use Rattle.jpa_functions.specs.declared.make.Make.{Make}
 use Rattle.jpa_functions.specs.declared.make.Listener.{Listener}
@@ -17,33 +15,6 @@ use Rattle.jpa_functions.specs.declared.make.SetText.{SetText}
 use Rattle.jpa_functions.specs.declared.make.Table.{Table}
 use Rattle.jpa_functions.specs.Pairs.{are_apart}
 use Rattle.jpa_functions.specs.Sorts.{are_named_once}
-
--- ---- values: an integer of 64 bits, a text, or an object of the one member `hex` with digits of either case
-
-abbrev pub decoded : Result (List ℕ) FromHexError → Option Value
-decoded (Ok bytes) = Some (Value.Bytes bytes)
-decoded (Err e) = None
-
-abbrev pub bytes_said : List ℕ → Option Value
-bytes_said digits = decoded (decode_of digits)
-
-unfoldable pub bytes_of : Data → Option Value
-bytes_of d = do
-  one ← guard (count_of d == 1)
-  digits ← text_at (codes "hex") d
-  bytes_said digits
-
-abbrev pub integer : Option ℤ → Option Value
-integer (Some n) = Some (Value.Int n)
-integer None = None
-
-abbrev pub value_of : Data → Option Value
-value_of null = None
-value_of (boolean b) = None
-value_of (number n) = integer (as_i64 n)
-value_of (string s) = Some (Value.Text s)
-value_of (array ds) = None
-value_of (object ms) = bytes_of (object ms)
 
 -- ---- tables
 

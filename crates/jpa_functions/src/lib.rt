@@ -30,9 +30,9 @@ mod hearing;
 mod known;
 mod make;
 mod makes;
+mod pairs;
 mod reading;
 mod registering;
-mod values;
 
 pub use behaviour::ProgramFunctions;
 pub use known::names_are_known;

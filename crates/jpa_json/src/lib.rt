@@ -6,15 +6,18 @@
 //! where it means nothing; which refusal that is, each crate above says once, by `or_refuse`.
 //!
 //! The definitions that contracts cite stand in `specs/`: what a reader answered in `Outcome`, members and lists in
-//! `Members`, texts of JSON in `JsonOf`. The crate stands on the crate of values and on `serde_json`.
+//! `Members`, values in `Values`, texts of JSON in `JsonOf`. The crate stands on the crate of values, on `serde_json` and
+//! on `hex`.
 #![tactic(auto)]
 
 mod described;
 mod members;
 mod reading;
 mod unread;
+mod values;
 
 pub use described::{Described, str_of};
 pub use members::{member, only, str_at, text_at};
 pub use reading::json_of;
 pub use unread::{Unread, or_refuse};
+pub use values::value_of;

@@ -43,6 +43,7 @@ relation mark side target = record { name = mark ∷ []; side = side; target = t
 -- an employee, who is a person
 abbrev unit : PersistenceUnit
 unit = record {
+  revision = 1;
   listeners = [];
   entities =
       class 1 (root 1) (record { name = 110 ∷ []; kind = Kind.Text; column = 1; required = true; converter = None } ∷ []) []

@@ -37,7 +37,7 @@ use Rattle.jpa_judgment.specs.declared.meaning.Meaning.{Meaning}
 use Rattle.jpa_judgment.specs.Sound.{IsSoundRow, AreSoundRows, is_join}
 use Rattle.jpa_judgment.specs.Judged.{StartsUnsound}
 use Rattle.jpa_judgment.specs.Read.{Says, with_meaning, HaveObjects, AreObjectsOf}
-use Rattle.jpa_judgment.proofs.TableKinds.{declared_above, declared_join, pair_in_join, main_no_number, main_no_pair}
+use Rattle.jpa_judgment.proofs.TableKinds.{declared_above, declared_join, pair_in_join, main_no_number, main_no_revision, main_no_pair}
 
 -- ---- sound rows of join tables are those of pairs
 
@@ -90,7 +90,7 @@ module _ (world : World) (clear : IsUnambiguous world.model) (rows : Rows) (h : 
       → IsBuilt world rows (done ++ (id, row) ∷ []) (with_stored id x set)
   put_built id row x done set here read built = record {
     rising = put_rises identities id x set built.rising;
-    sound = all_more (λ (e : RowId × Row). IsSoundRow world e.0 e.1) done (id, row) built.sound (inr (inr (x, read.storable, read.main)));
+    sound = all_more (λ (e : RowId × Row). IsSoundRow world e.0 e.1) done (id, row) built.sound (inr (inr (inr (x, read.storable, read.main))));
     stand = λ q y at. elim (eq_by_cmp identity_cmp q id) as (λ b. eq_by_cmp identity_cmp q id ≡ b → (is_storable world q y ≡ true) × StandsIn world rows q y) [
       | true ↦ λ e.
           let same = same_key identities q id e in
@@ -110,15 +110,21 @@ module _ (world : World) (clear : IsUnambiguous world.model) (rows : Rows) (h : 
   row_built id row (Meaning.Object x) done set here says built = put_built id row x done set here says built
   row_built id row Meaning.Pair done set here says built = record {
     rising = built.rising;
-    sound = all_more (λ (e : RowId × Row). IsSoundRow world e.0 e.1) done (id, row) built.sound (inr (inl says));
+    sound = all_more (λ (e : RowId × Row). IsSoundRow world e.0 e.1) done (id, row) built.sound (inr (inr (inl says)));
     stand = built.stand;
     each = all_more (λ (e : RowId × Row). IsMainRow world e.0 e.1 → is_some (stored_at set e.0) ≡ true) done (id, row) built.each (λ main. absurd (main_no_pair world clear id row main says));
   }
   row_built id row Meaning.Number done set here says built = record {
     rising = built.rising;
-    sound = all_more (λ (e : RowId × Row). IsSoundRow world e.0 e.1) done (id, row) built.sound (inl says);
+    sound = all_more (λ (e : RowId × Row). IsSoundRow world e.0 e.1) done (id, row) built.sound (inr (inl says));
     stand = built.stand;
     each = all_more (λ (e : RowId × Row). IsMainRow world e.0 e.1 → is_some (stored_at set e.0) ≡ true) done (id, row) built.each (λ main. absurd (main_no_number world clear id row main says));
+  }
+  row_built id row Meaning.Revision done set here says built = record {
+    rising = built.rising;
+    sound = all_more (λ (e : RowId × Row). IsSoundRow world e.0 e.1) done (id, row) built.sound (inl says);
+    stand = built.stand;
+    each = all_more (λ (e : RowId × Row). IsMainRow world e.0 e.1 → is_some (stored_at set e.0) ≡ true) done (id, row) built.each (λ main. absurd (main_no_revision world clear id row main says));
   }
 
   -- the row at a place

@@ -35,7 +35,7 @@ use Rattle.jpa_view.proofs.Orders.{identities, same_number}
 use Rattle.jpa_view.proofs.Reading.{storable}
 use Rattle.jpa_view.proofs.Tables.{has_join_table, zero_join}
 use Rattle.jpa_object_rows.specs.Objects.{pair_id, pair_row, side_pairs, pairs_along, number_id, number_row, object_entries, object_rows}
-use Rattle.jpa_object_rows.specs.Sets.{key_after, identity_of, target_in, if_any, targets_in, with_number, with_next, with_numbers, with_set, rows_of}
+use Rattle.jpa_object_rows.specs.Sets.{key_after, identity_of, target_in, if_any, targets_in, base_of, with_number, with_next, with_numbers, with_set, rows_of}
 use Rattle.jpa_object_rows.proofs.Kept.{over_each, along_each}
 use Rattle.jpa_object_rows.proofs.Stored.{own_join}
 use Rattle.jpa_object_rows.proofs.Targets.{after_joined}
@@ -130,9 +130,9 @@ module _ (P : RowId → Row → Type 0) (each : (table k : ℕ) → P (number_id
   next_each (Origin.Extends parent) k rows h = h
   next_each (Origin.Root root) k rows h = elim root.generated as (λ b. Each P (cond b (with_number root.table k rows) rows)) [ true ↦ number_each root.table k rows h | false ↦ h ]
 
-  pub numbers_each : (ps : List (Entity × ℕ)) → Each P (with_numbers ps [])
-  numbers_each [] = tt
-  numbers_each (p ∷ ps) = next_each (p.0).origin p.1 (with_numbers ps []) (numbers_each ps)
+  pub numbers_each : (m : PersistenceUnit) (ps : List (Entity × ℕ)) → Each P (with_numbers ps (base_of m))
+  numbers_each m [] = number_each 0 m.revision [] tt
+  numbers_each m (p ∷ ps) = next_each (p.0).origin p.1 (with_numbers ps (base_of m)) (numbers_each m ps)
 
 module _ (world : World) (mapped : IsMapped world.model) (set : StoredSet) (up : T (is_sorted identity_cmp set)) where
   clear : IsUnambiguous world.model
@@ -177,5 +177,5 @@ module _ (world : World) (mapped : IsMapped world.model) (set : StoredSet) (up :
   pub rows_owned : AreStorable world set → (numbers : List ℕ) → Each (λ id row. is_owned world.model set id ≡ true) (rows_of world set numbers)
   rows_owned h numbers =
       let m = world.model in
-      set_owned set h (λ id x k. k) (with_numbers (zip m.entities numbers) [])
-      (numbers_each (Owned m set) (λ table k. ap (is_owned_by m set (number_id table).key) (zero_join m clear.tables)) (zip m.entities numbers))
+      set_owned set h (λ id x k. k) (with_numbers (zip m.entities numbers) (base_of m))
+      (numbers_each (Owned m set) (λ table k. ap (is_owned_by m set (number_id table).key) (zero_join m clear.tables)) m (zip m.entities numbers))

@@ -161,3 +161,7 @@ pub none_of : {A B C : Type 0} (a b : Bool) → (a ≡ true) ↔ A → (b ≡ tr
 none_of a b told_a told_b no_a no_b no_c (inl h) = true_false (sym (told_a.1 h) ∙ no_a)
 none_of a b told_a told_b no_a no_b no_c (inr (inl h)) = true_false (sym (told_b.1 h) ∙ no_b)
 none_of a b told_a told_b no_a no_b no_c (inr (inr h)) = no_c h
+
+pub nor : {A B : Type 0} (a : Bool) → (a ≡ true) ↔ A → a ≡ false → (B → ⊥) → A ⊎ B → ⊥
+nor a told no_a no_b (inl h) = true_false (sym (told.1 h) ∙ no_a)
+nor a told no_a no_b (inr h) = no_b h

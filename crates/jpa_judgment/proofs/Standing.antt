@@ -83,14 +83,18 @@ module _ (schema : Schema) where
 -- ---- sound rows of join tables are those of pairs
 
 module _ (world : World) (clear : IsUnambiguous world.model) where
-  one_sound : (class : ℕ) → is_class world.model class ≡ true → (join : ℕ) → Has (joins_of (relations_of world.model class)) join → (e : RowId × Row) → (e.0).table ≡ join → IsSoundRow world e.0 e.1 → e.1 ≡ pair_row
-  one_sound class is join k e own (inl number) =
+  -- table 0 is no join table
+  zero_apart : (class : ℕ) → is_class world.model class ≡ true → (join : ℕ) → Has (joins_of (relations_of world.model class)) join → 0 ≡ join → ⊥
+  zero_apart class is join k zero =
       let m = world.model in
-      let zero : 0 ≡ join = sym (ap (λ (id : RowId). id.table) number.under) ∙ own in
-      absurd (true_false (sym (and_second (not (is_some _)) _ (join_of_class m clear class is join k))
-      ∙ ap (λ j. is_within m (root_of m class).table (declarer_at m j)) (sym zero) ∙ ap (is_within m (root_of m class).table) (zero_join m clear.tables)))
-  one_sound class is join k e own (inr (inl pair)) = pair.says
-  one_sound class is join k e own (inr (inr main)) =
+      true_false (sym (and_second (not (is_some _)) _ (join_of_class m clear class is join k))
+      ∙ ap (λ j. is_within m (root_of m class).table (declarer_at m j)) (sym zero) ∙ ap (is_within m (root_of m class).table) (zero_join m clear.tables))
+
+  one_sound : (class : ℕ) → is_class world.model class ≡ true → (join : ℕ) → Has (joins_of (relations_of world.model class)) join → (e : RowId × Row) → (e.0).table ≡ join → IsSoundRow world e.0 e.1 → e.1 ≡ pair_row
+  one_sound class is join k e own (inl revision) = absurd (zero_apart class is join k (sym (ap (λ (id : RowId). id.table) revision.under) ∙ own))
+  one_sound class is join k e own (inr (inl number)) = absurd (zero_apart class is join k (sym (ap (λ (id : RowId). id.table) number.under) ∙ own))
+  one_sound class is join k e own (inr (inr (inl pair))) = pair.says
+  one_sound class is join k e own (inr (inr (inr main))) =
       let m = world.model in
       let x = main.0 in
       let s = storable world e.0 x main.1 in

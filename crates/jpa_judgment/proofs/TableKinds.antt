@@ -1,7 +1,7 @@
--- A table is that of next numbers, a root's or a join table, and a sound row is of the kind of its table.
-use Rattle.std.specs.Prelude.{◌≡◌, ◌==◌, ℕ, true, Option, Some, None, is_some}
-use Rattle.std.proofs.Common.{refl, sym, ap, ◌∙◌, inl, inr}
-use Rattle.std.specs.List.{list_any}
+-- A table is that of next numbers and the revision, a root's or a join table, and a sound row is of the kind of its table.
+use Rattle.std.specs.Prelude.{◌≡◌, ◌⊎◌, ◌==◌, ℕ, true, [], ◌∷◌, Option, Some, None, is_some}
+use Rattle.std.proofs.Common.{refl, sym, ap, subst, ◌∙◌, inl, inr}
+use Rattle.std.specs.List.{flat_map, list_any}
 use Rattle.jpa_value.specs.declared.value.Identity.{Identity}
 use Rattle.jpa_model.specs.declared.unit.PersistenceUnit.{PersistenceUnit}
 use Rattle.jpa_model.specs.declared.unit.Relation.{Relation}
@@ -9,26 +9,27 @@ use Rattle.jpa_model.specs.declared.unit.Root.{Root}
 use Rattle.jpa_model.specs.Chains.{entity_at, root_of, relations_of, chain}
 use Rattle.jpa_behaviour.specs.Behaviour.{World}
 use Rattle.jpa_stored.specs.declared.stored.Stored.{Stored}
-use Rattle.jpa_rows.specs.Cells.{join_tables}
+use Rattle.jpa_rows.specs.Cells.{root_tables, join_tables}
 use Rattle.jpa_rows.specs.Rows.{RowId, Row}
-use Rattle.jpa_row_laws.proofs.Facts.{true_false}
-use Rattle.jpa_row_laws.proofs.Elements.{Has, from_flat_map, into_flat_map}
+use Rattle.jpa_row_laws.proofs.Facts.{true_false, value_in}
+use Rattle.jpa_row_laws.proofs.Elements.{Has, append_has, from_flat_map, into_flat_map}
 use Rattle.jpa_row_laws.proofs.Lists.{any_has, has_any}
 use Rattle.jpa_rows.specs.Tables.{classes}
 use Rattle.jpa_view.specs.Identities.{declares, declarer_at, root_at, is_join_of}
 use Rattle.jpa_view.specs.Unambiguous.{IsUnambiguous, is_class, joins_of}
 use Rattle.jpa_view.specs.View.{is_storable}
-use Rattle.jpa_view.proofs.Classes.{class_within, within_classes, find_some, find_missed}
+use Rattle.jpa_view.proofs.Classes.{has_entity, class_within, within_classes, find_some, find_missed}
 use Rattle.jpa_view.proofs.Keys.{table_is}
 use Rattle.jpa_view.proofs.Mapped.{last_has}
 use Rattle.jpa_view.proofs.Orders.{same_number}
 use Rattle.jpa_view.proofs.Others.{join_no_root}
 use Rattle.jpa_view.proofs.Reading.{storable}
-use Rattle.jpa_view.proofs.Tables.{has_join_table, zero_root, zero_join}
-use Rattle.jpa_object_rows.specs.Objects.{pair_row}
+use Rattle.jpa_view.proofs.Tables.{own_tables, has_join_table, zero_root, zero_join, distinct_apart}
+use Rattle.jpa_object_rows.specs.Objects.{pair_row, number_id}
 use Rattle.jpa_object_rows.proofs.Kept.{join_of_class}
 use Rattle.jpa_mapper.specs.Mapped.{IsMainRow}
-use Rattle.jpa_judgment.specs.Sound.{IsNumberRow, IsPairRow, IsSoundRow, is_join}
+use Rattle.jpa_judgment.specs.Numbers.{table_named}
+use Rattle.jpa_judgment.specs.Sound.{IsNumberRow, IsRevisionRow, IsPairRow, IsSoundRow, is_join}
 
 -- ---- the class that declares a join table
 
@@ -126,20 +127,40 @@ module _ (world : World) (clear : IsUnambiguous world.model) where
 
   -- a sound row of a join table is that of a pair
   pub pair_in_join : (id : RowId) (row : Row) → is_join world.model id.table ≡ true → IsSoundRow world id row → row ≡ pair_row
-  pair_in_join id row h (inl number) = absurd (zero_no_join world.model clear (ap (is_join world.model) (ap (λ (i : RowId). i.table) (sym number.under)) ∙ h))
-  pair_in_join id row h (inr (inl pair)) = pair.says
-  pair_in_join id row h (inr (inr main)) = absurd (no_join world.model clear id.table (root_of world.model (main.0).class) (main_root id main.0 main.1) h)
+  pair_in_join id row h (inl revision) = absurd (zero_no_join world.model clear (ap (is_join world.model) (ap (λ (i : RowId). i.table) (sym revision.under)) ∙ h))
+  pair_in_join id row h (inr (inl number)) = absurd (zero_no_join world.model clear (ap (is_join world.model) (ap (λ (i : RowId). i.table) (sym number.under)) ∙ h))
+  pair_in_join id row h (inr (inr (inl pair))) = pair.says
+  pair_in_join id row h (inr (inr (inr main))) = absurd (no_join world.model clear id.table (root_of world.model (main.0).class) (main_root id main.0 main.1) h)
 
-  -- a sound row of table 0 is that of a next number
-  pub number_in_zero : (id : RowId) (row : Row) → id.table ≡ 0 → IsSoundRow world id row → IsNumberRow world.model id row
-  number_in_zero id row zero (inl number) = number
-  number_in_zero id row zero (inr (inl pair)) = absurd (zero_no_join world.model clear (ap (is_join world.model) (sym zero) ∙ pair.join))
-  number_in_zero id row zero (inr (inr main)) =
+  -- a sound row of table 0 is that of the revision or of a next number
+  pub kind_in_zero : (id : RowId) (row : Row) → id.table ≡ 0 → IsSoundRow world id row → IsRevisionRow world.model id row ⊎ IsNumberRow world.model id row
+  kind_in_zero id row zero (inl revision) = inl revision
+  kind_in_zero id row zero (inr (inl number)) = inr number
+  kind_in_zero id row zero (inr (inr (inl pair))) = absurd (zero_no_join world.model clear (ap (is_join world.model) (sym zero) ∙ pair.join))
+  kind_in_zero id row zero (inr (inr (inr main))) =
       absurd (zero_no_root world.model clear (root_of world.model (main.0).class) (ap (root_at world.model) (sym zero) ∙ main_root id main.0 main.1))
+
+  -- no hierarchy has table 0
+  no_generator : (row : Row) → IsNumberRow world.model (number_id 0) row → ⊥
+  no_generator row n =
+      let m = world.model in
+      let e = entity_at m n.class in
+      let here : Has (root_tables e.origin) (n.root).table = subst (λ o. Has (root_tables o) (n.root).table) (sym n.origin) (inl refl) in
+      let own : Has (own_tables e) (n.root).table = append_has (root_tables e.origin) (flat_map (λ r. join_tables r.side) e.relations) (n.root).table (inl here) in
+      distinct_apart (0 ∷ []) (flat_map own_tables m.entities) clear.tables (n.root).table (inl (value_in 0 (n.root).table (ap table_named n.under)))
+      (into_flat_map own_tables m.entities e (n.root).table (has_entity m n.class n.within) own)
+
+  -- a sound row under the id of the revision's row is that one
+  pub revision_at : (row : Row) → IsSoundRow world (number_id 0) row → IsRevisionRow world.model (number_id 0) row
+  revision_at row sound = elim (kind_in_zero (number_id 0) row refl sound) [ inl revision ↦ revision | inr number ↦ absurd (no_generator row number) ]
 
   pub main_no_number : (id : RowId) (row : Row) → IsMainRow world id row → IsNumberRow world.model id row → ⊥
   main_no_number id row main number =
       zero_no_root world.model clear (root_of world.model (main.0).class) (ap (root_at world.model) (ap (λ (i : RowId). i.table) (sym number.under)) ∙ main_root id main.0 main.1)
+
+  pub main_no_revision : (id : RowId) (row : Row) → IsMainRow world id row → IsRevisionRow world.model id row → ⊥
+  main_no_revision id row main revision =
+      zero_no_root world.model clear (root_of world.model (main.0).class) (ap (root_at world.model) (ap (λ (i : RowId). i.table) (sym revision.under)) ∙ main_root id main.0 main.1)
 
   pub main_no_pair : (id : RowId) (row : Row) → IsMainRow world id row → IsPairRow world.model id row → ⊥
   main_no_pair id row main pair = no_join world.model clear id.table (root_of world.model (main.0).class) (main_root id main.0 main.1) pair.join

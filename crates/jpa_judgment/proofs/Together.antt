@@ -1,9 +1,9 @@
--- Sound rows are those of a set and of next numbers that stand together, and of no others.
-use Rattle.std.specs.Prelude.{◌≡◌, ◌==◌, ◌&&◌, ℕ, pos, Bool, true, false, nat_lt, T, List, [], ◌∷◌, map, Option, Some, None, is_some, cond, length, ◌<◌}
+-- Sound rows are those of a set and of next numbers that stand together with the revision, and of no others.
+use Rattle.std.specs.Prelude.{◌≡◌, ◌⊎◌, ◌==◌, ◌&&◌, ◌||◌, ℕ, pos, Bool, true, false, nat_lt, T, List, [], ◌∷◌, map, Option, Some, None, is_some, cond, length, ◌<◌}
 use Rattle.std.proofs.Common.{refl, sym, ap, subst, ◌∙◌, inl, inr, arith}
 use Rattle.std.proofs.lemmas.Bool.Decides.{nat_tests}
 use Rattle.std.specs.List.{zip, list_all, AllByRecursion}
-use Rattle.std.specs.FinMap.{find, is_sorted}
+use Rattle.std.specs.FinMap.{find, put, is_sorted}
 use Rattle.jpa_value.specs.declared.value.Value.{Value}
 use Rattle.jpa_value.specs.declared.value.Identity.{Identity}
 use Rattle.jpa_value.specs.Value.{identity_cmp, is_i64}
@@ -19,8 +19,10 @@ use Rattle.jpa_rows.specs.Cells.{CanBeHeld, is_next, are_numbers, all_representa
 use Rattle.jpa_rows.specs.Rows.{RowId, Row, Rows}
 use Rattle.jpa_rows.specs.Tables.{schema_of}
 use Rattle.jpa_row_laws.proofs.Facts.{true_false, and_first, and_second, and_both}
+use Rattle.jpa_row_laws.proofs.Each.{Each}
 use Rattle.jpa_row_laws.proofs.Elements.{Has, found_has, has_found}
 use Rattle.jpa_row_laws.proofs.Lists.{all_each, all_from, any_has, each_passes}
+use Rattle.jpa_row_laws.proofs.Maps.{found_put}
 use Rattle.jpa_view.specs.Unambiguous.{IsUnambiguous, is_class}
 use Rattle.jpa_view.specs.View.{is_storable, AreStorable}
 use Rattle.jpa_view.proofs.Classes.{below, has_entity}
@@ -31,20 +33,22 @@ use Rattle.jpa_view.proofs.Orders.{identities, are_same_numbers}
 use Rattle.jpa_view.proofs.Reading.{storable, object_spelled}
 use Rattle.jpa_view.proofs.Rounds.{held_storable}
 use Rattle.jpa_object_rows.specs.Raw.{raw, AreRowsOf, AreWhole, AreFilled}
-use Rattle.jpa_object_rows.specs.Objects.{is_discriminator, number_id}
-use Rattle.jpa_object_rows.specs.Sets.{set_in, number_in, next_at, numbers_in, AreUnitRows, rows_of}
-use Rattle.jpa_object_rows.proofs.Clean.{IsObject, IsPairOf, IsNumber, IsKnown, known_rows}
+use Rattle.jpa_object_rows.specs.Objects.{is_discriminator, number_id, number_row}
+use Rattle.jpa_object_rows.specs.Sets.{set_in, number_in, next_at, numbers_in, AreUnitRows, base_of, rows_of}
+use Rattle.jpa_object_rows.proofs.Clean.{IsObject, IsPairOf, IsNumber, IsRevision, IsKnown, known_rows}
+use Rattle.jpa_object_rows.proofs.Covered.{Stands}
 use Rattle.jpa_object_rows.proofs.Exact.{set_read_in, numbers_read_in}
+use Rattle.jpa_object_rows.proofs.Marked.{revision_found, later_base}
 use Rattle.jpa_object_rows.proofs.Named.{object_named}
 use Rattle.jpa_object_rows.proofs.Read.{stands_in}
 use Rattle.jpa_object_rows.proofs.Sets.{set_in_rises}
 use Rattle.jpa_mapper.specs.Mapped.{IsMainRow}
-use Rattle.jpa_judgment.specs.Sound.{IsNumberRow, IsPairRow, IsSoundRow, AreSoundRows}
+use Rattle.jpa_judgment.specs.Sound.{IsNumberRow, IsRevisionRow, IsPairRow, IsSoundRow, AreSoundRows}
 use Rattle.jpa_judgment.specs.Owners.{owner_of, is_owned_by, is_owned, are_owned}
 use Rattle.jpa_judgment.specs.Judged.{AreHeld, AreOfNone}
 use Rattle.jpa_judgment.specs.Read.{AreObjectsOf, AreOfClasses}
-use Rattle.jpa_judgment.specs.Together.{StandTogether}
-use Rattle.jpa_judgment.proofs.TableKinds.{declarer, number_in_zero}
+use Rattle.jpa_judgment.specs.Together.{is_marked, StandTogether}
+use Rattle.jpa_judgment.proofs.TableKinds.{declarer, kind_in_zero, revision_at}
 use Rattle.jpa_judgment.proofs.Built.{sound_ones}
 use Rattle.jpa_judgment.proofs.Owned.{owned_pair, rows_owned}
 
@@ -116,8 +120,11 @@ module _ (world : World) (mapped : IsMapped world.model) (regular : IsRegular wo
     is_next_number : (table : ℕ) (o : Option Row) → find identity_cmp (number_id table) rows ≡ o → nat_lt 0 (number_in o) && is_i64 (pos (number_in o)) ≡ true
     is_next_number table None e = refl
     is_next_number table (Some row) e =
-        let n = number_in_zero world clear (number_id table) row refl (sound_row (number_id table) row (found_has identities (number_id table) row rows e)) in
-        ap (λ r. nat_lt 0 (number_in (Some r)) && is_i64 (pos (number_in (Some r)))) n.says ∙ and_both (nat_lt 0 n.next) _ (above_zero n.next n.more) n.small
+        by_kind (kind_in_zero world clear (number_id table) row refl (sound_row (number_id table) row (found_has identities (number_id table) row rows e)))
+      where
+        by_kind : IsRevisionRow m (number_id table) row ⊎ IsNumberRow m (number_id table) row → nat_lt 0 (number_in (Some row)) && is_i64 (pos (number_in (Some row))) ≡ true
+        by_kind (inl r) = ap (λ r. nat_lt 0 (number_in (Some r)) && is_i64 (pos (number_in (Some r)))) r.says
+        by_kind (inr n) = ap (λ r. nat_lt 0 (number_in (Some r)) && is_i64 (pos (number_in (Some r)))) n.says ∙ and_both (nat_lt 0 n.next) _ (above_zero n.next n.more) n.small
 
     next_is : (origin : Origin) → is_next origin (next_at rows origin) ≡ true
     next_is (Origin.Extends parent) = refl
@@ -148,6 +155,24 @@ module _ (world : World) (mapped : IsMapped world.model) (regular : IsRegular wo
           more = ap (λ o. number_in o == 1) (found ∙ ap Some n.says) ∙ above_one n.next n.more;
         }
 
+    -- ---- the revision
+
+    revision_known : (id : RowId) (row : Row) → IsRevisionRow m id row → IsRevision m id
+    revision_known id row r = record { same = r.under; later = ap (λ n. n == 1) r.second }
+
+    revision_stands : is_marked m rows ≡ true → m.revision == 1 ≡ false → Stands rows (number_id 0) (number_row m.revision)
+    revision_stands marked later =
+        let there = some_of (find identity_cmp (number_id 0) rows) (ap (λ b. b || is_some (find identity_cmp (number_id 0) rows)) (sym later) ∙ marked) in
+        let r = revision_at world clear there.0 (sound_row (number_id 0) there.0 (found_has identities (number_id 0) there.0 rows there.1)) in
+        there.1 ∙ ap Some (r.says ∙ ap number_row (sym r.second))
+
+    stood : is_marked m rows ≡ true → Each (Stands rows) (base_of m)
+    stood marked =
+        elim (m.revision == 1) as (λ b. m.revision == 1 ≡ b → Each (Stands rows) (cond b [] (put identity_cmp (number_id 0) (number_row m.revision) []))) [
+          | true ↦ λ first. tt
+          | false ↦ λ later. (revision_stands marked later, tt)
+        ] refl
+
     -- ---- objects and pairs
 
     module _ (set : StoredSet) (is : AreObjectsOf world rows set) where
@@ -175,14 +200,15 @@ module _ (world : World) (mapped : IsMapped world.model) (regular : IsRegular wo
             pair = owned_pair m rows id row k root x (storable world owner x g).owned (s.1).pairs d.class (subst (Has (chain m x.class)) (are_same_numbers c.0 d.class c.2) c.1) (d.does).declares;
           }
 
-      module _ (together : are_owned m set rows ≡ true) where
+      module _ (together : are_owned m set rows ≡ true) (marked : is_marked m rows ≡ true) where
         known : (e : RowId × Row) → Has rows e → IsSoundRow world e.0 e.1 → IsKnown world rows e.0
-        known e k (inl n) = inr (inr (number_known e.0 e.1 k n))
-        known e k (inr (inl pair)) = inr (inl (pair_known e.0 e.1 k pair (each_passes (λ (e : RowId × Row). is_owned m set e.0) rows together e k)))
-        known e k (inr (inr main)) = inl (object_known e.0 e.1 k main)
+        known e k (inl revision) = inr (inr (inr (revision_known e.0 e.1 revision)))
+        known e k (inr (inl n)) = inr (inr (inl (number_known e.0 e.1 k n)))
+        known e k (inr (inr (inl pair))) = inr (inl (pair_known e.0 e.1 k pair (each_passes (λ (e : RowId × Row). is_owned m set e.0) rows together e k)))
+        known e k (inr (inr (inr main))) = inl (object_known e.0 e.1 k main)
 
         rows_same : rows ≡ rows_of world (set_in world rows) (numbers_in m rows)
-        rows_same = known_rows world mapped regular named rows unit numbers_are (all_from (λ (e : RowId × Row). IsKnown world rows e.0) rows (λ e k. known e k (sound_row e.0 e.1 k)))
+        rows_same = known_rows world mapped regular named rows unit (stood marked) numbers_are (all_from (λ (e : RowId × Row). IsKnown world rows e.0) rows (λ e k. known e k (sound_row e.0 e.1 k)))
 
       -- ---- what is judged
 
@@ -201,8 +227,17 @@ module _ (world : World) (mapped : IsMapped world.model) (regular : IsRegular wo
                 converted = split.converted;
                 given = together.given;
               };
-              same = rows_same together.owned ∙ (λ i. rows_of world (sym is.same i) (sym numbered i));
+              same = rows_same together.owned together.marked ∙ (λ i. rows_of world (sym is.same i) (sym numbered i));
             }
+
+        -- the rows of any set have the row of the revision
+        marked_of : (other : StoredSet) (others : List ℕ) → AreStorable world other → is_marked m (rows_of world other others) ≡ true
+        marked_of other others h =
+            elim (m.revision == 1) as (λ b. m.revision == 1 ≡ b → b || is_some (find identity_cmp (number_id 0) (rows_of world other others)) ≡ true) [
+              | true ↦ λ first. refl
+              | false ↦ λ later.
+                  ap is_some (revision_found world clear other others h ∙ ap (find identity_cmp (number_id 0)) (later_base m later) ∙ found_put identities (number_id 0) (number_row m.revision) [])
+            ] refl
 
         -- whatever the rows are those of stands together
         together_of : (other : StoredSet) (others : List ℕ) → CanBeHeld world other others → rows ≡ rows_of world other others → StandTogether m rows set numbers
@@ -215,6 +250,7 @@ module _ (world : World) (mapped : IsMapped world.model) (regular : IsRegular wo
               owned = ap (λ s. are_owned m s rows) (sym same_set) ∙ owned;
               sound = subst (IsSound m) same_set can.sound;
               given = (λ i. keys_given m (sym same_set i) (sym same_numbers i)) ∙ can.given;
+              marked = ap (is_marked m) e ∙ marked_of other others storables;
             }
 
         pub of_none : (StandTogether m rows set numbers → ⊥) → AreOfNone world rows

@@ -19,7 +19,7 @@ cells_of_row table r = map (λ c. record { table = table; row = r.row; column = 
 abbrev pub cells_in : World → Tables → List Cell
 cells_in world tables = flat_map (λ rule. flat_map (cells_of_row rule.table) (tables (pos rule.table))) (schema_of world.model).tables
 
--- the row of cells is one that an object, a pair or a next number may have
+-- the row of cells is one that an object, a pair, a next number or the revision may have
 abbrev pub IsSoundCells : World → TableRule → CellRow → Type 0
 IsSoundCells world rule r = (e : RowId × Row) × SpellsEntry rule r e × IsSoundRow world e.0 e.1
 

@@ -8,16 +8,17 @@ use Rattle.jpa_stored.specs.Sets.{StoredSet, stored_at, with_stored}
 use Rattle.jpa_rows.specs.Rows.{RowId, Row, Rows}
 use Rattle.jpa_object_rows.specs.Sets.{set_in, targets_in}
 use Rattle.jpa_mapper.specs.Mapped.{IsReadAs, IsMainRow}
-use Rattle.jpa_judgment.specs.Sound.{IsNumberRow, IsPairRow, IsSoundRow, AreSoundRows}
+use Rattle.jpa_judgment.specs.Sound.{IsNumberRow, IsRevisionRow, IsPairRow, IsSoundRow, AreSoundRows}
 use Rattle.jpa_judgment.specs.Judged.{IsFirstDamaged}
 use Rattle.jpa_judgment.specs.declared.meaning.Meaning.{Meaning}
 use Rattle.jpa_judgment.specs.declared.objects.Objects.{Objects}
 
--- what a row says: an object, with its pairs among the rows, a pair, or a next number
+-- what a row says: an object, with its pairs among the rows, a pair, a next number, or the revision
 abbrev pub Says : World → Rows → RowId → Row → Meaning → Type 0
 Says world rows id row (Meaning.Object x) = IsReadAs world id row (targets_in world.model rows id) x
 Says world rows id row Meaning.Pair = IsPairRow world.model id row
 Says world rows id row Meaning.Number = IsNumberRow world.model id row
+Says world rows id row Meaning.Revision = IsRevisionRow world.model id row
 
 abbrev pub SaysIfSound : World → Rows → RowId → Row → Option Meaning → Type 0
 SaysIfSound world rows id row None = IsSoundRow world id row → ⊥
@@ -28,6 +29,7 @@ abbrev pub with_meaning : RowId → Meaning → StoredSet → StoredSet
 with_meaning id (Meaning.Object x) set = with_stored id x set
 with_meaning id Meaning.Pair set = set
 with_meaning id Meaning.Number set = set
+with_meaning id Meaning.Revision set = set
 
 -- an object stands under the id of each main row
 abbrev pub HaveObjects : World → StoredSet → Rows → Type 0

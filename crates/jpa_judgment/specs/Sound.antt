@@ -1,4 +1,4 @@
--- Rows that an object, a pair or a next number may have.
+-- Rows that an object, a pair or a next number may have, and that of the revision.
 use Rattle.std.specs.Prelude.{◌≡◌, ◌⊎◌, ℕ, pos, Bool, true, nat_lt}
 use Rattle.std.specs.List.{list_any, AllByRecursion}
 use Rattle.jpa_value.specs.Value.{is_i64}
@@ -27,6 +27,12 @@ pub record IsNumberRow (m : PersistenceUnit) (id : RowId) (row : Row) : Type 0 w
   pub more : nat_lt 1 next ≡ true
   pub small : is_i64 (pos next) ≡ true
 
+-- the row of revision 2
+pub record IsRevisionRow (m : PersistenceUnit) (id : RowId) (row : Row) : Type 0 where
+  pub second : m.revision ≡ 2
+  pub under : id ≡ number_id 0
+  pub says : row ≡ number_row 2
+
 -- the table is a join table
 abbrev pub is_join : PersistenceUnit → ℕ → Bool
 is_join m table = list_any (λ class. declares table (entity_at m class)) (classes m)
@@ -37,7 +43,7 @@ pub record IsPairRow (m : PersistenceUnit) (id : RowId) (row : Row) : Type 0 whe
   pub says : row ≡ pair_row
 
 abbrev pub IsSoundRow : World → RowId → Row → Type 0
-IsSoundRow world id row = IsNumberRow world.model id row ⊎ (IsPairRow world.model id row ⊎ IsMainRow world id row)
+IsSoundRow world id row = IsRevisionRow world.model id row ⊎ (IsNumberRow world.model id row ⊎ (IsPairRow world.model id row ⊎ IsMainRow world id row))
 
 abbrev pub AreSoundRows : World → Rows → Type 0
 AreSoundRows world = AllByRecursion (λ e. IsSoundRow world e.0 e.1)

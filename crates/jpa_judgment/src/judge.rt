@@ -3,6 +3,7 @@ ghost use Rattle.std.specs.Prelude.{◌≡◌, ◌↔◌, IsTrue, IfOk, IfErr};
 ghost use Rattle.jpa_value.specs.declared.refusal.Cause.{Cause};
 ghost use Rattle.jpa_behaviour.specs.Registered.{world_of};
 ghost use Rattle.jpa_stored.specs.Sets.{IsSound};
+ghost use Rattle.jpa_rows.specs.Rows.{AreRising};
 ghost use Rattle.jpa_rows.specs.Tables.{schema_of};
 ghost use Rattle.jpa_object_rows.specs.Raw.{AreRowsOf, AreWhole, AreFilled};
 ghost use Rattle.jpa_judgment.specs.Judged.{IsJudged};
@@ -10,7 +11,7 @@ ghost use Rattle.jpa_judgment.specs.Read.{AreOfClasses};
 ghost use Rattle.jpa_judgment.specs.Together.{StandTogether};
 
 use crate::keys::are_keys_given;
-use crate::next_numbers::next_numbers;
+use crate::next_numbers::{is_marked, next_numbers};
 use crate::objects::{Objects, objects_of};
 use crate::owners::are_owned;
 use jpa_behaviour::{Behaviour, Registry};
@@ -38,7 +39,7 @@ pub(crate) enum Judged {
     /// The row at this place is damaged, and none before it.
     Damaged(usize),
     /// None is damaged, and yet they are those of no set: it is not sound, or an owner is missing, or a generated key is
-    /// not below its next number.
+    /// not below its next number, or the revision has no row.
     Unsound,
 }
 
@@ -54,8 +55,8 @@ fn is_sound(metamodel: &Metamodel, set: &StoredSet) -> Result<bool, Cause>
     }
 }
 
-/// Whether objects of sound rows and next numbers stand together: each pair has its owner, the set is sound, and generated
-/// keys lie below the next numbers.
+/// Whether objects of sound rows and next numbers stand together: each pair has its owner, the revision its row, the set is
+/// sound, and generated keys lie below the next numbers.
 fn stand_together(
     alloc: Global,
     metamodel: &Metamodel,
@@ -63,12 +64,16 @@ fn stand_together(
     set: &StoredSet,
     numbers: &[u64],
 ) -> Result<bool, Cause>
-    requires { AreOfClasses metamodel.now set.now }
+    requires classes { AreOfClasses metamodel.now set.now }
+    requires rising { AreRising rows.now }
     ensures together { IfOk result (λ together. IsTrue together
         ↔ StandTogether metamodel.now rows.now set.now numbers.now) }
     ensures err { IfErr result (λ cause. cause ≡ Cause.OutOfMemory) }
 {
-    if !are_owned(alloc, metamodel, set, rows)? || !is_sound(metamodel, set)? {
+    if !are_owned(alloc, metamodel, set, rows)? || !is_marked(alloc, metamodel, rows)? {
+        return Ok(false);
+    }
+    if !is_sound(metamodel, set)? {
         return Ok(false);
     }
     Ok(are_keys_given(metamodel, set, numbers))

@@ -1,8 +1,9 @@
 //! The judgment of a whole store: the set and the next numbers that its cells stand for, or the place where they are damaged.
 //!
 //! `read_store` reads the tables that a metamodel names in rising order and judges their rows together. `specs/Sound.antt` says
-//! which rows an object, a pair or a next number may have, `specs/Damage.antt` which place is told where the cells stand for
-//! nothing. The crate stands on the rows of `jpa_rowspace`, objects as rows (`jpa_mapper`), and sound sets (`jpa_stored`).
+//! which rows an object, a pair, a next number or the revision may have, `specs/Damage.antt` which place is told where the cells
+//! stand for nothing. The crate stands on the rows of `jpa_rowspace`, objects as rows (`jpa_mapper`), and sound sets
+//! (`jpa_stored`).
 #![tactic(auto)]
 
 mod entries;

@@ -7,7 +7,7 @@ ghost use Rattle.jpa_object_rows.specs.Raw.{AreRowsOf};
 ghost use Rattle.jpa_judgment.specs.Sound.{IsPairRow};
 ghost use Rattle.jpa_judgment.specs.Read.{IsObjectOf, SaysIfSound};
 
-use crate::numbers::{is_number_row, is_pair};
+use crate::numbers::{is_number_row, is_pair, is_revision_row};
 use crate::owners::is_join;
 use jpa_behaviour::{Behaviour, Registry};
 use jpa_mapper::from_rows_by_id;
@@ -26,6 +26,8 @@ pub(crate) enum Meaning {
     Pair,
     /// A next number.
     Number,
+    /// The revision.
+    Revision,
 }
 
 /// Whether a row is that of a pair.
@@ -70,6 +72,9 @@ pub(crate) fn meaning_of<B: Behaviour>(
         rows.now id.now row.now) }
     ensures err { IfErr result (λ cause. cause ≡ Cause.OutOfMemory) }
 {
+    if is_revision_row(metamodel, id, row) {
+        return Ok(Some(Meaning::Revision));
+    }
     if is_number_row(metamodel, id, row) {
         return Ok(Some(Meaning::Number));
     }

@@ -1,7 +1,8 @@
-//! The next numbers that rows say.
+//! The next numbers that rows say, and whether they say the revision.
 ghost use Rattle.std.specs.Prelude.{◌≡◌, ◌<◌, ◌^◌, Some, IfOk, IfErr};
 ghost use Rattle.std.specs.FinMap.{find};
 ghost use Rattle.jpa_judgment.specs.Numbers.{zero_column};
+ghost use Rattle.jpa_judgment.specs.Together as together;
 ghost use Rattle.std.specs.Option.{option_copied};
 ghost use Rattle.jpa_value.specs.Value.{identity_cmp};
 ghost use Rattle.jpa_value.specs.declared.refusal.Cause.{Cause};
@@ -106,4 +107,21 @@ pub(crate) fn next_numbers(
         numbers.push(next_of(alloc, rows, origin_of(metamodel, class))?)?;
     }
     Ok(numbers)
+}
+
+/// Whether the row of the unit's revision is among the rows, where the revision has one.
+pub(crate) fn is_marked(
+    alloc: Global,
+    metamodel: &Metamodel,
+    rows: &[(RowId, Row)],
+) -> Result<bool, Cause>
+    requires { AreRising rows.now }
+    ensures ok { IfOk result (λ marked. marked ≡ together.is_marked metamodel.now rows.now) }
+    ensures err { IfErr result (λ cause. cause ≡ Cause.OutOfMemory) }
+{
+    if metamodel.unit().revision == 1 {
+        return Ok(true);
+    }
+    let id = number_id(alloc, 0)?;
+    Ok(find_row(rows, &id).is_some())
 }

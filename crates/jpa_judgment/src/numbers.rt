@@ -1,9 +1,9 @@
-//! Rows that say a number: those of next numbers and of pairs.
+//! Rows that say a number: those of next numbers, of the revision and of pairs.
 ghost use Rattle.std.specs.Prelude.{◌≡◌, ◌↔◌, pos, true, IsTrue, IfSome};
 ghost use Rattle.jpa_value.specs.Value.{is_i64};
 ghost use Rattle.jpa_object_rows.specs.Objects.{pair_row};
 ghost use Rattle.jpa_judgment.specs.Numbers as numbers;
-ghost use Rattle.jpa_judgment.specs.Sound.{IsNumberRow};
+ghost use Rattle.jpa_judgment.specs.Sound.{IsNumberRow, IsRevisionRow};
 
 use jpa_model::{Metamodel, Origin};
 use jpa_rows::{Content, Row, RowId};
@@ -77,6 +77,16 @@ pub(crate) fn is_number_row(metamodel: &Metamodel, id: &RowId, row: &Row) -> boo
 {
     match (table_named(id), only_number(row)) {
         (Some(table), Some(next)) => next > 1 && has_generator(metamodel, table),
+        _ => false,
+    }
+}
+
+/// Whether a row is that of the unit's revision, which is 2.
+pub(crate) fn is_revision_row(metamodel: &Metamodel, id: &RowId, row: &Row) -> bool
+    ensures { IsTrue result ↔ IsRevisionRow metamodel.now id.now row.now }
+{
+    match (table_named(id), only_number(row)) {
+        (Some(0), Some(2)) => metamodel.unit().revision == 2,
         _ => false,
     }
 }

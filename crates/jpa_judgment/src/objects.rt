@@ -29,7 +29,7 @@ fn put_meaning(set: &mut StoredSet, id: &RowId, meaning: Meaning) -> Result<(), 
 {
     match meaning {
         Meaning::Object(object) => set.put(id.try_copy()?, object),
-        Meaning::Pair | Meaning::Number => Ok(()),
+        Meaning::Pair | Meaning::Number | Meaning::Revision => Ok(()),
     }
 }
 

@@ -79,11 +79,11 @@ fn judge_read<B: Behaviour>(
 /// space is one of the metamodel's schema. What is answered can always be held; that the cells stand for it is sure where the
 /// disk is clean.
 ///
-/// Cells that stand for none are `Damaged`. Where a row of cells is one that no object, no pair and no next number has, it is
+/// Cells that stand for none are `Damaged`. Where a row of cells is one that no object, pair, next number or revision has, it is
 /// told by its table and its bytes, and so is the lowest of several: an ill-formed one, of an unknown class, with a column
 /// that its class lacks, without a version, of a converter's throw. Else each row may be one, and yet they are those of no
-/// sound set with its next numbers, as where an owner is missing or a generated key is not below the next number: that is
-/// `Damaged(0, [])`. Otherwise it fails for want of memory, or with `StoreFault`.
+/// sound set with its next numbers, as where an owner is missing, a generated key is not below the next number, or a unit of
+/// revision 2 finds no row of it: that is `Damaged(0, [])`. Otherwise it fails for want of memory, or with `StoreFault`.
 pub fn read_store<S: Alter, B: Behaviour>(
     alloc: Global,
     metamodel: &Metamodel,

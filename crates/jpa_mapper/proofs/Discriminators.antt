@@ -1,9 +1,8 @@
 -- The discriminators of a unit that is described are short.
-use Rattle.std.specs.Prelude.{◌≡◌, ℕ, pos, true, ◌&&◌, nat_le, ◌<◌, length}
+use Rattle.std.specs.Prelude.{◌≡◌, ℕ, true, ◌&&◌, nat_le, ◌<◌, length}
 use Rattle.std.proofs.Common.{sym, ap, subst, ◌∙◌}
 use Rattle.std.proofs.lemmas.List.{get_or-map, length-map}
 use Rattle.std.specs.List.{list_all, flat_map}
-use Rattle.std.specs.Ordering.{int_eq}
 use Rattle.jpa_value.specs.Limits.{most_bytes}
 use Rattle.jpa_model.specs.declared.draft.Draft.{Draft}
 use Rattle.jpa_model.specs.declared.unit.Entity.{Entity}
@@ -20,7 +19,7 @@ use Rattle.jpa_view.proofs.Classes.{below, item_at}
 
 each_short : (d : Draft) → well_formed.is_well_formed d ≡ true → list_all well_formed.is_discriminator_short d.entities ≡ true
 each_short d h =
-    let together = and_second (int_eq d.revision (pos 1) && well_formed.has_entities d) _ h in
+    let together = and_second (well_formed.has_revision d && well_formed.has_entities d) _ h in
     let later = and_second (well_formed.has_members d) _ (and_second (well_formed.has_roots d) _ together) in
     let numbers = and_first (well_formed.has_numbers d) _ later in
     let short = list_all well_formed.is_discriminator_short d.entities in

@@ -4,55 +4,67 @@ use Rattle.std.specs.Str.{is_utf8, chars}
 use Rattle.jpa_value.specs.declared.refusal.Cause.{Cause}
 use Rattle.jpa_value.specs.declared.refusal.MappingFault.{MappingFault}
 use Rattle.jpa_value.specs.declared.value.Kind.{Kind}
+use Rattle.jpa_value.specs.declared.value.Value.{Value}
 use Rattle.jpa_model.specs.declared.draft.Cascade.{Cascade}
 use Rattle.jpa_model.specs.declared.draft.DraftEntity.{DraftEntity}
 use Rattle.jpa_model.specs.declared.draft.DraftOrigin.{DraftOrigin}
 use Rattle.jpa_model.specs.declared.draft.DraftSide.{DraftSide}
 use Rattle.jpa_model.specs.declared.draft.RelationKind.{RelationKind}
-use Rattle.serde_json.specs.Data.{Data, boolean, number, unsigned, string, array, object, no_items, item, Members, no_members, member}
+use Rattle.serde_json.specs.Data.{Data, null, boolean, number, unsigned, string, array, object, no_items, item, Members, no_members, member}
 use Rattle.serde_json.proofs.OnLiterals.{serde_json_on_literals}
 use Rattle.jpa_json.specs.JsonOf.{text_data}
+use Rattle.jpa_json.specs.Values.{bytes_of}
 use Rattle.jpa_mapping.specs.DraftOf.{draft_of, entity_of, root_of, subclass_of, part_of, version_of, attribute_of, relation_of, side_of, listener_of}
-use Rattle.jpa_mapping.specs.MappingOf.{draft_in}
+use Rattle.jpa_mapping.specs.HistoryOf.{change_of, class_history_of, history_of}
+use Rattle.jpa_mapping.specs.MappingOf.{drafts_of, drafts_in}
 
-no_description : draft_in (codes "{}") ≡ Err (Cause.Mapping MappingFault.Shape)
-unfolding draft_in text_data draft_of is_utf8 chars serde_json_on_literals
+no_description : drafts_in (codes "{}") ≡ Err (Cause.Mapping MappingFault.Shape)
+unfolding drafts_in drafts_of text_data draft_of is_utf8 chars serde_json_on_literals
 no_description = refl
 
-no_text : draft_in (codes "{\"revision\":1") ≡ Err (Cause.Mapping MappingFault.Json)
-unfolding draft_in text_data is_utf8 chars serde_json_on_literals
+no_text : drafts_in (codes "{\"revision\":1") ≡ Err (Cause.Mapping MappingFault.Json)
+unfolding drafts_in drafts_of text_data is_utf8 chars serde_json_on_literals
 no_text = refl
 
-base_and_sub : draft_in (codes "{\"revision\":1,\"entities\":[{\"name\":\"Base\",\"table\":5,\"key\":[{\"name\":\"id\",\"type\":\"int\"}]},{\"name\":\"Sub\",\"extends\":\"Base\"}]}") ≡ Ok (record {
-  revision = pos 1;
-  listeners = [];
-  entities =
-      (record {
-        name = codes "Base";
-        origin = DraftOrigin.Root (record { table = pos 5; key = (record { name = codes "id"; kind = Kind.Int }) ∷ []; embedded = None; generated = false; version = None });
-        discriminator = None;
-        attributes = [];
-        relations = [];
-        listeners = [];
-        callbacks = [];
-        exclude_default = false;
-        exclude_super = false;
-      })
-      ∷ (record {
-        name = codes "Sub";
-        origin = DraftOrigin.Extends (codes "Base");
-        discriminator = None;
-        attributes = [];
-        relations = [];
-        listeners = [];
-        callbacks = [];
-        exclude_default = false;
-        exclude_super = false;
-      })
-      ∷ [];
+base_and_sub : drafts_in (codes "{\"revision\":1,\"entities\":[{\"name\":\"Base\",\"table\":5,\"key\":[{\"name\":\"id\",\"type\":\"int\"}]},{\"name\":\"Sub\",\"extends\":\"Base\"}]}") ≡ Ok (record {
+  draft = record {
+    revision = pos 1;
+    listeners = [];
+    entities =
+        (record {
+          name = codes "Base";
+          origin = DraftOrigin.Root (record { table = pos 5; key = (record { name = codes "id"; kind = Kind.Int }) ∷ []; embedded = None; generated = false; version = None });
+          discriminator = None;
+          attributes = [];
+          relations = [];
+          listeners = [];
+          callbacks = [];
+          exclude_default = false;
+          exclude_super = false;
+        })
+        ∷ (record {
+          name = codes "Sub";
+          origin = DraftOrigin.Extends (codes "Base");
+          discriminator = None;
+          attributes = [];
+          relations = [];
+          listeners = [];
+          callbacks = [];
+          exclude_default = false;
+          exclude_super = false;
+        })
+        ∷ [];
+  };
+  history = record { classes = record { dropped = None; changes = [] } ∷ record { dropped = None; changes = [] } ∷ [] };
 })
-unfolding draft_in text_data draft_of entity_of root_of subclass_of part_of is_utf8 chars serde_json_on_literals
+unfolding drafts_in drafts_of text_data draft_of entity_of root_of subclass_of part_of history_of class_history_of is_utf8 chars serde_json_on_literals
 base_and_sub = refl
+
+-- columns are dropped by roots alone
+dropped_below : drafts_in (codes "{\"revision\":2,\"entities\":[{\"name\":\"Base\",\"table\":5,\"key\":[{\"name\":\"id\",\"type\":\"int\"}]},{\"name\":\"Sub\",\"extends\":\"Base\",\"dropped\":[1]}]}")
+    ≡ Err (Cause.Mapping MappingFault.Shape)
+unfolding drafts_in drafts_of text_data draft_of entity_of root_of subclass_of part_of is_utf8 chars serde_json_on_literals
+dropped_below = refl
 
 person_data : Data
 person_data = object (member (codes "attributes") (array (item (object (member (codes "column") (number (unsigned 2)) (member (codes "name") (string (codes "name")) (member (codes "type") (string (codes "text")) no_members)))) no_items)) (member (codes "generated") (boolean true) (member (codes "key") (array (item (object (member (codes "name") (string (codes "id")) (member (codes "type") (string (codes "int")) no_members))) no_items)) (member (codes "name") (string (codes "Person")) (member (codes "relations") (array (item (object (member (codes "cascade") (array (item (string (codes "ALL")) no_items)) (member (codes "kind") (string (codes "oneToMany")) (member (codes "mappedBy") (string (codes "person")) (member (codes "name") (string (codes "orders")) (member (codes "orphanRemoval") (boolean true) (member (codes "target") (string (codes "Order")) no_members))))))) no_items)) (member (codes "table") (number (unsigned 1)) (member (codes "version") (object (member (codes "column") (number (unsigned 1)) (member (codes "name") (string (codes "version")) no_members))) no_members)))))))
@@ -151,3 +163,45 @@ two_sides = refl
 required_pairs : side_of None (Some (number (unsigned 2))) None (Some (boolean true)) ≡ None
 unfolding side_of
 required_pairs = refl
+
+-- ---- what has changed since revision 1
+
+attribute_data : Members → Data
+attribute_data more = object (member (codes "column") (number (unsigned 3)) (member (codes "name") (string (codes "hits")) (member (codes "type") (string (codes "int")) more)))
+
+new_attribute : change_of (attribute_data (member (codes "since") (number (unsigned 2)) (member (codes "default") (number (unsigned 0)) no_members)))
+    ≡ Some (record { since = Some (pos 2); default = Some (Value.Int (pos 0)); was = None })
+unfolding change_of attribute_data
+new_attribute = refl
+
+moved_attribute : change_of (attribute_data (member (codes "was") (number (unsigned 2)) no_members)) ≡ Some (record { since = None; default = None; was = Some (pos 2) })
+unfolding change_of attribute_data
+moved_attribute = refl
+
+kept_attribute : change_of (attribute_data no_members) ≡ Some (record { since = None; default = None; was = None })
+unfolding change_of attribute_data
+kept_attribute = refl
+
+-- null is a value here, which no type has
+null_default : change_of (attribute_data (member (codes "default") null no_members)) ≡ Some (record { since = None; default = Some Value.Null; was = None })
+unfolding change_of attribute_data
+null_default = refl
+
+-- an object number is no value
+object_default : change_of (attribute_data (member (codes "default") (object (member (codes "object") (number (unsigned 1)) no_members)) no_members)) ≡ None
+unfolding change_of attribute_data bytes_of
+object_default = refl
+
+truth_default : change_of (attribute_data (member (codes "default") (boolean true) no_members)) ≡ None
+unfolding change_of attribute_data
+truth_default = refl
+
+-- an attribute may say so
+attribute_says : attribute_of (attribute_data (member (codes "was") (number (unsigned 2)) no_members))
+    ≡ Some (record { name = codes "hits"; kind = Kind.Int; column = pos 3; required = false; converter = None })
+unfolding attribute_of attribute_data
+attribute_says = refl
+
+dropped_columns : class_history_of (object (member (codes "dropped") (array (item (number (unsigned 1)) no_items)) no_members)) ≡ Some (record { dropped = Some (pos 1 ∷ []); changes = [] })
+unfolding class_history_of
+dropped_columns = refl

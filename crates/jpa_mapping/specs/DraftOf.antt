@@ -118,9 +118,15 @@ version_of d = do
   column ← required integer_of (codes "column") d
   Some (record { name = name; column = column })
 
+-- what `since`, `default` and `was` hold is what the history says
+abbrev pub attribute_members : List (List ℕ)
+attribute_members =
+    codes "name" ∷ codes "type" ∷ codes "column" ∷ codes "required" ∷ codes "converter" ∷ codes "since" ∷ codes "default"
+    ∷ codes "was" ∷ []
+
 unfoldable pub attribute_of : Data → Option DraftAttribute
 attribute_of d = do
-  known ← only (codes "name" ∷ codes "type" ∷ codes "column" ∷ codes "required" ∷ codes "converter" ∷ []) d
+  known ← only attribute_members d
   name ← required as_str (codes "name") d
   kind ← required kind_of (codes "type") d
   column ← required integer_of (codes "column") d
@@ -177,8 +183,10 @@ common_members =
     codes "name" ∷ codes "discriminator" ∷ codes "attributes" ∷ codes "relations" ∷ codes "listeners" ∷ codes "callbacks" ∷ codes "excludeDefault"
     ∷ codes "excludeSuper" ∷ []
 
+-- what `dropped` holds is what the history says
 abbrev pub root_members : List (List ℕ)
-root_members = codes "table" ∷ codes "key" ∷ codes "embedded" ∷ codes "generated" ∷ codes "version" ∷ common_members
+root_members =
+    codes "table" ∷ codes "key" ∷ codes "embedded" ∷ codes "generated" ∷ codes "version" ∷ codes "dropped" ∷ common_members
 
 abbrev pub subclass_members : List (List ℕ)
 subclass_members = codes "extends" ∷ common_members

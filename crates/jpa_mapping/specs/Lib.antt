@@ -1,2 +1,3 @@
 pub mod DraftOf
+pub mod HistoryOf
 pub mod MappingOf

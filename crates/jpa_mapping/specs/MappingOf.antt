@@ -1,19 +1,35 @@
 -- What the bytes of a mapping description give.
-use Rattle.std.specs.Prelude.{ℕ, List, Result}
+use Rattle.std.specs.Prelude.{ℕ, List, Option, Some, Result, Ok}
 use Rattle.std.specs.Option.{ok_or}
 use Rattle.jpa_value.specs.declared.refusal.Cause.{Cause}
 use Rattle.jpa_value.specs.declared.refusal.MappingFault.{MappingFault}
 use Rattle.jpa_model.specs.Described.{checked}
-use Rattle.jpa_model.specs.declared.draft.Draft.{Draft}
-use Rattle.jpa_model.specs.declared.unit.PersistenceUnit.{PersistenceUnit}
+use Rattle.jpa_history.specs.Condition.{checked_history}
+use Rattle.serde_json.specs.Data.{Data}
 use Rattle.jpa_json.specs.JsonOf.{json_of}
-use Rattle.jpa_json.specs.Outcome.{and_then}
+use Rattle.jpa_json.specs.Outcome.{◌>>=◌, and_then}
 use Rattle.jpa_mapping.specs.DraftOf.{draft_of}
+use Rattle.jpa_mapping.specs.HistoryOf.{history_of}
+use Rattle.jpa_mapping.specs.declared.reading.Drafts.{Drafts}
+use Rattle.jpa_mapping.specs.declared.reading.Mapping.{Mapping}
 
--- the description, or the first that is wrong with it: the text, the shape
-unfoldable pub draft_in : List ℕ → Result Draft Cause
-draft_in bytes = and_then (json_of bytes) (λ d. ok_or (draft_of d) (Cause.Mapping MappingFault.Shape))
+-- the description, and what it says of changes
+unfoldable pub drafts_of : Data → Option Drafts
+drafts_of d = do
+  draft ← draft_of d
+  history ← history_of d
+  Some (record { draft = draft; history = history })
 
--- the metamodel, or the first that is wrong: the text, the shape, the model
-unfoldable pub mapping_of : List ℕ → Result PersistenceUnit Cause
-mapping_of bytes = and_then (draft_in bytes) checked
+-- both, or the first that is wrong with them: the text, the shape
+unfoldable pub drafts_in : List ℕ → Result Drafts Cause
+drafts_in bytes = and_then (json_of bytes) (λ d. ok_or (drafts_of d) (Cause.Mapping MappingFault.Shape))
+
+-- the metamodel and its history, where they are well formed
+abbrev pub checked_mapping : Drafts → Result Mapping Cause
+checked_mapping drafts =
+    and_then (checked drafts.draft) (λ metamodel.
+    and_then (checked_history metamodel drafts.history) (λ history. Ok (record { metamodel = metamodel; history = history })))
+
+-- the metamodel and its history, or the first that is wrong: the text, the shape, the model
+unfoldable pub mapping_of : List ℕ → Result Mapping Cause
+mapping_of bytes = and_then (drafts_in bytes) checked_mapping

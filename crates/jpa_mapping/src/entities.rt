@@ -21,12 +21,13 @@ const SUBCLASS_MEMBERS: [&str; 9] = [
     "excludeSuper",
 ];
 
-const ROOT_MEMBERS: [&str; 13] = [
+const ROOT_MEMBERS: [&str; 14] = [
     "table",
     "key",
     "embedded",
     "generated",
     "version",
+    "dropped",
     "name",
     "discriminator",
     "attributes",

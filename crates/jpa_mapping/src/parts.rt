@@ -81,12 +81,23 @@ impl Described<Description> for DraftVersion {
     }
 }
 
+const ATTRIBUTE_MEMBERS: [&str; 8] = [
+    "name",
+    "type",
+    "column",
+    "required",
+    "converter",
+    "since",
+    "default",
+    "was",
+];
+
 impl Described<Description> for DraftAttribute {
     ghost meaning = { drafts.attribute_of };
 
     #[tactic(auto, unfolding(crate::specs::DraftOf::attribute_of))]
     fn read(alloc: Global, json: &Json) -> Result<DraftAttribute, Unread> {
-        only(json, &["name", "type", "column", "required", "converter"])?;
+        only(json, &ATTRIBUTE_MEMBERS)?;
         let name = required(alloc, json, "name")?;
         let kind = required(alloc, json, "type")?;
         let column = required(alloc, json, "column")?;

@@ -1,33 +1,69 @@
-//! From the bytes of a description to the metamodel.
+//! From the bytes of a description to the metamodel and its history.
+ghost use Rattle.std.specs.Prelude.{IfOk};
+ghost use Rattle.serde_json.specs.View.{view};
 ghost use Rattle.jpa_model.specs.Described.{IsUnlessMemory};
-ghost use Rattle.jpa_mapping.specs.MappingOf.{draft_in, mapping_of};
+ghost use Rattle.jpa_history.specs.Condition.{IsHistoryOf};
+ghost use Rattle.jpa_json.specs.Outcome.{Gives, same};
+ghost use Rattle.jpa_mapping.specs.MappingOf as mappings;
 
-use jpa_json::{Described, json_of, or_refuse};
+use crate::members::Description;
+use jpa_history::{DraftHistory, History, check_history};
+use jpa_json::{Described, Unread, json_of, or_refuse};
 use jpa_model::{Draft, Metamodel, check};
 use jpa_value::{Cause, MappingFault};
+use serde_json::Value as Json;
 use std::alloc::Global;
 
-/// The metamodel that a mapping description describes, a text of JSON in UTF-8 (Jakarta Persistence 3.1, chapters
-/// 11 and 12, as data).
-///
-/// Refuses as `Mapping(Json)` bytes that are no UTF-8 or a text that `serde_json` does not read, else as
-/// `Mapping(Shape)` a member that is missing, that no table lists or that is of another type or word, else as
-/// `Mapping(Model)` a metamodel that is not well formed; as `OutOfMemory` where a growth was refused. What
-/// `functions` holds is not asked.
-pub fn read_mapping(alloc: Global, bytes: &[u8]) -> Result<Metamodel, Cause>
-    ensures { IsUnlessMemory result (mapping_of bytes.now) }
-{
-    let draft = read_draft(alloc, bytes)?;
-    check(alloc, &draft)
+/// What a mapping description describes: a metamodel, and what has changed of it since revision 1.
+#[derive(Drop)]
+pub struct Mapping {
+    pub metamodel: Metamodel,
+    pub history: History,
 }
 
 /// What a description says, well formed or not.
-fn read_draft(alloc: Global, bytes: &[u8]) -> Result<Draft, Cause>
-    ensures { IsUnlessMemory result (draft_in bytes.now) }
+#[derive(Drop)]
+pub(crate) struct Drafts {
+    pub(crate) draft: Draft,
+    pub(crate) history: DraftHistory,
+}
+
+/// The metamodel and its history that a mapping description describes, a text of JSON in UTF-8 (Jakarta Persistence 3.1,
+/// chapters 11 and 12, as data).
+///
+/// Refuses as `Mapping(Json)` bytes that are no UTF-8 or a text that `serde_json` does not read, else as
+/// `Mapping(Shape)` a member that is missing, that no table lists or that is of another type or word, else as
+/// `Mapping(Model)` a metamodel or a history that is not well formed; as `OutOfMemory` where a growth was refused. What
+/// `functions` holds is not asked.
+pub fn read_mapping(alloc: Global, bytes: &[u8]) -> Result<Mapping, Cause>
+    ensures read { IsUnlessMemory result (mappings.mapping_of bytes.now) }
+    ensures history { IfOk result (λ mapping. IsHistoryOf mapping.metamodel mapping.history) }
+{
+    let drafts = read_drafts(alloc, bytes)?;
+    checked(alloc, &drafts)
+}
+
+fn read_drafts(alloc: Global, bytes: &[u8]) -> Result<Drafts, Cause>
+    ensures { IsUnlessMemory result (mappings.drafts_in bytes.now) }
 {
     let json = or_refuse(json_of(alloc, bytes), Cause::Mapping(MappingFault::Json))?;
-    or_refuse(
-        Draft::read(alloc, &json),
-        Cause::Mapping(MappingFault::Shape),
-    )
+    or_refuse(drafts_of(alloc, &json), Cause::Mapping(MappingFault::Shape))
+}
+
+#[tactic(auto, unfolding(crate::specs::MappingOf::drafts_of))]
+fn drafts_of(alloc: Global, json: &Json) -> Result<Drafts, Unread>
+    ensures { Gives same result (mappings.drafts_of (view json.now)) }
+{
+    let draft = Draft::read(alloc, json)?;
+    let history = DraftHistory::read(alloc, json)?;
+    Ok(Drafts { draft, history })
+}
+
+fn checked(alloc: Global, drafts: &Drafts) -> Result<Mapping, Cause>
+    ensures read { IsUnlessMemory result (mappings.checked_mapping drafts.now) }
+    ensures history { IfOk result (λ mapping. IsHistoryOf mapping.metamodel mapping.history) }
+{
+    let metamodel = check(alloc, &drafts.draft)?;
+    let history = check_history(alloc, &metamodel, &drafts.history)?;
+    Ok(Mapping { metamodel, history })
 }

@@ -1,18 +1,20 @@
 -- The marks at a commit's end say of the context as the commit leaves it what the next flush needs to know.
-use Rattle.std.proofs.Common.{◌≡◌, ◌∙◌, ◌⊎◌, inl, inr, ℕ, ◌<◌, Bool, true, false, not, List, [], ◌∷◌, map, length, get_or, refl, ap, sym, subst, arith}
+use Rattle.std.proofs.Common.{◌≡◌, ◌≢◌, ◌∙◌, ◌⊎◌, inl, inr, ℕ, ◌<◌, Bool, true, false, not, List, [], ◌∷◌, map, length, get_or, refl, ap, sym, subst, arith}
 use Rattle.std.specs.Prelude.{◌==◌, ◌||◌, if◌then◌else◌}
 use Rattle.std.specs.List.{All, AllByRecursion, filter, list_all, list_any}
-use Rattle.std.proofs.lemmas.Bool.{and_from, and_parts, eq-eqb, eqb-true, false≢true}
+use Rattle.std.proofs.lemmas.Bool.{and_from, and_parts, cases_eq, eq-eqb, eqb-true, false≢true}
 use Rattle.std.proofs.lemmas.List.{get_or_default}
 use Rattle.std.proofs.lemmas.List.Elements.{All-from_recursion, recursion_from_All}
 use Rattle.jpa_model.specs.declared.unit.PersistenceUnit.{PersistenceUnit}
 use Rattle.jpa_context.specs.declared.Entry.{Entry}
 use Rattle.jpa_context.specs.Marks.{Marked, Marks, is_listed, is_marked}
 use Rattle.jpa_context.specs.Work.{Work, is_managed, is_removed, state_of, unlocked}
+use Rattle.jpa_fetch.specs.Grown.{AreDistinct}
 use Rattle.jpa_flush.specs.Marked.{AreLooked, AreMarked, GoesOn, IsUntouched, LeadsStill, is_calm, is_linked, is_linked_if_managed, is_unlocked}
 use Rattle.jpa_flush.proofs.Silent.{calm_parts}
 use Rattle.jpa_flush.proofs.Untouched.{calm_on, linked_on}
-use Rattle.jpa_marking.specs.Committed.{IsOver, IsSeenAt, MarksMore, are_linked_unless_marked}
+use Rattle.jpa_flush.proofs.TurnsOfUpdates.{other_object}
+use Rattle.jpa_marking.specs.Committed.{AreCalledFor, LeavesNoMark, IsOver, IsSeenAt, MarksMore, are_linked_unless_marked}
 use Rattle.jpa_marking.specs.Shared.{ended}
 
 -- ---- marks that are added
@@ -41,6 +43,35 @@ seen_more m w a b more p h d = by (get_or w.context p d) (h d)
     by : (e : Entry) → IsOver m w e ⊎ (is_marked a e.object ≡ true) → IsOver m w e ⊎ (is_marked b e.object ≡ true)
     by e (inl over) = inl over
     by e (inr marked) = inr (more e.object marked)
+
+-- ---- no mark too much
+
+pub called_more : (m : PersistenceUnit) (w : Work) (a b : Marks) (p : ℕ) (e : Entry) → p < length w.context → e ≡ get_or w.context p e → (IsOver m w e → ⊥) → Marked e.object a b → AreCalledFor m w a → AreCalledFor m w b
+called_more m w a b p e l is left marked h n listed = by (e.object == n) refl (sym (marked.objects n) ∙ listed)
+  where
+    same : (d : Entry) → e ≡ get_or w.context p d
+    same d = is ∙ get_or_default w.context p e d l
+
+    by : (t : Bool) → (e.object == n) ≡ t → (t || is_listed a.objects n) ≡ true → (i : ℕ) × (i < length w.context) × ((d : Entry) → ((get_or w.context i d).object ≡ n) × (IsOver m w (get_or w.context i d) → ⊥))
+    by true own x = (p, l, λ d. (ap (λ (y : Entry). y.object) (sym (same d)) ∙ eqb-true e.object n own, λ over. left (subst (IsOver m w) (sym (same d)) over)))
+    by false own x = h n x
+
+pub none_called : (m : PersistenceUnit) (w : Work) (k : Marks) → k.objects ≡ [] → AreCalledFor m w k
+none_called m w k none n listed = absurd (false≢true (ap (λ xs. is_listed xs n) (sym none) ∙ listed))
+
+pub none_left : (m : PersistenceUnit) (w : Work) (k : Marks) → AreDistinct w.context → AreCalledFor m w k → LeavesNoMark m w k
+none_left m w k distinct h off i d l over = by (is_listed k.objects (get_or w.context i d).object) refl
+  where
+    n : ℕ
+    n = (get_or w.context i d).object
+
+    at : (p : ℕ) → p < length w.context → ((e : Entry) → ((get_or w.context p e).object ≡ n) × (IsOver m w (get_or w.context p e) → ⊥)) → (i ≡ p) ⊎ (i ≢ p) → is_marked k n ≡ false
+    at p within g (inl same) = absurd ((g d).1 (subst (λ j. IsOver m w (get_or w.context j d)) same over))
+    at p within g (inr apart) = absurd (other_object w.context i p d d distinct apart l within (sym (g d).0))
+
+    by : (t : Bool) → is_listed k.objects n ≡ t → is_marked k n ≡ false
+    by true listed = let c = h n listed in at c.0 c.1 c.2 (cases_eq i c.0)
+    by false free = λ j. off j || free j
 
 -- ---- what a commit leaves of the entries
 

@@ -17,10 +17,10 @@ use Rattle.jpa_marking.specs.Anew.{IsGoneOver, IsTold}
 -- ---- none, fewer, and some after others
 
 pub over_none : (m : PersistenceUnit) (w : Work) (k : Marks) (P : ℕ → Type 0) → ((i : ℕ) → i < length w.context → P i) → IsGoneOver m w P k k
-over_none m w k P all = record { linked = refl; each = λ i d l. inr (refl, all i l) }
+over_none m w k P all = record { all = refl; linked = refl; each = λ i d l. inr (refl, all i l) }
 
 pub over_weaker : (m : PersistenceUnit) (w : Work) (P Q : ℕ → Type 0) (a b : Marks) → ((i : ℕ) → i < length w.context → P i → Q i) → IsGoneOver m w P a b → IsGoneOver m w Q a b
-over_weaker m w P Q a b f h = record { linked = h.linked; each = λ i d l. by (get_or w.context i d) i l (h.each i d l) }
+over_weaker m w P Q a b f h = record { all = h.all; linked = h.linked; each = λ i d l. by (get_or w.context i d) i l (h.each i d l) }
   where
     by : (e : Entry) (i : ℕ) → i < length w.context → IsTold m w b e ⊎ ((is_marked b e.object ≡ is_marked a e.object) × P i) → IsTold m w b e ⊎ ((is_marked b e.object ≡ is_marked a e.object) × Q i)
     by e i l (inl told) = inl told
@@ -28,18 +28,21 @@ over_weaker m w P Q a b f h = record { linked = h.linked; each = λ i d l. by (g
 
 pub over_both : (m : PersistenceUnit) (w : Work) (P Q : ℕ → Type 0) (a b c : Marks) → IsGoneOver m w P a b → IsGoneOver m w Q b c → IsGoneOver m w (λ i. P i × Q i) a c
 over_both m w P Q a b c h k =
-    record { linked = k.linked ∙ h.linked; each = λ i d l. by (get_or w.context i d) (P i) (Q i) (h.each i d l) (k.each i d l) }
+    record { all = k.all ∙ h.all; linked = k.linked ∙ h.linked; each = λ i d l. by (get_or w.context i d) (P i) (Q i) (h.each i d l) (k.each i d l) }
   where
     by : (e : Entry) (R S : Type 0) → IsTold m w b e ⊎ ((is_marked b e.object ≡ is_marked a e.object) × R) → IsTold m w c e ⊎ ((is_marked c e.object ≡ is_marked b e.object) × S) → IsTold m w c e ⊎ ((is_marked c e.object ≡ is_marked a e.object) × (R × S))
     by e R S x (inl told) = inl told
-    by e R S (inl told) (inr y) = inl (λ unmarked. subst (λ l. IsUntouched m w l e) (sym k.linked) (told (sym y.0 ∙ unmarked)))
+    by e R S (inl told) (inr y) = inl (record {
+      looked = λ unmarked. subst (λ l. IsUntouched m w l e) (sym k.linked) (told.looked (sym y.0 ∙ unmarked));
+      taken = λ off untouched. y.0 ∙ told.taken (sym k.all ∙ off) (subst (λ l. IsUntouched m w l e) k.linked untouched);
+    })
     by e R S (inr x) (inr y) = inr (y.0 ∙ x.0, (x.1, y.1))
 
 -- ---- the entry at a place
 
 module _ (m : PersistenceUnit) (w : Work) (place : ℕ) (e : Entry) (a b : Marks) (distinct : AreDistinct w.context) (within : place < length w.context) (is : e ≡ get_or w.context place e) where
-  over_at : b.linked ≡ a.linked → IsTold m w b e → ((n : ℕ) → n ≢ e.object → is_marked b n ≡ is_marked a n) → IsGoneOver m w (λ i. i ≢ place) a b
-  over_at linked told others = record { linked = linked; each = λ i d l. by i d l (cases_eq i place) }
+  over_at : b.all ≡ a.all → b.linked ≡ a.linked → IsTold m w b e → ((n : ℕ) → n ≢ e.object → is_marked b n ≡ is_marked a n) → IsGoneOver m w (λ i. i ≢ place) a b
+  over_at all linked told others = record { all = all; linked = linked; each = λ i d l. by i d l (cases_eq i place) }
     where
       by : (i : ℕ) (d : Entry) → i < length w.context → (i ≡ place) ⊎ (i ≢ place) → IsTold m w b (get_or w.context i d) ⊎ ((is_marked b (get_or w.context i d).object ≡ is_marked a (get_or w.context i d).object) × (i ≢ place))
       by i d l (inl same) = inl (subst (λ j. IsTold m w b (get_or w.context j d)) (sym same) (subst (IsTold m w b) (get_or_default w.context place e d within) (subst (IsTold m w b) is told)))
@@ -52,13 +55,21 @@ module _ (m : PersistenceUnit) (w : Work) (place : ℕ) (e : Entry) (a b : Marks
   -- it was found untouched
   pub over_untouched : IsUntouched m w a.linked e → Unmarked e.object a b → IsGoneOver m w (λ i. i ≢ place) a b
   over_untouched untouched u =
-      over_at u.linked (λ unmarked. subst (λ l. IsUntouched m w l e) (sym u.linked) untouched)
+      over_at u.all u.linked
+      (record {
+        looked = λ unmarked. subst (λ l. IsUntouched m w l e) (sym u.linked) untouched;
+        taken = λ off again. (λ i. off i || u.objects e.object i) ∙ ap (λ t. not t && is_listed a.objects e.object) (eq-eqb e.object e.object refl);
+      })
       (λ n other. (λ i. u.all i || u.objects n i) ∙ ap (λ t. a.all || (not t && is_listed a.objects n)) (apart n other))
 
   -- it is marked
-  pub over_marked : Marked e.object a b → IsGoneOver m w (λ i. i ≢ place) a b
-  over_marked k =
-      over_at k.linked (λ unmarked. absurd (false≢true (sym unmarked ∙ (λ i. k.all i || k.objects e.object i) ∙ ap (λ t. a.all || (t || is_listed a.objects e.object)) (eq-eqb e.object e.object refl) ∙ both a.all)))
+  pub over_marked : (IsUntouched m w a.linked e → ⊥) → Marked e.object a b → IsGoneOver m w (λ i. i ≢ place) a b
+  over_marked touched k =
+      over_at k.all k.linked
+      (record {
+        looked = λ unmarked. absurd (false≢true (sym unmarked ∙ (λ i. k.all i || k.objects e.object i) ∙ ap (λ t. a.all || (t || is_listed a.objects e.object)) (eq-eqb e.object e.object refl) ∙ both a.all));
+        taken = λ off untouched. absurd (touched (subst (λ l. IsUntouched m w l e) k.linked untouched));
+      })
       (λ n other. (λ i. k.all i || k.objects n i) ∙ ap (λ t. a.all || (t || is_listed a.objects n)) (apart n other))
     where
       both : (t : Bool) → (t || true) ≡ true

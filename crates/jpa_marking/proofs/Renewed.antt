@@ -15,7 +15,7 @@ use Rattle.jpa_context.specs.Work.{Work, is_managed, state_from, state_of}
 use Rattle.jpa_flush.specs.Marked.{AreMarked, GoesOn, IsAnew, LeadsStill, before, is_calm}
 use Rattle.jpa_flush.proofs.Noted.{marks_go_on, since_by}
 use Rattle.jpa_flush.proofs.Silent.{calm_parts}
-use Rattle.jpa_marking.specs.Anew.{IsGoneOver, IsMissed, IsTold}
+use Rattle.jpa_marking.specs.Anew.{IsGoneOver, IsMissed, IsTold, TakesMarksAway}
 
 -- ---- what undo lists did not note stands
 
@@ -56,8 +56,21 @@ module _ (m : PersistenceUnit) (u : UnitOfWork) (old mid new : Marks) (same : (n
           IsTold m (now u) new (get_or u.context.now i d) ⊎ ((is_marked new (get_or u.context.now i d).object ≡ is_marked mid (get_or u.context.now i d).object) × IsMissed u i) →
           IsAnew m (before u) (now u) old new (get_or u.context.now i d)
       by true marked x = inr (inl marked)
-      by false unmarked (inl told) = inl (told unmarked)
+      by false unmarked (inl told) = inl (told.looked unmarked)
       by false unmarked (inr x) = missed i d l unmarked x.0 x.1
 
   pub renewed : GoesOn (before u) (now u) → (new.linked ≡ true → old.linked ≡ true) → (new.linked ≡ true → LeadsStill (before u) (now u)) → AreMarked m (now u) new
   renewed on was leads = marks_go_on m (before u) (now u) old new on was leads before_all each
+
+-- what was gone over has no mark more than a flush needs
+pub taken_away : (m : PersistenceUnit) (u : UnitOfWork) (old new : Marks) → IsGoneOver m (now u) (IsMissed u) old new → TakesMarksAway m u new
+taken_away m u old new over off i d l touched untouched = by (over.each i d l)
+  where
+    by : IsTold m (now u) new (get_or u.context.now i d) ⊎ ((is_marked new (get_or u.context.now i d).object ≡ is_marked old (get_or u.context.now i d).object) × IsMissed u i) →
+        is_marked new (get_or u.context.now i d).object ≡ false
+    by (inl told) = told.taken off untouched
+    by (inr x) = absurd (touched x.1)
+
+-- where each object is marked nothing is said
+pub all_told : (m : PersistenceUnit) (u : UnitOfWork) (k : Marks) → k.all ≡ true → TakesMarksAway m u k
+all_told m u k all off i d l touched untouched = absurd (false≢true (sym off ∙ all))

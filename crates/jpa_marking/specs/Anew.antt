@@ -6,15 +6,18 @@ use Rattle.jpa_heap.specs.Objects.{object_at}
 use Rattle.jpa_context.specs.declared.Entry.{Entry}
 use Rattle.jpa_context.specs.declared.work.UnitOfWork.{UnitOfWork}
 use Rattle.jpa_context.specs.Marks.{Marks, is_marked}
+use Rattle.jpa_context.specs.Undo.{now}
 use Rattle.jpa_context.specs.Work.{Work}
 use Rattle.jpa_flush.specs.Marked.{IsUntouched}
 
--- where its object is not marked, the entry is untouched
-abbrev pub IsTold : PersistenceUnit → Work → Marks → Entry → Type 0
-IsTold m w k e = is_marked k e.object ≡ false → IsUntouched m w k.linked e
+-- its object is marked where a flush has to look at the entry, and nowhere else unless each object is
+pub record IsTold (m : PersistenceUnit) (w : Work) (k : Marks) (e : Entry) : Type 0 where
+  pub looked : is_marked k e.object ≡ false → IsUntouched m w k.linked e
+  pub taken : k.all ≡ false → IsUntouched m w k.linked e → is_marked k e.object ≡ false
 
 -- of each entry the marks say what is so; but those that were missed, by their places, have the marks that they had
 pub record IsGoneOver (m : PersistenceUnit) (w : Work) (Missed : ℕ → Type 0) (old new : Marks) : Type 0 where
+  pub all : new.all ≡ old.all
   pub linked : new.linked ≡ old.linked
   pub each : (i : ℕ) (d : Entry) → i < length w.context → IsTold m w new (slice_index_or w.context i d)
       ⊎ ((is_marked new (slice_index_or w.context i d).object ≡ is_marked old (slice_index_or w.context i d).object) × Missed i)
@@ -38,3 +41,9 @@ WasThere u i = i < length u.context.since
 -- nothing of it was touched
 abbrev pub IsMissed : UnitOfWork → ℕ → Type 0
 IsMissed u i = StandsAt u i × (HasObjectAsItWas u i × WasThere u i)
+
+-- of an entry that was touched no mark is left where a flush need not look at it, unless each object is marked
+abbrev pub TakesMarksAway : PersistenceUnit → UnitOfWork → Marks → Type 0
+TakesMarksAway m u k =
+    k.all ≡ false → (i : ℕ) (d : Entry) → i < length u.context.now → (IsMissed u i → ⊥) →
+    IsUntouched m (now u) k.linked (slice_index_or u.context.now i d) → is_marked k (slice_index_or u.context.now i d).object ≡ false

@@ -1,10 +1,10 @@
 -- What a commit leaves of the marks of its manager: of objects that leave, and of what is calm and linked once locks are over, none
 -- (Jakarta Persistence 3.1, chapters 3.2.4 and 3.4).
-use Rattle.std.specs.Prelude.{◌≡◌, ◌⊎◌, ◌||◌, ℕ, Bool, true, slice_index_or}
+use Rattle.std.specs.Prelude.{◌≡◌, ◌<◌, ◌⊎◌, ◌||◌, ℕ, Bool, true, false, length, slice_index_or}
 use Rattle.std.specs.List.{list_all}
 use Rattle.jpa_model.specs.declared.unit.PersistenceUnit.{PersistenceUnit}
 use Rattle.jpa_context.specs.declared.Entry.{Entry}
-use Rattle.jpa_context.specs.Marks.{Marks, is_marked}
+use Rattle.jpa_context.specs.Marks.{Marks, is_listed, is_marked}
 use Rattle.jpa_context.specs.Work.{Work, is_removed, state_of, unlocked}
 use Rattle.jpa_flush.specs.Marked.{is_calm, is_linked, is_linked_if_managed}
 
@@ -16,6 +16,18 @@ IsOver m w e = (is_removed (state_of w e.object) ≡ true) ⊎ ((is_calm m w (un
 abbrev pub IsSeenAt : PersistenceUnit → Work → Marks → ℕ → Type 0
 IsSeenAt m w k p =
     (d : Entry) → IsOver m w (slice_index_or w.context p d) ⊎ (is_marked k (slice_index_or w.context p d).object ≡ true)
+
+-- of each of these objects something is left to look at
+abbrev pub AreCalledFor : PersistenceUnit → Work → Marks → Type 0
+AreCalledFor m w k =
+    (n : ℕ) → is_listed k.objects n ≡ true → (i : ℕ) × (i < length w.context)
+    × ((d : Entry) → ((slice_index_or w.context i d).object ≡ n) × (IsOver m w (slice_index_or w.context i d) → ⊥))
+
+-- an entry of which nothing is left to look at has no mark, unless each object is marked
+abbrev pub LeavesNoMark : PersistenceUnit → Work → Marks → Type 0
+LeavesNoMark m w k =
+    k.all ≡ false → (i : ℕ) (d : Entry) → i < length w.context → IsOver m w (slice_index_or w.context i d) →
+    is_marked k (slice_index_or w.context i d).object ≡ false
 
 -- what is marked stays so
 abbrev pub MarksMore : Marks → Marks → Type 0

@@ -3,6 +3,7 @@ ghost use Rattle.std.specs.Prelude.{◌≡◌, true, IfOk};
 ghost use Rattle.jpa_context.specs.Undo.{now};
 ghost use Rattle.jpa_fetch.specs.Grown.{IsReady};
 ghost use Rattle.jpa_flush.specs.Marked as marked;
+ghost use Rattle.jpa_marking.specs.Anew as anew;
 
 use crate::looking::look_at_touched;
 use jpa_context::{Marks, UnitOfWork};
@@ -24,8 +25,10 @@ fn are_linked_still(work: &UnitOfWork, marks: &Marks) -> bool
 fn renew(metamodel: &Metamodel, work: &UnitOfWork, marks: &mut Marks) -> Result<bool, Cause>
     requires ready { IsReady metamodel.now (now work.now) }
     requires marked { marked.AreMarked metamodel.now (marked.before work.now) marks.old }
-    ensures { IfOk result (λ renewed. renewed ≡ true
+    ensures marked { IfOk result (λ renewed. renewed ≡ true
         → marked.AreMarked metamodel.now (now work.now) marks.new) }
+    ensures taken { IfOk result (λ renewed. renewed ≡ true
+        → anew.TakesMarksAway metamodel.now work.now marks.new) }
 {
     if marks.are_all() {
         return Ok(false);
@@ -43,7 +46,8 @@ fn renew(metamodel: &Metamodel, work: &UnitOfWork, marks: &mut Marks) -> Result<
 fn marks_anew(alloc: Global, metamodel: &Metamodel, work: &UnitOfWork, marks: Marks) -> Marks
     requires ready { IsReady metamodel.now (now work.now) }
     requires marked { marked.AreMarked metamodel.now (marked.before work.now) marks }
-    ensures { marked.AreMarked metamodel.now (now work.now) result }
+    ensures marked { marked.AreMarked metamodel.now (now work.now) result }
+    ensures taken { anew.TakesMarksAway metamodel.now work.now result }
 {
     let mut marks = marks;
     match renew(metamodel, work, &mut marks) {
@@ -54,7 +58,8 @@ fn marks_anew(alloc: Global, metamodel: &Metamodel, work: &UnitOfWork, marks: Ma
 
 /// Marks, at the end of a call that was accepted and before its changes are kept, what the next flush has to look at (Jakarta
 /// Persistence 3.1, chapter 3.2.4). It compares what the call touched, and nothing else, with its bases. It takes no memory that a
-/// caller would see refused: where there is none, each object is marked.
+/// caller would see refused: where there is none, each object is marked. Else what was touched has a mark just where the next flush
+/// has to look at it: one that a refresh brought back to what is stored has none.
 pub fn mark_anew(alloc: Global, metamodel: &Metamodel, work: &mut UnitOfWork)
     requires ready { IsReady metamodel.now (now work.old) }
     requires marked { marked.AreMarkedBefore metamodel.now work.old }
@@ -64,6 +69,7 @@ pub fn mark_anew(alloc: Global, metamodel: &Metamodel, work: &mut UnitOfWork)
       };
     } }
     ensures marked { marked.AreMarked metamodel.now (now work.new) work.new.context.marks }
+    ensures taken { anew.TakesMarksAway metamodel.now work.old work.new.context.marks }
 {
     let marks = work.context.take_marks(alloc);
     let anew = marks_anew(alloc, metamodel, work, marks);

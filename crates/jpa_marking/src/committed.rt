@@ -1,5 +1,5 @@
 //! Marks at the end of a commit.
-ghost use Rattle.std.specs.Prelude.{◌≡◌, ◌<◌, ◌||◌, ℕ, true, All, length, slice_index_or, IfOk, OnOk};
+ghost use Rattle.std.specs.Prelude.{◌≡◌, ◌↔◌, ◌<◌, ◌||◌, ℕ, true, All, length, slice_index_or, IfOk, OnOk};
 ghost use Rattle.jpa_context.specs.Marks.{is_marked};
 ghost use Rattle.jpa_context.specs.Undo.{now};
 ghost use Rattle.jpa_fetch.specs.Grown.{IsReady};
@@ -19,8 +19,8 @@ use std::alloc::Global;
 fn is_over(metamodel: &Metamodel, work: &UnitOfWork, entry: &Entry) -> Result<bool, Cause>
     requires ready { IsReady metamodel.now (now work.now) }
     requires object { entry.now.object < length work.now.objects.now }
-    ensures { IfOk result (λ over. over ≡ true
-        → committed.IsOver metamodel.now (now work.now) entry.now) }
+    ensures { IfOk result (λ over. (over ≡ true)
+        ↔ committed.IsOver metamodel.now (now work.now) entry.now) }
 {
     if matches!(state_of(work, entry.object), EntityState::Removed) {
         return Ok(true);
@@ -43,6 +43,8 @@ fn mark_at(
     ensures seen { OnOk result (committed.IsSeenAt metamodel.now (now work.now) marks.new
         place) }
     ensures more { OnOk result (committed.MarksMore marks.old marks.new) }
+    ensures called { OnOk result (committed.AreCalledFor metamodel.now (now work.now) marks.old
+        → committed.AreCalledFor metamodel.now (now work.now) marks.new) }
 {
     let entry = &work.context.as_slice()[place];
     if is_over(metamodel, work, entry)? {
@@ -62,8 +64,10 @@ fn mark_places(
     requires ready { IsReady metamodel.now (now work.now) }
     requires within { (i : ℕ) → i < length places.now
         → slice_index_or places.now i 0 < length work.now.context.now }
-    ensures { OnOk result (All (committed.IsSeenAt metamodel.now (now work.now) marks.new)
+    ensures seen { OnOk result (All (committed.IsSeenAt metamodel.now (now work.now) marks.new)
         places.now) }
+    ensures called { OnOk result (committed.AreCalledFor metamodel.now (now work.now) marks.old
+        → committed.AreCalledFor metamodel.now (now work.now) marks.new) }
 {
     for place in places {
         mark_at(metamodel, work, *place, marks)?;
@@ -126,7 +130,10 @@ fn mark_left(
     requires ready { IsReady metamodel.now (now work.now) }
     requires looked { marked.AreLooked (marked.IsUntouched metamodel.now (now work.now)
         looked.now.linked) work.now.context.now looked.now.places }
-    ensures { OnOk result (marked.AreMarked metamodel.now (ended (now work.now)) marks.new) }
+    ensures marked { OnOk result (marked.AreMarked metamodel.now (ended (now work.now))
+        marks.new) }
+    ensures called { OnOk result (committed.AreCalledFor metamodel.now (now work.now) marks.old
+        → committed.AreCalledFor metamodel.now (now work.now) marks.new) }
 {
     mark_places(metamodel, work, looked.places.as_slice(), marks)?;
     let linked = are_linked_left(metamodel, work, looked.linked, marks);
@@ -139,7 +146,8 @@ fn marks_left(alloc: Global, metamodel: &Metamodel, work: &UnitOfWork, looked: &
     requires ready { IsReady metamodel.now (now work.now) }
     requires looked { marked.AreLooked (marked.IsUntouched metamodel.now (now work.now)
         looked.now.linked) work.now.context.now looked.now.places }
-    ensures { marked.AreMarked metamodel.now (ended (now work.now)) result }
+    ensures marked { marked.AreMarked metamodel.now (ended (now work.now)) result }
+    ensures left { committed.LeavesNoMark metamodel.now (now work.now) result }
 {
     let mut marks = Marks::none(alloc);
     match mark_left(metamodel, work, looked, &mut marks) {
@@ -150,7 +158,8 @@ fn marks_left(alloc: Global, metamodel: &Metamodel, work: &UnitOfWork, looked: &
 
 /// Marks, at the end of a commit and before its removed objects leave and its locks end, what the next flush has to look at (Jakarta
 /// Persistence 3.1, chapter 3.2.4). Of the entries at other places than those looked at it is known what a flush need not look at.
-/// It takes no memory that a caller would see refused: where there is none, each object is marked.
+/// It takes no memory that a caller would see refused: where there is none, each object is marked. Else what was written, and is as
+/// the store has it, has no mark.
 pub fn mark_committed(alloc: Global, metamodel: &Metamodel, work: &mut UnitOfWork, looked: &Looked)
     requires ready { IsReady metamodel.now (now work.old) }
     requires looked { marked.AreLooked (marked.IsUntouched metamodel.now (now work.old)
@@ -162,6 +171,7 @@ pub fn mark_committed(alloc: Global, metamodel: &Metamodel, work: &mut UnitOfWor
     } }
     ensures marked { marked.AreMarked metamodel.now (ended (now work.new))
         work.new.context.marks }
+    ensures left { committed.LeavesNoMark metamodel.now (now work.old) work.new.context.marks }
 {
     let marks = marks_left(alloc, metamodel, work, looked);
     work.context.mark(marks);

@@ -1,6 +1,6 @@
 //! Looks at the entries that a call may have touched: those that were overwritten, those whose objects were, and those that entered.
 //! The rest stands as it did when the changes were last kept, with its objects.
-ghost use Rattle.std.specs.Prelude.{◌≡◌, ◌≢◌, ◌<◌, true, length, slice_index_or, IfOk, OnOk};
+ghost use Rattle.std.specs.Prelude.{◌≡◌, ◌≢◌, ◌↔◌, ◌<◌, true, length, slice_index_or, IfOk, OnOk};
 ghost use Rattle.jpa_context.specs.Undo.{now};
 ghost use Rattle.jpa_context.specs.declared.Entry.{Entry};
 ghost use Rattle.jpa_fetch.specs.Grown.{IsReady};
@@ -21,8 +21,8 @@ fn is_untouched(
 ) -> Result<bool, Cause>
     requires ready { IsReady metamodel.now (now work.now) }
     requires object { entry.now.object < length work.now.objects.now }
-    ensures { IfOk result (λ untouched. untouched ≡ true
-        → marked.IsUntouched metamodel.now (now work.now) linked entry.now) }
+    ensures { IfOk result (λ untouched. (untouched ≡ true)
+        ↔ marked.IsUntouched metamodel.now (now work.now) linked entry.now) }
 {
     if !is_calm(metamodel, work, entry)? {
         return Ok(false);

@@ -56,7 +56,7 @@ order =
     }
 
 abbrev world : World
-world = without_functions (record { listeners = []; entities = person ∷ order ∷ [] })
+world = without_functions (record { revision = 1; listeners = []; entities = person ∷ order ∷ [] })
 
 abbrev key_of : ℕ → List Value
 key_of n = Value.Int (pos n) ∷ []

@@ -93,7 +93,7 @@ order_entity = record {
 }
 
 abbrev persons_unit : PersistenceUnit
-persons_unit = record { listeners = []; entities = person_entity ∷ order_entity ∷ [] }
+persons_unit = record { revision = 1; listeners = []; entities = person_entity ∷ order_entity ∷ [] }
 
 persons_describe : unit_of persons ≡ persons_unit
 persons_describe = refl
@@ -104,8 +104,11 @@ order_is_found = refl
 name_is_found : member_of persons_unit 0 (codes "name") ≡ Some (Member.Attribute 0)
 name_is_found = refl
 
--- no revision but the first
-later_revision : is_well_formed (record persons { revision = pos 2 }) ≡ false
+-- no revision but the first two
+second_revision : is_well_formed (record persons { revision = pos 2 }) ≡ true
+second_revision = refl
+
+later_revision : is_well_formed (record persons { revision = pos 3 }) ≡ false
 later_revision = refl
 
 abbrev of_two : DraftEntity → DraftEntity → Draft

@@ -134,7 +134,7 @@ entity_of d e = record {
 }
 
 abbrev pub unit_of : Draft → PersistenceUnit
-unit_of d = record { listeners = map listener_of d.listeners; entities = map (entity_of d) d.entities }
+unit_of d = record { revision = unsigned_abs d.revision; listeners = map listener_of d.listeners; entities = map (entity_of d) d.entities }
 
 -- what a check answers where there is memory
 abbrev pub checked : Draft → Result PersistenceUnit Cause

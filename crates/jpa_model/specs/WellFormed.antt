@@ -1,4 +1,4 @@
--- When a description gives a metamodel: revision 1 and seven conditions on its declarations.
+-- When a description gives a metamodel: revision 1 or 2 and seven conditions on its declarations.
 use Rattle.std.specs.Prelude.{ℕ, ◌+◌, ℤ, pos, Bool, true, false, not, ◌&&◌, ◌||◌, ◌==◌, nat_le, int_le, List, [], ◌∷◌, length, Option, Some, None, is_some, count_by, sum_by, find, IsTrue}
 use Rattle.std.specs.List.{list_all, list_any, flat_map}
 use Rattle.std.specs.Ordering.{int_eq}
@@ -253,8 +253,12 @@ has_events d = list_all hears d.listeners && list_all has_events_of d.entities
 abbrev pub stands_together : Draft → Bool
 stands_together d = has_roots d && (has_members d && (has_numbers d && (has_relations d && (has_orphans d && has_events d))))
 
+-- a description is of revision 1 or 2
+abbrev pub has_revision : Draft → Bool
+has_revision d = int_eq d.revision (pos 1) || int_eq d.revision (pos 2)
+
 abbrev pub is_well_formed : Draft → Bool
-is_well_formed d = int_eq d.revision (pos 1) && has_entities d && stands_together d
+is_well_formed d = has_revision d && has_entities d && stands_together d
 
 abbrev pub IsWellFormed : Draft → Type 0
 IsWellFormed d = IsTrue (is_well_formed d)

@@ -340,6 +340,7 @@ pub(crate) fn unit_of(
     ensures refused { IfErr result (λ cause. cause ≡ Cause.OutOfMemory) }
 {
     Ok(PersistenceUnit {
+        revision: draft.revision.unsigned_abs(),
         listeners: listeners_of(alloc, draft.listeners.as_slice())?,
         entities: entities_of(alloc, draft, chains)?,
     })

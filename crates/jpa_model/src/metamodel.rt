@@ -206,7 +206,8 @@ ghost use Rattle.jpa_model.specs.Described.{checked, IsUnlessMemory};
 pub fn check(alloc: Global, draft: &Draft) -> Result<Metamodel, Cause>
     ensures { IsUnlessMemory result (checked draft.now) }
 {
-    if draft.revision != 1 || !has_entities(draft) {
+    let has_revision = draft.revision == 1 || draft.revision == 2;
+    if !has_revision || !has_entities(draft) {
         return Err(Cause::Mapping(MappingFault::Model));
     }
     let chains = chains_of(alloc, draft)?;

@@ -170,9 +170,11 @@ pub enum Member {
     Relation(usize),
 }
 
-/// The default listeners and the entities, in the order of the description.
+/// The revision of its rows, the default listeners and the entities, in the order of the description.
 #[derive(Drop)]
 pub struct PersistenceUnit {
+    /// 1, or 2 where the rows of a store were migrated once.
+    pub revision: u64,
     pub listeners: Seq<Listener>,
     pub entities: Seq<Entity>,
 }

@@ -1,4 +1,5 @@
--- Rows of which each is one of an object that stands, or of a next number, are exactly those of the set and of the numbers.
+-- Rows of which each is one of an object that stands, of a next number or of the revision, where the last stands, are exactly
+-- those of the set and of the numbers.
 use Rattle.std.specs.Prelude.{◌≡◌, ◌≢◌, ℕ, ℤ, pos, negsuc, Bool, true, false, cond, ◌==◌, T, List, [], ◌∷◌, map, Option, Some, None, option_map}
 use Rattle.std.proofs.Common.{refl, sym, ap, subst, ◌∙◌, inl, inr, ◌⊎◌}
 use Rattle.std.specs.List.{zip, AllByRecursion}
@@ -27,7 +28,7 @@ use Rattle.jpa_row_laws.proofs.Facts.{some_none, true_false, first_holds, and_fi
 use Rattle.jpa_row_laws.proofs.Each.{Each, each_put}
 use Rattle.jpa_row_laws.proofs.Elements.{Has, into_map, found_has, has_found}
 use Rattle.jpa_row_laws.proofs.Lists.{all_each}
-use Rattle.jpa_row_laws.proofs.Maps.{same_answers}
+use Rattle.jpa_row_laws.proofs.Maps.{same_answers, found_put}
 use Rattle.jpa_view.specs.Identities.{root_at}
 use Rattle.jpa_view.specs.Unambiguous.{IsUnambiguous, is_class, joins_of}
 use Rattle.jpa_view.specs.View.{is_storable, AreStorable}
@@ -39,7 +40,7 @@ use Rattle.jpa_view.proofs.MappedClasses.{unambiguous_mapped}
 use Rattle.jpa_view.proofs.Reading.{storable, object_spelled}
 use Rattle.jpa_object_rows.specs.Raw.{raw}
 use Rattle.jpa_object_rows.specs.Objects.{is_discriminator, main_row, pair_row, pair_ids, as_pairs, object_entries, object_rows, number_id, number_row}
-use Rattle.jpa_object_rows.specs.Sets.{set_in, content_at, next_in, number_in, next_at, numbers_in, AreOnes, AreUnitRows, StandsIn, with_number, with_next, with_numbers, with_set, rows_of}
+use Rattle.jpa_object_rows.specs.Sets.{base_of, set_in, content_at, next_in, number_in, next_at, numbers_in, AreOnes, AreUnitRows, StandsIn, with_number, with_next, with_numbers, with_set, rows_of}
 use Rattle.jpa_object_rows.proofs.Named.{object_named}
 use Rattle.jpa_object_rows.proofs.Sets.{set_in_rises}
 use Rattle.jpa_object_rows.proofs.Stored.{own_join, zipped_first}
@@ -49,6 +50,7 @@ use Rattle.jpa_object_rows.proofs.Exact.{rows_of_unit, numbers_read_in}
 use Rattle.jpa_object_rows.proofs.Scans.{main_found}
 use Rattle.jpa_object_rows.proofs.Standing.{set_stands}
 use Rattle.jpa_object_rows.proofs.Covered.{Stands, along_stand}
+use Rattle.jpa_object_rows.proofs.Marked.{revision_found, later_base}
 
 -- ---- rows of table 0
 
@@ -115,9 +117,9 @@ module _ (m : PersistenceUnit) (rows : Rows) (h : AreUnitRows m rows) where
       let k = number_in (find identity_cmp (number_id root.table) rows) in
       elim root.generated as (λ b. Each (Stands rows) (cond b (with_number root.table (cond b k 1) base) base)) [ true ↦ number_stand root.table k refl base g | false ↦ g ]
 
-  numbers_stand : (entities : List Entity) → Each (Stands rows) (with_numbers (zip entities (map (λ e. next_at rows e.origin) entities)) [])
-  numbers_stand [] = tt
-  numbers_stand (e ∷ entities) = next_stand e.origin (with_numbers (zip entities (map (λ e. next_at rows e.origin) entities)) []) (numbers_stand entities)
+  numbers_stand : Each (Stands rows) (base_of m) → (entities : List Entity) → Each (Stands rows) (with_numbers (zip entities (map (λ e. next_at rows e.origin) entities)) (base_of m))
+  numbers_stand stood [] = stood
+  numbers_stand stood (e ∷ entities) = next_stand e.origin (with_numbers (zip entities (map (λ e. next_at rows e.origin) entities)) (base_of m)) (numbers_stand stood entities)
 
 -- ---- what rows are known by
 
@@ -143,8 +145,13 @@ pub record IsNumber (m : PersistenceUnit) (rows : Rows) (id : RowId) : Type 0 wh
   pub same : id ≡ number_id root.table
   pub more : number_in (find identity_cmp (number_id root.table) rows) == 1 ≡ false
 
+-- the revision, which is not 1
+pub record IsRevision (m : PersistenceUnit) (id : RowId) : Type 0 where
+  pub same : id ≡ number_id 0
+  pub later : m.revision == 1 ≡ false
+
 abbrev pub IsKnown : World → Rows → RowId → Type 0
-IsKnown world rows id = IsObject world rows id ⊎ (IsPairOf world rows id ⊎ IsNumber world.model rows id)
+IsKnown world rows id = IsObject world rows id ⊎ (IsPairOf world rows id ⊎ (IsNumber world.model rows id ⊎ IsRevision world.model id))
 
 same_at : {A : Type 0} (f g : A → ℕ) (xs : List A) → map f xs ≡ map g xs → (x : A) → Has xs x → f x ≡ g x
 same_at f g [] e x h = absurd h
@@ -152,7 +159,7 @@ same_at f g (y ∷ ys) e x (inl same) = let here : f y ≡ g y = cc in subst (λ
 same_at f g (y ∷ ys) e x (inr h) = let rest : map f ys ≡ map g ys = cc in same_at f g ys rest x h
 
 module _ (world : World) (mapped : IsMapped world.model) (regular : IsRegular world) (named : (class : ℕ) → is_class world.model class ≡ true → is_discriminator (entity_at world.model class) ≡ true)
-    (rows : Rows) (h : AreUnitRows world.model rows) where
+    (rows : Rows) (h : AreUnitRows world.model rows) (stood : Each (Stands rows) (base_of world.model)) where
   clear : IsUnambiguous world.model
   clear = unambiguous_mapped world.model mapped
 
@@ -189,7 +196,7 @@ module _ (world : World) (mapped : IsMapped world.model) (regular : IsRegular wo
   all_covered : Each (Stands rows) news
   all_covered =
       set_covered (set_in world rows) (λ id x k. has_found identities (set_in world rows) (set_in_rises world rows) id x k)
-      (with_numbers (zip (world.model).entities (numbers_in world.model rows)) []) (numbers_stand world.model rows h (world.model).entities)
+      (with_numbers (zip (world.model).entities (numbers_in world.model rows)) (base_of world.model)) (numbers_stand world.model rows h stood (world.model).entities)
 
   module _ (are : are_numbers world.model (numbers_in world.model rows) ≡ true) where
     all_storable : AreStorable world (set_in world rows)
@@ -233,10 +240,22 @@ module _ (world : World) (mapped : IsMapped world.model) (regular : IsRegular wo
         ∙ sym (number_stands m news news_unit table n same k.more)
         ∙ ap (λ z. find identity_cmp z news) (sym k.same)
 
+    revision_same : (id : RowId) → IsRevision world.model id → find identity_cmp id rows ≡ find identity_cmp id news
+    revision_same id k =
+        let m = world.model in
+        let base = later_base m k.later in
+        let here : Stands rows (number_id 0) (number_row m.revision) = (subst (Each (Stands rows)) base stood).0 in
+        let again : Stands ((number_id 0, number_row m.revision) ∷ []) (number_id 0) (number_row m.revision) = found_put identities (number_id 0) (number_row m.revision) [] in
+        ap (λ z. find identity_cmp z rows) k.same
+        ∙ here
+        ∙ sym (revision_found world clear (set_in world rows) (numbers_in m rows) all_storable ∙ ap (find identity_cmp (number_id 0)) base ∙ again)
+        ∙ ap (λ z. find identity_cmp z news) (sym k.same)
+
     known_same : (id : RowId) → IsKnown world rows id → find identity_cmp id rows ≡ find identity_cmp id news
     known_same id (inl k) = object_same id k
     known_same id (inr (inl k)) = pair_same id k
-    known_same id (inr (inr k)) = number_same id k
+    known_same id (inr (inr (inl k))) = number_same id k
+    known_same id (inr (inr (inr k))) = revision_same id k
 
     -- so the rows are those of what is read off them
     pub known_rows : AllByRecursion (λ e. IsKnown world rows e.0) rows → rows ≡ news

@@ -1,6 +1,6 @@
 -- The rows of a set and of next numbers: they stand for these alone, and what changes make of them are the rows of the set that
 -- is changed likewise.
-use Rattle.std.specs.Prelude.{◌≡◌, ℕ, zero, suc, pos, true, false, cond, ◌==◌, ◌&&◌, not, nat_lt, T, List, [], ◌∷◌, length, slice_set, slice_index_or, Some, None}
+use Rattle.std.specs.Prelude.{◌≡◌, ℕ, zero, suc, pos, Bool, true, false, cond, ◌==◌, ◌&&◌, ◌||◌, not, nat_lt, T, List, [], ◌∷◌, length, slice_set, slice_index_or, Some, None}
 use Rattle.std.proofs.Common.{refl, sym, ap, subst, ◌∙◌, inl}
 use Rattle.std.specs.List.{flat_map, zip, list_any, AllByRecursion}
 use Rattle.std.specs.FinMap.{put, is_sorted}
@@ -27,7 +27,7 @@ use Rattle.jpa_view.specs.Rows.{row_cmp, row_of}
 use Rattle.jpa_view.specs.Written as written
 use Rattle.jpa_view.specs.View.{set_of, is_storable, AreStorable, numbers_of}
 use Rattle.jpa_view.specs.Unambiguous.{IsUnambiguous, is_class, joins_of}
-use Rattle.jpa_view.proofs.Orders.{identities}
+use Rattle.jpa_view.proofs.Orders.{identities, are_same_numbers}
 use Rattle.jpa_view.proofs.Mapped.{IsMapped}
 use Rattle.jpa_view.proofs.MappedClasses.{unambiguous_mapped}
 use Rattle.jpa_view.proofs.Reading.{storable}
@@ -41,7 +41,7 @@ use Rattle.jpa_view.proofs.Exact.{rows_put, rows_dropped, rows_replaced}
 use Rattle.jpa_view.proofs.ExactNumbers.{rows_numbered}
 use Rattle.jpa_object_rows.specs.Raw.{raw, AreNamed, AreWhole, IsRowBy}
 use Rattle.jpa_object_rows.specs.Objects.{is_discriminator, number_id, number_row, with_object, without_pairs, without_object}
-use Rattle.jpa_object_rows.specs.Sets.{set_in, numbers_in, AreOnes, AreUnitRows, with_number, with_next, with_numbers, with_set, rows_of}
+use Rattle.jpa_object_rows.specs.Sets.{set_in, numbers_in, AreOnes, AreUnitRows, base_of, with_number, with_next, with_numbers, with_set, rows_of}
 use Rattle.jpa_object_rows.proofs.Raw.{raw_put}
 use Rattle.jpa_object_rows.proofs.Over.{object_over_spelled, pairs_left_spelled, object_left_spelled}
 use Rattle.jpa_object_rows.proofs.Named.{object_named, pairs_named, number_named}
@@ -112,12 +112,22 @@ module _ (m : PersistenceUnit) (clear : IsUnambiguous m) where
     same = refl;
   }
 
+  small_revision : is_i64 (pos m.revision) ≡ true
+  small_revision = by_test (m.revision == 1) refl
+    where
+      by_test : (b : Bool) → m.revision == 1 ≡ b → is_i64 (pos m.revision) ≡ true
+      by_test true e = ap (λ n. is_i64 (pos n)) (are_same_numbers m.revision 1 e)
+      by_test false e = ap (λ n. is_i64 (pos n)) (are_same_numbers m.revision 2 (ap (λ b. b || m.revision == 2) (sym e) ∙ clear.revision))
+
+  base_spelled : IsSpelledAs m (base_of m) (written.base_of m)
+  base_spelled = number_spelled 0 m.revision refl small_revision [] [] nothing_spelled
+
   numbers_spelled : (entities : List Entity) (numbers : List ℕ) → AllByRecursion IsSmallRoot entities → each_fits (λ e k. is_next e.origin k) entities numbers ≡ true
-      → IsSpelledAs m (with_numbers (zip entities numbers) []) (written.with_numbers (zip entities numbers) [])
-  numbers_spelled [] numbers small h = nothing_spelled
-  numbers_spelled (e ∷ entities) [] small h = nothing_spelled
+      → IsSpelledAs m (with_numbers (zip entities numbers) (base_of m)) (written.with_numbers (zip entities numbers) (written.base_of m))
+  numbers_spelled [] numbers small h = base_spelled
+  numbers_spelled (e ∷ entities) [] small h = base_spelled
   numbers_spelled (e ∷ entities) (k ∷ numbers) small h =
-      next_spelled e.origin k small.0 (and_first (is_next e.origin k) _ h) (with_numbers (zip entities numbers) []) (written.with_numbers (zip entities numbers) [])
+      next_spelled e.origin k small.0 (and_first (is_next e.origin k) _ h) (with_numbers (zip entities numbers) (base_of m)) (written.with_numbers (zip entities numbers) (written.base_of m))
       (numbers_spelled entities numbers small.1 (and_second (is_next e.origin k) _ h))
 
   small_roots : AllByRecursion IsSmallRoot m.entities
@@ -168,7 +178,7 @@ module _ (world : World) (mapped : IsMapped world.model) (regular : IsRegular wo
     all_spelled : (set : StoredSet) → AreStorable world set → IsSpelledAs world.model (rows_of world set numbers) (written.rows_of world set numbers)
     all_spelled set h =
         let ps = zip (world.model).entities numbers in
-        set_spelled set h (with_numbers ps []) (written.with_numbers ps []) (numbers_spelled world.model clear (world.model).entities numbers (small_roots world.model clear) are)
+        set_spelled set h (with_numbers ps (base_of world.model)) (written.with_numbers ps (written.base_of world.model)) (numbers_spelled world.model clear (world.model).entities numbers (small_roots world.model clear) are)
 
     pub rows_of_unit : (set : StoredSet) → AreStorable world set → AreUnitRows world.model (rows_of world set numbers)
     rows_of_unit set h = (all_spelled set h).unit

@@ -45,7 +45,7 @@ person = record {
 }
 
 abbrev persons : World
-persons = without_functions (record { listeners = []; entities = person ∷ [] })
+persons = without_functions (record { revision = 1; listeners = []; entities = person ∷ [] })
 
 abbrev ada : Stored
 ada = record { class = 0; version = Some (pos 0); values = Value.Text (codes "Ada") ∷ []; owned = [] }
@@ -111,6 +111,7 @@ relation name side target = record { name = name; side = side; target = target; 
 -- the column of the link is below that of no other, and the join table is below the owner's
 abbrev pairing : World
 pairing = without_functions (record {
+  revision = 1;
   listeners = [];
   entities =
       entity 65 7 (record { name = codes "id"; kind = Kind.Int } ∷ [])

@@ -24,5 +24,6 @@ pub mod Scans
 pub mod Standing
 pub mod Cells
 pub mod Covered
+pub mod Marked
 pub mod Clean
 mod Examples

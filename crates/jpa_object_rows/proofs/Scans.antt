@@ -34,7 +34,7 @@ use Rattle.jpa_rows.specs.Tables.{schema_of}
 use Rattle.jpa_view.proofs.Inverse.{scan_is, leading_read}
 use Rattle.jpa_object_rows.specs.Raw.{raw, AreRowsOf}
 use Rattle.jpa_object_rows.specs.Objects.{main_row, pair_ids, as_pairs, object_entries, object_rows, with_object, number_id, number_row}
-use Rattle.jpa_object_rows.specs.Sets.{set_in, with_number, with_next, with_numbers, with_set, rows_of}
+use Rattle.jpa_object_rows.specs.Sets.{base_of, set_in, with_number, with_next, with_numbers, with_set, rows_of}
 use Rattle.jpa_object_rows.proofs.Renamed.{renamed, some_if, found_renamed, sorted_renamed}
 use Rattle.jpa_object_rows.proofs.Raw.{raw_rises}
 use Rattle.jpa_object_rows.proofs.Changes.{same_order, any_keys}
@@ -121,8 +121,8 @@ module _ (world : World) (clear : IsUnambiguous world.model) (q : RowId) (root :
   pub main_found : (set : StoredSet) → AreStorable world set → (numbers : List ℕ) → find identity_cmp q (rows_of world set numbers) ≡ option_map (main_row world) (stored_at set q)
   main_found set h numbers =
       let ps = zip (world.model).entities numbers in
-      set_found set h (with_numbers ps [])
-      ∙ ap (or_else (option_map (main_row world) (stored_at set q))) (past_numbers world.model clear q root at ps [])
+      set_found set h (with_numbers ps (base_of world.model))
+      ∙ ap (or_else (option_map (main_row world) (stored_at set q))) (past_numbers world.model clear q root at ps (base_of world.model) ∙ past_number world.model clear q root at 0 (world.model).revision [])
       ∙ or_none (option_map (main_row world) (stored_at set q))
 
 -- ---- a whole table

@@ -113,5 +113,9 @@ abbrev pub with_set : World → StoredSet → Rows → Rows
 with_set world [] rows = rows
 with_set world (e ∷ set) rows = with_object world e.0 e.1 (with_set world set rows)
 
+-- the row of the revision
+abbrev pub base_of : PersistenceUnit → Rows
+base_of m = with_number 0 m.revision []
+
 abbrev pub rows_of : World → StoredSet → List ℕ → Rows
-rows_of world set numbers = with_set world set (with_numbers (zip (world.model).entities numbers) [])
+rows_of world set numbers = with_set world set (with_numbers (zip (world.model).entities numbers) (base_of world.model))

@@ -1,43 +1,37 @@
 -- The row of a next number in the rows of a set: where the number is not 1 it stands, and else none does.
-use Rattle.std.specs.Prelude.{◌≡◌, ◌≢◌, ℕ, zero, suc, pos, ◌<◌, nat_le, Bool, true, false, cond, ◌==◌, ◌&&◌, nat_lt, not, is_some, List, [], ◌∷◌, length, slice_set, Option, Some, None}
-use Rattle.std.proofs.Common.{refl, sym, ap, subst, ◌∙◌, inl, arith, get_or}
+use Rattle.std.specs.Prelude.{◌≡◌, ◌≢◌, ℕ, zero, suc, pos, ◌<◌, nat_le, Bool, true, false, cond, ◌==◌, ◌&&◌, nat_lt, List, [], ◌∷◌, length, slice_set, Option, Some, None}
+use Rattle.std.proofs.Common.{refl, sym, ap, subst, ◌∙◌, arith, get_or}
 use Rattle.std.proofs.Math.ListN.{get_or-map}
-use Rattle.std.specs.List.{flat_map, zip}
+use Rattle.std.specs.List.{zip}
 use Rattle.std.specs.FinMap.{find, put}
 use Rattle.std.specs.Ordering.{eq_by_cmp}
-use Rattle.jpa_value.specs.declared.value.Identity.{Identity}
 use Rattle.jpa_value.specs.Value.{identity_cmp, is_i64}
 use Rattle.jpa_model.specs.declared.unit.Entity.{Entity}
 use Rattle.jpa_model.specs.declared.unit.Origin.{Origin}
 use Rattle.jpa_model.specs.declared.unit.PersistenceUnit.{PersistenceUnit}
-use Rattle.jpa_model.specs.declared.unit.Relation.{Relation}
 use Rattle.jpa_model.specs.declared.unit.Root.{Root}
-use Rattle.jpa_model.specs.Chains.{entity_at, root_of, relations_of, no_entity}
+use Rattle.jpa_model.specs.Chains.{entity_at, no_entity}
 use Rattle.jpa_model.specs.Kept.{IsDescribed}
 use Rattle.jpa_behaviour.specs.Behaviour.{World, IsRegular}
-use Rattle.jpa_stored.specs.declared.stored.Stored.{Stored}
 use Rattle.jpa_stored.specs.Sets.{StoredSet, each_fits}
-use Rattle.jpa_rows.specs.Cells.{is_next, are_numbers, join_tables}
+use Rattle.jpa_rows.specs.Cells.{is_next, are_numbers}
 use Rattle.jpa_rows.specs.Rows.{RowId, Row, Rows}
 use Rattle.jpa_row_laws.proofs.Each.{Each, each_put}
-use Rattle.jpa_row_laws.proofs.Elements.{Has, found_has, into_flat_map}
+use Rattle.jpa_row_laws.proofs.Elements.{found_has}
 use Rattle.jpa_row_laws.proofs.Facts.{and_first, and_second, some_none, true_false, value_in}
 use Rattle.jpa_row_laws.proofs.Lists.{all_each}
 use Rattle.jpa_row_laws.proofs.Maps.{found_put, same_key, ties_itself}
-use Rattle.jpa_view.specs.Identities.{root_at, declarer_at, is_within}
 use Rattle.jpa_view.specs.Unambiguous.{IsUnambiguous, is_class}
-use Rattle.jpa_view.specs.View.{is_storable, AreStorable}
+use Rattle.jpa_view.specs.View.{AreStorable}
 use Rattle.jpa_view.proofs.Described.{described_mapped}
-use Rattle.jpa_view.proofs.Keys.{table_is}
 use Rattle.jpa_view.proofs.Mapped.{IsMapped}
 use Rattle.jpa_view.proofs.MappedClasses.{unambiguous_mapped}
 use Rattle.jpa_view.proofs.Orders.{identities, are_same_numbers}
-use Rattle.jpa_view.proofs.Reading.{storable}
-use Rattle.jpa_view.proofs.Tables.{zero_root, zero_join}
 use Rattle.jpa_object_rows.specs.Objects.{is_discriminator, number_id, number_row, object_entries, object_rows}
-use Rattle.jpa_object_rows.specs.Sets.{number_in, next_at, with_number, with_next, with_numbers, with_set, rows_of}
+use Rattle.jpa_object_rows.specs.Sets.{number_in, next_at, base_of, with_number, with_next, with_numbers, with_set, rows_of}
 use Rattle.jpa_object_rows.proofs.Exact.{rows_numbered_in, numbers_read_in}
-use Rattle.jpa_object_rows.proofs.Kept.{over_each, along_each, join_of_class}
+use Rattle.jpa_object_rows.proofs.Kept.{over_each}
+use Rattle.jpa_object_rows.proofs.Marked.{Elsewhere, entries_elsewhere}
 use Rattle.jpa_overlay.specs.Overlay.{Changes}
 use Rattle.jpa_object_store.specs.Shown.{with_puts, Recall, with_old_next}
 use Rattle.jpa_object_store.specs.Shown as shown
@@ -60,32 +54,25 @@ next_says : (origin : Origin) (k : ℕ) (rows : Rows) → Each SaysMore rows →
 next_says (Origin.Extends parent) k rows h = h
 next_says (Origin.Root root) k rows h = elim root.generated as (λ b. Each SaysMore (cond b (with_number root.table k rows) rows)) [ true ↦ number_says root.table k rows h | false ↦ h ]
 
-numbers_say : (ps : List (Entity × ℕ)) → Each SaysMore (with_numbers ps [])
-numbers_say [] = tt
-numbers_say (p ∷ ps) = next_says (p.0).origin p.1 (with_numbers ps []) (numbers_say ps)
+numbers_say : (m : PersistenceUnit) (ps : List (Entity × ℕ)) → Each SaysMore (with_numbers ps (base_of m))
+numbers_say m [] = number_says 0 m.revision [] tt
+numbers_say m (p ∷ ps) = next_says (p.0).origin p.1 (with_numbers ps (base_of m)) (numbers_say m ps)
+
+-- rows of other tables say nothing
+elsewhere_say : (es : Rows) → Each Elsewhere es → Each SaysMore es
+elsewhere_say [] h = tt
+elsewhere_say (e ∷ es) h = (λ zero. absurd (h.0 zero), elsewhere_say es h.1)
 
 module _ (world : World) (clear : IsUnambiguous world.model) where
-  -- an object's rows stand in other tables
-  entries_say : (id : Identity) (x : Stored) → is_storable world id x ≡ true → Each SaysMore (object_entries world id x)
-  entries_say id x g =
-      let m = world.model in
-      let s = storable world id x g in
-      let root = root_of m x.class in (
-        λ none. absurd (some_none root (sym (ap (root_at m) (table_is root id s.of_root) ∙ clear.root x.class s.class) ∙ ap (root_at m) none ∙ zero_root m clear.tables)),
-        along_each SaysMore id (relations_of m x.class) x.owned
-            (λ r k join side t none.
-            let has : Has (flat_map (λ (r : Relation). join_tables r.side) (relations_of m x.class)) join = into_flat_map (λ (s : Relation). join_tables s.side) (relations_of m x.class) r join k (subst (λ s. Has (join_tables s) join) (sym side) (inl refl)) in
-            absurd (true_false (sym (and_second (not (is_some (root_at m join))) _ (join_of_class m clear x.class s.class join has))
-            ∙ ap (λ j. is_within m root.table (declarer_at m j)) none ∙ ap (is_within m root.table) (zero_join m clear.tables)))),
-      )
-
   set_says : (set : StoredSet) → AreStorable world set → (base : Rows) → Each SaysMore base → Each SaysMore (with_set world set base)
   set_says [] h base g = g
   set_says (e ∷ set) h base g =
-      over_each SaysMore (object_rows world e.0 e.1) (with_set world set base) (over_each SaysMore (object_entries world e.0 e.1) [] (entries_say e.0 e.1 h.0) tt) (set_says set h.1 base g)
+      over_each SaysMore (object_rows world e.0 e.1) (with_set world set base)
+      (over_each SaysMore (object_entries world e.0 e.1) [] (elsewhere_say (object_entries world e.0 e.1) (entries_elsewhere world clear e.0 e.1 h.0)) tt)
+      (set_says set h.1 base g)
 
   rows_say : (set : StoredSet) → AreStorable world set → (numbers : List ℕ) → Each SaysMore (rows_of world set numbers)
-  rows_say set h numbers = set_says set h (with_numbers (zip (world.model).entities numbers) []) (numbers_say (zip (world.model).entities numbers))
+  rows_say set h numbers = set_says set h (with_numbers (zip (world.model).entities numbers) (base_of world.model)) (numbers_say world.model (zip (world.model).entities numbers))
 
 -- ---- the row of one number
 

@@ -40,7 +40,7 @@ person relations =
     }
 
 abbrev world_of : List Relation → World
-world_of relations = without_functions (record { listeners = []; entities = person relations ∷ [] })
+world_of relations = without_functions (record { revision = 1; listeners = []; entities = person relations ∷ [] })
 
 abbrev id : ℕ → Identity
 id n = record { table = 1; key = Value.Int (pos n) ∷ [] }

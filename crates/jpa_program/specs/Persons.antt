@@ -85,6 +85,7 @@ all_cascades = record { persist = true; merge = true; remove = true; refresh = t
 abbrev pub persons : PersistenceUnit
 persons =
     record {
+      revision = 1;
       listeners = [];
       entities = record {
         name = codes "Person";

@@ -185,8 +185,8 @@ module _ (M : Machine) (s t : Session) (m : ℕ) (c : Entries) (h : IsCommitting
   idle_there k = subst (λ ys. IsIdle ys k) (sym f) (idle_set xs m (ended (manager_in xs m) c) away.within (λ e. refl) away.idle k)
 
   -- and is as open as it was
-  pub counted_there : t.open_managers ≡ s.open_managers → IsCounted t
-  counted_there n = counted_same s t m (ended (manager_in xs m) c) away.within away.counted f was_open n
+  pub counted_there : t.open_places.items ≡ s.open_places.items → IsCounted t
+  counted_there n = counted_same s t m (ended (manager_in xs m) c) away.counted f was_open n
 
 -- ---- what else a commit leaves
 

@@ -1,5 +1,5 @@
 -- What the commit of a manager stands on, and what its work leaves.
-use Rattle.std.proofs.Common.{◌≡◌, ◌<◌, ℕ, true, length, ap, refl, sym, subst, ◌∙◌}
+use Rattle.std.proofs.Common.{◌≡◌, ◌<◌, ℕ, true, length, ap, refl, sym, ◌∙◌}
 use Rattle.std.specs.Prelude.{All, nat_le}
 use Rattle.std.proofs.lemmas.Bool.{false≢true}
 use Rattle.std.proofs.lemmas.List.Elements.{All-weaker}
@@ -10,7 +10,7 @@ use Rattle.jpa_fetch.specs.Grown.{IsReady}
 use Rattle.jpa_context.specs.declared.Entry.{Entry}
 use Rattle.jpa_context.specs.Work.{Work}
 use Rattle.jpa_context.specs.Steps.{Done}
-use Rattle.jpa_context.specs.Undo.{now, since, Since}
+use Rattle.jpa_context.specs.Undo.{now, since}
 use Rattle.jpa_machine.specs.Machine.{Machine, manager_at, is_begun, begun_in, begun_set, work_of}
 use Rattle.jpa_machine.specs.Transactions.{commit_work}
 use Rattle.jpa_machine.proofs.AtWork.{IsAtWork, taken}
@@ -21,7 +21,7 @@ use Rattle.jpa_stored.specs.Sets.{StoredSet, each_fits}
 use Rattle.jpa_provider.specs.declared.session.Status.{Status}
 use Rattle.jpa_provider.specs.declared.session.Session.{Session}
 use Rattle.jpa_provider.specs.Beside.{AreHeld}
-use Rattle.jpa_provider.specs.Serving.{machine_of, manager_in, transaction_in, is_begun_status, IsAway, IsCommitting, IsServing, IsWorking}
+use Rattle.jpa_provider.specs.Serving.{machine_of, manager_in, transaction_in, is_begun_status, IsCommitting, IsServing, IsWorking}
 use Rattle.jpa_provider.proofs.Held.{held_away}
 use Rattle.jpa_provider.proofs.Commits.{committed_work}
 use Rattle.jpa_provider.proofs.Sessions.{begun_there}
@@ -53,7 +53,7 @@ module _ {M : Machine} {m : ℕ} (t : Session) (h : IsCommitting M m t) where
   same_work world e = λ i. commit_work world (((h.working).away).committed i) (begun_then i) (e i)
 
 -- beside others for whom something was kept back it is still at work
-pub still_committing : {M : Machine} {m : ℕ} (s t : Session) → IsUndone s.work.view t.work.view → AreHeld (s.work.view).committed s.managers.items m (s.work.view).committed t.managers.items → t.stored ≡ s.stored → t.open_managers ≡ s.open_managers →
+pub still_committing : {M : Machine} {m : ℕ} (s t : Session) → IsUndone s.work.view t.work.view → AreHeld (s.work.view).committed s.managers.items m (s.work.view).committed t.managers.items → t.stored ≡ s.stored → t.open_places.items ≡ s.open_places.items →
     (since t.work).objects ≡ (since s.work).objects → (since t.work).context ≡ (since s.work).context → (since t.work).numbers ≡ (since s.work).numbers → IsCommitting M m s → IsCommitting M m t
 still_committing s t u held stored opened o c n h =
     let working = h.working in

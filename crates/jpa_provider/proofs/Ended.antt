@@ -7,7 +7,6 @@ use Rattle.jpa_behaviour.specs.Behaviour.{World}
 use Rattle.jpa_model.specs.declared.unit.PersistenceUnit.{PersistenceUnit}
 use Rattle.jpa_heap.specs.declared.LiveObject.{LiveObject}
 use Rattle.jpa_undo.specs.Undo.{Changes}
-use Rattle.jpa_context.specs.declared.Entry.{Entry}
 use Rattle.jpa_context.specs.declared.work.UnitOfWork.{UnitOfWork}
 use Rattle.jpa_context.specs.Marks.{Entries, Marks}
 use Rattle.jpa_context.specs.Undo.{now}

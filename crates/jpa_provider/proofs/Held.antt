@@ -1,11 +1,10 @@
 -- What is kept back for others, and what a commit leaves of their managers.
-use Rattle.std.proofs.Common.{◌≡◌, ◌≢◌, ◌<◌, ◌≤◌, ◌+◌, ◌-◌, ◌⊎◌, inl, inr, ℕ, zero, suc, Bool, true, false, cond, take, List, [], ◌∷◌, length, map, refl, ap, sym, subst, ◌∙◌, arith}
-use Rattle.std.specs.Prelude.{Some, slice_set, count_by}
-use Rattle.std.proofs.lemmas.Bool.{false≢true, true≢false, cases_lt}
+use Rattle.std.proofs.Common.{◌≡◌, ◌≢◌, ◌<◌, ◌+◌, ◌⊎◌, inl, inr, ℕ, zero, suc, true, false, get_or, List, [], ◌∷◌, length, map, refl, ap, sym, subst, ◌∙◌, arith}
+use Rattle.std.specs.Prelude.{Some, slice_set}
+use Rattle.std.proofs.lemmas.Bool.{false≢true}
 use Rattle.std.proofs.lemmas.Bool.Decides.{eqb_tells}
 use Rattle.std.proofs.Math.Dec.{eqb}
 use Rattle.std.proofs.lemmas.List.{length-set}
-use Rattle.std.proofs.lemmas.List.Sums.{sum_by-append, sum_by-cons, count_by_more_yes, count_by_more_no}
 use Rattle.jpa_value.specs.declared.value.Identity.{Identity}
 use Rattle.jpa_stored.specs.Sets.{StoredSet}
 use Rattle.jpa_open.specs.Opened.{Away, IsKeptBack, IsUntouched, IsUndone, SameElsewhere, begun_over, seen_over}
@@ -14,8 +13,9 @@ use Rattle.jpa_provider.specs.declared.session.Status.{Status}
 use Rattle.jpa_provider.specs.declared.session.EntityManager.{EntityManager}
 use Rattle.jpa_provider.specs.declared.session.Session.{Session}
 use Rattle.jpa_machine.specs.Machine.{Machine, Manager}
-use Rattle.jpa_provider.specs.Beside.{IsHeld, AreHeld, IsTold, AreTold, Rises, open_before}
-use Rattle.jpa_provider.specs.Serving.{transaction_in, is_open_status, is_begun_status, manager_of, managers_of, manager_in, nobody, IsAway, IsIdle}
+use Rattle.jpa_provider.specs.Beside.{IsHeld, AreHeld, IsTold, AreTold, Rises}
+use Rattle.jpa_provider.specs.Serving.{transaction_in, is_open_status, is_begun_status, manager_of, managers_of, manager_in, open_places, IsAway, IsIdle}
+use Rattle.jpa_provider.proofs.Counted.{begun_is_open, place_there, places_within, same_places}
 use Rattle.jpa_provider.proofs.Sessions.{placed, elsewhere}
 
 -- ---- while what is committed stays
@@ -83,64 +83,31 @@ held_beside before after xs m ids r s same told = held_after before after xs xs 
 
 -- ---- those that are open
 
-not_begun : (st : Status) → is_open_status st ≡ false → is_begun_status st ≡ false
-not_begun Status.Closed e = refl
-not_begun Status.Inactive e = refl
-not_begun Status.Active e = absurd (true≢false e)
-not_begun Status.RollbackOnly e = absurd (true≢false e)
-
--- where none of the first n is open
-none_before : (xs : List EntityManager) (n k : ℕ) → open_before n xs ≡ 0 → k < n → k < length xs → is_open_status (manager_in xs k).status ≡ false
-none_before [] n k e l h = absurd (omega (arith, h))
-none_before (x ∷ xs) zero k e l h = absurd (omega (arith, l))
-none_before (x ∷ xs) (suc n) k e l h =
-    let parts : cond (is_open_status x.status) 1 0 + open_before n xs ≡ 0 = sym (sum_by-cons (λ (y : EntityManager). cond (is_open_status y.status) 1 0) x (take n xs)) ∙ e in
-    by_place (none_before xs n) parts k l h
+-- what was kept back for others, and for the manager at this place
+pub told_more : (mid new : List EntityManager) (m place : ℕ) (ids : List Identity) → ((k : ℕ) → k ≢ place → manager_in new k ≡ manager_in mid k) → IsTold m new ids place → (k : ℕ) → IsTold m mid ids k → IsTold m new ids k
+told_more mid new m place ids same one k told = by_place (eqb_tells k place)
   where
-    closed : (b : Bool) → cond b 1 0 + open_before n xs ≡ 0 → b ≡ false
-    closed false z = refl
-    closed true z = absurd (omega (arith, z))
+    by_place : ((eqb k place ≡ true) × (k ≡ place)) ⊎ ((eqb k place ≡ false) × (k ≢ place)) → IsTold m new ids k
+    by_place (inl q) = subst (IsTold m new ids) (sym q.1) one
+    by_place (inr q) = subst (λ (x : EntityManager). k ≢ m → is_begun_status x.status ≡ true → IsKeptBack (x.layers).back ids) (sym (same k q.1)) told
 
-    by_place : ((j : ℕ) → open_before n xs ≡ 0 → j < n → j < length xs → is_open_status (manager_in xs j).status ≡ false) → cond (is_open_status x.status) 1 0 + open_before n xs ≡ 0 →
-        (j : ℕ) → j < suc n → j < length (x ∷ xs) → is_open_status (manager_in (x ∷ xs) j).status ≡ false
-    by_place further parts zero a b = closed (is_open_status x.status) parts
-    by_place further parts (suc j) a b = further j (omega (arith, parts)) (omega (arith, a)) (omega (arith, b))
+-- what was kept back for those that are open was kept back for all
+pub told_all : (C : StoredSet) (old new : List EntityManager) (m : ℕ) (places : List ℕ) (ids : List Identity) → AreHeld C old m C new → places ≡ open_places 0 old →
+    ((i : ℕ) → i < length places → IsTold m new ids (get_or places i 0)) → AreTold m new ids
+told_all C old new m places ids h e told k l n begun =
+    let is_open = begun_is_open (manager_in old k) (ap is_begun_status (sym (h.others k n).status) ∙ begun) in
+    let at = place_there 0 old k is_open in
+    let within = subst (λ (ns : List ℕ). at.0 < length ns) (sym e) at.1 in
+    let there : get_or places at.0 0 ≡ k = ap (λ (ns : List ℕ). get_or ns at.0 0) e ∙ at.2 ∙ (let z : 0 + k ≡ k = omega arith in z) in
+    subst (IsTold m new ids) there (told at.0 within) n begun
 
--- where one is open there is one
-pub some_before : (xs : List EntityManager) (n : ℕ) → 0 < open_before n xs → 0 < n
-some_before xs zero h = absurd (omega (arith, h))
-some_before xs (suc n) h = omega arith
-
--- one more of them
-pub one_open : (xs : List EntityManager) (n : ℕ) → 0 < n → n ≤ length xs → is_open_status (manager_in xs (n - 1)).status ≡ true → open_before n xs ≡ open_before (n - 1) xs + 1
-one_open xs n l h e =
-    let next : n - 1 + 1 ≡ n = omega (arith, l) in
-    ap (λ j. open_before j xs) (sym next) ∙ count_by_more_yes (λ (x : EntityManager). is_open_status x.status) xs (n - 1) nobody (omega (arith, l, h)) e
-
-pub one_closed : (xs : List EntityManager) (n : ℕ) → 0 < n → n ≤ length xs → is_open_status (manager_in xs (n - 1)).status ≡ false → open_before n xs ≡ open_before (n - 1) xs
-one_closed xs n l h e =
-    let next : n - 1 + 1 ≡ n = omega (arith, l) in
-    ap (λ j. open_before j xs) (sym next) ∙ count_by_more_no (λ (x : EntityManager). is_open_status x.status) xs (n - 1) nobody (omega (arith, l, h)) e
-
--- what was kept back for those from a place on, and for the one before it
-pub told_more : (mid new : List EntityManager) (m place : ℕ) (ids : List Identity) → 0 < place → ((k : ℕ) → k ≢ place - 1 → manager_in new k ≡ manager_in mid k) → length new ≡ length mid → IsTold m new ids (place - 1) →
-    ((k : ℕ) → place ≤ k → k < length mid → IsTold m mid ids k) → (k : ℕ) → place - 1 ≤ k → k < length new → IsTold m new ids k
-told_more mid new m place ids l same count one told k a b = by_place (cases_lt k place)
-  where
-    by_place : (k < place) ⊎ (place ≤ k) → IsTold m new ids k
-    by_place (inl c) = let e : place - 1 ≡ k = omega (arith, a, c, l) in subst (IsTold m new ids) e one
-    by_place (inr c) =
-        subst (λ (x : EntityManager). k ≢ m → is_begun_status x.status ≡ true → IsKeptBack (x.layers).back ids) (sym (same k (λ e. absurd (omega (arith, e, c, l))))) (told k c (subst (λ j. k < j) count b))
-
--- what was kept back for all from this place on was kept back for all
-pub told_all : (C : StoredSet) (old new : List EntityManager) (m place : ℕ) (ids : List Identity) → AreHeld C old m C new → open_before place old ≡ 0 →
-    ((k : ℕ) → place ≤ k → k < length new → IsTold m new ids k) → AreTold m new ids
-told_all C old new m place ids h none told k l = by_place (cases_lt k place)
-  where
-    by_place : (k < place) ⊎ (place ≤ k) → IsTold m new ids k
-    by_place (inl b) = λ n begun.
-        absurd (true≢false (sym begun ∙ ap is_begun_status (h.others k n).status ∙ not_begun (manager_in old k).status (none_before old place k none b (subst (λ j. k < j) h.count l))))
-    by_place (inr a) = told k a l
+-- an open manager's place is that of a manager
+pub place_within : (C : StoredSet) (old mid : List EntityManager) (m : ℕ) (places : List ℕ) (i : ℕ) → AreHeld C old m C mid → places ≡ open_places 0 old → i < length places → get_or places i 0 < length mid
+place_within C old mid m places i h e l =
+    let there = places_within 0 old i (subst (λ (ns : List ℕ). i < length ns) e l) in
+    let same = ap (λ (ns : List ℕ). get_or ns i 0) e in
+    let count = h.count in
+    omega (arith, there, same, count)
 
 -- ---- as the machine sees them
 
@@ -189,23 +156,10 @@ idle_held before after old new m h idle k n e =
     let none = ap is_begun_status (sym q.status) ∙ e in
     q.idle none ∙ idle k n none
 
--- and as many are open
-same_count : (xs ys : List EntityManager) → length ys ≡ length xs → ((k : ℕ) → (manager_in ys k).status ≡ (manager_in xs k).status) → count_by (λ (x : EntityManager). is_open_status x.status) ys ≡ count_by (λ (x : EntityManager). is_open_status x.status) xs
-same_count [] [] l h = refl
-same_count [] (y ∷ ys) l h = absurd cc
-same_count (x ∷ xs) [] l h = absurd cc
-same_count (x ∷ xs) (y ∷ ys) l h =
-    let one_if : EntityManager → ℕ = λ z. cond (is_open_status z.status) 1 0 in
-    let a = sum_by-append one_if (x ∷ []) xs in
-    let b = sum_by-append one_if (y ∷ []) ys in
-    let c = ap {B = ℕ} (λ (z : Status). cond (is_open_status z) 1 0) (h zero) in
-    let d = same_count xs ys (omega (arith, l)) (λ k. h (suc k)) in
-    omega (arith, a, b, c, d)
-
 -- ---- a manager at work beside them
 
 -- while what is committed stays, a manager that is at work is so still
-pub held_away : {M : Machine} {m : ℕ} (s t : Session) → IsUndone s.work.view t.work.view → AreHeld (s.work.view).committed s.managers.items m (s.work.view).committed t.managers.items → t.stored ≡ s.stored → t.open_managers ≡ s.open_managers →
+pub held_away : {M : Machine} {m : ℕ} (s t : Session) → IsUndone s.work.view t.work.view → AreHeld (s.work.view).committed s.managers.items m (s.work.view).committed t.managers.items → t.stored ≡ s.stored → t.open_places.items ≡ s.open_places.items →
     IsAway M m s → IsAway M m t
 held_away {M} {m} s t u held stored opened h =
     let xs = s.managers.items in
@@ -226,5 +180,5 @@ held_away {M} {m} s t u held stored opened h =
       is_open = ap (λ (x : EntityManager). is_open_status x.status) own ∙ h.is_open;
       mode = ap (λ (x : EntityManager). x.mode) own ∙ h.mode;
       idle = idle_held M.committed M.committed xs ys m there h.idle;
-      counted = record { opened = opened ∙ (h.counted).opened ∙ sym (same_count xs ys held.count (same_status (s.work.view).committed (s.work.view).committed xs ys m held)) };
+      counted = record { opened = opened ∙ (h.counted).opened ∙ sym (same_places 0 xs ys held.count (same_status (s.work.view).committed (s.work.view).committed xs ys m held)) };
     }

@@ -12,7 +12,7 @@ use Rattle.jpa_cascade.specs.declared.Operation.{Operation}
 use Rattle.jpa_cascade.specs.Waves.{waves}
 use Rattle.jpa_context.specs.declared.EntityState.{EntityState}
 use Rattle.jpa_context.specs.Steps.{after, each, Outcome, Done, Refused}
-use Rattle.jpa_context.specs.Work.{Work, is_managed, is_removed, object, state_of}
+use Rattle.jpa_context.specs.Work.{Work, is_managed, is_removed, state_of}
 use Rattle.jpa_ops.specs.States.{detach, detach_node, detach_one, let_go}
 use Rattle.jpa_marking.specs.Shared.{LetsGo, is_held_by}
 use Rattle.jpa_consistent.specs.Going.{HoldsAfter}

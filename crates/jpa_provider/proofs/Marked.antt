@@ -1,6 +1,6 @@
 -- What marks say between calls and in one: of each manager's context, and of that of the manager at work.
 use Rattle.std.proofs.Common.{◌≡◌, ◌≢◌, ◌<◌, ◌≤◌, ◌+◌, ◌⊎◌, inl, inr, ℕ, zero, suc, Bool, true, false, List, [], ◌∷◌, ◌++◌, length, refl, ap, sym, subst, ◌∙◌, arith}
-use Rattle.std.specs.Prelude.{slice_index_or, slice_set, ◌==◌, Result, Ok, Err, OnErr, OnOk, if◌then◌else◌}
+use Rattle.std.specs.Prelude.{slice_set, ◌==◌, Result, Ok, Err, OnOk, if◌then◌else◌}
 use Rattle.std.specs.List.{All, list_any}
 use Rattle.std.proofs.lemmas.Bool.{cases_eq, cases_lt, eq-eqb, eqb-true, false≢true, true≢false}
 use Rattle.std.proofs.lemmas.List.{get_or-set_other, get_or_append_left, length-append, set-get_or}
@@ -16,20 +16,20 @@ use Rattle.jpa_undo.specs.Undo.{Changes}
 use Rattle.jpa_context.specs.declared.Entry.{Entry}
 use Rattle.jpa_context.specs.declared.EntityState.{EntityState}
 use Rattle.jpa_context.specs.declared.work.UnitOfWork.{UnitOfWork}
-use Rattle.jpa_context.specs.Marks.{Entries, Marks, all_marked, is_marked, none_marked}
+use Rattle.jpa_context.specs.Marks.{Entries, Marks, all_marked, is_marked}
 use Rattle.jpa_context.specs.Undo.{now, since, undone, Since, IsKept}
-use Rattle.jpa_context.specs.Work.{Work, object, state_of, state_from, is_managed}
-use Rattle.jpa_context.specs.Steps.{Outcome, Done, Refused, Meets}
+use Rattle.jpa_context.specs.Work.{Work, object, state_from, is_managed}
+use Rattle.jpa_context.specs.Steps.{Outcome, Meets}
 use Rattle.jpa_protocol.specs.declared.event.Told.{Told}
 use Rattle.jpa_fetch.specs.Grown.{IsReady}
-use Rattle.jpa_flush.specs.Marked.{AreEntered, AreMarked, AreMarkedBefore, GoesOn, IsMarked, IsNamedStill, IsUntouched, before}
+use Rattle.jpa_flush.specs.Marked.{AreEntered, AreMarked, GoesOn, IsMarked, IsNamedStill, IsUntouched, before}
 use Rattle.jpa_marking.specs.Shared.{OthersGoOn, seen_by}
 use Rattle.jpa_consistent.specs.Consistent.{contexts, stands_in}
 use Rattle.jpa_consistent.specs.Going.{HoldsAfter}
 use Rattle.jpa_consistent.proofs.Ready.{ready_at_work}
 use Rattle.jpa_machine.specs.Machine.{Machine, Manager, kept, manager_at, no_manager, seen_in, with_manager, work_of}
-use Rattle.jpa_machine.specs.Invariant.{IsMachine, context_of}
-use Rattle.jpa_machine.proofs.AtWork.{IsAtWork, nobody_at, others_of, taken}
+use Rattle.jpa_machine.specs.Invariant.{context_of}
+use Rattle.jpa_machine.proofs.AtWork.{IsAtWork, others_of, taken}
 use Rattle.jpa_provider.specs.declared.session.EntityManager.{EntityManager}
 use Rattle.jpa_provider.specs.declared.session.Session.{Session}
 use Rattle.jpa_provider.specs.Serving.{machine_of, manager_in, manager_of, marks_in, nobody, AreAllMarked, AreMarkedAway, AreMarkedNow, IsAway, IsServing, IsWorking, KeepsMarks}

@@ -30,10 +30,10 @@ use Rattle.jpa_provider.specs.declared.session.Session.{Session}
 use Rattle.jpa_machine.specs.Machine.{Machine, Manager, Transaction, manager_at, new_manager, is_begun, marked, rolled_back, cleared, with_manager}
 use Rattle.jpa_machine.specs.Calls.{because}
 use Rattle.jpa_machine.specs.Transactions.{begin, begin_in, begun, rollback, rollback_in, set_rollback_only, only_rollback_in}
-use Rattle.jpa_machine.specs.Routes.{by_manager, made_new}
+use Rattle.jpa_machine.specs.Routes.{made_new}
 use Rattle.jpa_machine.specs.Step.{outcome}
 use Rattle.jpa_provider.specs.Serving.{transaction_in, is_open_status, is_begun_status, manager_of, managers_of, manager_in, nobody, machine_of, named, detached_at, detached_all, IsCounted, IsIdle, Serves}
-use Rattle.jpa_provider.proofs.Counted.{open_count, begun_is_open}
+use Rattle.jpa_provider.proofs.Counted.{as_counted, begun_is_open}
 use Rattle.jpa_provider.proofs.Sessions.{manager_there, managers_changed, managers_count, none_begun, nothing_begun, nothing_seen, begun_there, replaced}
 use Rattle.jpa_provider.proofs.Worked.{of_manager, of_nobody, named_open}
 
@@ -48,8 +48,8 @@ refusal r = record { events = []; answer = Err (Refusal.Because r) }
 abbrev may_open : ℕ → ℕ → Bool
 may_open opened made = nat_lt opened most_open_managers && nat_lt made most_managers
 
-may_create : (s : Session) → IsCounted s → may_open (count_by (λ (x : Manager). x.is_open) (machine_of s).managers) (length (machine_of s).managers) ≡ may_open s.open_managers (length s.managers.items)
-may_create s h = λ i. may_open ((open_count (s.work.view).committed s.managers.items ∙ sym h.opened) i) (managers_count s i)
+may_create : (s : Session) → IsCounted s → may_open (count_by (λ (x : Manager). x.is_open) (machine_of s).managers) (length (machine_of s).managers) ≡ may_open (length s.open_places.items) (length s.managers.items)
+may_create s h = λ i. may_open (as_counted (s.work.view).committed s h i) (managers_count s i)
 
 few : (opened made : ℕ) → opened < most_open_managers → made < most_managers → may_open opened made ≡ true
 few opened made k l = ap (λ b. b && nat_lt made most_managers) (lt-ltb opened most_open_managers k) ∙ lt-ltb made most_managers l
@@ -66,7 +66,7 @@ many_made opened made l = ap (λ b. nat_lt opened most_open_managers && b) (le-l
     and_false true = refl
     and_false false = refl
 
-pub not_created : (world : World) (s : Session) → IsCounted s → may_open s.open_managers (length s.managers.items) ≡ false → Serves world s Call.CreateEntityManager (refusal Cause.Limit) s
+pub not_created : (world : World) (s : Session) → IsCounted s → may_open (length s.open_places.items) (length s.managers.items) ≡ false → Serves world s Call.CreateEntityManager (refusal Cause.Limit) s
 not_created world s h l =
     let M = machine_of s in
     inl (ap (λ b. if b then (told (Answer.Number (suc (length M.managers))), record M { managers = M.managers ++ new_manager ∷ [] }) else because M Cause.Limit) (may_create s h ∙ l))
@@ -74,12 +74,12 @@ not_created world s h l =
 pub create_gives_up : (world : World) (s t : Session) → machine_of t ≡ machine_of s → Serves world s Call.CreateEntityManager (refusal Cause.OutOfMemory) t
 create_gives_up world s t e = inr (refl, inl refl, e)
 
-pub created : (world : World) (s t : Session) (x : EntityManager) → IsCounted s → s.open_managers < most_open_managers → length s.managers.items < most_managers → t.managers.items ≡ s.managers.items ++ x ∷ [] →
+pub created : (world : World) (s t : Session) (x : EntityManager) → IsCounted s → length s.open_places.items < most_open_managers → length s.managers.items < most_managers → t.managers.items ≡ s.managers.items ++ x ∷ [] →
     x.status ≡ Status.Inactive → x.mode ≡ FlushMode.Auto → x.context.now ≡ [] → t.work ≡ s.work → t.stored ≡ s.stored → Serves world s Call.CreateEntityManager (told (Answer.Number (suc (length s.managers.items)))) t
 created world s t x h l k e st o c w d =
     let M = machine_of s in
     inl (ap (λ b. if b then (told (Answer.Number (suc (length M.managers))), record M { managers = M.managers ++ new_manager ∷ [] }) else because M Cause.Limit)
-    (may_create s h ∙ few s.open_managers (length s.managers.items) l k)
+    (may_create s h ∙ few (length s.open_places.items) (length s.managers.items) l k)
     ∙ (λ i. (told (Answer.Number (suc (managers_count s i))), sym same i)))
   where
     C : StoredSet

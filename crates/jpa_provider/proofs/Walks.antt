@@ -1,5 +1,5 @@
 -- The walks of a commit over some entries are walks over all of them, since nothing is made of the others.
-use Rattle.std.proofs.Common.{◌≡◌, ◌∙◌, ℕ, ◌+◌, ◌<◌, ◌≤◌, Bool, true, false, List, [], ◌∷◌, ◌++◌, drop, map, length, get_or, zero, suc, refl, ap, sym, subst, add-one, arith}
+use Rattle.std.proofs.Common.{◌≡◌, ◌∙◌, ℕ, ◌+◌, ◌<◌, ◌≤◌, Bool, true, false, List, [], ◌∷◌, ◌++◌, drop, map, length, get_or, zero, suc, refl, ap, sym, add-one, arith}
 use Rattle.std.specs.Prelude.{◌&&◌, not, None, if◌then◌else◌, slice_set}
 use Rattle.std.specs.List.{filter, flat_map}
 use Rattle.std.proofs.lemmas.Bool.{false≢true}
@@ -15,7 +15,7 @@ use Rattle.jpa_fetch.specs.Grown.{IsReady}
 use Rattle.jpa_protocol.specs.declared.event.Told.{Told}
 use Rattle.jpa_flush.specs.Flush.{is_read_lock, listed}
 use Rattle.jpa_flush.specs.Marked.{AreLooked, IsUntouched, from, is_calm, is_unlocked}
-use Rattle.jpa_flush.proofs.Alike.{IsAlike, alike_ready, like_none}
+use Rattle.jpa_flush.proofs.Alike.{alike_ready, like_none}
 use Rattle.jpa_flush.proofs.Gaps.{list_step, to_end}
 use Rattle.jpa_flush.proofs.Places.{below, between, from_rises, from_within, last_within, next_within}
 use Rattle.jpa_flush.proofs.Settled.{partly}

@@ -1,5 +1,5 @@
 -- Other managers beside a commit: what is kept back for their transactions, so that these see what they saw.
-use Rattle.std.specs.Prelude.{◌≡◌, ◌≢◌, ◌<◌, ℕ, T, true, false, List, length, count_by, take}
+use Rattle.std.specs.Prelude.{◌≡◌, ◌≢◌, ◌<◌, ℕ, T, true, false, List, length}
 use Rattle.std.specs.FinMap.Entries.{is_sorted}
 use Rattle.jpa_value.specs.declared.value.Identity.{Identity}
 use Rattle.jpa_value.specs.Value.{identity_cmp}
@@ -7,7 +7,7 @@ use Rattle.jpa_stored.specs.Sets.{StoredSet}
 use Rattle.jpa_open.specs.Opened.{IsKeptBack, IsUntouched}
 use Rattle.jpa_provider.specs.declared.session.EntityManager.{EntityManager}
 use Rattle.jpa_provider.specs.declared.session.Session.{Session}
-use Rattle.jpa_provider.specs.Serving.{manager_in, is_begun_status, is_open_status}
+use Rattle.jpa_provider.specs.Serving.{manager_in, is_begun_status}
 
 -- in the order of identities, each once
 abbrev pub Rises : StoredSet → Type 0
@@ -22,25 +22,21 @@ pub record IsHeld (before : StoredSet) (old : EntityManager) (after : StoredSet)
   pub untouched : is_begun_status old.status ≡ true → IsUntouched before old.layers after new.layers
 
 -- all managers but the one at work, which stays as it is
-pub record AreHeld (before : StoredSet) (old : List EntityManager) (m : ℕ) (after : StoredSet) (new : List EntityManager) : Type 0 where
+pub record AreHeld (before : StoredSet) (old : List EntityManager) (m : ℕ) (after : StoredSet)
+    (new : List EntityManager) : Type 0 where
   pub others : (k : ℕ) → k ≢ m → IsHeld before (manager_in old k) after (manager_in new k)
   pub own : manager_in new m ≡ manager_in old m
   pub count : length new ≡ length old
 
--- what stands under these identities is kept back for the manager at this place, if it's another one whose transaction is open
+-- what stands under these identities is kept back for the manager at this place, if it's another one whose transaction
+-- is open
 abbrev pub IsTold : ℕ → List EntityManager → List Identity → ℕ → Type 0
-IsTold m managers ids k = k ≢ m → is_begun_status (manager_in managers k).status ≡ true → IsKeptBack ((manager_in managers k).layers).back ids
+IsTold m managers ids k =
+    k ≢ m → is_begun_status (manager_in managers k).status ≡ true → IsKeptBack ((manager_in managers k).layers).back ids
 
 -- and for each such one
 abbrev pub AreTold : ℕ → List EntityManager → List Identity → Type 0
 AreTold m managers ids = (k : ℕ) → k < length managers → IsTold m managers ids k
-
--- how many managers are open, and how many of the first n
-abbrev pub count_open : List EntityManager → ℕ
-count_open managers = count_by (λ (x : EntityManager). is_open_status x.status) managers
-
-abbrev pub open_before : ℕ → List EntityManager → ℕ
-open_before n managers = count_open (take n managers)
 
 -- over what the manager at work sees, the transactions of others are what they are over what is committed
 abbrev pub IsBeside : ℕ → Session → Type 0

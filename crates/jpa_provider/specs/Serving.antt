@@ -1,7 +1,7 @@
--- The machine that live data stand for: managers, each with the layers of its open transaction over the committed set, and one
--- of them at work.
+-- The machine that live data stand for: managers, each with the layers of its open transaction over the committed set,
+-- and one of them at work.
 use Rattle.jpa_context.specs.Marks.{Marks, none_marked}
-use Rattle.std.specs.Prelude.{◌≡◌, ◌≢◌, ◌<◌, ◌⊎◌, ℕ, ℤ, Bool, true, false, List, [], ◌∷◌, length, map, count_by, Option, Some, None, Ok, Err, slice_index_or, slice_set, if◌then◌else◌}
+use Rattle.std.specs.Prelude.{◌≡◌, ◌≢◌, ◌<◌, ◌+◌, ◌⊎◌, ℕ, ℤ, Bool, true, false, List, [], ◌∷◌, length, map, Option, Some, None, Ok, Err, slice_index_or, slice_set, if◌then◌else◌}
 use Rattle.std.specs.List.{filter}
 use Rattle.jpa_value.specs.declared.refusal.Cause.{Cause}
 use Rattle.jpa_value.specs.declared.refusal.Refusal.{Refusal}
@@ -68,7 +68,13 @@ manager_of set x =
 
 -- what stands where a number names no manager
 abbrev pub nobody : EntityManager
-nobody = record { status = Status.Closed; mode = FlushMode.Auto; context = record { now = []; since = []; marks = none_marked }; layers = no_layers }
+nobody =
+    record {
+      status = Status.Closed;
+      mode = FlushMode.Auto;
+      context = record { now = []; since = []; marks = none_marked };
+      layers = no_layers;
+    }
 
 abbrev pub manager_in : List EntityManager → ℕ → EntityManager
 manager_in managers m = slice_index_or managers m nobody
@@ -80,6 +86,11 @@ if_named managers (Some m) = if is_open_status (manager_in managers m).status th
 
 abbrev pub named : Session → ℤ → Option ℕ
 named s em = if_named s.managers.items (place_of (length s.managers.items) em)
+
+-- the places of those that are open, where the first one stands at place n; they rise
+abbrev pub open_places : ℕ → List EntityManager → List ℕ
+open_places n [] = []
+open_places n (x ∷ xs) = if is_open_status x.status then n ∷ open_places (n + 1) xs else open_places (n + 1) xs
 
 abbrev pub managers_of : StoredSet → List EntityManager → List Manager
 managers_of set managers = map (manager_of set) managers
@@ -96,9 +107,9 @@ machine_of s =
       committed = (s.work.view).committed;
     }
 
--- the count is that of the managers
+-- the open managers are told by their places
 pub record IsCounted (s : Session) : Type 0 where
-  pub opened : s.open_managers ≡ count_by (λ (x : EntityManager). is_open_status x.status) s.managers.items
+  pub opened : s.open_places.items ≡ open_places 0 s.managers.items
 
 -- without a transaction all sets are what is committed
 pub record IsResting (v : Opened) : Type 0 where
@@ -140,17 +151,20 @@ Serves world old call reply new = Step world (machine_of old) call reply (machin
 
 -- ---- a manager at work
 
--- in a call of the machine's manager m, whose context is away, and its layers where its transaction is open: with it put back, the
--- session's managers are the machine's
+-- in a call of the machine's manager m, whose context is away, and its layers where its transaction is open: with it
+-- put back, the session's managers are the machine's
 pub record IsAway (M : Machine) (m : ℕ) (s : Session) : Type 0 where
   pub within : m < length s.managers.items
   pub committed : (s.work.view).committed ≡ M.committed
   pub stored : s.stored ≡ M.stored_numbers
-  pub status : transaction_in (manager_in s.managers.items m).status (s.work.view).begun (s.work.view).kept ≡ (manager_at M m).transaction
-  pub apart : is_begun_status (manager_in s.managers.items m).status ≡ false → IsResting s.work.view × ((manager_in s.managers.items m).layers ≡ no_layers)
+  pub status : transaction_in (manager_in s.managers.items m).status (s.work.view).begun (s.work.view).kept
+      ≡ (manager_at M m).transaction
+  pub apart : is_begun_status (manager_in s.managers.items m).status ≡ false →
+      IsResting s.work.view × ((manager_in s.managers.items m).layers ≡ no_layers)
   pub home : begun_over (manager_in s.managers.items m).layers (s.work.view).committed ≡ (s.work.view).committed
   pub home_too : seen_over (manager_in s.managers.items m).layers (s.work.view).committed ≡ (s.work.view).committed
-  pub managers : (x : EntityManager) → managers_of M.committed (slice_set s.managers.items m x) ≡ with_manager M m (manager_of M.committed x)
+  pub managers : (x : EntityManager) → managers_of M.committed (slice_set s.managers.items m x)
+      ≡ with_manager M m (manager_of M.committed x)
   pub is_open : is_open_status (manager_in s.managers.items m).status ≡ (manager_at M m).is_open
   pub mode : (manager_in s.managers.items m).mode ≡ (manager_at M m).mode
   pub idle : (k : ℕ) → k ≢ m → IsIdle s.managers.items k
@@ -173,7 +187,8 @@ pub record AreMarkedAway (u : PersistenceUnit) (M : Machine) (m : ℕ) (s : Sess
 pub record KeepsMarks (u : PersistenceUnit) (old new : UnitOfWork) : Type 0 where
   pub manager : new.manager ≡ old.manager
   pub own : AreMarkedBefore u old → AreMarkedBefore u new
-  pub others : (k : ℕ) (es : List Entry) (marks : Marks) → k ≢ old.manager → AreMarked u (seen_by k es (before old)) marks → AreMarked u (seen_by k es (before new)) marks
+  pub others : (k : ℕ) (es : List Entry) (marks : Marks) → k ≢ old.manager →
+      AreMarked u (seen_by k es (before old)) marks → AreMarked u (seen_by k es (before new)) marks
 
 -- at the end of an accepted call the marks say what its work is then, and so do those of the others
 pub record AreMarkedNow (u : PersistenceUnit) (M : Machine) (m : ℕ) (s : Session) : Type 0 where
@@ -222,7 +237,8 @@ gave_up _ = false
 abbrev pub Refuses : Machine → ℕ → List Told → Cause → Reply → Machine → Type 0
 Refuses M m events r reply N =
     ((gave_up r ≡ true) × (reply ≡ gives_up r) × (N ≡ M))
-    ⊎ ((gave_up r ≡ false) × (reply ≡ record { events = events; answer = Err (Refusal.Rollback r) }) × (N ≡ rolled_back M m))
+    ⊎ ((gave_up r ≡ false) × (reply ≡ record { events = events; answer = Err (Refusal.Rollback r) })
+    × (N ≡ rolled_back M m))
 
 -- a commit whose flush was done: stored, or nothing was done where the store refused
 abbrev pub Stores : Machine → ℕ → Work → Reply → Machine → Type 0

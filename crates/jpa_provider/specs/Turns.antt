@@ -13,9 +13,11 @@ pub record AreExchanged (layers : Away) (before : Opened) (away : Away) (after :
   pub seen : after.seen ≡ after.kept
 
 -- where the manager's transaction is open its layers and those at work changed places; else nothing changed
-pub record HaveTurned (old : List EntityManager) (m : ℕ) (before : Opened) (new : List EntityManager) (after : Opened) : Type 0 where
+pub record HaveTurned (old : List EntityManager) (m : ℕ) (before : Opened) (new : List EntityManager)
+    (after : Opened) : Type 0 where
   pub layers : Away
   pub managers : new ≡ slice_set old m (record (manager_in old m) { layers = layers })
   pub committed : after.committed ≡ before.committed
-  pub begun : is_begun_status (manager_in old m).status ≡ true → AreExchanged (manager_in old m).layers before layers after
+  pub begun : is_begun_status (manager_in old m).status ≡ true →
+      AreExchanged (manager_in old m).layers before layers after
   pub none : is_begun_status (manager_in old m).status ≡ false → (layers ≡ (manager_in old m).layers) × (after ≡ before)

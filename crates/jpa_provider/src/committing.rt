@@ -258,7 +258,7 @@ fn store_commit<R: RowSource, B: Behaviour>(
     };
     let room = make_room(
         &mut session.managers,
-        session.open_managers,
+        session.open_places.as_slice(),
         manager,
         &mut session.work.view,
         ids,

@@ -1,6 +1,6 @@
 //! The ends of transactions but for commit (Jakarta Persistence 3.1, chapter 7.5).
 ghost use Rattle.jpa_context.specs.Marks.{none_marked};
-ghost use Rattle.std.specs.Prelude.{◌≡◌, ◌<◌, [], ℕ, All, false, true, length, slice_set};
+ghost use Rattle.std.specs.Prelude.{◌≡◌, ◌==◌, ◌<◌, [], ℕ, All, false, filter, not, true, length, slice_set};
 ghost use Rattle.jpa_behaviour.specs.Served.{world_of_unit};
 ghost use Rattle.jpa_ops.specs.States.{detach_each};
 ghost use Rattle.jpa_protocol.specs.declared.call.Call.{Call};
@@ -8,7 +8,7 @@ ghost use Rattle.jpa_machine.specs.Faults.{tells_fault};
 ghost use Rattle.jpa_behaviour.specs.Behaviour.{World};
 ghost use Rattle.jpa_machine.specs.Invariant.{IsMachine};
 ghost use Rattle.jpa_machine.specs.Machine.{cleared, closed, rolled_back};
-ghost use Rattle.jpa_provider.specs.Serving.{machine_of, manager_in, detached_all, detached_at, is_open_status, is_begun_status, AreAllMarked, IsServing, IsSettled, Serves};
+ghost use Rattle.jpa_provider.specs.Serving.{machine_of, manager_in, detached_all, detached_at, is_begun_status, AreAllMarked, IsServing, IsSettled, Serves};
 
 use crate::at_work::{manager_named, mark};
 use crate::replies::{accepted, because};
@@ -83,7 +83,7 @@ fn clear(alloc: Global, session: &mut Session, manager: usize)
     ensures marked { (world : World) → IsMachine world (machine_of session.old)
         → AreAllMarked world.model session.old → AreAllMarked world.model session.new }
     ensures view { session.new.work.view ≡ session.old.work.view }
-    ensures count { session.new.open_managers ≡ session.old.open_managers }
+    ensures places { session.new.open_places.items ≡ session.old.open_places.items }
 {
     other_laws();
     detach_each(
@@ -149,13 +149,19 @@ pub(crate) fn close_call<B: Behaviour>(
     accepted(alloc, Answer::Null)
 }
 
+/// A place goes from a list of them. Takes no memory.
+fn leave(places: &mut Vec<usize>, place: usize)
+    ensures { places.new.items ≡ filter (λ n. not (n == place)) places.old.items }
+{
+    places.retain(|other| *other != place);
+}
+
 /// Closes a manager that has no open transaction. Takes no memory.
 fn shut(alloc: Global, session: &mut Session, manager: usize)
     requires within { manager < length session.old.managers.items }
     requires settled { IsSettled session.old }
     requires entries { All (λ e. e.object < length session.old.work.objects.now)
         (manager_in session.old.managers.items manager).context.now }
-    requires open { is_open_status (manager_in session.old.managers.items manager).status ≡ true }
     requires idle { is_begun_status (manager_in session.old.managers.items manager).status
         ≡ false }
     ensures closed { machine_of session.new ≡ closed (machine_of session.old) manager }
@@ -165,7 +171,7 @@ fn shut(alloc: Global, session: &mut Session, manager: usize)
 {
     clear(alloc, session, manager);
     set_status(&mut session.managers, manager, Status::Closed);
-    session.open_managers -= 1;
+    leave(&mut session.open_places, manager);
 }
 
 /// Ends the manager's open transaction: its objects are detached as they are, and what it wrote goes with its layers. Takes no

@@ -1,5 +1,5 @@
 //! Calls that make managers and objects, and begin transactions (Jakarta Persistence 3.1, chapters 3.1.1 and 7.5).
-ghost use Rattle.std.specs.Prelude.{◌≡◌, false};
+ghost use Rattle.std.specs.Prelude.{◌≡◌, ◌++◌, ◌∷◌, [], false, is_ok, length, if◌then◌else◌};
 ghost use Rattle.jpa_behaviour.specs.Served.{world_of_unit};
 ghost use Rattle.jpa_model.specs.declared.unit.PersistenceUnit.{PersistenceUnit};
 ghost use Rattle.jpa_protocol.specs.declared.call.Call.{Call};
@@ -16,13 +16,32 @@ use jpa_marking::other_laws;
 use jpa_open::TransactionLayers;
 use jpa_protocol::{Answer, FlushMode, Reply};
 use jpa_value::{Argument, Cause, MOST_OBJECTS, MOST_OPEN_MANAGERS, State};
-use std::alloc::Global;
+use std::alloc::{AllocError, Global};
 
 /// The most entity managers that one run makes.
 const MOST_MANAGERS: usize = 1_000_000;
 
+/// A manager stands behind the others, and is one of the open ones. For want of memory all stays as it is.
+fn add_manager(
+    managers: &mut Vec<EntityManager>,
+    places: &mut Vec<usize>,
+    manager: EntityManager,
+) -> Result<(), AllocError>
+    ensures managers { managers.new.items ≡ (if is_ok result
+        then managers.old.items ++ manager ∷ [] else managers.old.items) }
+    ensures places { places.new.items ≡ (if is_ok result
+        then places.old.items ++ length managers.old.items ∷ [] else places.old.items) }
+{
+    places.push(managers.len())?;
+    if let Err(_) = managers.push(manager) {
+        places.pop();
+        return Err(AllocError);
+    }
+    Ok(())
+}
+
 /// The call createEntityManager. `Limit` where as many are open as may be, or as many were made.
-#[tactic(auto, using(crate::proofs::Opened::not_created, crate::proofs::Opened::create_gives_up, crate::proofs::Opened::created))]
+#[tactic(auto, using(crate::proofs::Opened::create_gives_up))]
 pub(crate) fn create_call<B: Behaviour>(
     alloc: Global,
     _unit: &ServedUnit<B>,
@@ -37,7 +56,7 @@ pub(crate) fn create_call<B: Behaviour>(
         → AreAllMarked u session.new }
 {
     let count = session.managers.len();
-    if session.open_managers >= MOST_OPEN_MANAGERS || count >= MOST_MANAGERS {
+    if session.open_places.len() >= MOST_OPEN_MANAGERS || count >= MOST_MANAGERS {
         return because(alloc, Cause::Limit);
     }
     let manager = EntityManager {
@@ -46,10 +65,9 @@ pub(crate) fn create_call<B: Behaviour>(
         context: PersistenceContext::new(alloc),
         layers: TransactionLayers::new(alloc),
     };
-    if let Err(_) = session.managers.push(manager) {
+    if let Err(_) = add_manager(&mut session.managers, &mut session.open_places, manager) {
         return because(alloc, Cause::OutOfMemory);
     }
-    session.open_managers += 1;
     accepted(alloc, Answer::Number(count as u64 + 1))
 }
 

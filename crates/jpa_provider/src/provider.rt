@@ -68,12 +68,18 @@ impl<R: RowSource, B: Behaviour> Model for Provider<R, B> {
 
     ghost Value = { Provided R B.Listener B.Converter };
 
-    ghost view = { λ p. record { model = p.unit.metamodel; registry = p.unit.registry; machine = machine_of p.session; rows = p.rows } };
+    ghost view = { λ p. record {
+      model = p.unit.metamodel;
+      registry = p.unit.registry;
+      machine = machine_of p.session;
+      rows = p.rows;
+    } };
 
     ghost invariant = { λ p. record {
       serving : IsServing (world_of_unit B.meaning p.unit) p.session;
       schema : R.schema p.rows ≡ schema_of p.unit.metamodel;
-      holds : R.clean p.rows → R.holds p.rows (rows_of (world_of_unit B.meaning p.unit) (machine_of p.session).committed (machine_of p.session).stored_numbers);
+      holds : R.clean p.rows → R.holds p.rows (rows_of (world_of_unit B.meaning p.unit)
+          (machine_of p.session).committed (machine_of p.session).stored_numbers);
     } };
 }
 
@@ -171,7 +177,7 @@ fn opened(alloc: Global, view: OpenSet, next: UndoList<u64>, numbers: Seq<u64>) 
 {
     Session {
         managers: Vec::new(alloc),
-        open_managers: 0,
+        open_places: Vec::new(alloc),
         work: UnitOfWork {
             manager: 0,
             objects: UndoList::new(alloc),

@@ -55,11 +55,12 @@ pub struct EntityManager {
 
 /// The managers, what they work on, and the next numbers that were last stored. Contracts see the machine that it stands for.
 ///
-/// Each open manager may have a transaction open. Between calls the view of the unit of work shows what is committed.
+/// Each open manager may have a transaction open; the open ones stand at `open_places`, which rise. Between calls the view of the
+/// unit of work shows what is committed.
 #[derive(Drop)]
 pub struct Session {
     pub managers: Vec<EntityManager>,
-    pub open_managers: usize,
+    pub open_places: Vec<usize>,
     pub work: UnitOfWork,
     pub stored: Seq<u64>,
 }

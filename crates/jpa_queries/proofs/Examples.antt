@@ -29,6 +29,7 @@ use Rattle.jpa_queries.specs.Queries.{cut, row_of, single_row}
 -- persons with a name
 abbrev unit : PersistenceUnit
 unit = record {
+  revision = 1;
   listeners = [];
   entities =
       record {

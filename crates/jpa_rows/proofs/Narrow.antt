@@ -139,7 +139,7 @@ record Kept (d : Draft) : Type 0 where
 
 kept : (d : Draft) → well_formed.is_well_formed d ≡ true → Kept d
 kept d h =
-    let together = and_second (int_eq d.revision (pos 1) && well_formed.has_entities d) _ h in
+    let together = and_second (well_formed.has_revision d && well_formed.has_entities d) _ h in
     let later = and_second (well_formed.has_members d) _ (and_second (well_formed.has_roots d) _ together) in
     let numbers = and_first (well_formed.has_numbers d) _ later in
     let short = list_all well_formed.is_discriminator_short d.entities in

@@ -51,7 +51,7 @@ abbrev worker : Entity
 worker = entity (codes "Worker") (Origin.Extends 0) (attribute (codes "salary") Kind.Int 3 None ∷ []) []
 
 abbrev unit : PersistenceUnit
-unit = record { listeners = []; entities = person ∷ order ∷ worker ∷ [] }
+unit = record { revision = 1; listeners = []; entities = person ∷ order ∷ worker ∷ [] }
 
 -- the version's column, and those of the subclass, in the root's table
 abbrev persons : TableRule

@@ -91,10 +91,11 @@ abbrev pub generator_cells : Origin → ℕ → List Cell
 generator_cells (Origin.Root root) k = if root.generated then number_cells root.table k else []
 generator_cells (Origin.Extends parent) k = []
 
+-- with the revision of the rows, which stands where the next number of table 0 would: revision 1 has no row
 abbrev pub rows : World → StoredSet → List ℕ → List Cell
 rows world set numbers =
     flat_map (λ e. object_cells world e.0 e.1) set
-    ++ flat_map (λ p. generator_cells (p.0).origin p.1) (zip (world.model).entities numbers)
+    ++ (flat_map (λ p. generator_cells (p.0).origin p.1) (zip (world.model).entities numbers) ++ number_cells 0 (world.model).revision)
 
 -- ---- the tables of a persistence unit: 0 for next numbers, those of the roots, and the join tables
 

@@ -127,6 +127,7 @@ hears_persist = hears LifecycleEvent.PrePersist
 abbrev hierarchy : Bool → Bool → PersistenceUnit
 hierarchy no_default no_super =
     record {
+      revision = 1;
       listeners = hears_persist (codes "d") ∷ [];
       entities = record (person_entity [] [] (hears_persist (codes "b") ∷ [])) { callbacks = hears_persist (codes "cb") ∷ []; exclude_default = no_default }
           ∷ record (order_entity [] []) { origin = Origin.Extends 0; listeners = hears_persist (codes "s") ∷ []; callbacks = hears_persist (codes "cs") ∷ []; exclude_super = no_super } ∷ [];

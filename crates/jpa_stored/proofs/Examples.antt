@@ -33,6 +33,7 @@ class table attributes relations = record {
 -- a person with a name and orders, an order with a person
 abbrev unit : PersistenceUnit
 unit = record {
+  revision = 1;
   listeners = [];
   entities =
       class 1 (record { name = 110 ∷ []; kind = Kind.Text; column = 1; required = true; converter = None } ∷ [])

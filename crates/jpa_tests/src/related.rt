@@ -85,7 +85,8 @@ fn see_orders(
 
 #[test]
 fn the_orders_of_a_person(rt: HostRuntime) -> Result<(), Fail> {
-    let metamodel = read_mapping(rt.alloc(), UNIT)?;
-    see_orders(&rt, rt.alloc(), &metamodel, &mut StoredSet::new(rt.alloc()))?;
+    let mapping = read_mapping(rt.alloc(), UNIT)?;
+    let metamodel = &mapping.metamodel;
+    see_orders(&rt, rt.alloc(), metamodel, &mut StoredSet::new(rt.alloc()))?;
     Ok(())
 }

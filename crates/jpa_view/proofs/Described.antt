@@ -4,7 +4,6 @@ use Rattle.std.proofs.Common.{refl, sym, ap, subst, ◌∙◌, inl, inr, zero-ad
 use Rattle.std.proofs.lemmas.List.{get_or-map, length-map}
 use Rattle.std.proofs.lemmas.List.Elements.{All-contains}
 use Rattle.std.specs.List.{flat_map, list_any, list_all, range_with_len, AllByRecursion}
-use Rattle.std.specs.Ordering.{int_eq}
 use Rattle.jpa_value.specs.Value.{is_i64}
 use Rattle.jpa_model.specs.declared.draft.Draft.{Draft}
 use Rattle.jpa_model.specs.declared.draft.DraftEntity.{DraftEntity}
@@ -32,11 +31,12 @@ use Rattle.jpa_view.proofs.Climb.{first_in}
 use Rattle.jpa_view.proofs.Distinct.{unless_any}
 use Rattle.jpa_view.proofs.Mapped.{IsMapped, own_columns, hierarchy, first_has, last_has}
 use Rattle.jpa_view.proofs.MappedClasses.{unambiguous_mapped}
-use Rattle.jpa_view.proofs.DescribedNumbers.{distinct_numbers, none_zero, all_small, columns_described, all_tables_described}
+use Rattle.jpa_view.proofs.DescribedNumbers.{is_revision, distinct_numbers, none_zero, all_small, columns_described, all_tables_described}
 
 -- ---- what a well-formed description keeps
 
 record Kept (d : Draft) : Type 0 where
+  revision : well_formed.has_revision d ≡ true
   named : list_all (well_formed.is_superclass_named d) d.entities ≡ true
   rooted : list_all (well_formed.begins_with_root d) (drafted.chains d) ≡ true
   tables : well_formed.are_numbers (flat_map drafted.tables d.entities) ≡ true
@@ -44,7 +44,7 @@ record Kept (d : Draft) : Type 0 where
 
 kept : (d : Draft) → well_formed.is_well_formed d ≡ true → Kept d
 kept d h =
-    let together = and_second (int_eq d.revision (pos 1) && well_formed.has_entities d) _ h in
+    let together = and_second (well_formed.has_revision d && well_formed.has_entities d) _ h in
     let roots = and_first (well_formed.has_roots d) _ together in
     let later = and_second (well_formed.has_members d) _ (and_second (well_formed.has_roots d) _ together) in
     let numbers = and_first (well_formed.has_numbers d) _ later in
@@ -52,6 +52,7 @@ kept d h =
     let short = list_all well_formed.is_discriminator_short d.entities in
     let numbered = and_first (short && well_formed.are_numbers (flat_map drafted.tables d.entities)) _ numbers in
     record {
+      revision = and_first (well_formed.has_revision d) _ (and_first (well_formed.has_revision d && well_formed.has_entities d) _ h);
       named = and_first (list_all (well_formed.is_superclass_named d) d.entities) _ named_rooted;
       rooted = and_second (list_all (well_formed.is_superclass_named d) d.entities) _ named_rooted;
       tables = and_second short _ numbered;
@@ -211,6 +212,7 @@ module _ (d : Draft) (well : well_formed.is_well_formed d ≡ true) where
 
   mapped : IsMapped m
   mapped = record {
+    revision = is_revision d.revision (kept d well).revision;
     tables = distinct_tables;
     small = small_tables;
     ends = ends_at_root;

@@ -45,6 +45,10 @@ is_small (pos k) h = below_million k (and_second (int_le (pos 1) (pos k)) _ h)
     below_million k h = grind (arith, nat_tests)
 is_small (negsuc k) h = absurd (true_false (sym h))
 
+pub is_revision : (n : ℤ) → (int_eq n (pos 1) || int_eq n (pos 2)) ≡ true → (unsigned_abs n == 1 || unsigned_abs n == 2) ≡ true
+is_revision (pos k) h = (λ i. sym (same_column k 1) i || sym (same_column k 2) i) ∙ h
+is_revision (negsuc k) h = absurd (true_false (sym h))
+
 -- ---- lists of them
 
 same_any : (n : ℤ) (ns : List ℤ) → well_formed.is_number n ≡ true → list_all well_formed.is_number ns ≡ true → list_any (int_eq n) ns ≡ list_any (λ b. unsigned_abs n == b) (map unsigned_abs ns)

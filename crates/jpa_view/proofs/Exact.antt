@@ -8,7 +8,7 @@ use Rattle.jpa_value.specs.Value.{identity_cmp, same_identity}
 use Rattle.jpa_behaviour.specs.Behaviour.{World}
 use Rattle.jpa_stored.specs.declared.stored.Stored.{Stored}
 use Rattle.jpa_stored.specs.Sets.{StoredSet, stored_at, with_stored, without}
-use Rattle.jpa_rows.specs.Cells.{object_cells, generator_cells, rows}
+use Rattle.jpa_rows.specs.Cells.{object_cells, generator_cells, rows, number_cells}
 use Rattle.jpa_row_laws.specs.Changes.{dropped}
 use Rattle.jpa_row_laws.proofs.Facts.{some_none}
 use Rattle.jpa_row_laws.proofs.Maps.{put_by_answers, put_rises, dropped_rises, dropped_other, found_dropped, put_again}
@@ -16,7 +16,7 @@ use Rattle.jpa_row_laws.proofs.Each.{each_put}
 use Rattle.jpa_row_laws.proofs.Elements.{same_self, same_eq, same_then, same_back, same_append, same_flat_map_of, put_new, found_has}
 use Rattle.jpa_row_laws.proofs.Lists.{all_each, all_where}
 use Rattle.jpa_view.specs.Rows.{AreRising}
-use Rattle.jpa_view.specs.Written.{with_object, without_joins, without_object, with_numbers, rows_of}
+use Rattle.jpa_view.specs.Written.{base_of, with_object, without_joins, without_object, with_numbers, rows_of}
 use Rattle.jpa_view.specs.View.{is_storable, AreStorable}
 use Rattle.jpa_view.specs.Unambiguous.{IsUnambiguous}
 use Rattle.jpa_view.specs.Flat.{cells_of}
@@ -25,7 +25,7 @@ use Rattle.jpa_view.proofs.SetLaws.{is_without}
 use Rattle.jpa_view.proofs.Reading.{object_spelled}
 use Rattle.jpa_view.proofs.Owned.{owned_of}
 use Rattle.jpa_view.proofs.Rounds.{with_set_rises}
-use Rattle.jpa_view.proofs.Numbers.{with_numbers_rise}
+use Rattle.jpa_view.proofs.Numbers.{base_rises, with_numbers_rise}
 use Rattle.jpa_view.proofs.Fresh.{HasNoRow}
 use Rattle.jpa_view.proofs.FlatObject.{with_object_cells}
 use Rattle.jpa_view.proofs.FlatNumbers.{numbers_no_row}
@@ -44,13 +44,13 @@ absent_others q (e ∷ set) none = by_test (same_identity q e.0) refl none (λ n
 
 module _ (world : World) (clear : IsUnambiguous world.model) (set : StoredSet) (numbers : List ℕ) (up : T (is_sorted identity_cmp set)) (h : AreStorable world set) where
   rows_rise : AreRising (rows_of world set numbers)
-  rows_rise = with_set_rises world set (with_numbers (zip (world.model).entities numbers) []) (with_numbers_rise (zip (world.model).entities numbers) [] tt)
+  rows_rise = with_set_rises world set (with_numbers (zip (world.model).entities numbers) (base_of world.model)) (with_numbers_rise (zip (world.model).entities numbers) (base_of world.model) (base_rises world.model))
 
   -- an object that is not in the set has no row
   pub absent_no_row : (id : Identity) (x : Stored) → is_storable world id x ≡ true → stored_at set id ≡ None → HasNoRow world.model id (rows_of world set numbers)
   absent_no_row id x g none =
       let si = object_spelled world clear id x g in
-      set_no_row world clear id si set (absent_others id set none) h (with_numbers (zip (world.model).entities numbers) []) (numbers_no_row world.model clear numbers id si)
+      set_no_row world clear id si set (absent_others id set none) h (with_numbers (zip (world.model).entities numbers) (base_of world.model)) (numbers_no_row world.model clear numbers id si)
 
   -- a new object
   pub rows_put : (id : Identity) (x : Stored) → is_storable world id x ≡ true → stored_at set id ≡ None → with_object world id x (rows_of world set numbers) ≡ rows_of world (with_stored id x set) numbers
@@ -58,7 +58,7 @@ module _ (world : World) (clear : IsUnambiguous world.model) (set : StoredSet) (
       let news = with_stored id x set in
       let storable = each_put identities (λ id x. is_storable world id x ≡ true) id x set g h in
       let cells = λ (e : Identity × Stored). object_cells world e.0 e.1 in
-      let gens = flat_map (λ p. generator_cells (p.0).origin p.1) (zip (world.model).entities numbers) in
+      let gens = flat_map (λ p. generator_cells (p.0).origin p.1) (zip (world.model).entities numbers) ++ number_cells 0 (world.model).revision in
       one_rows (with_object world id x (rows_of world set numbers)) (rows_of world news numbers)
       (normal_object world clear id x g (rows_of world set numbers) (rows_normal world clear set numbers h)) (rows_normal world clear news numbers storable)
       (same_then (cells_of (with_object world id x (rows_of world set numbers))) (object_cells world id x ++ rows world set numbers) (cells_of (rows_of world news numbers))

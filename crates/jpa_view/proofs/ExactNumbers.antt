@@ -20,7 +20,7 @@ use Rattle.jpa_row_laws.proofs.Elements.{Has, append_has, into_flat_map}
 use Rattle.jpa_row_laws.proofs.Slots.{all_rest}
 use Rattle.jpa_view.specs.Rows.{RowId, row_cmp, row_of, Columns, Rows, AreRising}
 use Rattle.jpa_view.specs.Identities.{root_at, declarer_at, is_within}
-use Rattle.jpa_view.specs.Written.{columns_of, with_joins, with_object, with_set, number_row, number_columns, with_number, with_next, with_numbers, rows_of}
+use Rattle.jpa_view.specs.Written.{base_of, columns_of, with_joins, with_object, with_set, number_row, number_columns, with_number, with_next, with_numbers, rows_of}
 use Rattle.jpa_view.specs.View.{is_storable, AreStorable}
 use Rattle.jpa_view.specs.Unambiguous.{IsUnambiguous, are_distinct_numbers, is_class}
 use Rattle.jpa_view.proofs.Orders.{row_ids}
@@ -33,7 +33,7 @@ use Rattle.jpa_view.proofs.Relations.{joins_in}
 use Rattle.jpa_view.proofs.Owned.{owned_of, own_pairs}
 use Rattle.jpa_view.proofs.Tables.{own_tables, zero_root, zero_join, distinct_rest, distinct_apart}
 use Rattle.jpa_view.proofs.Rounds.{with_set_rises}
-use Rattle.jpa_view.proofs.Numbers.{with_numbers_rise}
+use Rattle.jpa_view.proofs.Numbers.{base_rises, with_numbers_rise}
 use Rattle.jpa_view.proofs.Fresh.{joins_each}
 use Rattle.jpa_view.proofs.FlatNumbers.{one_number, small_each}
 use Rattle.jpa_view.proofs.Undone.{joins_past_put}
@@ -75,31 +75,31 @@ own_next root k k0 rows rise generated more =
 later : (i : ℕ) (n : ℕ) → nat_lt (suc i) (suc n) ≡ true → nat_lt i n ≡ true
 later i n h = grind (arith, nat_tests)
 
-numbers_set : (entities : List Entity) (numbers : List ℕ) (i k : ℕ) (root : Root) → nat_lt i (length entities) ≡ true → nat_lt i (length numbers) ≡ true
+numbers_set : (base : Rows) → AreRising base → (entities : List Entity) (numbers : List ℕ) (i k : ℕ) (root : Root) → nat_lt i (length entities) ≡ true → nat_lt i (length numbers) ≡ true
     → (slice_index_or entities i no_entity).origin ≡ Origin.Root root → root.generated ≡ true → k == 1 ≡ false
     → are_distinct_numbers (flat_map own_tables entities) ≡ true → AllByRecursion (λ table. is_i64 (pos table) ≡ true) (flat_map own_tables entities)
-    → with_numbers (zip entities (slice_set numbers i k)) [] ≡ put row_cmp (number_row root.table) (number_columns k) (with_numbers (zip entities numbers) [])
-numbers_set [] numbers i k root h g is generated more distinct small = absurd (no_place i h)
+    → with_numbers (zip entities (slice_set numbers i k)) base ≡ put row_cmp (number_row root.table) (number_columns k) (with_numbers (zip entities numbers) base)
+numbers_set base up [] numbers i k root h g is generated more distinct small = absurd (no_place i h)
   where
     no_place : (i : ℕ) → nat_lt i 0 ≡ true → ⊥
     no_place i h = grind (arith, nat_tests)
-numbers_set (e ∷ entities) [] i k root h g is generated more distinct small = absurd (no_place i g)
+numbers_set base up (e ∷ entities) [] i k root h g is generated more distinct small = absurd (no_place i g)
   where
     no_place : (i : ℕ) → nat_lt i 0 ≡ true → ⊥
     no_place i h = grind (arith, nat_tests)
-numbers_set (e ∷ entities) (k0 ∷ numbers) zero k root h g is generated more distinct small =
-    let rows = with_numbers (zip entities numbers) [] in
-    let rise = with_numbers_rise (zip entities numbers) [] tt in
+numbers_set base up (e ∷ entities) (k0 ∷ numbers) zero k root h g is generated more distinct small =
+    let rows = with_numbers (zip entities numbers) base in
+    let rise = with_numbers_rise (zip entities numbers) base up in
     ap (λ origin. with_next origin k rows) is ∙ own_next root k k0 rows rise generated more
     ∙ ap (λ origin. put row_cmp (number_row root.table) (number_columns k) (with_next origin k0 rows)) (sym is)
-numbers_set (e ∷ entities) (k0 ∷ numbers) (suc i) k root h g is generated more distinct small =
+numbers_set base up (e ∷ entities) (k0 ∷ numbers) (suc i) k root h g is generated more distinct small =
     let rest = flat_map own_tables entities in
-    let rows = with_numbers (zip entities numbers) [] in
+    let rows = with_numbers (zip entities numbers) base in
     let t = root.table in
     let small_at = small_each (own_tables e ++ rest) small in
     let there : Has rest t = root_there entities i root (later i (length entities) h) is in
-    ap (with_next e.origin k0) (numbers_set entities numbers i k root (later i (length entities) h) (later i (length numbers) g) is generated more (distinct_rest (own_tables e) rest distinct) (all_rest (λ table. is_i64 (pos table) ≡ true) (own_tables e) rest small))
-    ∙ past_next e.origin t k k0 rows (with_numbers_rise (zip entities numbers) [] tt)
+    ap (with_next e.origin k0) (numbers_set base up entities numbers i k root (later i (length entities) h) (later i (length numbers) g) is generated more (distinct_rest (own_tables e) rest distinct) (all_rest (λ table. is_i64 (pos table) ≡ true) (own_tables e) rest small))
+    ∙ past_next e.origin t k k0 rows (with_numbers_rise (zip entities numbers) base up)
     (λ u own same.
     let here : Has (own_tables e) u = append_has (root_tables e.origin) (flat_map (λ r. join_tables r.side) e.relations) u (inl own) in
     distinct_apart (own_tables e) rest distinct u here
@@ -138,6 +138,6 @@ pub rows_numbered : (world : World) → IsUnambiguous world.model → (set : Sto
     → put row_cmp (number_row root.table) (number_columns k) (rows_of world set numbers) ≡ rows_of world set (slice_set numbers class k)
 rows_numbered world clear set h numbers class k root within long is generated more =
     let m = world.model in
-    let base = with_numbers (zip m.entities numbers) [] in
-    sym (past_set world clear set h root.table (number_columns k) base (with_numbers_rise (zip m.entities numbers) [] tt))
-    ∙ ap (with_set world set) (sym (numbers_set m.entities numbers class k root within long is generated more (distinct_rest (0 ∷ []) (flat_map own_tables m.entities) clear.tables) clear.small.1))
+    let base = with_numbers (zip m.entities numbers) (base_of m) in
+    sym (past_set world clear set h root.table (number_columns k) base (with_numbers_rise (zip m.entities numbers) (base_of m) (base_rises m)))
+    ∙ ap (with_set world set) (sym (numbers_set (base_of m) (base_rises m) m.entities numbers class k root within long is generated more (distinct_rest (0 ∷ []) (flat_map own_tables m.entities) clear.tables) clear.small.1))

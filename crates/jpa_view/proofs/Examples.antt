@@ -55,11 +55,11 @@ orders = record { name = codes "orders"; side = Side.OneToMany 0; target = 1; ca
 
 -- orders of a person are cascaded to
 abbrev both_sides : World
-both_sides = without_functions (record { listeners = []; entities = person_entity (orders ∷ []) ∷ order_entity ∷ [] })
+both_sides = without_functions (record { revision = 1; listeners = []; entities = person_entity (orders ∷ []) ∷ order_entity ∷ [] })
 
 -- an order alone knows its person
 abbrev one_side : World
-one_side = without_functions (record { listeners = []; entities = person_entity [] ∷ order_entity ∷ [] })
+one_side = without_functions (record { revision = 1; listeners = []; entities = person_entity [] ∷ order_entity ∷ [] })
 
 abbrev int_key : ℕ → List ℕ
 int_key n = 1 ∷ 128 ∷ 0 ∷ 0 ∷ 0 ∷ 0 ∷ 0 ∷ 0 ∷ n ∷ []
@@ -141,6 +141,7 @@ relation name side target = record { name = name; side = side; target = target; 
 
 abbrev pairing : World
 pairing = without_functions (record {
+  revision = 1;
   listeners = [];
   entities =
       entity 65 1 (record { name = codes "id"; kind = Kind.Int } ∷ []) None

@@ -1,6 +1,7 @@
 -- The cells of next numbers.
 use Rattle.std.specs.Prelude.{◌≡◌, ℕ, pos, true, false, cond, ◌==◌, List, [], ◌∷◌, ◌++◌, length, Some, None}
-use Rattle.std.proofs.Common.{refl, sym, ap, subst, ◌∙◌, inl, inr}
+use Rattle.std.proofs.Common.{refl, sym, ap, subst, ◌∙◌, inl, inr, append-nil}
+use Rattle.std.proofs.lemmas.List.{append_assoc}
 use Rattle.std.specs.List.{flat_map, zip, AllByRecursion}
 use Rattle.std.specs.FinMap.{find, put}
 use Rattle.jpa_value.specs.declared.value.Value.{Value}
@@ -13,7 +14,7 @@ use Rattle.jpa_model.specs.declared.unit.PersistenceUnit.{PersistenceUnit}
 use Rattle.jpa_key.specs.Keys.{key_bytes}
 use Rattle.jpa_key.specs.Reading.{key_at}
 use Rattle.jpa_key.proofs.Spelling.{key_read as front_read}
-use Rattle.jpa_rows.specs.Cells.{root_tables, join_tables, value_cell, number_cells, generator_cells}
+use Rattle.jpa_rows.specs.Cells.{Cell, root_tables, join_tables, value_cell, number_cells, generator_cells}
 use Rattle.jpa_row_laws.proofs.Facts.{value_in, some_none, and_both, and_second, true_false}
 use Rattle.jpa_row_laws.proofs.Maps.{found_other}
 use Rattle.jpa_row_laws.proofs.Elements.{Has, SameElements, same_self, same_then, same_append, append_has}
@@ -21,7 +22,7 @@ use Rattle.jpa_row_laws.proofs.Slots.{all_rest}
 use Rattle.jpa_row_laws.proofs.Lists.{all_each}
 use Rattle.jpa_view.specs.Rows.{RowId, row_cmp, row_of, Rows}
 use Rattle.jpa_view.specs.Identities.{root_at, declarer_at, is_within, pair_row, IsSpelled}
-use Rattle.jpa_view.specs.Written.{number_row, number_columns, with_number, with_next, with_numbers}
+use Rattle.jpa_view.specs.Written.{base_of, number_row, number_columns, with_number, with_next, with_numbers}
 use Rattle.jpa_view.specs.Unambiguous.{IsUnambiguous, are_distinct_numbers}
 use Rattle.jpa_view.specs.Flat.{cells_of}
 use Rattle.jpa_view.proofs.Orders.{row_ids}
@@ -73,12 +74,14 @@ module _ (r : RowId) where
       ∙ past_numbers entities numbers rows (λ table h. apart table (append_has (own_tables e) (flat_map own_tables entities) table (inr h)))
 
 -- no object has a row in table 0
-pub numbers_no_row : (m : PersistenceUnit) → IsUnambiguous m → (numbers : List ℕ) (q : Identity) → IsSpelled m q → HasNoRow m q (with_numbers (zip m.entities numbers) [])
+pub numbers_no_row : (m : PersistenceUnit) → IsUnambiguous m → (numbers : List ℕ) (q : Identity) → IsSpelled m q → HasNoRow m q (with_numbers (zip m.entities numbers) (base_of m))
 numbers_no_row m clear numbers q sq = record {
-  main = past_numbers (row_of q) m.entities numbers []
-      (λ table h e. let s = spelling m q sq in some_none s.root (sym s.at ∙ ap (λ (r : RowId). root_at m r.table) e ∙ zero_root m clear.tables));
-  pairs = λ join t joins. past_numbers (pair_row join q t) m.entities numbers []
-      (λ table h e. true_false (sym (and_second _ (is_within m q.table (declarer_at m join)) joins) ∙ ap (λ (r : RowId). is_within m q.table (declarer_at m r.table)) e ∙ ap (is_within m q.table) (zero_join m clear.tables)));
+  main =
+      let zero = λ (table : ℕ) (e : row_of q ≡ number_row table). let s = spelling m q sq in some_none s.root (sym s.at ∙ ap (λ (r : RowId). root_at m r.table) e ∙ zero_root m clear.tables) in
+      past_numbers (row_of q) m.entities numbers (base_of m) (λ table h. zero table) ∙ past_number (row_of q) 0 m.revision [] (zero 0);
+  pairs = λ join t joins.
+      let zero = λ (table : ℕ) (e : pair_row join q t ≡ number_row table). true_false (sym (and_second _ (is_within m q.table (declarer_at m join)) joins) ∙ ap (λ (r : RowId). is_within m q.table (declarer_at m r.table)) e ∙ ap (is_within m q.table) (zero_join m clear.tables)) in
+      past_numbers (pair_row join q t) m.entities numbers (base_of m) (λ table h. zero table) ∙ past_number (pair_row join q t) 0 m.revision [] (zero 0);
 }
 
 -- ---- their cells
@@ -102,18 +105,37 @@ next_part (Origin.Extends parent) k rows none = same_self (cells_of rows)
 pub small_each : (tables : List ℕ) → AllByRecursion (λ table. is_i64 (pos table) ≡ true) tables → (t : ℕ) → Has tables t → is_i64 (pos t) ≡ true
 small_each = all_each (λ table. is_i64 (pos table) ≡ true)
 
-pub numbers_cells : (entities : List Entity) (numbers : List ℕ) → are_distinct_numbers (flat_map own_tables entities) ≡ true → AllByRecursion (λ table. is_i64 (pos table) ≡ true) (flat_map own_tables entities)
-    → SameElements (cells_of (with_numbers (zip entities numbers) [])) (flat_map (λ p. generator_cells (p.0).origin p.1) (zip entities numbers))
-numbers_cells [] numbers distinct small = same_self []
-numbers_cells (e ∷ entities) [] distinct small = same_self []
-numbers_cells (e ∷ entities) (k ∷ numbers) distinct small =
+-- a base that has no row of a hierarchy's next number
+cells_over : (base : Rows) (more : List Cell) → SameElements (cells_of base) more → (entities : List Entity) (numbers : List ℕ) → ((t : ℕ) → Has (flat_map own_tables entities) t → find row_cmp (number_row t) base ≡ None)
+    → are_distinct_numbers (flat_map own_tables entities) ≡ true → AllByRecursion (λ table. is_i64 (pos table) ≡ true) (flat_map own_tables entities)
+    → SameElements (cells_of (with_numbers (zip entities numbers) base)) (flat_map (λ p. generator_cells (p.0).origin p.1) (zip entities numbers) ++ more)
+cells_over base more same [] numbers none distinct small = same
+cells_over base more same (e ∷ entities) [] none distinct small = same
+cells_over base more same (e ∷ entities) (k ∷ numbers) none distinct small =
     let rest = flat_map own_tables entities in
-    let rows = with_numbers (zip entities numbers) [] in
+    let rows = with_numbers (zip entities numbers) base in
+    let others = flat_map (λ (p : Entity × ℕ). generator_cells (p.0).origin p.1) (zip entities numbers) in
     let own = λ (t : ℕ) (h : Has (root_tables e.origin) t). append_has (root_tables e.origin) (flat_map (λ r. join_tables r.side) e.relations) t (inl h) in
-    same_then (cells_of (with_next e.origin k rows)) (generator_cells e.origin k ++ cells_of rows) _
+    subst (SameElements (cells_of (with_next e.origin k rows))) (sym (append_assoc (generator_cells e.origin k) others more))
+    (same_then (cells_of (with_next e.origin k rows)) (generator_cells e.origin k ++ cells_of rows) (generator_cells e.origin k ++ (others ++ more))
     (next_part e.origin k rows
-    (λ t h. past_numbers (number_row t) entities numbers []
+    (λ t h. past_numbers (number_row t) entities numbers base
     (λ u g same. distinct_apart (own_tables e) rest distinct u
-    (subst (Has (own_tables e)) (one_number t u (small_each (own_tables e ++ rest) small t (append_has (own_tables e) rest t (inl (own t h)))) (small_each (own_tables e ++ rest) small u (append_has (own_tables e) rest u (inr g))) same) (own t h)) g)))
-    (same_append (generator_cells e.origin k) (generator_cells e.origin k) (cells_of rows) _ (same_self (generator_cells e.origin k))
-    (numbers_cells entities numbers (distinct_rest (own_tables e) rest distinct) (all_rest (λ table. is_i64 (pos table) ≡ true) (own_tables e) rest small)))
+    (subst (Has (own_tables e)) (one_number t u (small_each (own_tables e ++ rest) small t (append_has (own_tables e) rest t (inl (own t h)))) (small_each (own_tables e ++ rest) small u (append_has (own_tables e) rest u (inr g))) same) (own t h)) g)
+    ∙ none t (append_has (own_tables e) rest t (inl (own t h)))))
+    (same_append (generator_cells e.origin k) (generator_cells e.origin k) (cells_of rows) (others ++ more) (same_self (generator_cells e.origin k))
+    (cells_over base more same entities numbers (λ t h. none t (append_has (own_tables e) rest t (inr h))) (distinct_rest (own_tables e) rest distinct) (all_rest (λ table. is_i64 (pos table) ≡ true) (own_tables e) rest small))))
+
+-- the row of the revision is none of a hierarchy's
+pub base_none : (m : PersistenceUnit) → IsUnambiguous m → (t : ℕ) → Has (flat_map own_tables m.entities) t → find row_cmp (number_row t) (base_of m) ≡ None
+base_none m clear t h =
+    let all = flat_map own_tables m.entities in
+    past_number (number_row t) 0 m.revision []
+    (λ same. distinct_apart (0 ∷ []) all clear.tables 0 (inl refl) (subst (Has all) (one_number t 0 (small_each all clear.small.1 t h) refl same) h))
+
+pub numbers_cells : (m : PersistenceUnit) → IsUnambiguous m → (numbers : List ℕ)
+    → SameElements (cells_of (with_numbers (zip m.entities numbers) (base_of m))) (flat_map (λ p. generator_cells (p.0).origin p.1) (zip m.entities numbers) ++ number_cells 0 m.revision)
+numbers_cells m clear numbers =
+    cells_over (base_of m) (number_cells 0 m.revision)
+    (subst (SameElements (cells_of (base_of m))) (append-nil (number_cells 0 m.revision)) (number_part 0 m.revision [] refl))
+    m.entities numbers (base_none m clear) (distinct_rest (0 ∷ []) (flat_map own_tables m.entities) clear.tables) clear.small.1

@@ -1,7 +1,7 @@
 -- The cells of the rows of a set and of next numbers are those of the set and the numbers.
-use Rattle.std.specs.Prelude.{◌≡◌, ℕ, false, ◌==◌, not, List, [], ◌∷◌, ◌++◌, T}
+use Rattle.std.specs.Prelude.{◌≡◌, ℕ, false, List, [], ◌∷◌, ◌++◌, T}
 use Rattle.std.proofs.Common.{ap}
-use Rattle.std.specs.List.{flat_map, zip, list_any, AllByRecursion}
+use Rattle.std.specs.List.{flat_map, zip, AllByRecursion}
 use Rattle.std.specs.FinMap.{is_sorted}
 use Rattle.std.specs.FinMap.Entries.{below_all}
 use Rattle.std.specs.Ordering.{is_eq}
@@ -10,10 +10,10 @@ use Rattle.jpa_value.specs.Value.{identity_cmp, same_identity}
 use Rattle.jpa_behaviour.specs.Behaviour.{World}
 use Rattle.jpa_stored.specs.Sets.{StoredSet}
 use Rattle.jpa_rows.specs.Cells.{object_cells, rows}
-use Rattle.jpa_row_laws.proofs.Facts.{is_less, first_holds, second_holds, and_second}
+use Rattle.jpa_row_laws.proofs.Facts.{is_less, first_holds, second_holds}
 use Rattle.jpa_row_laws.proofs.Elements.{SameElements, same_self, same_then, same_append}
 use Rattle.jpa_view.specs.Rows.{Rows}
-use Rattle.jpa_view.specs.Written.{with_set, with_numbers, rows_of}
+use Rattle.jpa_view.specs.Written.{base_of, with_set, with_numbers, rows_of}
 use Rattle.jpa_view.specs.Unambiguous.{IsUnambiguous}
 use Rattle.jpa_view.specs.Flat.{cells_of}
 use Rattle.jpa_view.specs.Identities.{IsSpelled}
@@ -55,10 +55,10 @@ pub rows_cells : (world : World) → IsUnambiguous world.model → (set : Stored
     → SameElements (cells_of (rows_of world set numbers)) (rows world set numbers)
 rows_cells world clear set numbers up h =
     let m = world.model in
-    let base = with_numbers (zip m.entities numbers) [] in
+    let base = with_numbers (zip m.entities numbers) (base_of m) in
     let objects = flat_map (λ (e : Identity × Rattle.jpa_stored.specs.declared.stored.Stored.Stored). object_cells world e.0 e.1) set in
     let all = flat_map own_tables m.entities in
     same_then (cells_of (rows_of world set numbers)) (objects ++ cells_of base) (rows world set numbers)
     (set_cells world clear set up h base (λ q sq. numbers_no_row m clear numbers q sq))
     (same_append objects objects (cells_of base) _ (same_self objects)
-    (numbers_cells m.entities numbers (and_second (not (list_any (λ b. 0 == b) all)) _ clear.tables) clear.small.1))
+    (numbers_cells m clear numbers))

@@ -1,5 +1,5 @@
 -- Units in which each chain ends at a root, and what is numbered in a hierarchy is numbered once: roots and chains.
-use Rattle.std.specs.Prelude.{◌≡◌, ℕ, zero, suc, ◌-◌, pos, true, ◌==◌, nat_lt, List, [], ◌∷◌, ◌++◌, map, length, filter, slice_index_or, Option, Some, None, option_map}
+use Rattle.std.specs.Prelude.{◌≡◌, ℕ, zero, suc, ◌-◌, pos, true, ◌==◌, ◌||◌, nat_lt, List, [], ◌∷◌, ◌++◌, map, length, filter, slice_index_or, Option, Some, None, option_map}
 use Rattle.std.proofs.Common.{refl, sym, ap, subst, ◌∙◌, arith, inl, inr}
 use Rattle.std.specs.List.{flat_map, AllByRecursion}
 use Rattle.std.proofs.lemmas.List.FromFn.{fill_by_all}
@@ -33,6 +33,7 @@ abbrev pub hierarchy : PersistenceUnit → ℕ → List ℕ
 hierarchy m root = filter (λ class. climb.first_in (chain m class) == root) (classes m)
 
 pub record IsMapped (m : PersistenceUnit) : Type 0 where
+  pub revision : (m.revision == 1 || m.revision == 2) ≡ true
   pub tables : are_distinct_numbers (tables_of m) ≡ true
   pub small : AllByRecursion (λ table. is_i64 (pos table) ≡ true) (tables_of m)
   pub ends : (class : ℕ) → is_class m class ≡ true → superclass_in (entity_at m (climb.first_in (chain m class))).origin ≡ None

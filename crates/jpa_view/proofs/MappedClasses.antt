@@ -191,6 +191,7 @@ module _ (m : PersistenceUnit) (mapped : IsMapped m) (class : ℕ) (h : is_class
 
 pub unambiguous_mapped : (m : PersistenceUnit) → IsMapped m → IsUnambiguous m
 unambiguous_mapped m mapped = record {
+  revision = mapped.revision;
   tables = mapped.tables;
   small = mapped.small;
   root = root_named m mapped;

@@ -21,7 +21,7 @@ use Rattle.jpa_row_laws.proofs.Each.{each_put}
 use Rattle.jpa_row_laws.proofs.Lists.{all_where}
 use Rattle.jpa_view.specs.Rows.{RowId, row_cmp, row_of, Columns, Row, Rows}
 use Rattle.jpa_view.specs.Identities.{pair_row}
-use Rattle.jpa_view.specs.Written.{columns_of, slots_of, pair_columns, with_pairs, with_side, with_joins, with_object, with_set, number_row, number_columns, with_number, with_next, with_numbers, rows_of}
+use Rattle.jpa_view.specs.Written.{base_of, columns_of, slots_of, pair_columns, with_pairs, with_side, with_joins, with_object, with_set, number_row, number_columns, with_number, with_next, with_numbers, rows_of}
 use Rattle.jpa_view.specs.View.{is_storable, AreStorable}
 use Rattle.jpa_view.specs.Unambiguous.{IsUnambiguous}
 use Rattle.jpa_view.specs.Flat.{IsRow, IsNormal, is_own_table, own_rows}
@@ -94,4 +94,4 @@ normal_numbers (p ∷ ps) rows normal = normal_next (p.0).origin p.1 (with_numbe
 
 pub rows_normal : (world : World) → IsUnambiguous world.model → (set : StoredSet) (numbers : List ℕ) → AreStorable world set → IsNormal (rows_of world set numbers)
 rows_normal world clear set numbers h =
-    let ps = zip (world.model).entities numbers in normal_set world clear set h (with_numbers ps []) (normal_numbers ps [] (record { rising = tt; each = tt }))
+    let ps = zip (world.model).entities numbers in normal_set world clear set h (with_numbers ps (base_of world.model)) (normal_numbers ps (base_of world.model) (normal_number 0 (world.model).revision [] (record { rising = tt; each = tt })))

@@ -12,7 +12,7 @@ use Rattle.jpa_row_laws.proofs.Maps.{put_rises, dropped_rises}
 use Rattle.jpa_row_laws.specs.Changes.{dropped}
 use Rattle.jpa_view.specs.Rows.{RowId, row_cmp, row_of, Columns, Rows, AreRising}
 use Rattle.jpa_view.specs.Identities.{root_at, declarer_at, is_within, target_at, IsSpelled}
-use Rattle.jpa_view.specs.Written.{number_row, number_columns, with_number, with_next, with_numbers}
+use Rattle.jpa_view.specs.Written.{base_of, number_row, number_columns, with_number, with_next, with_numbers}
 use Rattle.jpa_view.specs.View.{set_of}
 use Rattle.jpa_view.specs.Unambiguous.{IsUnambiguous}
 use Rattle.jpa_view.proofs.Orders.{row_ids}
@@ -60,6 +60,10 @@ with_next_rises (Origin.Root root) k rows rise =
     elim root.generated as (λ b. AreRising (cond b (with_number root.table k rows) rows)) [ true ↦ with_number_rises root.table k rows rise | false ↦ rise ]
 with_next_rises (Origin.Extends parent) k rows rise = rise
 
+-- the row of the revision alone
+pub base_rises : (m : PersistenceUnit) → AreRising (base_of m)
+base_rises m = with_number_rises 0 m.revision [] tt
+
 pub with_numbers_rise : (ps : List (Entity × ℕ)) (rows : Rows) → AreRising rows → AreRising (with_numbers ps rows)
 with_numbers_rise [] rows rise = rise
 with_numbers_rise (p ∷ ps) rows rise = with_next_rises (p.0).origin p.1 (with_numbers ps rows) (with_numbers_rise ps rows rise)
@@ -85,3 +89,9 @@ module _ (m : PersistenceUnit) (clear : IsUnambiguous m) (q : Identity) (sq : Is
 pub numbers_put : (world : World) → IsUnambiguous world.model → (ps : List (Entity × ℕ)) (rows : Rows) → AreRising rows → set_of world (with_numbers ps rows) ≡ set_of world rows
 numbers_put world clear ps rows rise =
     set_same world rows (with_numbers ps rows) rise (with_numbers_rise ps rows rise) (λ q sq. read_stays world q rows (with_numbers ps rows) (with_numbers_stay world.model clear q sq ps rows rise))
+
+pub base_stays : (m : PersistenceUnit) → (clear : IsUnambiguous m) (q : Identity) (sq : IsSpelled m q) → Stays m q [] (base_of m)
+base_stays m clear q sq = with_number_stays m clear q sq 0 m.revision [] tt
+
+pub base_put : (world : World) → IsUnambiguous world.model → set_of world (base_of world.model) ≡ set_of world []
+base_put world clear = set_same world [] (base_of world.model) tt (base_rises world.model) (λ q sq. read_stays world q [] (base_of world.model) (base_stays world.model clear q sq))

@@ -18,7 +18,7 @@ use Rattle.jpa_row_laws.proofs.Elements.{Has, append_has}
 use Rattle.jpa_row_laws.proofs.Slots.{all_rest}
 use Rattle.jpa_view.specs.Rows.{RowId, row_cmp, row_of, Rows}
 use Rattle.jpa_view.specs.Identities.{root_at, declarer_at, is_within}
-use Rattle.jpa_view.specs.Written.{columns_of, with_joins, with_object, with_set, number_row, number_columns, with_number, with_next, with_numbers, rows_of}
+use Rattle.jpa_view.specs.Written.{base_of, columns_of, with_joins, with_object, with_set, number_row, number_columns, with_number, with_next, with_numbers, rows_of}
 use Rattle.jpa_view.specs.View.{is_storable, next_in, number_in, number_at, next_at, numbers_of, AreStorable}
 use Rattle.jpa_view.specs.Unambiguous.{IsUnambiguous, are_distinct_numbers}
 use Rattle.jpa_view.specs.Flat.{cells_of, IsNormal, own_rows}
@@ -32,7 +32,7 @@ use Rattle.jpa_view.proofs.Owned.{owned_of, own_pairs}
 use Rattle.jpa_view.proofs.Tables.{own_tables, zero_root, zero_join, distinct_rest, distinct_apart}
 use Rattle.jpa_view.proofs.Rounds.{held_storable}
 use Rattle.jpa_view.proofs.Fresh.{found_past_joins, joins_each}
-use Rattle.jpa_view.proofs.FlatNumbers.{one_number, past_next, past_numbers, small_each}
+use Rattle.jpa_view.proofs.FlatNumbers.{base_none, one_number, past_next, past_numbers, small_each}
 use Rattle.jpa_view.proofs.Stands.{own_found, rows_stand}
 
 -- ---- rows of objects are none of these
@@ -88,34 +88,35 @@ all_same (e ∷ entities) rows news same =
     λ i. here i ∷ others i
 
 -- over rows that have none
-all_read : (entities : List Entity) (numbers : List ℕ) → are_distinct_numbers (flat_map own_tables entities) ≡ true → AllByRecursion (λ table. is_i64 (pos table) ≡ true) (flat_map own_tables entities)
-    → each_fits (λ e k. is_next e.origin k) entities numbers ≡ true → map (λ e. next_at (with_numbers (zip entities numbers) []) e.origin) entities ≡ numbers
-all_read [] [] distinct small h = refl
-all_read [] (k ∷ numbers) distinct small h = absurd (subst T (sym h) tt)
-all_read (e ∷ entities) [] distinct small h = absurd (subst T (sym h) tt)
-all_read (e ∷ entities) (k ∷ numbers) distinct small h =
+all_read : (base : Rows) (entities : List Entity) (numbers : List ℕ) → ((t : ℕ) → Has (flat_map own_tables entities) t → find row_cmp (number_row t) base ≡ None) → are_distinct_numbers (flat_map own_tables entities) ≡ true → AllByRecursion (λ table. is_i64 (pos table) ≡ true) (flat_map own_tables entities)
+    → each_fits (λ e k. is_next e.origin k) entities numbers ≡ true → map (λ e. next_at (with_numbers (zip entities numbers) base) e.origin) entities ≡ numbers
+all_read base [] [] none distinct small h = refl
+all_read base [] (k ∷ numbers) none distinct small h = absurd (subst T (sym h) tt)
+all_read base (e ∷ entities) [] none distinct small h = absurd (subst T (sym h) tt)
+all_read base (e ∷ entities) (k ∷ numbers) none distinct small h =
     let rest = flat_map own_tables entities in
-    let rows = with_numbers (zip entities numbers) [] in
+    let rows = with_numbers (zip entities numbers) base in
     let small_at = small_each (own_tables e ++ rest) small in
     let own = λ (t : ℕ) (g : Has (root_tables e.origin) t). append_has (root_tables e.origin) (flat_map (λ r. join_tables r.side) e.relations) t (inl g) in
     let here = next_read e.origin k rows (and_first (is_next e.origin k) _ h)
-    (λ t g. past_numbers (number_row t) entities numbers []
+    (λ t g. past_numbers (number_row t) entities numbers base
     (λ u q same. distinct_apart (own_tables e) rest distinct u
-    (subst (Has (own_tables e)) (one_number t u (small_at t (append_has (own_tables e) rest t (inl (own t g)))) (small_at u (append_has (own_tables e) rest u (inr q))) same) (own t g)) q)) in
+    (subst (Has (own_tables e)) (one_number t u (small_at t (append_has (own_tables e) rest t (inl (own t g)))) (small_at u (append_has (own_tables e) rest u (inr q))) same) (own t g)) q)
+    ∙ none t (append_has (own_tables e) rest t (inl (own t g)))) in
     let others = all_same entities rows (with_next e.origin k rows)
     (λ t q. past_next (number_row t) e.origin k rows
     (λ u g same. distinct_apart (own_tables e) rest distinct u (own u g)
     (subst (Has rest) (one_number t u (small_at t (append_has (own_tables e) rest t (inr q))) (small_at u (append_has (own_tables e) rest u (inl (own u g)))) same) q)))
-    ∙ all_read entities numbers (distinct_rest (own_tables e) rest distinct) (all_rest (λ table. is_i64 (pos table) ≡ true) (own_tables e) rest small) (and_second (is_next e.origin k) _ h) in
+    ∙ all_read base entities numbers (λ t h. none t (append_has (own_tables e) rest t (inr h))) (distinct_rest (own_tables e) rest distinct) (all_rest (λ table. is_i64 (pos table) ≡ true) (own_tables e) rest small) (and_second (is_next e.origin k) _ h) in
     λ i. here i ∷ others i
 
 pub numbers_read : (world : World) → IsUnambiguous world.model → (set : StoredSet) (numbers : List ℕ) → AreStorable world set → are_numbers world.model numbers ≡ true
     → numbers_of world.model (rows_of world set numbers) ≡ numbers
 numbers_read world clear set numbers h are =
     let m = world.model in
-    let base = with_numbers (zip m.entities numbers) [] in
+    let base = with_numbers (zip m.entities numbers) (base_of m) in
     all_same m.entities base (with_set world set base) (λ t g. past_set world clear set h t base)
-    ∙ all_read m.entities numbers (and_second (not (list_any (λ b. 0 == b) (flat_map own_tables m.entities))) _ clear.tables) clear.small.1 are
+    ∙ all_read (base_of m) m.entities numbers (base_none m clear) (and_second (not (list_any (λ b. 0 == b) (flat_map own_tables m.entities))) _ clear.tables) clear.small.1 are
 
 -- so cells stand for at most one set with its next numbers
 pub numbers_stand : (world : World) → IsUnambiguous world.model → (rs : Rows) → IsNormal rs → (set : StoredSet) (numbers : List ℕ) → StandFor world (cells_of rs) set numbers → numbers_of world.model rs ≡ numbers

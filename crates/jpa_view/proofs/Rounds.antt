@@ -16,14 +16,14 @@ use Rattle.jpa_rows.specs.Cells.{CanBeHeld, all_representable, all_pass, names_r
 use Rattle.jpa_row_laws.proofs.Facts.{is_less, first_holds, second_holds, and_first, and_second, and_both}
 use Rattle.jpa_row_laws.proofs.Maps.{put_first}
 use Rattle.jpa_view.specs.Rows.{Rows, AreRising}
-use Rattle.jpa_view.specs.Written.{with_set, with_numbers, rows_of}
+use Rattle.jpa_view.specs.Written.{base_of, with_set, with_numbers, rows_of}
 use Rattle.jpa_view.specs.View.{set_of, Pairs, pairs_of, PairsAre, SideHas, AreStorable}
 use Rattle.jpa_view.specs.Unambiguous.{IsUnambiguous}
 use Rattle.jpa_view.specs.Identities.{IsSpelled}
 use Rattle.jpa_view.proofs.Others.{Stays, stays_self, stays_then}
 use Rattle.jpa_view.proofs.Reading.{object_spelled}
 use Rattle.jpa_view.proofs.Whole.{with_object_rises, object_stays, object_put}
-use Rattle.jpa_view.proofs.Numbers.{with_numbers_rise, with_numbers_stay, numbers_put}
+use Rattle.jpa_view.proofs.Numbers.{base_rises, base_put, base_stays, with_numbers_rise, with_numbers_stay, numbers_put}
 
 pub with_set_rises : (world : World) (set : StoredSet) (rows : Rows) → AreRising rows → AreRising (with_set world set rows)
 with_set_rises world [] rows rise = rise
@@ -71,8 +71,8 @@ pub set_read : (world : World) → IsUnambiguous world.model → IsRegular world
 set_read world clear regular set numbers up h =
     let m = world.model in
     let ps = zip m.entities numbers in
-    set_read_over world clear regular (with_numbers ps []) (with_numbers_rise ps [] tt) (numbers_put world clear ps [] tt)
-    (λ q sq join target. λ i. (with_numbers_stay m clear q sq ps [] tt).pairs i join target) set up h
+    set_read_over world clear regular (with_numbers ps (base_of m)) (with_numbers_rise ps (base_of m) (base_rises m)) (numbers_put world clear ps (base_of m) (base_rises m) ∙ base_put world clear)
+    (λ q sq join target. (λ i. (with_numbers_stay m clear q sq ps (base_of m) (base_rises m)).pairs i join target) ∙ (λ i. (base_stays m clear q sq).pairs i join target)) set up h
 
 -- so rows stand for at most one set
 pub one_set : (world : World) → IsUnambiguous world.model → IsRegular world → (s t : StoredSet) (k n : List ℕ) → T (is_sorted identity_cmp s) → T (is_sorted identity_cmp t)

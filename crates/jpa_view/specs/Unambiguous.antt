@@ -1,5 +1,5 @@
 -- What the laws ask of a metamodel: tables, discriminators and columns tell roots, classes and what classes have apart.
-use Rattle.std.specs.Prelude.{◌≡◌, ℕ, pos, Bool, true, ◌==◌, nat_lt, List, [], ◌∷◌, ◌++◌, map, length, Some, Option, None}
+use Rattle.std.specs.Prelude.{◌≡◌, ℕ, pos, Bool, true, ◌==◌, ◌||◌, nat_lt, List, [], ◌∷◌, ◌++◌, map, length, Some, Option, None}
 use Rattle.std.specs.List.{flat_map, AllByRecursion}
 use Rattle.jpa_value.specs.Value.{is_i64}
 use Rattle.jpa_model.specs.declared.unit.Column.{Column}
@@ -39,6 +39,8 @@ abbrev pub joins_of : List Relation → List ℕ
 joins_of = flat_map (λ r. join_tables r.side)
 
 pub record IsUnambiguous (m : PersistenceUnit) : Type 0 where
+  -- the row of the revision says 2, where there is one
+  pub revision : (m.revision == 1 || m.revision == 2) ≡ true
   -- no table stands for two things, table 0 for next numbers alone
   pub tables : are_distinct_numbers (tables_of m) ≡ true
   -- each is an integer of the program, as the key of its next number's row

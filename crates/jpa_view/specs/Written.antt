@@ -9,6 +9,7 @@ use Rattle.jpa_model.specs.declared.unit.Attribute.{Attribute}
 use Rattle.jpa_model.specs.declared.unit.Relation.{Relation}
 use Rattle.jpa_model.specs.declared.unit.Entity.{Entity}
 use Rattle.jpa_model.specs.declared.unit.Origin.{Origin}
+use Rattle.jpa_model.specs.declared.unit.PersistenceUnit.{PersistenceUnit}
 use Rattle.jpa_model.specs.declared.unit.Side.{Side}
 use Rattle.jpa_model.specs.declared.unit.VersionColumn.{VersionColumn}
 use Rattle.jpa_model.specs.Chains.{attributes_of, relations_of, root_of, entity_at}
@@ -137,5 +138,9 @@ abbrev pub with_numbers : List (Entity × ℕ) → Rows → Rows
 with_numbers [] rows = rows
 with_numbers (p ∷ ps) rows = with_next (p.0).origin p.1 (with_numbers ps rows)
 
+-- the row of the revision
+abbrev pub base_of : PersistenceUnit → Rows
+base_of m = with_number 0 m.revision []
+
 abbrev pub rows_of : World → StoredSet → List ℕ → Rows
-rows_of world set numbers = with_set world set (with_numbers (zip (world.model).entities numbers) [])
+rows_of world set numbers = with_set world set (with_numbers (zip (world.model).entities numbers) (base_of world.model))

@@ -88,6 +88,6 @@ pub(crate) fn typed_answers(
     out: &mut Writer,
 ) -> Result<(), Stop> {
     let parameters = parameters(alloc, rows)?;
-    let metamodel = read_mapping(alloc, unit.mapping.as_bytes())?;
-    add_answers(alloc, &metamodel, parameters.as_slice(), given, out)
+    let mapping = read_mapping(alloc, unit.mapping.as_bytes())?;
+    add_answers(alloc, &mapping.metamodel, parameters.as_slice(), given, out)
 }

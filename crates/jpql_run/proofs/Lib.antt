@@ -9,3 +9,13 @@ pub mod Dropped
 pub mod Truths
 pub mod Turns
 pub mod Yielded
+pub mod Equations
+pub mod ByReference
+pub mod CalmValues
+pub mod CalmConditions
+pub mod Onward
+pub mod Lookups
+pub mod Refused
+pub mod CalmParts
+pub mod Growing
+pub mod Parted

@@ -2,3 +2,10 @@ pub mod Keys
 pub mod Objects
 pub mod Runs
 pub mod Tuples
+pub mod Equations
+pub mod Calm
+pub mod ByReference
+pub mod ByValue
+pub mod Lookups
+pub mod Refused
+pub mod Grown

@@ -90,7 +90,7 @@ fn next<'a>(run: &Run<'a>, object: Option<Object<'a>>, step: Step) -> Option<Obj
     object_of(run.set, id)
 }
 
-fn walked<'a>(run: &Run<'a>, object: Option<Object<'a>>, steps: &[Step]) -> Seen<'a>
+pub fn walked<'a>(run: &Run<'a>, object: Option<Object<'a>>, steps: &[Step]) -> Seen<'a>
     ensures { seen result ≡ runs.walked run.now (entry_of object.entry) steps.now }
 {
     match steps {

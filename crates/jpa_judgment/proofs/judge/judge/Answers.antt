@@ -7,8 +7,8 @@ use Rattle.jpa_judgment.specs.Together.{StandTogether}
 use Rattle.jpa_judgment.proofs.Together.{of_classes, read_storable, held, of_none}
 use Rattle.jpa_judgment.proofs.judge.judge.Goals as goal
 
-pub stand_together-requires : goal.stand_together-requires
-stand_together-requires g c =
+pub stand_together-requires-clause-classes : goal.stand_together-requires-clause-classes
+stand_together-requires-clause-classes g c =
     let rows = c.args.rows.now in
     let world = world_of g.B.Behaviour.meaning c.args.metamodel.now c.args.registry.now in
     let is = subst (AreRead world rows) c.in-Set.is c.in_ok-set.ensures.read in

@@ -2,10 +2,10 @@ use Rattle.std.proofs.lemmas.Result.{err_from_is_err_and}
 use Rattle.jpa_mapping.proofs.Texts.{mapping_refused, mapping_answered}
 use Rattle.jpa_mapping.proofs.reading.read_mapping.Goals as goal
 
-pub returns-in_err-draft : goal.returns-in_err-draft
-returns-in_err-draft c =
+pub returns-in_err-drafts-clause-read : goal.returns-in_err-drafts-clause-read
+returns-in_err-drafts-clause-read c =
     let p = err_from_is_err_and c.from_residual.result c.from_residual.ensures.1 in
-    rw (p.1, p.2) (mapping_refused c.args.bytes.now _ c.in_err-draft.ensures)
+    rw (p.1, p.2) (mapping_refused c.args.bytes.now _ c.in_err-drafts.ensures)
 
-pub returns : goal.returns
-returns c = mapping_answered c.args.bytes.now _ c.check.result c.in_ok-draft.ensures c.check.ensures
+pub returns-clause-read : goal.returns-clause-read
+returns-clause-read c = mapping_answered c.args.bytes.now _ c.checked.result c.in_ok-drafts.ensures c.checked.ensures.read

@@ -7,12 +7,12 @@ use Rattle.jpa_marking.specs.Shared.{ended}
 use Rattle.jpa_marking.proofs.Ending.{left_marked}
 use Rattle.jpa_marking.proofs.committed.mark_left.Goals as goal
 
-pub returns : goal.returns
-returns c =
+pub returns-clause-marked : goal.returns-clause-marked
+returns-clause-marked c =
     let m = c.args.metamodel.now in
     let w = now c.args.work.now in
     let k = c.mark_places.new.marks in
     let linked = c.are_linked_left-linked.result in
     let looked = c.args.looked.now in
     subst (AreMarked m (ended w)) (sym c.link.ensures)
-    (left_marked m w looked.linked looked.places k c.requires.looked (subst (All (IsSeenAt m w k)) c.as_slice.ensures c.in_ok-mark_places.ensures) linked c.are_linked_left-linked.ensures)
+    (left_marked m w looked.linked looked.places k c.requires.looked (subst (All (IsSeenAt m w k)) c.as_slice.ensures c.in_ok-mark_places.ensures.seen) linked c.are_linked_left-linked.ensures)

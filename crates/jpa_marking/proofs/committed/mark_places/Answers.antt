@@ -15,5 +15,8 @@ loop-place-preserved c =
     let p = get_or places i 0 in
     let a = c.loop-place.marks in
     let b = c.mark_at.new.marks in
-    before_next (IsSeenAt m w b) i p places (get_or_default places i 0 p c.loop-place-test.true) c.in_ok-mark_at.ensures.seen
-    (λ k d l n. seen_more m w a b c.in_ok-mark_at.ensures.more (get_or places k d) (c.loop-place.invariant k d l n))
+    record {
+      seen = before_next (IsSeenAt m w b) i p places (get_or_default places i 0 p c.loop-place-test.true) c.in_ok-mark_at.ensures.seen
+          (λ k d l n. seen_more m w a b c.in_ok-mark_at.ensures.more (get_or places k d) (c.loop-place.invariant.seen k d l n));
+      called = λ h. c.in_ok-mark_at.ensures.called (c.loop-place.invariant.called h);
+    }

@@ -3,7 +3,7 @@ use Rattle.std.specs.List.{AllByRecursion}
 use Rattle.std.proofs.Common.{◌∙◌, ap, sym, subst}
 use Rattle.jpa_value.specs.Value.{same_identity}
 use Rattle.jpa_behaviour.specs.Registered.{world_of}
-use Rattle.jpa_stored.specs.Sets.{StoredSet, all_distinct, is_rising}
+use Rattle.jpa_stored.specs.Sets.{StoredSet, all_distinct}
 use Rattle.jpa_open.specs.Opened.{AreAllChanged}
 use Rattle.jpa_view.proofs.Rounds.{held_storable}
 use Rattle.jpa_object_rows.specs.Sets.{rows_of}

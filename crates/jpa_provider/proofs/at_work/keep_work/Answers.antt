@@ -1,9 +1,7 @@
-use Rattle.std.proofs.Common.{◌≡◌, true, List, refl, ap, sym, ◌∙◌}
+use Rattle.std.proofs.Common.{◌≡◌, List, refl, ap, sym, ◌∙◌}
 use Rattle.std.specs.Prelude.{slice_set}
 use Rattle.jpa_open.specs.Opened.{Opened, after_keeping}
 use Rattle.jpa_context.specs.Marks.{Entries}
-use Rattle.jpa_context.specs.Work.{Work}
-use Rattle.jpa_context.specs.Undo.{now_kept}
 use Rattle.jpa_provider.specs.declared.session.EntityManager.{EntityManager}
 use Rattle.jpa_provider.specs.declared.session.Session.{Session}
 use Rattle.jpa_provider.specs.Serving.{is_begun_status, manager_in}
@@ -58,7 +56,7 @@ returns-clause-settled c = λ M away quiet.
       view = seen_back M s t m u.view u.context zs away left turned e;
     })
     (kept_events c.is_begun-is_begun.result s.work u c.keep.ensures.now ∙ quiet)
-    (counted_same s t m (record x { layers = turned.layers; context = u.context }) c.requires.within away.counted e refl refl)
+    (counted_same s t m (record x { layers = turned.layers; context = u.context }) away.counted e refl refl)
 
 pub returns-clause-marked : goal.returns-clause-marked
 returns-clause-marked c = λ model M away marked.

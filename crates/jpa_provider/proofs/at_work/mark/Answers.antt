@@ -32,7 +32,7 @@ returns-clause-settled c = λ settled.
       quiet = settled.quiet;
       resting = settled.resting;
       idle = idle_changed xs t.managers.items c.args.manager y c.requires.within e (λ none. settled.idle c.args.manager (sym (marked_begun x.status) ∙ none)) settled.idle;
-      counted = counted_same s t c.args.manager y c.requires.within settled.counted e (marked_open x.status) refl;
+      counted = counted_same s t c.args.manager y settled.counted e (marked_open x.status) refl;
     }
 
 pub returns-clause-marks : goal.returns-clause-marks

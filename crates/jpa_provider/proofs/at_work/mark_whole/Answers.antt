@@ -1,4 +1,4 @@
-use Rattle.std.proofs.Common.{◌≡◌, refl, ap, ◌∙◌}
+use Rattle.std.proofs.Common.{refl, ap, ◌∙◌}
 use Rattle.std.specs.Prelude.{length}
 use Rattle.std.proofs.lemmas.List.{length-set}
 use Rattle.jpa_provider.specs.declared.session.EntityManager.{EntityManager}
@@ -26,7 +26,7 @@ returns-clause-settled c = λ settled.
       quiet = settled.quiet;
       resting = settled.resting;
       idle = idle_changed s.managers.items t.managers.items m y c.requires.within c.set_marks.ensures.set (settled.idle m) settled.idle;
-      counted = counted_same s t m y c.requires.within settled.counted c.set_marks.ensures.set refl refl;
+      counted = counted_same s t m y settled.counted c.set_marks.ensures.set refl refl;
     }
 
 pub returns-clause-count : goal.returns-clause-count

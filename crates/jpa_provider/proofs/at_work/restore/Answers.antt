@@ -72,7 +72,7 @@ returns-clause-settled c = λ M working.
       view = seen_back M s t m u.view u.context zs working.away left turned e;
     })
     (ap (λ (w : Work). w.events) c.undo.ensures.now)
-    (counted_same s t m (record x { layers = turned.layers; context = u.context }) c.requires.within (working.away).counted e refl refl)
+    (counted_same s t m (record x { layers = turned.layers; context = u.context }) (working.away).counted e refl refl)
 
 pub returns-clause-marked : goal.returns-clause-marked
 returns-clause-marked c = λ model M working marked.

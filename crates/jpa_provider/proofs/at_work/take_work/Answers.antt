@@ -25,7 +25,7 @@ returns-clause-working c =
     let context : c.exchange.new.context ≡ (manager_in xs m).context =
     c.exchange.ensures.context ∙ ap (λ ys. (manager_in ys m).context) turned.managers ∙ ap (λ (x : EntityManager). x.context) (placed xs m (record (manager_in xs m) { layers = turned.layers }) l) in
     taken_works s t m u.context c.exchange_if_begun.new.managers.items l turned e c.requires.settled
-    (counted_same s t m (record (manager_in xs m) { layers = turned.layers; context = u.context }) l ((c.requires.settled).counted) e refl refl)
+    (counted_same s t m (record (manager_in xs m) { layers = turned.layers; context = u.context }) ((c.requires.settled).counted) e refl refl)
     refl refl (c.keep.ensures.since ∙ ap (λ (x : Entries). x.now) context) refl
 
 pub returns-clause-work : goal.returns-clause-work

@@ -1,14 +1,10 @@
-use Rattle.std.proofs.Common.{◌≡◌, ◌≤◌, ◌<◌, ℕ, length}
-use Rattle.jpa_provider.specs.Beside.{AreHeld, IsTold, open_before}
+use Rattle.std.proofs.Common.{◌<◌, ℕ, get_or}
+use Rattle.jpa_provider.specs.Beside.{AreHeld, IsTold}
 use Rattle.jpa_provider.proofs.beside.keep_back_others.Given as goal
 
-abbrev pub invariant-loop-open : goal.invariant-loop-open
-invariant-loop-open l = record {
-  within : l.place ≤ length (l.managers).items;
-  open_left : l.open ≡ open_before l.place (l.initial.managers).items;
-  held : AreHeld (l.view).committed (l.initial.managers).items l.manager (l.view).committed (l.managers).items;
-  told : (k : ℕ) → l.place ≤ k → k < length (l.managers).items → IsTold l.manager (l.managers).items l.ids k;
+-- what is due was kept back for those at the places so far
+abbrev pub invariant-loop-place : goal.invariant-loop-place
+invariant-loop-place l = record {
+  held : AreHeld (l.view).committed (l.fn.managers).items l.manager (l.view).committed (l.managers).items;
+  told : (i : ℕ) → i < l.place-index → IsTold l.manager (l.managers).items l.ids (get_or l.places i 0);
 }
-
-abbrev pub decreases-loop-open : goal.decreases-loop-open
-decreases-loop-open l = l.place

@@ -8,7 +8,7 @@ use Rattle.jpa_rows.specs.Cells.{CanBeHeld}
 use Rattle.jpa_rows.specs.Rows.{Rows}
 use Rattle.jpa_object_rows.specs.Sets.{rows_of}
 use Rattle.jpa_context.specs.Work.{Work}
-use Rattle.jpa_context.specs.Steps.{Done, IsRefusedAs}
+use Rattle.jpa_context.specs.Steps.{IsRefusedAs}
 use Rattle.jpa_context.specs.Undo.{now, since}
 use Rattle.jpa_queries.specs.Premises.{StaysReady}
 use Rattle.jpa_fetch.specs.Grown.{IsReady}

@@ -5,7 +5,7 @@ use Rattle.jpa_open.specs.Opened.{Opened, no_layers, unwritten, with_kept}
 use Rattle.jpa_context.specs.declared.Entry.{Entry}
 use Rattle.jpa_context.specs.declared.Lock.{Lock}
 use Rattle.jpa_context.specs.declared.work.UnitOfWork.{UnitOfWork}
-use Rattle.jpa_context.specs.Marks.{Entries, Marks}
+use Rattle.jpa_context.specs.Marks.{Entries}
 use Rattle.jpa_context.specs.Undo.{now}
 use Rattle.jpa_context.specs.Work.{Work}
 use Rattle.jpa_flush.specs.Marked.{AreLooked, AreMarked}

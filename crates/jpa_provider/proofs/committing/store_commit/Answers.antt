@@ -155,6 +155,6 @@ returns-clause-holds g c = λ M h held.
     let t : Session = record s { managers = room.new.managers; work = record s.work { view = room.new.view; events = c.replace-events.new.dest } } in
     let there = still_committing s t room.ensures.undone room.ensures.held refl refl refl refl refl h in
     let away = (there.working).away in
-    let had = subst (g.R.RowSource.holds c.args.rows.now) (λ i. rows_of world (sym away.committed i) ((sym away.stored ∙ sym c.as_slice.ensures) i)) held in
-    let made = ap (rows_of world (room.new.view).seen) (c.as_slice-2.ensures ∙ c.in-Ok.ensures.next) ∙ sym (ap (rows_kept world) (c.end_commit.ensures.ended M there)) in
+    let had = subst (g.R.RowSource.holds c.args.rows.now) (λ i. rows_of world (sym away.committed i) ((sym away.stored ∙ sym c.as_slice-2.ensures) i)) held in
+    let made = ap (rows_of world (room.new.view).seen) (c.as_slice-3.ensures ∙ c.in-Ok.ensures.next) ∙ sym (ap (rows_kept world) (c.end_commit.ensures.ended M there)) in
     subst (g.R.RowSource.holds c.write-stored.new.source) made (c.in_default-stored.ensures.ok had)

@@ -1,14 +1,12 @@
 use Rattle.jpa_context.specs.Marks.{none_marked, Entries}
 use Rattle.std.proofs.Common.{◌≡◌, [], refl, ap, sym, ◌∙◌}
 use Rattle.std.specs.Prelude.{slice_set}
-use Rattle.jpa_context.specs.declared.Entry.{Entry}
 use Rattle.jpa_ops.specs.States.{detach_each}
 use Rattle.jpa_provider.specs.declared.session.Session.{Session}
 use Rattle.jpa_provider.specs.Serving.{manager_in}
 use Rattle.jpa_provider.proofs.Asked.{cleared_there}
 use Rattle.jpa_provider.proofs.Counted.{counted_same}
 use Rattle.jpa_provider.proofs.Ended.{cleared_marks}
-use Rattle.jpa_machine.specs.Machine.{Machine}
 use Rattle.jpa_provider.proofs.Marked.{context_there}
 use Rattle.jpa_provider.proofs.Sessions.{idle_changed}
 use Rattle.jpa_provider.specs.declared.session.EntityManager.{EntityManager}
@@ -41,7 +39,7 @@ returns-clause-settled c = λ settled.
       quiet = settled.quiet;
       resting = settled.resting;
       idle = idle_changed s.managers.items t.managers.items m y c.requires.within c.exchange.ensures.managers (settled.idle m) settled.idle;
-      counted = counted_same s t m y c.requires.within settled.counted c.exchange.ensures.managers refl refl;
+      counted = counted_same s t m y settled.counted c.exchange.ensures.managers refl refl;
     }
 
 pub returns-clause-marked : goal.returns-clause-marked

@@ -40,7 +40,7 @@ returns-clause-settled c = λ before begun.
       quiet = settled.quiet;
       resting = settled.resting;
       idle = idle_changed xs t.managers.items m y c.requires.within e (λ none. refl) before.idle;
-      counted = counted_same s t m y c.requires.within before.counted e (sym (begun_is_open (manager_in xs m) begun)) c.clear.ensures.count;
+      counted = counted_same s t m y before.counted e (sym (begun_is_open (manager_in xs m) begun)) c.clear.ensures.places;
     }
 
 pub returns-clause-marked : goal.returns-clause-marked

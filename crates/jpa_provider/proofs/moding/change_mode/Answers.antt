@@ -24,7 +24,7 @@ returns-clause-settled c = λ settled.
       quiet = settled.quiet;
       resting = settled.resting;
       idle = idle_changed s.managers.items t.managers.items c.args.manager y c.requires.within c.set_mode.ensures (settled.idle c.args.manager) settled.idle;
-      counted = counted_same s t c.args.manager y c.requires.within settled.counted c.set_mode.ensures refl refl;
+      counted = counted_same s t c.args.manager y settled.counted c.set_mode.ensures refl refl;
     }
 
 pub returns-clause-marked : goal.returns-clause-marked

@@ -39,7 +39,7 @@ returns-clause-settled g c =
       quiet = settled.quiet;
       resting = settled.resting;
       idle = idle_changed s.managers.items t.managers.items m y c.in-Some.ensures.within c.set_status.ensures (λ none. absurd (true≢false none)) settled.idle;
-      counted = counted_same s t m y c.in-Some.ensures.within settled.counted c.set_status.ensures (sym (named_open s c.args.em m is)) refl;
+      counted = counted_same s t m y settled.counted c.set_status.ensures (sym (named_open s c.args.em m is)) refl;
     }
 
 pub returns-clause-marked : goal.returns-clause-marked

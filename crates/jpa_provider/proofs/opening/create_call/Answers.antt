@@ -1,51 +1,81 @@
-use Rattle.std.proofs.Common.{◌≡◌, ◌+◌, refl, ap}
+use Rattle.std.proofs.Common.{◌≡◌, ◌<◌, ◌+◌, suc, length, refl, ap, sym, subst, ◌∙◌, arith}
+use Rattle.jpa_value.specs.Limits.{most_managers, most_open_managers}
+use Rattle.jpa_behaviour.specs.Served.{world_of_unit}
+use Rattle.jpa_protocol.specs.declared.call.Call.{Call}
+use Rattle.jpa_protocol.specs.declared.reply.Answer.{Answer}
+use Rattle.jpa_protocol.specs.declared.reply.Reply.{Reply}
 use Rattle.jpa_provider.specs.declared.session.EntityManager.{EntityManager}
 use Rattle.jpa_provider.specs.declared.session.Session.{Session}
-use Rattle.jpa_provider.specs.Serving.{manager_in, nobody}
+use Rattle.jpa_provider.specs.Serving.{manager_in, nobody, Serves}
 use Rattle.jpa_provider.proofs.Counted.{counted_here, counted_made}
 use Rattle.jpa_provider.proofs.Marked.{context_made, same_marked}
+use Rattle.jpa_provider.proofs.Opened.{created, many_made, many_open, not_created, told}
 use Rattle.jpa_provider.proofs.Sessions.{idle_made, idle_here}
 use Rattle.jpa_provider.specs.declared.session.Status.{Status}
 use Rattle.jpa_protocol.specs.declared.call.FlushMode.{FlushMode}
 use Rattle.jpa_provider.proofs.opening.create_call.Goals as goal
 
+pub returns-then-len-ge-MOST_OPEN_MANAGERS-clause-step : goal.returns-then-len-ge-MOST_OPEN_MANAGERS-clause-step
+returns-then-len-ge-MOST_OPEN_MANAGERS-clause-step g c =
+    let world = world_of_unit g.B.Behaviour.meaning c.args._unit.now in
+    let s = c.args.session.now in
+    let opened = length s.open_places.items in
+    let made = length s.managers.items in
+    subst (λ (reply : Reply). Serves world s Call.CreateEntityManager reply s) (sym c.because.ensures) (not_created world s (c.requires.settled).counted
+    (elim c.then-len-ge-MOST_OPEN_MANAGERS.branch [
+      | goal.then-len-ge-MOST_OPEN_MANAGERS-via-then-len-ge-MOST_OPEN_MANAGERS w ↦ many_open opened made (omega arith)
+      | goal.then-len-ge-MOST_OPEN_MANAGERS-via-else-len-ge-MOST_OPEN_MANAGERS+then-count-ge-MOST_MANAGERS w ↦ many_made opened made (omega arith)
+    ]))
+
+pub returns-clause-step : goal.returns-clause-step
+returns-clause-step g c =
+    let world = world_of_unit g.B.Behaviour.meaning c.args._unit.now in
+    let s = c.args.session.now in
+    let t : Session = record s { managers = c.add_manager.new.managers; open_places = c.add_manager.new.places } in
+    let x : EntityManager = record { status = Status.Inactive; mode = FlushMode.Auto; context = c.new.result; layers = c.new-2.result } in
+    let few : length s.open_places.items < most_open_managers = omega arith in
+    let more : length s.managers.items < most_managers = omega arith in
+    let number : c.len-count.result + 1 ≡ suc (length s.managers.items) = omega arith in
+    subst (λ (reply : Reply). Serves world s Call.CreateEntityManager reply t) (sym (c.accepted.ensures ∙ ap (λ n. told (Answer.Number n)) number))
+    (created world s t x (c.requires.settled).counted few more c.in_default.ensures.managers refl refl c.new.ensures.now refl refl)
+
 pub returns-in-Err-clause-settled : goal.returns-in-Err-clause-settled
 returns-in-Err-clause-settled g c =
     let s = c.args.session.now in
-    let t : Session = record s { managers = c.push.new.self } in
+    let t : Session = record s { managers = c.add_manager.new.managers; open_places = c.add_manager.new.places } in
     let settled = c.requires.settled in
     record {
       kept = settled.kept;
       quiet = settled.quiet;
       resting = settled.resting;
-      idle = idle_here s.managers.items t.managers.items c.in-Err.ensures.items settled.idle;
-      counted = counted_here s t settled.counted c.in-Err.ensures.items refl;
+      idle = idle_here s.managers.items t.managers.items c.in-Err.ensures.managers settled.idle;
+      counted = counted_here s t settled.counted c.in-Err.ensures.managers c.in-Err.ensures.places;
     }
 
 pub returns-clause-settled : goal.returns-clause-settled
 returns-clause-settled g c =
     let s = c.args.session.now in
-    let t : Session = record s { managers = c.push.new.self; open_managers = s.open_managers + 1 } in
+    let t : Session = record s { managers = c.add_manager.new.managers; open_places = c.add_manager.new.places } in
     let settled = c.requires.settled in
     let x : EntityManager = record { status = Status.Inactive; mode = FlushMode.Auto; context = c.new.result; layers = c.new-2.result } in
     record {
       kept = settled.kept;
       quiet = settled.quiet;
       resting = settled.resting;
-      idle = idle_made s.managers.items t.managers.items x c.in_default.ensures.items (λ none. c.new-2.ensures) settled.idle;
-      counted = counted_made s t x settled.counted c.in_default.ensures.items refl refl;
+      idle = idle_made s.managers.items t.managers.items x c.in_default.ensures.managers (λ none. c.new-2.ensures) settled.idle;
+      counted = counted_made s t x settled.counted c.in_default.ensures.managers refl c.in_default.ensures.places;
     }
 
 pub returns-in-Err-clause-marked : goal.returns-in-Err-clause-marked
 returns-in-Err-clause-marked g c = λ model marked.
     let s = c.args.session.now in
-    let t : Session = record s { managers = c.push.new.self } in
-    same_marked model s t refl (λ k. ap (λ ys. (manager_in ys k).context) c.in-Err.ensures.items) marked
+    let t : Session = record s { managers = c.add_manager.new.managers; open_places = c.add_manager.new.places } in
+    same_marked model s t refl (λ k. ap (λ ys. (manager_in ys k).context) c.in-Err.ensures.managers) marked
 
 pub returns-clause-marked : goal.returns-clause-marked
 returns-clause-marked g c = λ model marked.
     let s = c.args.session.now in
-    let t : Session = record s { managers = c.push.new.self; open_managers = s.open_managers + 1 } in
+    let t : Session = record s { managers = c.add_manager.new.managers; open_places = c.add_manager.new.places } in
     let x : EntityManager = record { status = Status.Inactive; mode = FlushMode.Auto; context = c.new.result; layers = c.new-2.result } in
     let fresh : x.context ≡ nobody.context = λ i. record { now = c.new.ensures.now i; since = c.new.ensures.since i; marks = c.new.ensures.marks i } in
-    same_marked model s t refl (context_made s.managers.items t.managers.items x c.in_default.ensures.items fresh) marked
+    same_marked model s t refl (context_made s.managers.items t.managers.items x c.in_default.ensures.managers fresh) marked

@@ -1,0 +1,3 @@
+pub mod Distinct
+mod Examples
+pub mod Paired

@@ -1,0 +1,114 @@
+//! What can't overflow: no `+`, `-`, `*`, sign, ABS, MOD or aggregate stands in it, nor in its nested blocks. Then an object
+//! that a condition refuses decides nothing (chapter 4.6).
+ghost use Rattle.std.specs.Prelude.{◌≡◌, option_map};
+ghost use Rattle.std.specs.List.{list_all};
+ghost use Rattle.jpql_run.specs.Calm as calm;
+
+use jpa_value::Boxed;
+use jpql_tree::Function;
+use jpql_types::{TypedBlock, TypedCondition, TypedJoin, TypedSource, TypedValue};
+
+fn is_calm_function(function: Function) -> bool
+    ensures { result ≡ calm.is_calm_function function }
+{
+    !matches!(function, Function::Abs | Function::Mod)
+}
+
+/// Whether a value can't overflow.
+#[cycle(is_calm_value)]
+pub(crate) fn is_calm_value(value: &TypedValue) -> bool
+    ensures { result ≡ calm.is_calm_value value.now }
+{
+    match value {
+        TypedValue::Integer(_)
+        | TypedValue::Text(_)
+        | TypedValue::Parameter(_)
+        | TypedValue::Path(_)
+        | TypedValue::Size(_) => true,
+        TypedValue::Call(function, all) => {
+            is_calm_function(*function) && are_calm_values(all.as_slice())
+        }
+        TypedValue::Signed(_, _)
+        | TypedValue::Arithmetic(_, _, _)
+        | TypedValue::Aggregate(_, _, _) => false,
+    }
+}
+
+#[cycle(is_calm_value)]
+fn are_calm_values(values: &[TypedValue]) -> bool
+    ensures { result ≡ list_all calm.is_calm_value values.now }
+{
+    for value in values {
+        if !is_calm_value(value) {
+            return false;
+        }
+    }
+    true
+}
+
+/// Whether a condition can't overflow.
+#[cycle(is_calm)]
+pub(crate) fn is_calm(condition: &TypedCondition) -> bool
+    ensures { result ≡ calm.is_calm condition.now }
+{
+    match condition {
+        TypedCondition::Or(left, right) => is_calm(left.get()) && is_calm(right.get()),
+        TypedCondition::And(left, right) => is_calm(left.get()) && is_calm(right.get()),
+        TypedCondition::Not(inner) => is_calm(inner.get()),
+        TypedCondition::Compare(_, left, right) => is_calm_value(left) && is_calm_value(right),
+        TypedCondition::Between(middle, low, high) => {
+            is_calm_value(middle) && (is_calm_value(low) && is_calm_value(high))
+        }
+        TypedCondition::In(one, all) => is_calm_value(one) && are_calm_values(all.as_slice()),
+        TypedCondition::Like(text, pattern, _) => is_calm_value(text) && is_calm_value(pattern),
+        TypedCondition::IsNull(one) => is_calm_value(one),
+        TypedCondition::Member(one, _) => is_calm_value(one),
+        TypedCondition::IsEmpty(_) | TypedCondition::Type(_, _) => true,
+        TypedCondition::Exists(block) => is_calm_block(block.get()),
+    }
+}
+
+/// Whether a condition can't, where there is one.
+#[cycle(is_calm)]
+pub(crate) fn is_any_calm(condition: &Option<Boxed<TypedCondition>>) -> bool
+    ensures { result ≡ calm.is_any_calm (option_map calm.is_calm condition.now) }
+{
+    match condition {
+        None => true,
+        Some(condition) => is_calm(condition.get()),
+    }
+}
+
+/// Whether a nested block can't, its item included.
+#[cycle(is_calm)]
+fn is_calm_block(block: &TypedBlock) -> bool
+    ensures { result ≡ calm.is_calm_block block.now }
+{
+    is_calm_value(&block.item)
+        && (are_calm_sources(block.sources.as_slice()) && is_any_calm(&block.filter))
+}
+
+#[cycle(is_calm)]
+fn is_calm_source(source: &TypedSource) -> bool
+    ensures { result ≡ calm.is_calm_source source.now }
+{
+    for join in source.joins.as_slice() {
+        if !is_any_calm(&join.on) {
+            return false;
+        }
+    }
+    true
+}
+
+/// Whether elements of FROM can't.
+#[cycle(is_calm)]
+pub(crate) fn are_calm_sources(sources: &[TypedSource]) -> bool
+    ensures { result ≡ list_all calm.is_calm_source sources.now }
+{
+    for source in sources {
+        if !is_calm_source(source) {
+            return false;
+        }
+    }
+    true
+}
