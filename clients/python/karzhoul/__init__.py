@@ -28,8 +28,8 @@ from .transactions import Attempt, EntityTransaction
 
 __version__ = "0.1.0"
 
-# Written out, since type checkers read it. `from karzhoul import *` gives no name that Python has too,
-# as `open`, or that its `typing` has, as `Mapping`.
+# Written out, since type checkers read it. `from karzhoul import *` gives no name that Python has
+# too, as `open`, or that its `typing` has, as `Mapping`.
 __all__ = [
     "Attempt", "EmbeddedId", "Entity", "EntityManager", "EntityManagerFactory", "EntityTransaction",
     "Event", "FlushModeType", "LifecycleEvent", "LockModeType", "refusals",

@@ -9,18 +9,25 @@ from .entities import Entity
 
 
 def meant(word: str, known: Iterable[str]) -> str:
-    """The question which known word was meant, after a word that isn't known; nothing where none is near."""
+    """The question which known word was meant, after a word that isn't known; nothing where none is
+    near."""
     near = difflib.get_close_matches(word, list(known), n=1)
     return f": did you mean {near[0]!r}?" if near else ""
 
 
-def entity_named(classes: Mapping[str, Type[Entity]], given: Union[str, Type[Entity]]) -> Type[Entity]:
-    """The class of a factory's entity, by its name or by a class of its name; a `KeyError` where there is none."""
+def entity_named(
+    classes: Mapping[str, Type[Entity]], given: Union[str, Type[Entity]]
+) -> Type[Entity]:
+    """The class of a factory's entity, by its name or by a class of its name; a `KeyError` where
+    there is none."""
     name = given if isinstance(given, str) else getattr(given, "__name__", None)
     if name is None:
         raise TypeError(f"an entity is given by its name or its class, and not by {given!r}")
     if name not in classes:
-        raise KeyError(f"there is no entity {name!r}" + (meant(name, classes) or f"; there are {', '.join(classes)}"))
+        raise KeyError(
+            f"there is no entity {name!r}"
+            + (meant(name, classes) or f"; there are {', '.join(classes)}")
+        )
     return classes[name]
 
 
@@ -32,17 +39,25 @@ def item_class(classes: Mapping[str, Type[Entity]], given: Union[str, Type[Any]]
 
 
 def check_query(text: object, result_class: object, params: object) -> None:
-    """Refuses what is no query's text, result class or parameters; a `TypeError` says how they are handed in."""
+    """Refuses what is no query's text, result class or parameters; a `TypeError` says how they are
+    handed in."""
     if isinstance(text, type):
-        raise TypeError(f"a query is a text, as 'SELECT e FROM {text.__name__} e', and not the class alone")
+        raise TypeError(
+            f"a query is a text, as 'SELECT e FROM {text.__name__} e', and not the class alone"
+        )
     if not isinstance(text, str):
         raise TypeError(f"a query is a text, and no {type(text).__name__}")
     if isinstance(result_class, Mapping):
         raise TypeError("parameters are handed in by name: query(text, params={..})")
     if not (result_class is None or isinstance(result_class, (type, str))):
-        raise TypeError(f"the result class is an entity's, or another one as int, and not {result_class!r}")
+        raise TypeError(
+            f"the result class is an entity's, or another one as int, and not {result_class!r}"
+        )
     if not (params is None or isinstance(params, Mapping)):
-        raise TypeError(f"params is a dict, as {{'name': 'Ada'}} for :name or {{1: 'Ada'}} for ?1, and no {type(params).__name__}")
+        raise TypeError(
+            f"params is a dict, as {{'name': 'Ada'}} for :name or {{1: 'Ada'}} for ?1, and no "
+            f"{type(params).__name__}"
+        )
 
 
 def parameter_name(name: object) -> str:

@@ -11,6 +11,7 @@ from contextlib import contextmanager
 from pathlib import Path
 from typing import Any, Callable, Dict, Iterator, List, Mapping, Optional, TextIO
 
+from .asked import Statement, mistakes_in
 from .dumping import Stored
 from .factory import EntityManagerFactory
 from .linter import lint
@@ -18,7 +19,7 @@ from .loading import HEARD, HEARD_OF_CHANGES, Loader
 from .plans import Plan, Terms, checked
 from .progress import Progress
 from .records import Key, Next, Shape, bare, shapes_of
-from .refusals import KarzhoulError, ProgramEnded
+from .refusals import KarzhoulError, ProgramEnded, Refused
 from .sources import RowFault, Source
 from .spelling import FORMAT, Begun, Ended, cells_of, columns_of, line_of_item, row_of_cells
 
@@ -28,7 +29,8 @@ Opener = Callable[[argparse.Namespace, Mapping[str, Any], Optional[str]], Entity
 
 _DUMP = """Writes what a store holds as lines of JSON: an object a line, with its key, its
 version, the values of its attributes, its links by key, and the keys of its pairs. 'load' makes the
-same cells of it. With --csv it is the CSV of one entity. Nothing is changed."""
+same cells of it. With --csv it is the CSV of one entity. Nothing is changed, but that the store is
+opened: a mapping of revision 2 brings one of revision 1 over."""
 _LOAD = """Stores the objects of a file of JSON lines, as 'dump' writes it, or with --csv of a CSV
 whose first row names the columns. All rows are read and checked before the first is stored. It
 stops at the first row that can't be stored, with its line and the reason; what was committed before
@@ -37,7 +39,7 @@ stays."""
 
 def add_commands(commands: Any, over: argparse.ArgumentParser, opened: Opener) -> None:
     """Adds the commands to those of `karzhoul`."""
-    word = "write what a database file holds as JSON lines or CSV"
+    word = "write what is stored as JSON lines or CSV"
     dump = commands.add_parser("dump", parents=[over], help=word, description=_DUMP)
     dump.add_argument("db", help="the database file")
     dump.add_argument("-o", "--output", metavar="FILE", help="the file (else standard output)")
@@ -46,7 +48,7 @@ def add_commands(commands: Any, over: argparse.ArgumentParser, opened: Opener) -
     dump.add_argument("--linked", action="store_true", help="with --query: also what these lead to")
     dump.set_defaults(run=lambda said: run_dump(said, opened))
 
-    word = "store the objects of a file of JSON lines or CSV"
+    word = "store what a file of JSON lines or CSV has"
     load = commands.add_parser("load", parents=[over], help=word, description=_LOAD)
     load.add_argument("db", help="the database file, which is made where there is none")
     load.add_argument("file", help="the file; - is standard input")
@@ -79,6 +81,8 @@ def _size(word: str) -> int:
 
 def _mapping_of(said: argparse.Namespace) -> Optional[Dict[str, Any]]:
     """The mapping that a command names; None where it is wrong, which is told."""
+    if not os.path.exists(said.mapping):
+        raise FileNotFoundError(f"there is no mapping {said.mapping}: --mapping names another one")
     data = Path(said.mapping).read_bytes()
     findings = lint(data).findings
     for finding in findings:
@@ -123,7 +127,7 @@ def _wanted(stored: Stored, said: argparse.Namespace) -> Dict[str, List[Key]]:
     """The keys of what is to be written, by class."""
     if said.query is None and said.csv is None:
         return stored.everything()
-    wanted = {said.csv: stored.keys(said.csv)} if said.query is None else stored.found(said.query)
+    wanted = {said.csv: stored.keys(said.csv)} if said.query is None else _found(stored, said.query)
     if said.linked:
         wanted = stored.with_targets(wanted)
     if said.csv is None:
@@ -134,6 +138,15 @@ def _wanted(stored: Stored, said: argparse.Namespace) -> Dict[str, List[Key]]:
             way = f"--csv {shape.name} writes them"
             print(f"karzhoul: {others} objects are of {shape.name}: {way}", file=sys.stderr)
     return {said.csv: wanted.get(said.csv, [])}
+
+
+def _found(stored: Stored, query: str) -> Dict[str, List[Key]]:
+    """The keys of the objects that a query finds; what refuses it says where it is wrong."""
+    try:
+        return stored.found(query)
+    except Refused as refused:
+        found = mistakes_in(Statement(query, []), stored.described)
+        raise KarzhoulError("\n  ".join([f"the query is refused: {refused}", *found])) from refused
 
 
 def _write_lines(
@@ -268,7 +281,10 @@ def _stopped(fault: Optional[KarzhoulError], left: str) -> int:
 def _left(loader: Loader, terms: Terms, is_unsure: bool) -> str:
     """What a load that stopped has stored."""
     most = "" if not is_unsure else "at least "
-    if terms.is_dry or not (loader.done or is_unsure):
+    if terms.is_dry:
+        done = f", and the {loader.done:,} rows up to line {loader.line} can be"
+        return f"nothing was stored{done if loader.done else ''}"
+    if not (loader.done or is_unsure):
         return "nothing was stored"
     rows = f"{most}the {loader.done:,} rows up to line {loader.line} are stored"
     return f"{rows}: load the file again with --update, once that is mended"

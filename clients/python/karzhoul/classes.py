@@ -1,9 +1,9 @@
 """Which class each object of a program is of.
 
-The program tells an object's number and no class. But it tells which listeners ran when an object was
-loaded, or was made by a merge. So each entity of the mapping that it is given has one more listener, a
-mark, which does nothing. The last mark that ran is the one of the object's own class, which it has in
-every later state. No call is made for it, and users don't see the marks.
+The program tells an object's number and no class. But it tells which listeners ran when an object
+was loaded, or was made by a merge. So each entity of the mapping that it is given has one more
+listener, a mark, which does nothing. The last mark that ran is the one of the object's own class,
+which it has in every later state. No call is made for it, and users don't see the marks.
 """
 
 from __future__ import annotations
@@ -24,19 +24,23 @@ def marks_of(mapping: Mapping[str, Any]) -> Dict[str, str]:
 
 
 def marked(mapping: Mapping[str, Any]) -> Dict[str, Any]:
-    """A mapping with its marks; a `KeyError`, `TypeError` or `AttributeError` where it has no such form."""
+    """A mapping with its marks; a `KeyError`, `TypeError` or `AttributeError` where it has no such
+    form."""
     marks, images, entities = marks_of(mapping), _images(mapping["entities"]), []
     for mark, entity in zip(marks, mapping["entities"]):
         events = ["PostLoad", "PrePersist"] if entity["name"] in images else ["PostLoad"]
         listeners = [{"name": mark, "events": events}, *_listed(entity.get("listeners", []))]
         entities.append({**entity, "listeners": listeners})
-    functions = [*_listed(mapping.get("functions", [])), *({"name": mark, "make": "note"} for mark in marks)]
+    functions = [
+        *_listed(mapping.get("functions", [])),
+        *({"name": mark, "make": "note"} for mark in marks),
+    ]
     return {**mapping, "entities": entities, "functions": functions}
 
 
 def _images(entities: Sequence[Mapping[str, Any]]) -> Set[str]:
-    """The entities of which a merge may make an object on its way: the targets of relations that cascade
-    it, and their subclasses."""
+    """The entities of which a merge may make an object on its way: the targets of relations that
+    cascade it, and their subclasses."""
     relations = [relation for entity in entities for relation in entity.get("relations", [])]
     merged = [each for each in relations if {"ALL", "MERGE"} & set(each.get("cascade", []))]
     found = {relation["target"] for relation in merged}
@@ -54,7 +58,8 @@ def _listed(given: Any) -> List[Any]:
 
 
 def marked_text(data: bytes) -> bytes:
-    """The text of a mapping with its marks; one that has no such form, which the program refuses, as it is."""
+    """The text of a mapping with its marks; one that has no such form, which the program refuses,
+    as it is."""
     try:
         return json.dumps(marked(json.loads(data.decode("utf-8")))).encode()
     except (ValueError, KeyError, TypeError, AttributeError, RecursionError):
@@ -64,8 +69,8 @@ def marked_text(data: bytes) -> bytes:
 class Classes:
     """The classes of objects by their numbers, of which none is given twice.
 
-    It is a byte each, as there are 64 classes at most. It is kept when no one holds the object any more,
-    since the program may tell its number again.
+    It is a byte each, as there are 64 classes at most. It is kept when no one holds the object any
+    more, since the program may tell its number again.
     """
 
     def __init__(self, named: Mapping[str, Type[Entity]], marks: Mapping[str, str]) -> None:

@@ -1,4 +1,4 @@
-"""The command `karzhoul`: check, stubs, migrate, show, shell, dump and load."""
+"""The command `karzhoul`: check, stubs, migrate, show, shell, dump, load, new and schema."""
 
 from __future__ import annotations
 
@@ -6,25 +6,33 @@ import argparse
 import json
 import os
 import sqlite3
+import subprocess
 import sys
 import tempfile
 from contextlib import closing
 from pathlib import Path
 from typing import Any, List, Mapping, Optional, Union
 
-from . import carrying, factory, migration, show, stubs
+from . import beginnings, carrying, factory, migration, show, stubs
+from .finding import find_program
 from .linter import lint
 from .refusals import Damaged, KarzhoulError, StoreFault
 from .refusals import Mapping as MappingRefused
+from .schema import mapping_schema
 from .unit import entities_of
 
-WRONG, REFUSED, FAILED, INTERRUPTED = 1, 3, 4, 130
+WRONG, MISSAID, REFUSED, FAILED, INTERRUPTED = 1, 2, 3, 4, 130
 
 
 def main(words: Optional[List[str]] = None) -> int:
-    """Runs the command; its status is 0, or 1 for a mapping that is wrong, 2 for a wrong command line, 3 for a well-formed mapping that
-    the program refuses, or refuses over a store, 4 for what else failed, and 130 after Ctrl-C."""
-    said = _parser().parse_args(words)
+    """Runs the command; its status is 0, or 1 for a mapping that is wrong, 2 for a wrong command
+    line, 3 for a well-formed mapping that the program refuses, or refuses over a store, 4 for
+    what else failed, and 130 after Ctrl-C."""
+    parser = _parser()
+    if not (sys.argv[1:] if words is None else words):
+        parser.print_help(sys.stderr)
+        return MISSAID
+    said = parser.parse_args(words)
     try:
         status = int(said.run(said))
         sys.stdout.flush()
@@ -42,58 +50,148 @@ def main(words: Optional[List[str]] = None) -> int:
 
 
 def _parser() -> argparse.ArgumentParser:
-    parser = argparse.ArgumentParser(prog="karzhoul", description="A client of Karzhoul.")
+    parser = argparse.ArgumentParser(
+        prog="karzhoul",
+        description="Objects of a mapping's entities in a database file, by Karzhoul. 'karzhoul "
+        "new FOLDER' is a beginning, and 'karzhoul COMMAND --help' tells what a command takes.",
+    )
+    parser.add_argument(
+        "--version", action=_Version, nargs=0,
+        help="tell the versions of the client and of the program, and end",
+    )
     commands = parser.add_subparsers(required=True, metavar="COMMAND")
     common = argparse.ArgumentParser(add_help=False)
-    common.add_argument("--program", help="the program to start (else the one of the client, else KARZHOUL_PROGRAM)")
+    common.add_argument(
+        "--program", help="the program to start (else the one of the client, else KARZHOUL_PROGRAM)"
+    )
 
-    check = commands.add_parser("check", parents=[common], help="tell what is wrong with a mapping, and where")
+    began = commands.add_parser(
+        "new", help="write a first mapping, with comments, and a first program"
+    )
+    began.add_argument("folder", help="the folder to write them to, which is made")
+    began.set_defaults(run=run_new)
+
+    check = commands.add_parser(
+        "check", parents=[common], help="tell what is wrong with a mapping, and where"
+    )
     check.add_argument("mapping", help="the mapping file, or a pipe")
-    check.add_argument("--with-program", action="store_true", help="ask the program too, which --program says as well")
+    check.add_argument(
+        "--with-program",
+        action="store_true",
+        help="ask the program too, which --program says as well",
+    )
     check.set_defaults(run=run_check)
 
-    typed = commands.add_parser("stubs", help="write a module of typed classes of the entities, for type checkers and editors")
+    typed = commands.add_parser(
+        "stubs",
+        help="write a module of typed classes of the entities, for type checkers and editors",
+    )
     typed.add_argument("mapping", help="the mapping file, or a pipe")
-    typed.add_argument("-o", "--output", metavar="FILE", help="write to this file, and not to standard output")
+    typed.add_argument(
+        "-o", "--output", metavar="FILE", help="write to this file, and not to standard output"
+    )
     typed.set_defaults(run=run_stubs)
 
-    migrated = commands.add_parser("migrate", parents=[common], help="tell what an opening with another mapping changes in a database file")
-    migrated.add_argument("mapping", help="the mapping file, or a pipe")
-    migrated.add_argument("db")
-    way = migrated.add_mutually_exclusive_group(required=True)
-    way.add_argument("--dry-run", action="store_true", help="only tell, and write nothing")
-    way.add_argument("--copy", metavar="FILE", help="copy the database to this new file, and then open it, which changes it")
-    asked = "in a dry run, ask the program too, over a copy, which --program says as well"
-    migrated.add_argument("--with-program", action="store_true", help=asked)
-    migrated.set_defaults(run=run_migrate)
-
     over = argparse.ArgumentParser(add_help=False, parents=[common])
-    over.add_argument("--mapping", required=True, help="the mapping file")
+    over.add_argument("--mapping", default="mapping.json", help="the mapping file (%(default)s)")
 
-    shown = commands.add_parser("show", parents=[over], help="show what a database file holds")
+    shown = commands.add_parser("show", parents=[over], help="show what is stored, as tables")
     shown.add_argument("db")
     shown.add_argument("--html", metavar="FILE", help="write one page to this file")
     keys = "a key to look for where it isn't generated: 7, 1..100, or [1,\"a\"]"
     shown.add_argument("--key", action="append", default=[], metavar="ENTITY=KEY", help=keys)
-    shown.add_argument("--most", type=int, default=show.MOST_KEYS, help="how many generated keys to look for (%(default)s)")
+    shown.add_argument(
+        "--most", type=int, default=show.MOST_KEYS,
+        help="how many generated keys to look for (%(default)s)",
+    )
     shown.set_defaults(run=run_show)
 
-    shell = commands.add_parser("shell", parents=[over], help="a prompt for calls")
-    shell.add_argument("db", nargs="?", help="the database file; without one the store is in memory")
+    migrated = commands.add_parser(
+        "migrate",
+        parents=[over],
+        help="tell what an opening with another mapping changes in a database file",
+    )
+    migrated.add_argument("db")
+    way = migrated.add_mutually_exclusive_group(required=True)
+    way.add_argument("--dry-run", action="store_true", help="only tell, and write nothing")
+    way.add_argument(
+        "--copy",
+        metavar="FILE",
+        help="copy the database to this new file, and then open it, which changes it",
+    )
+    asked = "in a dry run, ask the program too, over a copy, which --program says as well"
+    migrated.add_argument("--with-program", action="store_true", help=asked)
+    migrated.set_defaults(run=run_migrate)
+
+    shell = commands.add_parser("shell", parents=[over], help="a prompt for queries and calls")
+    shell.add_argument(
+        "db", nargs="?", help="the database file; without one the store is in memory"
+    )
+    shell.add_argument(
+        "--stop",
+        action="store_true",
+        help="end at the first line that is refused or not understood",
+    )
     shell.set_defaults(run=run_shell)
     carrying.add_commands(commands, over, _opened_over)
+
+    told = commands.add_parser(
+        "schema", help="print the JSON Schema of mappings, by which editors complete and check them"
+    )
+    told.set_defaults(run=run_schema)
     return parser
 
 
+class _Version(argparse.Action):
+    """Tells the versions, and ends the command."""
+
+    def __call__(self, parser: argparse.ArgumentParser, *_: object) -> None:
+        from . import __version__
+
+        try:
+            program = find_program()
+            told = subprocess.run(
+                [program, "--version"], stdin=subprocess.DEVNULL, capture_output=True, text=True,
+                timeout=60,
+            )
+            words = f"{told.stdout.strip() or told.stderr.strip()}, which is {program}"
+        except (KarzhoulError, OSError, subprocess.TimeoutExpired) as fault:
+            words = f"no program: {fault}"
+        print(f"karzhoul {__version__}\n{words}")
+        parser.exit()
+
+
+def run_new(said: argparse.Namespace) -> int:
+    """Writes a first mapping and program."""
+    folder = Path(said.folder)
+    beginnings.write(folder)
+    print(
+        f"{folder} has a first mapping and program; README.md there tells of them. Try: cd "
+        f"{folder} && python3 first.py"
+    )
+    return 0
+
+
+def run_schema(said: argparse.Namespace) -> int:
+    """Prints the schema of mappings."""
+    print(json.dumps(mapping_schema(), indent=1))
+    return 0
+
+
 def run_check(said: argparse.Namespace) -> int:
-    """Tells the rules that a mapping breaks, and warns; where it breaks none, the program is asked if that is wanted."""
+    """Tells the rules that a mapping breaks, and warns; where it breaks none, the program is asked
+    if that is wanted."""
     data = Path(said.mapping).read_bytes()
     report = lint(data)
     for finding in [*report.findings, *report.warnings]:
         print(f"{said.mapping}:{finding}")
     if report.findings:
         return WRONG
-    refused = _refusal(json.loads(data), None, said.program) if said.with_program or said.program else None
+    refused = (
+        _refusal(json.loads(data), None, said.program)
+        if said.with_program or said.program
+        else None
+    )
     if refused is None:
         print(f"{said.mapping}: good")
         return 0
@@ -102,7 +200,8 @@ def run_check(said: argparse.Namespace) -> int:
 
 
 def _refusal(mapping: Any, db: Optional[Path], program: Optional[str]) -> Optional[str]:
-    """What the program says of a well-formed mapping, over a database if one is named, where it refuses it."""
+    """What the program says of a well-formed mapping, over a database if one is named, where it
+    refuses it."""
     try:
         factory.open(mapping, db, program=program).close()
     except (MappingRefused, Damaged) as refused:
@@ -111,14 +210,17 @@ def _refusal(mapping: Any, db: Optional[Path], program: Optional[str]) -> Option
 
 
 def run_stubs(said: argparse.Namespace) -> int:
-    """Writes the module of typed classes of a mapping; a mapping that is wrong is told as `check` does, and nothing is written."""
+    """Writes the module of typed classes of a mapping; a mapping that is wrong is told as `check`
+    does, and nothing is written."""
     data = Path(said.mapping).read_bytes()
     report = lint(data)
     for finding in report.findings:
         print(f"{said.mapping}:{finding}", file=sys.stderr)
     if report.findings:
         return WRONG
-    module = stubs.module_of(json.loads(data), Path(said.mapping).name if Path(said.mapping).is_file() else "a mapping")
+    module = stubs.module_of(
+        json.loads(data), Path(said.mapping).name if Path(said.mapping).is_file() else "a mapping"
+    )
     if said.output:
         Path(said.output).write_text(module, encoding="utf-8")
     else:
@@ -127,7 +229,8 @@ def run_stubs(said: argparse.Namespace) -> int:
 
 
 def run_migrate(said: argparse.Namespace) -> int:
-    """Tells what an opening would change; then opens the database, once it is copied, or in a dry run a copy of it, if that is wanted."""
+    """Tells what an opening would change; then opens the database, once it is copied, or in a dry
+    run a copy of it, if that is wanted."""
     data, db = Path(said.mapping).read_bytes(), _there(said.db)
     if said.copy is not None and os.path.lexists(said.copy):
         raise FileExistsError(f"there is a file {said.copy} already")
@@ -144,7 +247,9 @@ def run_migrate(said: argparse.Namespace) -> int:
             return REFUSED
         if said.copy is not None and found.is_due:
             return _migrated(mapping, db, said)
-        return _tried(mapping, db, said) if said.dry_run and (said.with_program or said.program) else 0
+        return (
+            _tried(mapping, db, said) if said.dry_run and (said.with_program or said.program) else 0
+        )
     except sqlite3.Error as fault:
         raise KarzhoulError(f"{said.db} can't be read ({fault}): {_why_unopened(db)}") from fault
 
@@ -153,7 +258,11 @@ def _migrated(mapping: Any, db: Path, said: argparse.Namespace) -> int:
     _copy(db, Path(said.copy))
     print(f"{said.copy} is a copy of it as it is")
     refused = _refusal(mapping, db, said.program)
-    print("it is written" if refused is None else f"the program refused that, and left it as it was: {refused}")
+    print(
+        "it is written"
+        if refused is None
+        else f"the program refused that, and left it as it was: {refused}"
+    )
     return 0 if refused is None else REFUSED
 
 
@@ -162,7 +271,11 @@ def _tried(mapping: Any, db: Path, said: argparse.Namespace) -> int:
         copy = Path(place, "copy.db")
         _copy(db, copy)
         refused = _refusal(mapping, copy, said.program)
-    print("the program opens a copy of it so" if refused is None else f"the program refuses that, tried on a copy: {refused}")
+    print(
+        "the program opens a copy of it so"
+        if refused is None
+        else f"the program refuses that, tried on a copy: {refused}"
+    )
     return 0 if refused is None else REFUSED
 
 
@@ -174,6 +287,8 @@ def _copy(db: Path, copy: Path) -> None:
 
 def _opened(said: argparse.Namespace) -> factory.EntityManagerFactory:
     """The unit over the mapping and the database that a command names."""
+    if not os.path.exists(said.mapping):
+        raise FileNotFoundError(f"there is no mapping {said.mapping}: --mapping names another one")
     return _opened_over(said, said.mapping, said.db)
 
 
@@ -184,7 +299,9 @@ def _opened_over(
     try:
         return factory.open(mapping, db, program=said.program)
     except StoreFault as fault:
-        raise KarzhoulError(f"{said.db} can't be opened ({fault}): {_why_unopened(Path(said.db))}") from fault
+        raise KarzhoulError(
+            f"{said.db} can't be opened ({fault}): {_why_unopened(Path(said.db))}"
+        ) from fault
 
 
 def _there(db: str) -> Path:
@@ -202,7 +319,10 @@ def _why_unopened(db: Path) -> str:
     with db.open("rb") as file:
         if file.read(16) not in (b"", b"SQLite format 3\0"):
             return "it is no database of SQLite"
-    return "it seems that another program has it open; end that one first, since one at a time has a file"
+    return (
+        "it seems that another program has it open; end that one first, since one at a time has a "
+        "file"
+    )
 
 
 def run_show(said: argparse.Namespace) -> int:
@@ -216,16 +336,23 @@ def run_show(said: argparse.Namespace) -> int:
             raise
     if said.html:
         Path(said.html).write_text(show.html_page(shown, Path(said.db).name), encoding="utf-8")
-        print(f"{said.html}: {sum(len(table.rows) for table in shown)} objects of {len(shown)} entities")
+        print(
+            f"{said.html}: {sum(len(table.rows) for table in shown)} objects of {len(shown)} "
+            f"entities"
+        )
     else:
         print(show.text_page(shown), end="")
     return 0
 
 
 def run_shell(said: argparse.Namespace) -> int:
-    """Runs the prompt until its end."""
+    """Runs the prompt until its end. Of a session that is no terminal's, the status tells whether a
+    line was refused or not understood."""
     from .shell import Shell
 
     with _opened(said) as app:
-        Shell(app).run()
-    return 0
+        shell = Shell(app)
+        shell.run(said.stop)
+    if shell.ended is not None:
+        return FAILED
+    return REFUSED if shell.refused and (said.stop or not sys.stdin.isatty()) else 0

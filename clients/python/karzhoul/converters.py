@@ -1,4 +1,4 @@
-"""Converters, as a mapping's functions make them: what a column holds for a value of an attribute."""
+"""Converters, as a mapping's functions make them: what a column holds for an attribute's value."""
 
 from __future__ import annotations
 
@@ -9,6 +9,11 @@ Plain = Union[int, str, bytes]
 MOST_BYTES = 65_535
 
 
+def is_converter(function: Mapping[str, Any]) -> bool:
+    """Whether a function of a mapping is a converter, and no listener."""
+    return function["make"] in ("flip", "table", "hextext")
+
+
 def value_of(data: Any) -> Plain:
     """The value that JSON says: an integer, a text, or bytes as `{"hex":"0aff"}`."""
     value: Plain = bytes.fromhex(data["hex"]) if isinstance(data, Mapping) else data
@@ -17,7 +22,9 @@ def value_of(data: Any) -> Plain:
 
 def length(value: Plain) -> int:
     """How many bytes a value has; an integer none."""
-    return len(value.encode()) if isinstance(value, str) else len(value) if isinstance(value, bytes) else 0
+    if isinstance(value, int):
+        return 0
+    return len(value.encode()) if isinstance(value, str) else len(value)
 
 
 def column_value(function: Mapping[str, Any], value: Plain) -> Optional[Plain]:
@@ -31,5 +38,7 @@ def _converted(function: Mapping[str, Any], value: Plain) -> Optional[Plain]:
         return -1 - value if isinstance(value, int) else None
     if function["make"] == "hextext":
         return value.hex() if isinstance(value, bytes) else None
-    pairs = ((value_of(here), value_of(there)) for here, there in function["pairs"])
-    return next((there for here, there in pairs if type(here) is type(value) and here == value), None)
+    for here, there in function["pairs"]:
+        if value_of(here) == value:
+            return value_of(there)
+    return None

@@ -30,17 +30,27 @@ class _Box:
 
 
 def diagram(entities: Sequence[EntityDescription]) -> str:
-    """The entities as boxes that link to their tables by name, owning relations and superclasses as arrows."""
+    """The entities as boxes that link to their tables by name, owning relations and superclasses as
+    arrows."""
     boxes = _placed(entities)
     right = max((box.left for box in boxes.values()), default=0) + _WIDTH + _GAP // 2
     bottom = max((box.top + box.height for box in boxes.values()), default=0) + _MARGIN
     marks = (
-        '<defs><marker id="arrow" viewBox="0 0 10 10" refX="9" refY="5" markerWidth="8" markerHeight="8" orient="auto-start-reverse">'
+        '<defs><marker id="arrow" viewBox="0 0 10 10" refX="9" refY="5" markerWidth="8" '
+        'markerHeight="8" orient="auto-start-reverse">'
         '<path d="M0 0L10 5L0 10z"/></marker></defs>'
     )
-    parts = [marks, *map(_box, boxes.values()), *(arrow for box in boxes.values() for arrow in _arrows(box, boxes))]
+    parts = [
+        marks,
+        *map(_box, boxes.values()),
+        *(arrow for box in boxes.values() for arrow in _arrows(box, boxes)),
+    ]
     size = f'width="{right}" height="{bottom}" viewBox="0 0 {right} {bottom}"'
-    return f'<svg xmlns="http://www.w3.org/2000/svg" role="img" aria-label="The entities" {size}>\n' + "\n".join(parts) + "\n</svg>"
+    return (
+        f'<svg xmlns="http://www.w3.org/2000/svg" role="img" aria-label="The entities" {size}>\n'
+        + "\n".join(parts)
+        + "\n</svg>"
+    )
 
 
 def _placed(entities: Sequence[EntityDescription]) -> Dict[str, _Box]:
@@ -57,18 +67,27 @@ def _placed(entities: Sequence[EntityDescription]) -> Dict[str, _Box]:
 def _box(box: _Box) -> str:
     name = html.escape(box.entity.name)
     parts = [
-        f'<a href="#{name}"><rect x="{box.left}" y="{box.top}" width="{_WIDTH}" height="{box.height}" rx="6"/>',
+        f'<a href="#{name}"><rect x="{box.left}" y="{box.top}" width="{_WIDTH}" '
+        f'height="{box.height}" rx="6"/>',
         f'<text class="name" x="{box.left + _MARGIN}" y="{box.top + 19}">{name}</text></a>',
     ]
     for place, member in enumerate(box.entity.members):
-        parts.append(f'<text x="{box.left + _MARGIN}" y="{box.line(place)}">{html.escape(_cut(member.name, 20))}</text>')
+        parts.append(
+            f'<text x="{box.left + _MARGIN}" '
+            f'y="{box.line(place)}">{html.escape(_cut(member.name, 20))}</text>'
+        )
         right = box.left + _WIDTH - _MARGIN
-        parts.append(f'<text class="type" text-anchor="end" x="{right}" y="{box.line(place)}">{html.escape(_type(member))}</text>')
+        parts.append(
+            f'<text class="type" text-anchor="end" x="{right}" '
+            f'y="{box.line(place)}">{html.escape(_type(member))}</text>'
+        )
     return "".join(parts)
 
 
 def _type(member: Member) -> str:
-    mark = {MemberKind.KEY: " key", MemberKind.VERSION: " version", MemberKind.COLLECTION: " *"}.get(member.kind, "")
+    mark = {
+        MemberKind.KEY: " key", MemberKind.VERSION: " version", MemberKind.COLLECTION: " *",
+    }.get(member.kind, "")
     return _cut(member.type, 14) + mark
 
 
@@ -88,15 +107,21 @@ def _arrows(box: _Box, boxes: Dict[str, _Box]) -> List[str]:
 
 
 def _arrow(box: _Box, height: int, target: _Box, name: str) -> str:
-    """An arrow from a line of a box to the head of another one, by the sides that face each other."""
+    """An arrow from a line of a box to the head of another one, by sides that face each other."""
     end = target.top + 14
     is_left = target.left < box.left
     start_at = box.left if is_left else box.left + _WIDTH
     end_at = target.left if target.left > box.left else target.left + _WIDTH
     bend = _GAP // 2
-    first, second = (start_at - bend if is_left else start_at + bend), (end_at - bend if target.left > box.left else end_at + bend)
+    first, second = (start_at - bend if is_left else start_at + bend), (
+        end_at - bend if target.left > box.left else end_at + bend
+    )
     path = f"M{start_at} {height}C{first} {height} {second} {end} {end_at} {end}"
     where = start_at + (4 if not is_left else -4 - _LETTER * len(name))
-    label = f'<text class="kind" x="{where}" y="{height - 5}">{html.escape(name)}</text>' if name == "extends" else ""
+    label = (
+        f'<text class="kind" x="{where}" y="{height - 5}">{html.escape(name)}</text>'
+        if name == "extends"
+        else ""
+    )
     title = html.escape(f"{box.entity.name}.{name} to {target.entity.name}")
     return f'<path d="{path}" marker-end="url(#arrow)"><title>{title}</title></path>{label}'

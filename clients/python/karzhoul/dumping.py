@@ -10,7 +10,7 @@ from .entities import Entity
 from .factory import EntityManagerFactory
 from .records import GREATEST, Key, Next, Record, Shape, Unfit, Value, shapes_of
 from .refusals import Persistence
-from .unit import Member
+from .unit import Member, entities_of
 
 # A query has at most eight variables.
 _LINKS_AT_A_TIME = 7
@@ -27,7 +27,7 @@ class Stored:
 
     def __init__(self, app: EntityManagerFactory) -> None:
         self._app, self._em = app, app.create_entity_manager()
-        self.shapes = shapes_of(app.mapping)
+        self.shapes, self.described = shapes_of(app.mapping), entities_of(app.mapping)
 
     # ---- keys
 

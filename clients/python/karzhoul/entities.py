@@ -1,11 +1,15 @@
-"""Objects of entities as objects of Python: their attributes read and write through the program, which alone holds their values."""
+"""Objects of entities as objects of Python: their attributes read and write through the program,
+which alone holds their values."""
 
 from __future__ import annotations
 
 import sys
 from collections.abc import Callable, Iterable, Iterator, Mapping, MutableSequence, Sequence
 from functools import partial
-from typing import TYPE_CHECKING, Any, ClassVar, Dict, List, NamedTuple, Optional, Tuple, Type, TypeVar, Union, overload
+from typing import (
+    TYPE_CHECKING, Any, ClassVar, Dict, List, NamedTuple, Optional, Tuple, Type, TypeVar, Union,
+    overload,
+)
 
 from .lines import LifecycleEvent, line_of, text_spelled
 
@@ -18,22 +22,24 @@ _LONGEST = 65_535
 
 
 class Entity:
-    """An object of an entity. A number of the program is always the same object of Python, as long as that is held.
+    """An object of an entity. A number of the program is always the same object of Python, as long
+    as that is held.
 
-    `EntityManagerFactory.entity` gives the class of an entity: calling it makes a new object, and its attributes are the entity's
-    members. The class of a subclass is a subclass.
+    `EntityManagerFactory.entity` gives the class of an entity: calling it makes a new object, and
+    its attributes are the entity's members. The class of a subclass is a subclass.
     """
 
-    __slots__ = ("__number__", "__weakref__")
-    __number__: int
-    __factory__: ClassVar[EntityManagerFactory]
+    __slots__ = ("_karzhoul_number", "__weakref__")
+    _karzhoul_number: int
+    _karzhoul_factory: ClassVar[EntityManagerFactory]
     # The line that makes one.
-    __line__: ClassVar[bytes]
+    _karzhoul_line: ClassVar[bytes]
     # The attribute that is the key, and the members that are its parts.
-    __key__: ClassVar[Tuple[str, Sequence[str]]]
+    _karzhoul_key: ClassVar[Tuple[str, Sequence[str]]]
 
     def __new__(cls: Type[E], /, **values: Any) -> E:
-        return cls.__factory__.ask_lines([cls.__line__], cls.__name__)[0]  # type: ignore[no-any-return]
+        made: E = cls._karzhoul_factory.ask_lines([cls._karzhoul_line], cls.__name__)[0]
+        return made
 
     def __init__(self, /, **values: Any) -> None:
         for name, value in values.items():
@@ -49,19 +55,22 @@ class Entity:
         return _named(self, None)  # So a copy is the object itself, and none can be pickled.
 
     def __repr__(self) -> str:
-        return _named(self, self.__factory__.key_at_hand(self))
+        return _named(self, self._karzhoul_factory.key_at_hand(self))
 
 
 def _named(entity: Entity, key: Optional[Sequence[Any]]) -> str:
     """An object with its key, or with its number where the key isn't at hand."""
-    name, parts = entity.__key__
+    name, parts = entity._karzhoul_key
     value = None if key is None else key[0] if parts == [name] else tuple(key)
-    return f"<{type(entity).__name__} {f'#{entity.__number__}' if key is None else f'{name}={value!r}'}>"
+    return (
+        f"<{type(entity).__name__} "
+        f"{f'#{entity._karzhoul_number}' if key is None else f'{name}={value!r}'}>"
+    )
 
 
 class EmbeddedId:
-    """The embedded id of an object, as it is at the moment: its parts are attributes, and `tuple(id)` are their values. It is equal
-    to that tuple, and has its hash."""
+    """The embedded id of an object, as it is at the moment: its parts are attributes, and
+    `tuple(id)` are their values. It is equal to that tuple, and has its hash."""
 
     __slots__ = ("_parts", "_entity", "_name")
 
@@ -71,10 +80,10 @@ class EmbeddedId:
             object.__setattr__(self, slot, value)
 
     def __getattr__(self, part: str) -> Any:
-        return self._entity.__factory__.get(self._entity, self._member(part))
+        return self._entity._karzhoul_factory.get(self._entity, self._member(part))
 
     def __setattr__(self, part: str, value: Any) -> None:
-        self._entity.__factory__.set(self._entity, self._member(part), value)
+        self._entity._karzhoul_factory.set(self._entity, self._member(part), value)
 
     def _member(self, part: str) -> str:
         """The name of a part as a member of the object."""
@@ -86,7 +95,11 @@ class EmbeddedId:
         return EmbeddedId, (self._parts, self._entity, self._name)
 
     def __iter__(self) -> Iterator[Any]:
-        return iter(self._entity.__factory__.get_members(self._entity, [self._member(part) for part in self._parts]))
+        return iter(
+            self._entity._karzhoul_factory.get_members(
+                self._entity, [self._member(part) for part in self._parts]
+            )
+        )
 
     def __eq__(self, other: object) -> bool:
         if isinstance(other, (EmbeddedId, tuple)):
@@ -97,12 +110,18 @@ class EmbeddedId:
         return hash(tuple(self))
 
     def __repr__(self) -> str:
-        return f"<{self._name} {' '.join(f'{part}={value!r}' for part, value in zip(self._parts, self))}>"
+        return (
+            f"<{self._name} "
+            f"{' '.join(f'{part}={value!r}' for part, value in zip(self._parts, self))}>"
+        )
 
     def _assign(self, given: Union[Mapping[str, Any], Iterable[Any]]) -> None:
         """Sets all parts together, or none."""
-        factory, values = self._entity.__factory__, self._each(given)
-        lines = {part: factory.set_line(self._entity, self._member(part), value) for part, value in values}
+        factory, values = self._entity._karzhoul_factory, self._each(given)
+        lines = {
+            part: factory.set_line(self._entity, self._member(part), value)
+            for part, value in values
+        }
         for part, value in values:
             if not _fits(self._parts[part], value):
                 factory.ask_lines([lines[part]])  # It is refused, and so no other one is sent.
@@ -118,7 +137,9 @@ class EmbeddedId:
             names, values = self._parts, list(given) if is_many else [given]
             fits = is_many and len(values) == len(names)
         if not fits:
-            raise ValueError(f"the embedded id {self._name} takes {', '.join(self._parts)}, and not {given!r}")
+            raise ValueError(
+                f"the embedded id {self._name} takes {', '.join(self._parts)}, and not {given!r}"
+            )
         return list(zip(names, values))
 
 
@@ -134,11 +155,13 @@ def _fits(kind: str, value: Any) -> bool:
 
 
 class Collection(MutableSequence[E]):
-    """The members of a relation to many: a list that is read anew where a call was made since it was read.
+    """The members of a relation to many: a list that is read anew where a call was made since it
+    was read.
 
-    The program adds a member at the end, and takes out the first occurrence of one. `append`, `extend` and `remove` are these calls;
-    what else a list can do adds the members of the new list, and then takes out those of the old one. A refusal on the way leaves the
-    members between the two, and none is lost that was there."""
+    The program adds a member at the end, and takes out the first occurrence of one. `append`,
+    `extend` and `remove` are these calls; what else a list can do adds the members of the new list,
+    and then takes out those of the old one. A refusal on the way leaves the members between the
+    two, and none is lost that was there."""
 
     __slots__ = ("_entity", "_name", "_read", "_turn")
 
@@ -148,17 +171,24 @@ class Collection(MutableSequence[E]):
         self._turn: Optional[int] = None
 
     def _members(self) -> List[E]:
-        """The members, which nobody changes. `list(members)` asks for them twice, and reads them once."""
-        factory = self._entity.__factory__
+        """The members, which nobody changes. `list(members)` asks for them twice, and reads them
+        once."""
+        factory = self._entity._karzhoul_factory
         turn = factory.turn
         if turn is None or turn != self._turn:
             self._read = factory.get(self._entity, self._name)
-            self._turn = None if turn is None else turn + 1  # Another turn has come where more than this was sent.
+            self._turn = (
+                None if turn is None else turn + 1
+            )  # Another turn has come where more than this was sent.
         return self._read
 
     def _assign(self, given: Iterable[E]) -> None:
         # `object.members += [..]` has added them when it assigns.
-        if isinstance(given, Collection) and given._entity is self._entity and given._name == self._name:
+        if (
+            isinstance(given, Collection)
+            and given._entity is self._entity
+            and given._name == self._name
+        ):
             return
         members, held = list(given), self._members()
         self.extend(members)
@@ -167,11 +197,11 @@ class Collection(MutableSequence[E]):
 
     def append(self, member: E) -> None:
         """Adds a member at the end."""
-        self._entity.__factory__.add(self._entity, self._name, member)
+        self._entity._karzhoul_factory.add(self._entity, self._name, member)
 
     def remove(self, member: E) -> None:
         """Takes out the first occurrence of a member; a `ValueError` where there is none."""
-        if not self._entity.__factory__.take_out(self._entity, self._name, member):
+        if not self._entity._karzhoul_factory.take_out(self._entity, self._name, member):
             raise ValueError(f"{member!r} is not in {self!r}")
 
     def clear(self) -> None:
@@ -242,27 +272,38 @@ class Collection(MutableSequence[E]):
 
 
 class Attribute(property):
-    """A member as an attribute. A relation has the name of its target; a collection and an embedded id are looked at through a view."""
+    """A member as an attribute. A relation has the name of its target; a collection and an embedded
+    id are looked at through a view."""
 
     def __init__(
-        self, name: str, target: str = "", view: Optional[Callable[[Entity, str], Union[Collection[Any], EmbeddedId]]] = None
+        self, name: str, target: str = "",
+        view: Optional[Callable[[Entity, str], Union[Collection[Any], EmbeddedId]]] = None,
     ) -> None:
-        self.name, self.target = name, target
+        self.name, self.target, self.is_viewed = name, target, view is not None
+        # What stands between an object's number and a value in the line that sets it.
+        self.between = f',"name":{text_spelled(name)},"value":'
 
         def read(it: Entity) -> Any:
-            return it.__factory__.get(it, name) if view is None else view(it, name)
+            return it._karzhoul_factory.get(it, name) if view is None else view(it, name)
 
         def assign(it: Entity, value: Any) -> None:
             if view is None:
-                factory = it.__factory__
-                factory.tell(factory.set_line(it, name, value))
+                it._karzhoul_factory.tell(self.line(it, value))
             else:
                 view(it, name)._assign(value)
 
         super().__init__(read, assign)
 
+    def line(self, entity: Entity, value: Any) -> bytes:
+        """The line that sets it."""
+        factory = entity._karzhoul_factory
+        number, given = factory.number(entity), factory.given(value)
+        return f'{{"call":"set","object":{number}{self.between}{given}}}'.encode()
 
-def classes_of(factory: EntityManagerFactory, mapping: Mapping[str, Any]) -> Dict[str, Type[Entity]]:
+
+def classes_of(
+    factory: EntityManagerFactory, mapping: Mapping[str, Any]
+) -> Dict[str, Type[Entity]]:
     """The class of each entity's objects, by name."""
     declared = {entity["name"]: entity for entity in mapping["entities"]}
     made: Dict[str, Type[Entity]] = {}
@@ -271,22 +312,32 @@ def classes_of(factory: EntityManagerFactory, mapping: Mapping[str, Any]) -> Dic
     return {name: made[name] for name in declared}
 
 
-def _make_class(factory: EntityManagerFactory, declared: Mapping[str, Any], name: str, made: Dict[str, Type[Entity]]) -> Type[Entity]:
+def _make_class(
+    factory: EntityManagerFactory, declared: Mapping[str, Any], name: str,
+    made: Dict[str, Type[Entity]],
+) -> Type[Entity]:
     """The class of an entity, which is a subclass of that of the entity that it extends."""
     if name not in made:
         entity = declared[name]
-        base = _make_class(factory, declared, entity["extends"], made) if "extends" in entity else Entity
+        base = (
+            _make_class(factory, declared, entity["extends"], made)
+            if "extends" in entity
+            else Entity
+        )
         own: Dict[str, Any] = {attribute.name: attribute for attribute in _attributes(entity)}
         own.update(__slots__=(), __doc__=f"An object of the entity {name}.")
-        own.update(__factory__=factory, __line__=line_of("new", {"entity": text_spelled(name)}))
+        own.update(
+            _karzhoul_factory=factory, _karzhoul_line=line_of("new", {"entity": text_spelled(name)})
+        )
         if base is Entity:
-            own["__key__"] = _key(entity)
+            own["_karzhoul_key"] = _key(entity)
         made[name] = type(name, (base,), own)
     return made[name]
 
 
 def _key(entity: Mapping[str, Any]) -> Tuple[str, List[str]]:
-    """The attribute that is the key of an entity that extends none, and the members that are its parts."""
+    """The attribute that is the key of an entity that extends none, and the members that are its
+    parts."""
     parts = [part["name"] for part in entity["key"]]
     name = entity.get("embedded")
     return (name, [f"{name}.{part}" for part in parts]) if name else (parts[0], parts)
@@ -295,11 +346,21 @@ def _key(entity: Mapping[str, Any]) -> Tuple[str, List[str]]:
 def _attributes(entity: Mapping[str, Any]) -> List[Attribute]:
     """The attributes that an entity itself declares."""
     key = {part["name"]: part["type"] for part in entity.get("key", ())}
-    made = [Attribute(entity["embedded"], view=partial(EmbeddedId, key))] if "embedded" in entity else [Attribute(part) for part in key]
+    made = (
+        [Attribute(entity["embedded"], view=partial(EmbeddedId, key))]
+        if "embedded" in entity
+        else [Attribute(part) for part in key]
+    )
     made += [Attribute(entity["version"]["name"])] if "version" in entity else []
     made += [Attribute(attribute["name"]) for attribute in entity.get("attributes", ())]
     for relation in entity.get("relations", ()):
-        made.append(Attribute(relation["name"], relation["target"], Collection if relation["kind"].endswith("ToMany") else None))
+        made.append(
+            Attribute(
+                relation["name"],
+                relation["target"],
+                Collection if relation["kind"].endswith("ToMany") else None,
+            )
+        )
     return made
 
 
@@ -311,13 +372,18 @@ class _Told(NamedTuple):
 
 
 class Event(_Told):
-    """An event of an object's life: its `kind`, the `object`, and the names of the listeners and callbacks that `ran`."""
+    """An event of an object's life: its `kind`, the `object`, and the names of the listeners and
+    callbacks that `ran`."""
 
     __slots__ = ()
 
     @property
     def object(self) -> Entity:
-        """The object. A call that is refused gives up the objects that it loaded, and so one of these is a `LookupError`."""
+        """The object. A call that is refused gives up the objects that it loaded, and so one of
+        these is a `LookupError`."""
         if isinstance(self.of, Entity):
             return self.of
-        raise LookupError(f"the object of this {self.kind.value} isn't known: the call that loaded it was refused or interrupted")
+        raise LookupError(
+            f"the object of this {self.kind.value} isn't known: the call that loaded it was "
+            f"refused or interrupted"
+        )

@@ -9,12 +9,16 @@ import threading
 from collections import deque
 from contextlib import AbstractContextManager, closing, contextmanager, nullcontext, suppress
 from pathlib import Path
-from typing import Any, Callable, Deque, Dict, FrozenSet, Iterable, Iterator, List, Mapping, Optional, Sequence, Tuple, Type, Union, overload
+from typing import (
+    Any, Callable, Deque, Dict, FrozenSet, Iterable, Iterator, List, Mapping, Optional, Sequence,
+    Tuple, Type, TypeVar, Union, overload,
+)
 from weakref import ref
 
 from .arguments import entity_named
+from .begun import Begun, is_too_late
 from .classes import Classes, marked_text, marks_of
-from .entities import E, Entity, Event, classes_of
+from .entities import Attribute, E, Entity, Event, classes_of
 from .finding import find_program
 from .lines import LifecycleEvent, line_of, spelled, text_spelled
 from .managers import EntityManager
@@ -22,19 +26,23 @@ from .program import Exchange, Program, Words
 from .refusals import REFUSALS, BadLine, KarzhoulError, NotServed, Refused, Restarted, StoreInMemory
 from .refusals import Mapping as MappingRefused
 
+T = TypeVar("T")
+
 _decode = json.JSONDecoder().raw_decode
-_taken_off: Callable[[Deque[Tuple[Callable[[Event], None], Event]]], Tuple[Callable[[Event], None], Event]] = deque.popleft
+_taken_off: Callable[
+    [Deque[Tuple[Callable[[Event], None], Event]]], Tuple[Callable[[Event], None], Event]
+] = deque.popleft
 # What stands between the numbers of replies that are an object each, and no event.
 _BETWEEN = b'}}\n{"events":[],"ok":{"object":'
 _FRONT = _BETWEEN[3:]
 _NULL, _NULL_END = [b'{"events":[],"ok":null}'], b',"ok":null}'
 _LOADED = b'["PostLoad",'
-_set_number = Entity.__dict__["__number__"].__set__
+_set_number = Entity.__dict__["_karzhoul_number"].__set__
 
 
 def _are_silent(replies: List[bytes]) -> bool:
-    """Whether replies answer null each, and tell of no object that was loaded. No other reply has this
-    end, since of a refusal's its events stand last."""
+    """Whether replies answer null each, and tell of no object that was loaded. No other reply has
+    this end, since of a refusal's its events stand last."""
     if len(replies) == 1:  # As below, in half the time.
         return replies[0].endswith(_NULL_END) and replies[0].find(_LOADED) < 0
     text = b"%b\n" % b"\n".join(replies)
@@ -42,11 +50,17 @@ def _are_silent(replies: List[bytes]) -> bool:
 
 
 def _numbers(replies: List[bytes]) -> Optional[List[int]]:
-    """The numbers of the objects that replies are; None where one is anything else, or tells an event."""
+    """The numbers of the objects that replies are; None where one is anything else, or tells an
+    event."""
     if len(replies) == 1:  # As below, in a third of the time.
         reply = replies[0]
         digits = reply[len(_FRONT) : -2]
-        is_one = digits.isdigit() and digits[:1] != b"0" and reply[-2:] == b"}}" and reply.startswith(_FRONT)
+        is_one = (
+            digits.isdigit()
+            and digits[:1] != b"0"
+            and reply[-2:] == b"}}"
+            and reply.startswith(_FRONT)
+        )
         return [int(digits)] if is_one else None
     text = b"".join((_BETWEEN[:3], b"\n".join(replies), _BETWEEN[2:]))
     pieces = text.split(_BETWEEN)[1:-1]
@@ -55,11 +69,16 @@ def _numbers(replies: List[bytes]) -> Optional[List[int]]:
     return list(map(int, pieces))
 
 
-def open(mapping: Union[Words, Mapping[str, Any]], db: Optional[Words] = None, *, program: Optional[Words] = None) -> EntityManagerFactory:
-    """Starts the program over a mapping (a file, a pipe, or what such a file says) and a database file; without one the store is in memory.
+def open(
+    mapping: Union[Words, Mapping[str, Any]], db: Optional[Words] = None, *,
+    program: Optional[Words] = None
+) -> EntityManagerFactory:
+    """Starts the program over a mapping (a file, a pipe, or what such a file says) and a database
+    file; without one the store is in memory.
 
-    A mapping that is refused is a `refusals.Mapping` that says where it is wrong, a store a `Damaged` or a `StoreFault`. `program`
-    names the program to start (`finding.find_program` tells where it is looked for else).
+    A mapping that is refused is a `refusals.Mapping` that says where it is wrong, a store a
+    `Damaged` or a `StoreFault`. `program` names the program to start (`finding.find_program` tells
+    where it is looked for else).
     """
     said: Optional[bytes] = None
     if isinstance(mapping, Mapping):
@@ -92,19 +111,19 @@ def _as_file(said: bytes) -> Iterator[str]:
 
 
 class _Calls(Exchange):
-    """Lines, what their answers are taken for, and the events of their replies that aren't queued to be told."""
+    """Lines, what their answers are taken for, and the events of their replies that aren't queued
+    to be told."""
 
     __slots__ = ("entity", "bad_line", "are_kept", "untold")
 
-    def __init__(self, lines: Sequence[bytes], entity: str, bad_line: Type[BadLine], are_kept: bool) -> None:
+    def __init__(
+        self, lines: Sequence[bytes], entity: str, bad_line: Type[BadLine], are_kept: bool
+    ) -> None:
         # As the base does, in less time.
         self.lines = lines
-        self.text = b""
-        self.count = 1
         self.written = []
         self.read = []
         self.parts = None
-        self.is_sent = False
         self.entity = entity
         self.bad_line = bad_line
         # Whether they were told in a pipeline, so that their refusals are still to be raised.
@@ -113,13 +132,16 @@ class _Calls(Exchange):
 
 
 class EntityManagerFactory(AbstractContextManager["EntityManagerFactory"]):
-    """A running unit. A context manager that ends the program; threads may share it, and each call is done as a whole."""
+    """A running unit. A context manager that ends the program; threads may share it, and each call
+    is done as a whole."""
 
     def __init__(self, program: Program, mapping: Mapping[str, Any]) -> None:
         self.program, self.mapping = program, mapping
         self._classes = classes_of(self, mapping)
         # Those without subclasses: what an answer is of that can be of no other class.
-        self._lowest = {name: kind for name, kind in self._classes.items() if not kind.__subclasses__()}
+        self._lowest = {
+            name: kind for name, kind in self._classes.items() if not kind.__subclasses__()
+        }
         self._kinds = Classes(self._classes, marks_of(mapping))
         self._objects: Dict[int, ref[Entity]] = {}
         self._most_objects = 1000
@@ -128,7 +150,8 @@ class EntityManagerFactory(AbstractContextManager["EntityManagerFactory"]):
         self._turn = 0
         # Held where the thread that holds the lock is in a pipeline.
         self._pipeline = threading.RLock()
-        # The calls that aren't done: those that were told in a pipeline, or those that are under way, which an interrupt may have left.
+        # The calls that aren't done: those that were told in a pipeline, or those that are under
+        # way, which an interrupt may have left.
         self._calls: Optional[_Calls] = None
         self._callbacks: List[Tuple[Callable[[Event], None], FrozenSet[LifecycleEvent]]] = []
         self._untold: Deque[Tuple[Callable[[Event], None], Event]] = deque()
@@ -140,7 +163,8 @@ class EntityManagerFactory(AbstractContextManager["EntityManagerFactory"]):
             self.close()
 
     def close(self) -> None:
-        """Ends the program; what isn't committed is gone. Again it does nothing. A call that was interrupted may take ten seconds more."""
+        """Ends the program; what isn't committed is gone. Again it does nothing. A call that was
+        interrupted may take ten seconds more."""
         with self._lock, closing(self.program):
             try:
                 self._settle(10)
@@ -148,20 +172,25 @@ class EntityManagerFactory(AbstractContextManager["EntityManagerFactory"]):
                 self._calls = None
 
     def restart(self) -> None:
-        """Opens the program again over its file, as after a `GivenUp`, a `ProgramEnded`, or where a run has made all its objects (`Limit`).
+        """Opens the program again over its file, as after a `GivenUp`, a `ProgramEnded`, or where a
+        run has made all its objects (`Limit`).
 
-        What isn't committed is gone. Objects and managers of before are `Restarted` where they are used; classes and callbacks stay. Of a
-        store in memory it is `StoreInMemory`, and nothing was done. No other thread may be in a call.
+        What isn't committed is gone. Objects and managers of before are `Restarted` where they are
+        used; classes and callbacks stay. Of a store in memory it is `StoreInMemory`, and nothing
+        was done. No other thread may be in a call.
         """
         with self._lock:
             program, mapping, given, *rest = self.program.words
             if "--db" not in rest:
-                raise StoreInMemory("the store is in memory, and a restart would lose it: open another factory by karzhoul.open")
+                raise StoreInMemory(
+                    "the store is in memory, and a restart would lose it: open another factory by "
+                    "karzhoul.open"
+                )
             self.program.close()
             for held in list(self._objects.values()):
                 entity = held()
                 if entity is not None:
-                    object.__setattr__(entity, "__number__", -abs(entity.__number__))
+                    object.__setattr__(entity, "_karzhoul_number", -abs(entity._karzhoul_number))
             self._objects, self._calls = {}, None
             self._kinds = Classes(self._classes, marks_of(self.mapping))
             self._untold.clear()
@@ -181,17 +210,44 @@ class EntityManagerFactory(AbstractContextManager["EntityManagerFactory"]):
     def entity(self, name: Type[E]) -> Type[E]: ...
 
     def entity(self, name: Union[str, Type[Entity]]) -> Type[Entity]:
-        """The class of an entity, by its name or by a class of its name, as of `stubs`: calling it makes a new object, as
-        `Person(name="Ada")`."""
+        """The class of an entity, by its name or by a class of its name, as of `stubs`: calling it
+        makes a new object, as `Person(name="Ada")`."""
         return entity_named(self._classes, name)
 
     def create_entity_manager(self) -> EntityManager:
         """A manager with an empty context."""
         return EntityManager(self, self.ask("createEntityManager"))
 
+    def begin(self) -> Begun:
+        """A new manager with its transaction open, for a block: the block's end commits, or rolls
+        back where the block raises, and closes the manager.
+
+            with app.begin() as manager:
+                manager.find("Person", 1).name = "Bob"
+        """
+        return Begun(self)
+
+    def retry(self, work: Callable[[EntityManager], T], most: int = 3) -> T:
+        """Does work in the block of a `begin`, and gives its answer. It is done again, at most so
+        many times in all, where another manager's commit came first: after an `OptimisticLock` or a
+        `Busy`, be it of a call or of the commit. The last refusal is raised, and anything else at
+        once."""
+        if most < 1:
+            raise ValueError(f"there are {most} attempts, and one is the least")
+        while True:
+            most -= 1
+            try:
+                with self.begin() as manager:
+                    answer = work(manager)
+                return answer
+            except Refused as refused:
+                if most == 0 or not is_too_late(refused):
+                    raise
+
     def listen(self, callback: Callable[[Event], None], *events: LifecycleEvent) -> None:
-        """Hands the events of these kinds, or without any all events, to a callback, in the order told, when their call is done. A
-        callback may call, and what it raises is raised by the call that told the event."""
+        """Hands the events of these kinds, or without any all events, to a callback, in the order
+        told, when their call is done. A callback may call, and what it raises is raised by the
+        call that told the event."""
         self._callbacks.append((callback, frozenset(events or LifecycleEvent)))
 
     # ---- objects
@@ -212,19 +268,29 @@ class EntityManagerFactory(AbstractContextManager["EntityManagerFactory"]):
     @overload
     def new_many(self, entity: Type[E], rows: Iterable[Mapping[str, Any]]) -> List[E]: ...
 
-    def new_many(self, entity: Union[str, Type[Entity]], rows: Iterable[Mapping[str, Any]]) -> List[Any]:
+    def new_many(
+        self, entity: Union[str, Type[Entity]], rows: Iterable[Mapping[str, Any]]
+    ) -> List[Any]:
         """A new object for each row of values, sent without waiting for each."""
         rows, kind = list(rows), entity_named(self._classes, entity)
         with self.pipeline():
-            made = self.ask_lines([kind.__line__] * len(rows), kind.__name__)
+            made = self.ask_lines([kind._karzhoul_line] * len(rows), kind.__name__)
+            lines: List[bytes] = []
             for each, row in zip(made, rows):
                 for member, value in row.items():
-                    setattr(each, member, value)
+                    attribute = getattr(kind, member, None)
+                    if isinstance(attribute, Attribute) and not attribute.is_viewed:
+                        lines.append(attribute.line(each, value))
+                    else:
+                        self.tell_all(lines)
+                        lines = []
+                        setattr(each, member, value)
+            self.tell_all(lines)
         return made
 
     def get(self, entity: Entity, name: str) -> Any:
-        """The value of a member; of a collection a list of the members that it has now. Changes go by the attribute, or by `add` and
-        `take_out`."""
+        """The value of a member; of a collection a list of the members that it has now. Changes go
+        by the attribute, or by `add` and `take_out`."""
         return self.get_many([entity], name)[0]
 
     def get_many(self, objects: Sequence[Entity], name: str) -> List[Any]:
@@ -233,24 +299,28 @@ class EntityManagerFactory(AbstractContextManager["EntityManagerFactory"]):
         return self.ask_lines([self._get_line(entity, name) for entity in objects], target)
 
     def get_members(self, entity: Entity, names: Iterable[str]) -> List[Any]:
-        """The values that an object has of members that are no relations, asked without waiting for each."""
+        """The values that an object has of members that are no relations, asked without waiting for
+        each."""
         return self.ask_lines([self._get_line(entity, name) for name in names])
 
     def _get_line(self, entity: Entity, name: str) -> bytes:
-        return f'{{"call":"get","object":{self.number(entity)},"name":{text_spelled(name)}}}'.encode()
+        return (
+            f'{{"call":"get","object":{self.number(entity)},"name":{text_spelled(name)}}}'.encode()
+        )
 
     @property
     def turn(self) -> Optional[int]:
-        """A number that rises with each call, so that nothing changes while it stays. None where calls are kept in a pipeline, and once
-        the program has ended."""
+        """A number that rises with each call, so that nothing changes while it stays. None where
+        calls are kept in a pipeline, and once the program has ended."""
         return None if self._calls or self.program.fault else self._turn
 
     def key_at_hand(self, entity: Entity) -> Optional[List[Any]]:
-        """The parts of an object's key; None where calls are kept in a pipeline, which asking would send, and once the program has ended."""
+        """The parts of an object's key; None where calls are kept in a pipeline, which asking would
+        send, and once the program has ended."""
         if self.turn is None:
             return None
         try:
-            return self.get_members(entity, entity.__key__[1])
+            return self.get_members(entity, entity._karzhoul_key[1])
         except KarzhoulError:
             return None
 
@@ -260,23 +330,40 @@ class EntityManagerFactory(AbstractContextManager["EntityManagerFactory"]):
 
     def set_line(self, entity: Entity, name: str, value: Any) -> bytes:
         """The line that sets a member."""
-        return f'{{"call":"set","object":{self.number(entity)},"name":{text_spelled(name)},"value":{self.given(value)}}}'.encode()
+        number, word, given = self.number(entity), text_spelled(name), self.given(value)
+        return f'{{"call":"set","object":{number},"name":{word},"value":{given}}}'.encode()
 
     def add(self, entity: Entity, name: str, member: Entity) -> None:
         """Adds a member to a collection, at its end."""
-        self.tell(line_of("add", {"object": self.number(entity), "name": text_spelled(name), "member": self.number(member)}))
+        self.tell(
+            line_of(
+                "add",
+                {
+                    "object": self.number(entity), "name": text_spelled(name),
+                    "member": self.number(member),
+                },
+            )
+        )
 
     def take_out(self, entity: Entity, name: str, member: Entity) -> bool:
-        """Takes the first occurrence of a member out of a collection, and answers whether there was one."""
-        return bool(self.ask("takeOut", object=self.number(entity), name=text_spelled(name), member=self.number(member)))
+        """Takes the first occurrence of a member out of a collection, and answers whether there was
+        one."""
+        return bool(
+            self.ask(
+                "takeOut", object=self.number(entity), name=text_spelled(name),
+                member=self.number(member),
+            )
+        )
 
     def number(self, entity: Entity) -> str:
         """The number of an object of this factory, as JSON."""
-        if not isinstance(entity, Entity) or entity.__factory__ is not self:
+        if not isinstance(entity, Entity) or entity._karzhoul_factory is not self:
             raise ValueError(f"{entity!r} is no object of this factory")
-        if entity.__number__ < 0:
-            raise Restarted(f"object {-entity.__number__} is of before a restart: make or find it again")
-        return f"{entity.__number__}"
+        if entity._karzhoul_number < 0:
+            raise Restarted(
+                f"object {-entity._karzhoul_number} is of before a restart: make or find it again"
+            )
+        return f"{entity._karzhoul_number}"
 
     def given(self, value: Any) -> str:
         """A value or an object as JSON."""
@@ -287,14 +374,17 @@ class EntityManagerFactory(AbstractContextManager["EntityManagerFactory"]):
     # ---- calls
 
     def ask(self, call: str, entity: str = "", /, **members: str) -> Any:
-        """Does a call, whose members are JSON, and gives its answer, with objects of this entity where their class isn't known better."""
+        """Does a call, whose members are JSON, and gives its answer, with objects of this entity
+        where their class isn't known better."""
         return self.ask_lines([line_of(call, members)], entity)[0]
 
     def ask_lines(
-        self, lines: Sequence[bytes], entity: str = "", bad_line: Type[BadLine] = NotServed, timeout: Optional[float] = None
+        self, lines: Sequence[bytes], entity: str = "", bad_line: Type[BadLine] = NotServed,
+        timeout: Optional[float] = None,
     ) -> List[Any]:
-        """Does the calls of lines without waiting for each, and gives the answers. A line that is taken for no call is a `bad_line`.
-        Where they aren't answered within so many seconds, the program is ended: `GivenUp`."""
+        """Does the calls of lines without waiting for each, and gives the answers. A line that is
+        taken for no call is a `bad_line`. Where they aren't answered within so many seconds, the
+        program is ended: `GivenUp`."""
         with self._lock:
             if self._calls:
                 self._settle(timeout)
@@ -308,7 +398,7 @@ class EntityManagerFactory(AbstractContextManager["EntityManagerFactory"]):
             if is_kept and self.program.fault:
                 raise self.program.fault
             if calls is not None:
-                if is_kept and calls.are_kept and not calls.is_sent:
+                if is_kept and calls.are_kept and calls.parts is None:
                     if more:
                         calls.lines += (line, *more)  # type: ignore[operator]
                     else:
@@ -319,15 +409,21 @@ class EntityManagerFactory(AbstractContextManager["EntityManagerFactory"]):
             if not is_kept:
                 self._answers(calls)
 
+    def tell_all(self, lines: Sequence[bytes]) -> None:
+        """Does the calls of lines as `tell` does, in their order."""
+        if lines:
+            self.tell(*lines)
+
     def send_line(self, line: str) -> Any:
-        """Sends any line as it is, and gives its answer; where it is no call, that is a `BadLine`."""
+        """Sends any line as it is, and gives its answer; one that is no call is a `BadLine`."""
         return self.ask_lines([line.encode()], bad_line=BadLine)[0]
 
     @contextmanager
     def pipeline(self) -> Iterator[None]:
-        """Within it, calls that answer nothing but null (`set`, `add`, `persist` and the like) are kept. A call that answers something,
-        and the end of the block, send them together, and raise the first refusal, with the others as its `later`; what was sent after
-        a refused call was done all the same. Other threads wait until the block ends."""
+        """Within it, calls that answer nothing but null (`set`, `add`, `persist` and the like) are
+        kept. A call that answers something, and the end of the block, send them together, and
+        raise the first refusal, with the others as its `later`; what was sent after a refused
+        call was done all the same. Other threads wait until the block ends."""
         with self._lock:
             try:
                 with self._pipeline:
@@ -344,8 +440,8 @@ class EntityManagerFactory(AbstractContextManager["EntityManagerFactory"]):
             self._settle()
 
     def _settle(self, timeout: Optional[float] = None) -> None:
-        """Does what is left: calls that were kept, whose refusals are raised, or those that were interrupted, whose answers nobody waits
-        for. Their events are told."""
+        """Does what is left: calls that were kept, whose refusals are raised, or those that were
+        interrupted, whose answers nobody waits for. Their events are told."""
         calls = self._calls
         if calls is None:
             return
@@ -356,10 +452,12 @@ class EntityManagerFactory(AbstractContextManager["EntityManagerFactory"]):
                 self._calls = None
             if calls.are_kept:
                 raise
-            # Else it is a refusal that nobody waits for; an end of the program is told by the next call too.
+            # Else it is a refusal that nobody waits for; an end of the program is told by the next
+            # call too.
 
     def _answers(self, calls: _Calls, timeout: Optional[float] = None) -> List[Any]:
-        """The answers to calls, which are over with it. Their events are told first, and then the first refusal is raised."""
+        """The answers to calls, which are over with it. Their events are told first, and then the
+        first refusal is raised."""
         self._turn += 1
         replies = self.program.replies(calls, timeout)
         kind = None
@@ -374,12 +472,21 @@ class EntityManagerFactory(AbstractContextManager["EntityManagerFactory"]):
             if not self._callbacks and (replies == _NULL or _are_silent(replies)):
                 self._calls = None
                 return [None] * len(replies)
-            heard = [self._answer(line, reply, kind, calls.bad_line) for line, reply in zip(calls.lines, replies)]
+            heard = [
+                self._answer(line, reply, kind, calls.bad_line)
+                for line, reply in zip(calls.lines, replies)
+            ]
         except (AttributeError, LookupError, TypeError, ValueError):
             self._calls = None  # What is no reply is none the next time either.
             raise
         if calls.untold is None:
-            told = [(callback, event) for _, events in heard for event in events for callback, kinds in self._callbacks if event.kind in kinds]
+            told = [
+                (callback, event)
+                for _, events in heard
+                for event in events
+                for callback, kinds in self._callbacks
+                if event.kind in kinds
+            ]
             calls.untold = iter(told)
         # They are queued by one step, and so once, whatever is interrupted.
         self._untold.extend(calls.untold)
@@ -392,7 +499,9 @@ class EntityManagerFactory(AbstractContextManager["EntityManagerFactory"]):
             raise raised[0]
         return [answer for answer, _ in heard]
 
-    def _answer(self, line: bytes, reply: bytes, kind: Optional[Type[Entity]], bad_line: Type[BadLine]) -> Tuple[Any, Tuple[Event, ...]]:
+    def _answer(
+        self, line: bytes, reply: bytes, kind: Optional[Type[Entity]], bad_line: Type[BadLine]
+    ) -> Tuple[Any, Tuple[Event, ...]]:
         """The answer to a line, or its refusal, and its events."""
         said = _decode(reply.decode())[0]
         is_done = "ok" in said
@@ -407,21 +516,32 @@ class EntityManagerFactory(AbstractContextManager["EntityManagerFactory"]):
         if "error" not in said:
             raise ValueError(f"{reply[:100]!r} is no reply")
         refused, why = REFUSALS.get(said["error"]["name"], Refused), said["error"].get("why")
-        return (bad_line if refused is BadLine else refused)(why, events, line.decode(errors="replace")), events
+        made = (bad_line if refused is BadLine else refused)(
+            why, events, line.decode(errors="replace")
+        )
+        made._factory = self
+        return made, events
 
     def _event(self, name: str, number: int, *ran: str) -> Event:
         of: Union[Entity, int] = number if self._kinds[number] is None else self._object(number)
         return Event(LifecycleEvent(name), of, self._kinds.without_marks(ran))
 
     def _found(self, answer: Any, kind: Optional[Type[Entity]], line: bytes) -> Any:
-        """What an answer says: values, bytes, and objects, which are of this class where theirs wasn't told."""
+        """What an answer says: values, bytes, and objects, which are of this class where theirs
+        wasn't told."""
         if isinstance(answer, list):
             return [self._found(item, kind, line) for item in answer]
         if not isinstance(answer, dict):
             return answer
-        return bytes.fromhex(answer["hex"]) if "hex" in answer else self._object(answer["object"], kind, line)
+        return (
+            bytes.fromhex(answer["hex"])
+            if "hex" in answer
+            else self._object(answer["object"], kind, line)
+        )
 
-    def _objects_of(self, numbers: List[int], kind: Optional[Type[Entity]], lines: Sequence[bytes]) -> List[Entity]:
+    def _objects_of(
+        self, numbers: List[int], kind: Optional[Type[Entity]], lines: Sequence[bytes]
+    ) -> List[Entity]:
         """The objects of these numbers, as `_object` gives each, which takes longer."""
         objects: List[Entity] = []
         for number, line in zip(numbers, lines):
@@ -430,8 +550,11 @@ class EntityManagerFactory(AbstractContextManager["EntityManagerFactory"]):
             objects.append(self._made(number, kind, line) if known is None else known)
         return objects
 
-    def _object(self, number: int, kind: Optional[Type[Entity]] = None, line: bytes = b"") -> Entity:
-        """The object of this number, which a line found or made, of this class where its own wasn't told."""
+    def _object(
+        self, number: int, kind: Optional[Type[Entity]] = None, line: bytes = b""
+    ) -> Entity:
+        """The object of this number, which a line found or made, of this class where its own wasn't
+        told."""
         held = self._objects.get(number)
         known = held() if held else None
         return self._made(number, kind, line) if known is None else known
@@ -450,20 +573,25 @@ class EntityManagerFactory(AbstractContextManager["EntityManagerFactory"]):
         """The class of an object that a line made, where it wasn't told."""
         made = self._made_by(line)
         if made is None:
-            why = "the reply that told it was lost, as by an interrupt; find the object again when its manager has let it go"
+            why = (
+                "the reply that told it was lost, as by an interrupt; find the object again when "
+                "its manager has let it go"
+            )
             raise LookupError(f"the class of object #{number} isn't known: {why}")
         self._kinds.settled(number, made)
         return made
 
     def _made_by(self, line: bytes) -> Optional[Type[Entity]]:
-        """The class of the object that a line makes: a new one, or a merged one's image; None where it is another line."""
+        """The class of the object that a line makes: a new one, or a merged one's image; None where
+        it is another line."""
         said = json.loads(line or b"{}")
         if said.get("call") == "merge":
             return self._kinds[said["object"]]
         return self._classes[said["entity"]] if said.get("call") == "new" else None
 
     def _tell_events(self) -> List[Exception]:
-        """Tells the events in their order, and answers what callbacks raise. Those of calls that a callback makes come after them."""
+        """Tells the events in their order, and answers what callbacks raise. Those of calls that a
+        callback makes come after them."""
         if self._is_telling:
             return []
         try:
@@ -473,7 +601,8 @@ class EntityManagerFactory(AbstractContextManager["EntityManagerFactory"]):
             self._is_telling = False
 
     def _tell_each(self) -> List[Exception]:
-        # (An interrupt of the jump at a loop's end passes by a `finally` of the same function in Python 3.13.)
+        # (An interrupt of the jump at a loop's end passes by a `finally` of the same function in
+        # Python 3.13.)
         raised: List[Exception] = []
         while self._untold:
             # An event is taken off by the same step that begins to tell it.

@@ -28,7 +28,10 @@ def find_program(given: Optional[Words] = None) -> str:
     if not found:
         return _startable(named or "jpa")
     if named and not _is_same(named, found):
-        _say(f"{found} is started, and not {named}, which KARZHOUL_PROGRAM names: give it as program=..")
+        _say(
+            f"{found} is started, and not {named}, which KARZHOUL_PROGRAM names: give it as "
+            f"program=.."
+        )
     return found
 
 
@@ -47,7 +50,8 @@ def _installed(package: Path) -> Optional[str]:
         for line in record.read_text(encoding="utf-8").splitlines():
             name = line.split(",")[0]
             if name.endswith("/bin/jpa"):
-                # (`pip install --target` moves it beside the package, and leaves the line as it was)
+                # (`pip install --target` moves it beside the package, and leaves the line as it
+                # was)
                 places = (package.parent / name, package.parent / "bin" / "jpa")
                 found = (os.path.abspath(place) for place in places if os.access(place, os.X_OK))
                 return next(found, None)
@@ -68,7 +72,9 @@ def _of_clone(top: Path, named: Optional[str]) -> Optional[str]:
     if named:
         return None
     why = "; ".join(line.partition(": ")[2] or line for line in ran.stderr.splitlines())
-    ways = f"'{top}/jpa --proved' proves and builds it; program=.. or KARZHOUL_PROGRAM names another"
+    ways = (
+        f"'{top}/jpa --proved' proves and builds it; program=.. or KARZHOUL_PROGRAM names another"
+    )
     raise ProgramNotFound(f"there is no program that runs without a build ({why}): {ways}")
 
 

@@ -1,10 +1,10 @@
 """Ctrl-C where a `with` block begins, and where its end begins.
 
 The interpreter may raise a KeyboardInterrupt at the head of an `__exit__`, before its first
-instruction, and then the block isn't ended; or at the last one of an `__enter__`, and then neither is
-the block run nor its end. So while a block is guarded, the interpreter's own handler of Ctrl-C gives
-way to one that looks at what it interrupts: in such places, and within `contextlib`, it comes again a
-moment later.
+instruction, and then the block isn't ended; or at the last one of an `__enter__`, and then neither
+is the block run nor its end. So while a block is guarded, the interpreter's own handler of Ctrl-C
+gives way to one that looks at what it interrupts: in such places, and within `contextlib`, it comes
+again a moment later.
 """
 
 from __future__ import annotations
@@ -24,8 +24,8 @@ F = TypeVar("F", bound=Callable[..., object])
 _begins: Set[CodeType] = set()
 _ends: Set[CodeType] = set()
 _guarded: Set[object] = set()
-# How often an interrupt was put off since one was raised. At last it is raised wherever it is, as where
-# `contextlib` waits for a lock.
+# How often an interrupt was put off since one was raised. At last it is raised wherever it is, as
+# where `contextlib` waits for a lock.
 _put_off = 0
 _MOST = 100
 
@@ -37,7 +37,7 @@ def begin_of_block(function: F) -> F:
 
 
 def end_of_block(function: F) -> F:
-    """Has a function, whose first statement is a `try`, be interrupted within that and no sooner."""
+    """Has a function, which begins with a `try`, be interrupted within that and no sooner."""
     _ends.add(function.__code__)
     return function
 

@@ -1,4 +1,5 @@
-"""The lines that are sent: the words of the standard that stand in them, and how values are spelled."""
+"""The lines that are sent: the words of the standard that stand in them, and how values are
+spelled."""
 
 from __future__ import annotations
 
@@ -15,7 +16,8 @@ class FlushModeType(str, enum.Enum):
 
 
 class LockModeType(str, enum.Enum):
-    """How a managed object is locked (chapter 3.4.4): READ is OPTIMISTIC, and WRITE is OPTIMISTIC_FORCE_INCREMENT."""
+    """How a managed object is locked (chapter 3.4.4): READ is OPTIMISTIC, and WRITE is
+    OPTIMISTIC_FORCE_INCREMENT."""
 
     READ = "READ"
     OPTIMISTIC = "OPTIMISTIC"
@@ -40,7 +42,8 @@ text_spelled: Callable[[str], str] = getattr(json.encoder, "encode_basestring")
 
 
 def spelled(value: Any) -> str:
-    """A value as JSON: None, an int of 64 bits, a str or bytes; anything else is a `TypeError` or an `OverflowError`."""
+    """A value as JSON: None, an int of 64 bits, a str or bytes; anything else is a `TypeError` or
+    an `OverflowError`."""
     if type(value) is int and -(2**63) <= value < 2**63:
         return str(value)
     if isinstance(value, str):
@@ -48,15 +51,18 @@ def spelled(value: Any) -> str:
     if isinstance(value, (bytes, bytearray, memoryview)):
         return f'{{"hex":"{bytes(value).hex()}"}}'
     if value is not None and (isinstance(value, bool) or not isinstance(value, int)):
-        raise TypeError(f"a value is None, an int, a str, bytes or an object of an entity, and no {type(value).__name__}")
+        raise TypeError(
+            f"a value is None, an int, a str, bytes or an object of an entity, and no "
+            f"{type(value).__name__}"
+        )
     if value is not None and not -(2**63) <= value < 2**63:
         raise OverflowError(f"{value} is no integer of 64 bits")
     return "null" if value is None else str(int(value))
 
 
 def line_of(call: str, members: Mapping[str, str]) -> bytes:
-    """The line of a call, without its line feed, whose members are JSON already. A text that isn't Unicode, as a lone surrogate, is a
-    `UnicodeEncodeError`."""
+    """The line of a call, without its line feed, whose members are JSON already. A text that isn't
+    Unicode, as a lone surrogate, is a `UnicodeEncodeError`."""
     said = f'{{"call":"{call}"'
     for name in members:
         said += f',"{name}":{members[name]}'

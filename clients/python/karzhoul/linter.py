@@ -1,6 +1,8 @@
-"""A check of mappings of the client's own: which rule of docs/GUIDE.md a mapping breaks, and where in its file.
+"""A check of mappings of the client's own: which rule of docs/GUIDE.md a mapping breaks, and where
+in its file.
 
-It refuses exactly what the program refuses, with the same word: `json`, `shape`, `model` or `function`.
+It refuses exactly what the program refuses, with the same word: `json`, `shape`, `model` or
+`function`.
 """
 
 from __future__ import annotations
@@ -9,7 +11,9 @@ import enum
 import json
 import re
 from dataclasses import dataclass, field
-from typing import Any, Callable, Dict, Iterable, Iterator, List, Mapping, Optional, Sequence, Set, Tuple, Union
+from typing import (
+    Any, Callable, Dict, Iterable, Iterator, List, Mapping, Optional, Sequence, Set, Tuple, Union,
+)
 
 from .arguments import meant
 from .converters import MOST_BYTES, Plain, column_value, length, value_of
@@ -36,7 +40,8 @@ class Fault(str, enum.Enum):
 
 @dataclass(frozen=True)
 class Finding:
-    """A rule that is broken, and where: the path of the value in the JSON, its line and its column. Without a fault it is a warning."""
+    """A rule that is broken, and where: the path of the value in the JSON, its line and its column.
+    Without a fault it is a warning."""
 
     fault: Optional[Fault]
     message: str
@@ -45,12 +50,16 @@ class Finding:
     column: int
 
     def __str__(self) -> str:
-        return f"{self.line}:{self.column}: {self.path}: {self.message} [{f'Mapping({self.fault.value})' if self.fault else 'warning'}]"
+        return (
+            f"{self.line}:{self.column}: {self.path}: {self.message} "
+            f"[{f'Mapping({self.fault.value})' if self.fault else 'warning'}]"
+        )
 
 
 @dataclass
 class Report:
-    """What a check found: the broken rules, and warnings of what the program takes and can't do later."""
+    """What a check found: the broken rules, and warnings of what the program takes and can't do
+    later."""
 
     findings: List[Finding] = field(default_factory=list)
     warnings: List[Finding] = field(default_factory=list)
@@ -104,7 +113,14 @@ class _Teller:
 
 def path_text(path: Path) -> str:
     """A path as text: `$.entities[0].name`."""
-    steps = (f"[{step}]" if isinstance(step, int) else f".{step}" if re.fullmatch(r"\w+", step) else f"[{json.dumps(step)}]" for step in path)
+    steps = (
+        f"[{step}]"
+        if isinstance(step, int)
+        else f".{step}"
+        if re.fullmatch(r"\w+", step)
+        else f"[{json.dumps(step)}]"
+        for step in path
+    )
     return "$" + "".join(steps)
 
 
@@ -113,7 +129,8 @@ def path_text(path: Path) -> str:
 
 @dataclass(frozen=True)
 class _Form:
-    """What an object may hold: each member with its check; one whose name ends in `?` may be absent."""
+    """What an object may hold: each member with its check; one whose name ends in `?` may be
+    absent."""
 
     what: str
     members: Mapping[str, str]
@@ -130,17 +147,18 @@ _COMMON = {
     "excludeSuper?": "flag",
 }
 _FORMS: Dict[str, _Form] = {
-    "mapping": _Form("mapping", {"revision": "integer", "listeners?": "list listener", "entities": "list entity", "functions?": "any"}),
+    "mapping": _Form(
+        "mapping",
+        {
+            "revision": "integer", "listeners?": "list listener", "entities": "list entity",
+            "functions?": "any",
+        },
+    ),
     "root": _Form(
         "root entity",
         {
-            "table": "integer",
-            "key": "list part",
-            "embedded?": "text",
-            "generated?": "flag",
-            "version?": "version",
-            "dropped?": "list integer",
-            **_COMMON,
+            "table": "integer", "key": "list part", "embedded?": "text", "generated?": "flag",
+            "version?": "version", "dropped?": "list integer", **_COMMON,
         },
     ),
     "subclass": _Form("subclass", {"extends": "text", **_COMMON}),
@@ -149,28 +167,16 @@ _FORMS: Dict[str, _Form] = {
     "attribute": _Form(
         "attribute",
         {
-            "name": "text",
-            "type": "type",
-            "column": "integer",
-            "required?": "flag",
-            "converter?": "text",
-            "since?": "integer",
-            "default?": "value",
-            "was?": "integer",
+            "name": "text", "type": "type", "column": "integer", "required?": "flag",
+            "converter?": "text", "since?": "integer", "default?": "value", "was?": "integer",
         },
     ),
     "relation": _Form(
         "relation",
         {
-            "name": "text",
-            "kind": "kind",
-            "target": "text",
-            "column?": "integer",
-            "joinTable?": "integer",
-            "mappedBy?": "text",
-            "required?": "flag",
-            "cascade?": "list cascade",
-            "orphanRemoval?": "flag",
+            "name": "text", "kind": "kind", "target": "text", "column?": "integer",
+            "joinTable?": "integer", "mappedBy?": "text", "required?": "flag",
+            "cascade?": "list cascade", "orphanRemoval?": "flag",
         },
     ),
     "listener": _Form("listener", {"name": "text", "events": "list text"}),
@@ -237,7 +243,11 @@ class _Shape:
             if member in checks:
                 self._value(checks[member], (*path, member), item)
             else:
-                self._tell((*path, member), item, f"a {form.what} has no member {member!r}; it may have {', '.join(checks)}")
+                self._tell(
+                    (*path, member),
+                    item,
+                    f"a {form.what} has no member {member!r}; it may have {', '.join(checks)}",
+                )
         for member in form.members:
             if not member.endswith("?") and member not in value.data:
                 self._tell(path, value, f"the {form.what} lacks its member {member!r}")
@@ -247,9 +257,16 @@ class _Shape:
     def _side(self, path: Path, value: Value) -> None:
         given = [side for side in _SIDES if side in _members(value)]
         if len(given) != 1:
-            self._tell(path, value, f"a relation has exactly one of {', '.join(_SIDES)}, and not {len(given)} of them")
+            self._tell(
+                path,
+                value,
+                f"a relation has exactly one of {', '.join(_SIDES)}, and not {len(given)} of them",
+            )
         elif "required" in _members(value) and given != ["column"]:
-            self._tell((*path, "required"), _members(value)["required"], "'required' goes with 'column' alone")
+            self._tell(
+                (*path, "required"), _members(value)["required"],
+                "'required' goes with 'column' alone",
+            )
 
     def _tell(self, path: Path, value: Value, message: str) -> None:
         self._teller.tell(Fault.SHAPE, path, value, message)
@@ -393,7 +410,9 @@ class _Model:
     def _tell(self, where: _Placed, message: str) -> None:
         self._teller.tell(Fault.MODEL, where.path, where.value, message)
 
-    def _repeated(self, named: Iterable[Tuple[object, _Placed]], message: Callable[[object], str]) -> None:
+    def _repeated(
+        self, named: Iterable[Tuple[object, _Placed]], message: Callable[[object], str]
+    ) -> None:
         seen: Set[object] = set()
         for name, where in named:
             if name in seen:
@@ -405,14 +424,20 @@ class _Model:
     def _entities(self) -> None:
         count = len(self._unit.entities)
         if not 1 <= count <= MOST_ENTITIES:
-            self._tell(self._unit.root.at("entities"), f"there are 1 to {MOST_ENTITIES} entities, and not {count}")
+            self._tell(
+                self._unit.root.at("entities"),
+                f"there are 1 to {MOST_ENTITIES} entities, and not {count}",
+            )
         names = ((entity.text("name"), entity.at("name")) for entity in self._unit.entities)
         self._repeated(names, lambda name: f"a second entity has the name {name!r}")
 
     def _names(self) -> None:
         for where in self._named():
             if not _NAME.fullmatch(str(where.value.data)):
-                self._tell(where, "a name is at most 64 letters of ASCII, digits and '_', and no digit first")
+                self._tell(
+                    where,
+                    "a name is at most 64 letters of ASCII, digits and '_', and no digit first",
+                )
 
     def _named(self) -> Iterator[_Placed]:
         yield from (listener.at("name") for listener in self._unit.root.items("listeners"))
@@ -438,14 +463,24 @@ class _Model:
             if entity.text("extends") not in self._unit.by_name:
                 self._tell(entity.at("extends"), "there is no entity of this name")
             elif not self._unit.is_whole(place):
-                self._tell(entity.at("extends"), "the chain of superclasses doesn't end at an entity with a key")
+                self._tell(
+                    entity.at("extends"),
+                    "the chain of superclasses doesn't end at an entity with a key",
+                )
             return
         parts = list(entity.items("key"))
         if not 1 <= len(parts) <= MOST_KEY_PARTS:
-            self._tell(entity.at("key"), f"a key has 1 to {MOST_KEY_PARTS} parts, and not {len(parts)}")
-        self._repeated(((part.text("name"), part.at("name")) for part in parts), lambda name: f"a second key part has the name {name!r}")
+            self._tell(
+                entity.at("key"), f"a key has 1 to {MOST_KEY_PARTS} parts, and not {len(parts)}"
+            )
+        self._repeated(
+            ((part.text("name"), part.at("name")) for part in parts),
+            lambda name: f"a second key part has the name {name!r}",
+        )
         if len(parts) > 1 and not entity.has("embedded"):
-            self._tell(entity.at("key"), "a key of several parts needs 'embedded', the embedded id's name")
+            self._tell(
+                entity.at("key"), "a key of several parts needs 'embedded', the embedded id's name"
+            )
         if _flag(entity.value, "generated") and [part.text("type") for part in parts] != ["int"]:
             self._tell(entity.at("generated"), "a generated key is one part of type int")
 
@@ -457,9 +492,21 @@ class _Model:
         for root, entity in enumerate(self._unit.entities):
             hierarchy = [self._unit.entities[place] for place in self._unit.hierarchy(root)]
             columns = [column for member in hierarchy for column in self._columns(member)]
-            self._apart([*columns, *(column for member in hierarchy for column in self._old_columns(member))], "column")
-            marks = ((self._discriminator(member)[0], self._discriminator(member)[1]) for member in hierarchy)
-            self._repeated(marks, lambda mark: f"a second class of the hierarchy has the discriminator {mark!r}")
+            self._apart(
+                [
+                    *columns,
+                    *(column for member in hierarchy for column in self._old_columns(member)),
+                ],
+                "column",
+            )
+            marks = (
+                (self._discriminator(member)[0], self._discriminator(member)[1])
+                for member in hierarchy
+            )
+            self._repeated(
+                marks,
+                lambda mark: f"a second class of the hierarchy has the discriminator {mark!r}",
+            )
         for entity in self._unit.entities:
             mark, where = self._discriminator(entity)
             if len(mark.encode()) > MOST_BYTES:
@@ -470,25 +517,40 @@ class _Model:
             number = where.value.data
             if not isinstance(number, int) or not 1 <= number <= MOST_NUMBER:
                 self._tell(where, f"a {what} is a number from 1 to {MOST_NUMBER:,}")
-        self._repeated(((where.value.data, where) for where in numbers), lambda number: f"{what} {number} is taken already")
+        self._repeated(
+            ((where.value.data, where) for where in numbers),
+            lambda number: f"{what} {number} is taken already",
+        )
 
     @staticmethod
     def _tables(entity: _Placed) -> Iterator[_Placed]:
         if not entity.has("extends"):
             yield entity.at("table")
-        yield from (relation.at("joinTable") for relation in entity.items("relations") if relation.has("joinTable"))
+        yield from (
+            relation.at("joinTable")
+            for relation in entity.items("relations")
+            if relation.has("joinTable")
+        )
 
     @staticmethod
     def _columns(entity: _Placed) -> Iterator[_Placed]:
         if not entity.has("extends") and entity.has("version"):
             yield entity.at("version").at("column")
         yield from (attribute.at("column") for attribute in entity.items("attributes"))
-        yield from (relation.at("column") for relation in entity.items("relations") if relation.has("column"))
+        yield from (
+            relation.at("column")
+            for relation in entity.items("relations")
+            if relation.has("column")
+        )
 
     def _old_columns(self, entity: _Placed) -> Iterator[_Placed]:
         """The columns that revision 1 had and revision 2 has no more."""
         if self._unit.root.at("revision").value.data == REVISIONS[-1]:
-            yield from (attribute.at("was") for attribute in entity.items("attributes") if attribute.has("was"))
+            yield from (
+                attribute.at("was")
+                for attribute in entity.items("attributes")
+                if attribute.has("was")
+            )
             yield from entity.items("dropped")
 
     @staticmethod
@@ -501,11 +563,25 @@ class _Model:
     def _chain(self, place: int) -> None:
         chain = [self._unit.entities[step] for step in self._unit.chains[place]]
         own = self._unit.entities[place]
-        count = sum(len(_items(entity.value, "attributes")) + len(_items(entity.value, "relations")) for entity in chain)
+        count = sum(
+            len(_items(entity.value, "attributes")) + len(_items(entity.value, "relations"))
+            for entity in chain
+        )
         if count > MOST_MEMBERS:
-            self._tell(own, f"an entity has at most {MOST_MEMBERS} attributes and relations with those of its superclasses, and not {count}")
-        members = [(where.value.data, where) for entity in chain for where in self._unit.member_names(entity)]
-        self._repeated(members, lambda name: f"the entity {own.text('name')} has two members of the name {name!r}")
+            self._tell(
+                own,
+                f"an entity has at most {MOST_MEMBERS} attributes and relations with those of its "
+                f"superclasses, and not {count}",
+            )
+        members = [
+            (where.value.data, where)
+            for entity in chain
+            for where in self._unit.member_names(entity)
+        ]
+        self._repeated(
+            members,
+            lambda name: f"the entity {own.text('name')} has two members of the name {name!r}",
+        )
 
     # 5. and 6. relations
 
@@ -513,19 +589,32 @@ class _Model:
         kind = relation.text("kind")
         side = next(side for side in _SIDES if relation.has(side))
         if side not in _SIDES_OF[kind]:
-            self._tell(relation.at(side), f"a {kind} has {' or '.join(_SIDES_OF[kind])}, and no {side}")
+            self._tell(
+                relation.at(side), f"a {kind} has {' or '.join(_SIDES_OF[kind])}, and no {side}"
+            )
         if _flag(relation.value, "orphanRemoval") and kind not in ("oneToOne", "oneToMany"):
-            self._tell(relation.at("orphanRemoval"), "'orphanRemoval' stands on oneToOne and oneToMany alone")
+            self._tell(
+                relation.at("orphanRemoval"),
+                "'orphanRemoval' stands on oneToOne and oneToMany alone",
+            )
         target = self._unit.by_name.get(relation.text("target"))
         if target is None:
             self._tell(relation.at("target"), "there is no entity of this name")
         elif side == "mappedBy" and not self._is_kept(place, relation, target):
             declaring = self._unit.entities[place].text("name")
             opposite = _OPPOSITE.get(kind, "owning relation")
-            self._tell(relation.at("mappedBy"), f"{relation.text('target')} has no owning {opposite} of this name whose target is {declaring}")
+            self._tell(
+                relation.at("mappedBy"),
+                f"{relation.text('target')} has no owning {opposite} of this name whose target is "
+                f"{declaring}",
+            )
 
     def _is_kept(self, place: int, relation: _Placed, target: int) -> bool:
-        owners = (owner for _, owner in self._unit.relations_along(target) if owner.text("name") == relation.text("mappedBy"))
+        owners = (
+            owner
+            for _, owner in self._unit.relations_along(target)
+            if owner.text("name") == relation.text("mappedBy")
+        )
         owner = next(owners, None)
         return (
             owner is not None
@@ -551,7 +640,10 @@ class _Model:
             and place in self._unit.chains[self._unit.by_name[relation.text("target")]]
         ]
         for second in inverses[1:]:
-            self._tell(second.at("mappedBy"), f"the relation {owner.text('name')} has an inverse side already")
+            self._tell(
+                second.at("mappedBy"),
+                f"the relation {owner.text('name')} has an inverse side already",
+            )
 
     # 7. events
 
@@ -562,14 +654,21 @@ class _Model:
             for sort in ("listeners", "callbacks"):
                 for listener in entity.items(sort):
                     self._hears(listener)
-            heard = ((where.value.data, where) for callback in entity.items("callbacks") for where in callback.items("events"))
+            heard = (
+                (where.value.data, where)
+                for callback in entity.items("callbacks")
+                for where in callback.items("events")
+            )
             self._repeated(heard, lambda event: f"a second callback of the class hears {event}")
 
     def _hears(self, listener: _Placed) -> None:
         for event in listener.items("events"):
             if event.value.data not in _EVENTS:
                 self._tell(event, f"the events are {', '.join(sorted(_EVENTS))}")
-        self._repeated(((event.value.data, event) for event in listener.items("events")), lambda event: f"{event} stands here twice")
+        self._repeated(
+            ((event.value.data, event) for event in listener.items("events")),
+            lambda event: f"{event} stands here twice",
+        )
 
     # 8. what a second revision says of the first
 
@@ -578,9 +677,18 @@ class _Model:
         for entity in self._unit.entities:
             attributes = list(entity.items("attributes"))
             if revision == 1:
-                own = [attribute.at(name) for attribute in attributes for name in _OF_REVISION_2 if attribute.has(name)]
+                own = [
+                    attribute.at(name)
+                    for attribute in attributes
+                    for name in _OF_REVISION_2
+                    if attribute.has(name)
+                ]
                 for where in [*own, *([entity.at("dropped")] if entity.has("dropped") else [])]:
-                    self._tell(where, f"{str(where.path[-1])!r} goes with revision 2, and this mapping is of revision 1")
+                    self._tell(
+                        where,
+                        f"{str(where.path[-1])!r} goes with revision 2, and this mapping is of "
+                        f"revision 1",
+                    )
             elif revision == 2:
                 for attribute in attributes:
                     self._change(attribute)
@@ -588,21 +696,36 @@ class _Model:
     def _change(self, attribute: _Placed) -> None:
         is_new = attribute.has("since")
         if is_new and attribute.at("since").value.data != 2:
-            self._tell(attribute.at("since"), "an attribute that is new is so since 2, the revision of its mapping")
+            self._tell(
+                attribute.at("since"),
+                "an attribute that is new is so since 2, the revision of its mapping",
+            )
         if is_new and attribute.has("was"):
-            self._tell(attribute.at("was"), "an attribute that is new ('since') had no column before")
+            self._tell(
+                attribute.at("was"), "an attribute that is new ('since') had no column before"
+            )
         if attribute.has("default"):
             if not is_new:
-                self._tell(attribute.at("default"), "'default' goes with 'since', for an attribute that is new")
+                self._tell(
+                    attribute.at("default"),
+                    "'default' goes with 'since', for an attribute that is new",
+                )
             self._default(attribute)
         elif is_new and _flag(attribute.value, "required"):
-            self._tell(attribute.at("since"), "an attribute that is new and required needs a 'default', which the rows of before get")
+            self._tell(
+                attribute.at("since"),
+                "an attribute that is new and required needs a 'default', which the rows of "
+                "before get",
+            )
 
     def _default(self, attribute: _Placed) -> None:
         where, kind = attribute.at("default"), attribute.text("type")
         found = _value(where.value)
         if found is None:
-            self._tell(where, "a default is not null: without one, the attribute is null in the rows of before")
+            self._tell(
+                where,
+                "a default is not null: without one, the attribute is null in the rows of before",
+            )
         elif found[0] is not _TYPES[kind]:
             self._tell(where, f"a default is of its attribute's type, which is {kind}")
         elif length(found[1]) > MOST_BYTES:
@@ -641,7 +764,10 @@ def _functions(teller: _Teller, root: Value) -> Optional[_Made]:
     if not isinstance(functions.data, list):
         teller.tell(Fault.FUNCTION, ("functions",), functions, "this must be a list")
         return None
-    told = [_function(teller, made, ("functions", place), value) for place, value in enumerate(functions.data)]
+    told = [
+        _function(teller, made, ("functions", place), value)
+        for place, value in enumerate(functions.data)
+    ]
     return made if all(told) else None
 
 
@@ -661,7 +787,10 @@ def _function(teller: _Teller, made: _Made, path: Path, value: Value) -> bool:
         return refuse(f"the makes are {', '.join(_MAKES)}", "make")
     is_listener, own = _MAKES[make]
     if set(_members(value)) != {"name", "make", *own}:
-        return refuse(f"a function of the make {make} has exactly the members {', '.join(('name', 'make', *own))}")
+        return refuse(
+            f"a function of the make {make} has exactly the members "
+            f"{', '.join(('name', 'make', *own))}"
+        )
     for name in own:
         if name != "pairs" and not isinstance(_at(value, name).data, str):
             return refuse("this must be a text", name)
@@ -669,7 +798,9 @@ def _function(teller: _Teller, made: _Made, path: Path, value: Value) -> bool:
         return False
     functions, name = made.listeners if is_listener else made.converters, _text(value, "name")
     if name in functions:
-        return refuse(f"a second {'listener' if is_listener else 'converter'} has the name {name!r}", "name")
+        return refuse(
+            f"a second {'listener' if is_listener else 'converter'} has the name {name!r}", "name"
+        )
     functions[name] = value.plain()
     return True
 
@@ -716,31 +847,55 @@ def _value(value: Value) -> Optional[Tuple[type, Plain]]:
 def _unknown(teller: _Teller, root: Value, made: _Made) -> None:
     """Tells the functions that a mapping names and doesn't make."""
     unit = _Unit(root)
-    own = (each for entity in unit.entities for sort in ("listeners", "callbacks") for each in entity.items(sort))
+    own = (
+        each
+        for entity in unit.entities
+        for sort in ("listeners", "callbacks")
+        for each in entity.items(sort)
+    )
     listeners = [*unit.root.items("listeners"), *own]
     named = [(listener.at("name"), made.listeners, "listener") for listener in listeners]
-    attributes = (attribute for entity in unit.entities for attribute in entity.items("attributes") if attribute.has("converter"))
+    attributes = (
+        attribute
+        for entity in unit.entities
+        for attribute in entity.items("attributes")
+        if attribute.has("converter")
+    )
     named += [(attribute.at("converter"), made.converters, "converter") for attribute in attributes]
     for where, names, what in named:
         if where.value.data not in names:
-            teller.tell(Fault.FUNCTION, where.path, where.value, f"'functions' makes no {what} of this name")
+            teller.tell(
+                Fault.FUNCTION, where.path, where.value, f"'functions' makes no {what} of this name"
+            )
 
 
 def _thrown(teller: _Teller, unit: _Unit, made: _Made) -> None:
     """Tells the defaults for which their converters throw."""
     for attribute in (each for entity in unit.entities for each in entity.items("attributes")):
-        function = made.converters.get(attribute.text("converter")) if attribute.has("converter") else None
+        function = (
+            made.converters.get(attribute.text("converter")) if attribute.has("converter") else None
+        )
         if function is not None and attribute.has("default"):
             where = attribute.at("default")
             if column_value(function, value_of(where.value.plain())) is None:
-                teller.tell(Fault.FUNCTION, where.path, where.value, f"the converter {function['name']!r} throws for this default")
+                teller.tell(
+                    Fault.FUNCTION, where.path, where.value,
+                    f"the converter {function['name']!r} throws for this default",
+                )
 
 
 def _lost(teller: _Teller, unit: _Unit) -> None:
     """Warns of functions that look for an attribute which no entity has: their first run throws."""
-    members = {str(where.value.data) for entity in unit.entities for where in unit.member_names(entity)}
+    members = {
+        str(where.value.data) for entity in unit.entities for where in unit.member_names(entity)
+    }
     for function in unit.root.items("functions"):
         for name in _MAKES[function.text("make")][1]:
             if name in ("attribute", "from", "to") and function.text(name) not in members:
                 where = function.at(name)
-                teller.warn(where.path, where.value, f"no entity has an attribute {function.text(name)!r}{meant(function.text(name), members)}")
+                teller.warn(
+                    where.path,
+                    where.value,
+                    f"no entity has an attribute "
+                    f"{function.text(name)!r}{meant(function.text(name), members)}",
+                )

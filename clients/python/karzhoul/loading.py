@@ -124,10 +124,12 @@ class Loader:
             if isinstance(item, Next):
                 continue
             row = self._row(line, item)
-            if batch and batch[-1].line >= until and self._gap(row, batch) > _SLICE:
+            # A transaction for all gives out the numbers within it.
+            is_far = self._terms.size > 0 and self._gap(row, batch) > _SLICE
+            if is_far and batch and batch[-1].line >= until:
                 yield batch
                 batch = []
-            if not batch and self._gap(row, batch) > _SLICE:
+            if is_far and not batch:
                 self._give_out(row.shape.top, row.number(), item)
             batch.append(row)
             until = max(until, self._until(row))

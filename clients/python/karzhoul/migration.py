@@ -1,7 +1,8 @@
-"""What an opening with a mapping would change in a store of another revision, told from the store's cells before anything is written.
+"""What an opening with a mapping would change in a store of another revision, told from the store's
+cells before anything is written.
 
-It knows the cells that such a mapping drops, moves and fills. Whether the rows are otherwise those that the mapping writes, only the
-program knows: `command.run_migrate` asks it over a copy.
+It knows the cells that such a mapping drops, moves and fills. Whether the rows are otherwise those
+that the mapping writes, only the program knows: `command.run_migrate` asks it over a copy.
 """
 
 from __future__ import annotations
@@ -15,7 +16,7 @@ from pathlib import Path
 from typing import Any, Dict, Iterator, List, Mapping, Optional, Tuple
 from urllib.parse import quote
 
-from .converters import Plain, column_value, value_of
+from .converters import Plain, column_value, is_converter, value_of
 
 Cells = Dict[int, bytes]
 
@@ -74,8 +75,8 @@ class Dropped:
 
 @dataclass
 class EntityChanges:
-    """What becomes of the rows of one entity, those of its subclasses apart: how many rows there are, how many are written again, and
-    for each change how many of them it concerns."""
+    """What becomes of the rows of one entity, those of its subclasses apart: how many rows there
+    are, how many are written again, and for each change how many of them it concerns."""
 
     name: str
     filled: List[Filled]
@@ -87,9 +88,13 @@ class EntityChanges:
 
     def after(self, cells: Cells) -> Cells:
         """The cells of a row of this entity as they are then, rising."""
-        gone, places = {each.column for each in self.dropped}, {each.was: each.column for each in self.moved}
-        found = {places.get(column, column): value for column, value in cells.items() if column not in gone}
-        found.update((each.column, cell_of(each.stored)) for each in self.filled if each.stored is not None)
+        gone = {each.column for each in self.dropped}
+        places = {each.was: each.column for each in self.moved}
+        kept = {column: value for column, value in cells.items() if column not in gone}
+        found = {places.get(column, column): value for column, value in kept.items()}
+        for each in self.filled:
+            if each.stored is not None:
+                found[each.column] = cell_of(each.stored)
         return dict(sorted(found.items()))
 
     def count(self, cells: Cells) -> int:
@@ -116,7 +121,7 @@ class EntityChanges:
 
 @dataclass
 class _Hierarchy:
-    """The entities of one table, by their discriminators, and the columns that hold nothing before."""
+    """The entities of one table by their discriminators, and who has columns that were empty."""
 
     table: int
     entities: Dict[bytes, EntityChanges]
@@ -124,7 +129,9 @@ class _Hierarchy:
 
 
 def _shown(value: Plain) -> str:
-    return f"x'{value.hex()}'" if isinstance(value, bytes) else json.dumps(value, ensure_ascii=False)
+    if isinstance(value, bytes):
+        return f"x'{value.hex()}'"
+    return json.dumps(value, ensure_ascii=False)
 
 
 def _count(number: int, what: str) -> str:
@@ -134,7 +141,7 @@ def _count(number: int, what: str) -> str:
 def _hierarchies(mapping: Mapping[str, Any]) -> List[_Hierarchy]:
     """The hierarchies of a well-formed mapping."""
     declared = {entity["name"]: entity for entity in mapping["entities"]}
-    functions = {function["name"]: function for function in mapping.get("functions", ()) if function["make"] in ("flip", "table", "hextext")}
+    functions = {each["name"]: each for each in mapping.get("functions", ()) if is_converter(each)}
     found: Dict[int, _Hierarchy] = {}
     for name, entity in declared.items():
         chain = [entity]
@@ -142,10 +149,11 @@ def _hierarchies(mapping: Mapping[str, Any]) -> List[_Hierarchy]:
             chain.insert(0, declared[chain[0]["extends"]])
         attributes = [attribute for each in chain for attribute in each.get("attributes", ())]
         filled = [_filled(attribute, functions) for attribute in attributes if "since" in attribute]
-        moved = [Moved(each["name"], each["column"], each["was"]) for each in attributes if "was" in each]
+        moved = [_moved(attribute) for attribute in attributes if "was" in attribute]
         dropped = list(map(Dropped, chain[0].get("dropped", ())))
         hierarchy = found.setdefault(chain[0]["table"], _Hierarchy(chain[0]["table"], {}, {}))
-        hierarchy.entities[cell_of(entity.get("discriminator", name))] = EntityChanges(name, filled, moved, dropped)
+        changes = EntityChanges(name, filled, moved, dropped)
+        hierarchy.entities[cell_of(entity.get("discriminator", name))] = changes
         hierarchy.taken.update({each.column: each.name for each in filled})
         hierarchy.taken.update({each.column: each.name for each in moved})
     return list(found.values())
@@ -156,8 +164,13 @@ def _filled(attribute: Mapping[str, Any], functions: Mapping[str, Any]) -> Fille
     if "default" not in attribute:
         return Filled(name, column)
     default = value_of(attribute["default"])
-    converter = attribute.get("converter")
-    return Filled(name, column, default, default if converter is None else column_value(functions[converter], default))
+    if "converter" not in attribute:
+        return Filled(name, column, default, default)
+    return Filled(name, column, default, column_value(functions[attribute["converter"]], default))
+
+
+def _moved(attribute: Mapping[str, Any]) -> Moved:
+    return Moved(attribute["name"], attribute["column"], attribute["was"])
 
 
 # ---- what a store says
@@ -165,8 +178,9 @@ def _filled(attribute: Mapping[str, Any], functions: Mapping[str, Any]) -> Fille
 
 @dataclass
 class Outlook:
-    """What an opening would do: the revisions of the store and of the mapping, what becomes of each entity's rows where the store is
-    migrated, by how many statements, and why the opening is refused, as far as the changes tell."""
+    """What an opening would do: the revisions of the store and of the mapping, what becomes of each
+    entity's rows where the store is migrated, by how many statements, and why the opening is
+    refused, as far as the changes tell."""
 
     store: int
     mapping: int
@@ -187,13 +201,15 @@ class Outlook:
         for why in self.refused:
             yield f"an opening would be refused: {why}"
         if not self.refused and self.is_due:
-            yield f"an opening would write this in one commit, of {_count(self.statements, 'statement')}, which can't be undone"
+            commit = f"in one commit, of {_count(self.statements, 'statement')}"
+            yield f"an opening would write this {commit}, which can't be undone"
         elif not self.refused:
             yield "an opening would write nothing"
 
 
 def outlook(mapping: Mapping[str, Any], store: Path) -> Outlook:
-    """What an opening of a store with a well-formed mapping would do. The store is read, and nothing is written."""
+    """What an opening of a store with a well-formed mapping would do. The store is read, and
+    nothing is written."""
     with opened_to_read(store) as connection:
         cells = _Cells(connection)
         found = _revisions(mapping, cells)
@@ -205,7 +221,8 @@ def outlook(mapping: Mapping[str, Any], store: Path) -> Outlook:
 @contextmanager
 def opened_to_read(store: Path) -> Iterator[sqlite3.Connection]:
     """A connection that reads the store as it stands, with its log, and writes nothing to it."""
-    with closing(sqlite3.connect(f"file:{quote(str(store.resolve()))}?mode=ro", uri=True, timeout=1)) as connection:
+    path = f"file:{quote(str(store.resolve()))}?mode=ro"
+    with closing(sqlite3.connect(path, uri=True, timeout=1)) as connection:
         yield connection
 
 
@@ -214,7 +231,8 @@ class _Cells:
 
     def __init__(self, connection: sqlite3.Connection) -> None:
         self._connection = connection
-        self._is_there = connection.execute("SELECT 1 FROM sqlite_schema WHERE name = 'cell'").fetchone() is not None
+        found = connection.execute("SELECT 1 FROM sqlite_schema WHERE name = 'cell'").fetchone()
+        self._is_there = found is not None
 
     def rows(self, table: int) -> Iterator[Tuple[bytes, Cells]]:
         """The rows of a table, rising."""
@@ -234,7 +252,8 @@ def _revisions(mapping: Mapping[str, Any], store: _Cells) -> Outlook:
     if cells is not None and cells != {0: cell_of(2)}:
         found.refused.append(f"row {row.hex()} of table {table} says no revision that there is")
     elif found.store > found.mapping:
-        found.refused.append(f"row {row.hex()} of table {table} says that the store is of revision {found.store}")
+        says = f"says that the store is of revision {found.store}"
+        found.refused.append(f"row {row.hex()} of table {table} {says}")
     return found
 
 
@@ -242,7 +261,7 @@ def _migrated(found: Outlook, mapping: Mapping[str, Any], store: _Cells) -> None
     """Adds what becomes of the rows, and the two statements that write the revision's row."""
     found.statements = 2
     hierarchies = _hierarchies(mapping)
-    by_name = {entity.name: entity for hierarchy in hierarchies for entity in hierarchy.entities.values()}
+    by_name = {each.name: each for some in hierarchies for each in some.entities.values()}
     found.entities = [by_name[entity["name"]] for entity in mapping["entities"]]
     for hierarchy in sorted(hierarchies, key=lambda each: each.table):
         for row, cells in store.rows(hierarchy.table):

@@ -1,4 +1,4 @@
-"""The program as a running process: lines go in, and one reply comes out for each, in their order."""
+"""The program as a running process: lines go in, and a reply comes out for each, in their order."""
 
 from __future__ import annotations
 
@@ -20,15 +20,16 @@ _PATIENCE = 2.0
 _CHUNK = (1 << 16,)
 # How long a program may still take for its reply once it is interrupted a second time.
 _GRACE = 1.0
-# Ends the program's group at the end of input, which comes without a line where this process is killed.
+# Ends the program's group at the end of input, which comes without a line where this process is
+# killed.
 _WATCH = 'read -r line || kill -KILL "-$1"'
 
 Words = Union[str, "os.PathLike[str]"]
 
 
 class _Part:
-    """Lines that are written before the first of their replies is read, when all before them are answered: so a write never waits for
-    a program that itself waits for its replies to be read."""
+    """Lines that are written before the first of their replies is read, when all before them are
+    answered: so a write never waits for a program that itself waits for its replies to be read."""
 
     __slots__ = ("text", "count", "written", "read")
 
@@ -38,45 +39,47 @@ class _Part:
         self.written: List[int] = []
         self.read: List[bytes] = []
 
-    def is_answered(self) -> bool:
-        """Whether all replies are there."""
-        if not self.read or self.read[-1][-1:] != b"\n":
-            return False
-        return self.count == 1 or sum([chunk.count(b"\n") for chunk in self.read]) >= self.count
 
+class Exchange:
+    """Lines that go to the program together, and what came of them so far.
 
-class Exchange(_Part):
-    """Lines that go to the program together, and what came of them so far. One of a single line is its own part.
-
-    It is whole at every moment, so that a call which is interrupted anywhere can be gone on with: what is still to be done is read off
-    what is noted, and each system call is noted by the step of the interpreter that makes it (`notes += map(..)`). The handlers of
-    signals, and so an interrupt, run between such steps alone.
+    It is whole at every moment, so that a call which is interrupted anywhere can be gone on with:
+    what is still to be done is read off what is noted, and each system call is noted by the step of
+    the interpreter that makes it (`notes += map(..)`). The handlers of signals, and so an
+    interrupt, run between such steps alone.
     """
 
-    __slots__ = ("lines", "parts", "is_sent")
+    __slots__ = ("lines", "written", "read", "parts")
 
     def __init__(self, lines: Sequence[bytes]) -> None:
         self.lines = lines
-        self.text = b""
-        self.count = 1
-        self.written = []
-        self.read = []
-        # Of several lines, once they are sent.
-        self.parts: Optional[List[_Part]] = None
-        self.is_sent = False
+        # Of a single line, which is its own part.
+        self.written: List[int] = []
+        self.read: List[bytes] = []
+        # Once they are sent: of several lines their parts.
+        self.parts: Optional[Sequence[_Part]] = None
 
     def start(self) -> None:
-        """Parts the lines into a few short ones or one at a time. From now on they are sent, and none can be added."""
-        if len(self.lines) == 1:
-            self.text = self.lines[0] + b"\n"
-        else:
-            self.parts = list(_parts(self.lines))
-        self.is_sent = True
+        """Parts the lines into a few short ones or one at a time. From now on they are sent, and
+        none can be added."""
+        self.parts = () if len(self.lines) == 1 else list(_parts(self.lines))
 
     def waits(self) -> bool:
         """Whether the next of it to be done is to read replies."""
-        parts = [part for part in ([self] if self.parts is None else self.parts) if not part.is_answered()]
-        return self.is_sent and bool(parts) and sum(parts[0].written) == len(parts[0].text)
+        left = [
+            part
+            for part in self._sent()
+            if sum([chunk.count(b"\n") for chunk in part.read]) < part.count
+        ]
+        return bool(left) and sum(left[0].written) == len(left[0].text)
+
+    def _sent(self) -> Sequence[_Part]:
+        """The parts of what is sent."""
+        if self.parts is None or len(self.lines) != 1:
+            return self.parts or ()
+        part = _Part(self.lines[0] + b"\n", 1)
+        part.written, part.read = self.written, self.read
+        return (part,)
 
 
 def _parts(lines: Sequence[bytes]) -> Iterator[_Part]:
@@ -96,8 +99,9 @@ def _parts(lines: Sequence[bytes]) -> Iterator[_Part]:
 
 
 class _Process(Popen[bytes]):
-    """A process that can be collected where no function of Python runs: an interrupt that comes where such a function begins, called by
-    the collector, is lost. Each is waited for by `_stopped`."""
+    """A process that can be collected where no function of Python runs: an interrupt that comes
+    where such a function begins, called by the collector, is lost. Each is waited for by
+    `_stopped`."""
 
     __del__ = object.__init__  # Does nothing, and is of C.
 
@@ -110,9 +114,13 @@ class Program:
 
     def __init__(self, words: Sequence[Words]) -> None:
         self.words, self._errors = words, tempfile.TemporaryFile()
-        # In a group of its own, so that Ctrl-C at a terminal interrupts a call and doesn't end the program.
+        # In a group of its own, so that Ctrl-C at a terminal interrupts a call and doesn't end the
+        # program.
         try:
-            self._process = _Process(words, bufsize=0, stdin=PIPE, stdout=PIPE, stderr=self._errors, start_new_session=True)
+            self._process = _Process(
+                words, bufsize=0, stdin=PIPE, stdout=PIPE, stderr=self._errors,
+                start_new_session=True,
+            )
         except OSError as fault:
             self._errors.close()
             raise ProgramNotFound(f"{words[0]!r} can't be started: {fault.strerror}") from fault
@@ -129,53 +137,68 @@ class Program:
         self.fault: Optional[KarzhoulError] = None
 
     def replies(self, exchange: Exchange, timeout: Optional[float] = None) -> List[bytes]:
-        """Does what is left to do of an exchange, and gives its replies. The program's end is a `ProgramEnded`, or the refusal that it
-        ended with. A program that doesn't answer within so many seconds is ended, and so is one that is interrupted (by a
-        `KeyboardInterrupt`) in an exchange that was interrupted before: both are a `GivenUp`."""
+        """Does what is left to do of an exchange, and gives its replies. The program's end is a
+        `ProgramEnded`, or the refusal that it ended with. A program that doesn't answer within
+        so many seconds is ended, and so is one that is interrupted (by a `KeyboardInterrupt`) in
+        an exchange that was interrupted before: both are a `GivenUp`."""
         if self.fault:
             raise self.fault
-        was_interrupted = exchange.is_sent
+        was_interrupted = exchange.parts is not None
         deadline = None if timeout is None else time.monotonic() + timeout
         try:
+            if len(exchange.lines) == 1:
+                exchange.parts = ()
+                return self._done(
+                    exchange.lines[0] + b"\n", 1, exchange.written, exchange.read, timeout, deadline
+                )
             if not was_interrupted:
                 exchange.start()
-            if exchange.parts is None:
-                return self._done(exchange, timeout, deadline)
             replies: List[bytes] = []
-            for part in exchange.parts:
-                replies += self._done(part, timeout, deadline)
+            for part in exchange.parts or ():
+                replies += self._done(
+                    part.text, part.count, part.written, part.read, timeout, deadline
+                )
             return replies
         except KeyboardInterrupt as interrupt:
             if was_interrupted and exchange.waits() and not self._comes(time.monotonic() + _GRACE):
                 self._give_up("a call was interrupted twice", interrupt)
             raise
 
-    def _done(self, part: _Part, timeout: Optional[float], deadline: Optional[float]) -> List[bytes]:
+    def _done(
+        self, text: bytes, count: int, written: List[int], read: List[bytes],
+        timeout: Optional[float], deadline: Optional[float],
+    ) -> List[bytes]:
         """Does what is left to do of a part, and gives its replies."""
-        text, written, read = part.text, part.written, part.read
         try:
             if not written:
                 written += map(os.write, self._in, (text,))
-            while (done := sum(written)) < len(text):
-                written += map(os.write, self._in, (text[done:],))
+            if written[0] < len(text):
+                while (done := sum(written)) < len(text):
+                    written += map(os.write, self._in, (text[done:],))
         except BrokenPipeError:
             pass  # What it told before its end is still read.
-        # (`_Part.is_answered` asks the same, and takes longer.)
-        while not read or read[-1][-1:] != b"\n" or part.count > 1 and not part.is_answered():
+        left = count
+        if read:  # What an interrupted call has read already is counted again.
+            left -= b"".join(read).count(b"\n")
+        while left > 0:
             if deadline is not None and not self._comes(deadline):
                 self._give_up(f"a call wasn't answered within {timeout} seconds")
             read += map(os.read, self._out, _CHUNK)
-            if not read[-1]:
+            chunk = read[-1]
+            if not chunk:
                 self.fault = self._why_it_ended()
                 raise self.fault
+            left -= chunk.count(b"\n")
         replies = (read[0] if len(read) == 1 else b"".join(read)).split(b"\n")
-        if replies.pop() or len(replies) != part.count:
-            self.fault = ProgramEnded(_stopped(self._process, self._watch, 0), "the program told more than it was asked")
+        if replies.pop() or len(replies) != count:
+            self.fault = ProgramEnded(
+                _stopped(self._process, self._watch, 0), "the program told more than it was asked"
+            )
             raise self.fault
         return replies
 
     def _comes(self, deadline: float) -> bool:
-        """Waits until there is something to read, until a deadline at most; and whether there is."""
+        """Waits until there is something to read, or a deadline; and whether there is."""
         while True:
             left = deadline - time.monotonic()
             if self._reading.poll(math.ceil(1000 * min(max(left, 0), 3600))):
@@ -191,12 +214,12 @@ class Program:
         raise self.fault from interrupt
 
     def start(self) -> None:
-        """Waits for the program to answer at all, by an empty line, which is no call. What it tells meanwhile, as where it is being
-        built, goes to standard error."""
+        """Waits for the program to answer at all, by an empty line, which is no call. What it tells
+        meanwhile, as where it is being built, goes to standard error."""
         hello = Exchange([b""])
         hello.start()
         with suppress(BrokenPipeError):  # What it told before its end is still read.
-            hello.written += map(os.write, self._in, (hello.text,))
+            hello.written += map(os.write, self._in, (b"\n",))
         shown = 0
         while not self._reading.poll(1000 * _PATIENCE):
             if told := self._told()[shown:]:
@@ -206,7 +229,8 @@ class Program:
             raise ProgramNotFound(f"{self.words[0]!r} is no program that answers calls")
 
     def close(self) -> None:
-        """Ends the program's input and waits for its end; a program that goes on for ten seconds is ended."""
+        """Ends the program's input and waits for its end; a program that goes on for ten seconds is
+        ended."""
         self.fault = self.fault or ProgramEnded(None)
         self._end()
 
@@ -216,13 +240,20 @@ class Program:
         self.close()
 
     def _why_it_ended(self) -> KarzhoulError:
-        """Why the program ended: the refusal that it told where it never came to answer, as of its mapping."""
+        """Why the program ended: the refusal that it told where it never came to answer, as of its
+        mapping."""
         status, told = _stopped(self._process, self._watch, _PATIENCE), self._told()
         last = told.rstrip().rpartition("\n")[2]
-        return refusal_of(last[len("jpa: ") :]) if status in (2, 3) and last.startswith("jpa: ") else ProgramEnded(status, told)
+        return (
+            refusal_of(last[len("jpa: ") :])
+            if status in (2, 3) and last.startswith("jpa: ")
+            else ProgramEnded(status, told)
+        )
 
     def _told(self) -> str:
-        return os.pread(self._errors.fileno(), os.fstat(self._errors.fileno()).st_size, 0).decode(errors="replace")
+        return os.pread(self._errors.fileno(), os.fstat(self._errors.fileno()).st_size, 0).decode(
+            errors="replace"
+        )
 
 
 # Those that run. No weak set, since its callbacks are of Python.
@@ -230,17 +261,24 @@ _watches: Set[_Process] = set()
 
 
 def _watch_of(process: _Process) -> _Process:
-    """A shell that ends a process where this one ends without a word, be it killed, also while the process is at a long query.
+    """A shell that ends a process where this one ends without a word, be it killed, also while the
+    process is at a long query.
 
-    The kernel's own way to do so (PR_SET_PDEATHSIG) is Linux's alone, and would end the program with the thread that started it.
+    The kernel's own way to do so (PR_SET_PDEATHSIG) is Linux's alone, and would end the program
+    with the thread that started it.
     """
     words = ["/bin/sh", "-c", _WATCH, "karzhoul", str(process.pid)]
     try:
-        watch = _Process(words, bufsize=0, stdin=PIPE, stdout=DEVNULL, stderr=DEVNULL, cwd="/", start_new_session=True)
+        watch = _Process(
+            words, bufsize=0, stdin=PIPE, stdout=DEVNULL, stderr=DEVNULL, cwd="/",
+            start_new_session=True,
+        )
     except OSError as fault:
         os.killpg(process.pid, signal.SIGKILL)
         process.wait()
-        raise ProgramNotFound(f"'/bin/sh' can't be started, which watches over the program: {fault.strerror}") from fault
+        raise ProgramNotFound(
+            f"'/bin/sh' can't be started, which watches over the program: {fault.strerror}"
+        ) from fault
     _watches.add(watch)
     return watch
 
@@ -256,7 +294,8 @@ os.register_at_fork(after_in_child=_let_go)
 
 
 def _stopped(process: _Process, watch: _Process, patience: float) -> int:
-    """The status of a process, which is ended with what it runs itself if it hasn't ended after so many seconds. Its watch ends."""
+    """The status of a process, which is ended with what it runs itself if it hasn't ended after so
+    many seconds. Its watch ends."""
     try:
         status = process.wait(patience)
     except TimeoutExpired:
@@ -274,8 +313,8 @@ def _stopped(process: _Process, watch: _Process, patience: float) -> int:
 
 
 def _end(process: _Process, watch: _Process, *files: IO[bytes]) -> None:
-    """Ends the process, which is no child of a forked process and lives on there. Called once, at the interpreter's exit at the latest.
-    Where it is interrupted, the process is ended at once."""
+    """Ends the process, which is no child of a forked process and lives on there. Called once, at
+    the interpreter's exit at the latest. Where it is interrupted, the process is ended at once."""
     try:
         for file in files:
             file.close()

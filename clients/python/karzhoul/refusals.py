@@ -1,4 +1,5 @@
-"""What can go wrong, each as an exception of its own: a class for each refusal of the program, and the client's own faults."""
+"""What can go wrong, each as an exception of its own: a class for each refusal of the program, and
+the client's own faults."""
 
 from __future__ import annotations
 
@@ -7,6 +8,7 @@ from typing import TYPE_CHECKING, ClassVar, Dict, Optional, Tuple, Type
 
 if TYPE_CHECKING:
     from .entities import Event
+    from .factory import EntityManagerFactory
 
 
 class KarzhoulError(Exception):
@@ -18,7 +20,8 @@ class ProgramNotFound(KarzhoulError):
 
 
 class ProgramEnded(KarzhoulError):
-    """The program ended, or was ended, before it answered; what an unanswered call did is not known."""
+    """The program ended, or was ended, before it answered; what an unanswered call did is not
+    known."""
 
     def __init__(self, status: Optional[int], told: str = "") -> None:
         super().__init__(status, told)
@@ -26,22 +29,31 @@ class ProgramEnded(KarzhoulError):
 
     def __str__(self) -> str:
         status = self.status
-        how = "is closed" if status is None else f"was ended by signal {-status}" if status < 0 else f"ended with status {status}"
+        how = (
+            "is closed"
+            if status is None
+            else f"was ended by signal {-status}"
+            if status < 0
+            else f"ended with status {status}"
+        )
         return f"the program {how}" + (f": {self.told}" if self.told else "")
 
 
 class GivenUp(ProgramEnded):
-    """The program was ended since a call took too long, or was interrupted twice; `EntityManagerFactory.restart` opens it again."""
+    """The program was ended since a call took too long, or was interrupted twice;
+    `EntityManagerFactory.restart` opens it again."""
 
     def __str__(self) -> str:
         return (
-            f"{super().__str__()}, and was given up: what was not committed is lost, and a store in memory is; app.restart() opens the"
+            f"{super().__str__()}, and was given up: what was not committed is lost, and a store "
+            f"in memory is; app.restart() opens the"
             " program again over its file"
         )
 
 
 class Restarted(KarzhoulError):
-    """An object or a manager is of before a restart, and can't be used any more: make or find it again."""
+    """An object or a manager is of before a restart, and can't be used any more: make or find it
+    again."""
 
 
 class StoreInMemory(KarzhoulError):
@@ -55,13 +67,18 @@ REFUSALS: Dict[str, Type[Refused]] = {}
 class Refused(KarzhoulError):
     """A call that was refused; docs/GUIDE.md tells what a refused call leaves.
 
-    `name` and `number` are the refusal's, `detail` its `why`, `events` what the call told before it was refused, `line` what was sent,
-    and `later` the refusals of calls that had been sent along in the same pipeline after this one.
+    `name` and `number` are the refusal's, `detail` its `why`, `events` what the call told before it
+    was refused, `line` what was sent, and `later` the refusals of calls that had been sent along in
+    the same pipeline after this one.
     """
 
     number: ClassVar[int] = 0
+    # The factory whose call it is.
+    _factory: Optional[EntityManagerFactory] = None
 
-    def __init__(self, detail: Optional[str] = None, events: Tuple[Event, ...] = (), line: str = "") -> None:
+    def __init__(
+        self, detail: Optional[str] = None, events: Tuple[Event, ...] = (), line: str = ""
+    ) -> None:
         super().__init__(detail)
         self.name = type(self).__name__
         self.detail, self.events, self.line = detail, events, line
@@ -74,6 +91,13 @@ class Refused(KarzhoulError):
 
     def __str__(self) -> str:
         return self.name if self.detail is None else f"{self.name}({self.detail})"
+
+    def explain(self) -> str:
+        """What can be told of it: of a query each mistake with its line, column and word, of an
+        entity or a member which one is meant, and else what the refusal means."""
+        from .explaining import explained
+
+        return explained(self, self._factory)
 
 
 class OutOfMemory(Refused, number=1):
@@ -104,7 +128,8 @@ class NoSuchObject(Refused, number=5):
 
 
 class IllegalArgument(Refused, number=6):
-    """The call doesn't take what it was handed: entity, name, type, key, version, state, range, syntax, typing, parameter or second."""
+    """The call doesn't take what it was handed: entity, name, type, key, version, state, range,
+    syntax, typing, parameter or second."""
 
 
 class IllegalState(Refused, number=7):
@@ -128,7 +153,8 @@ class OptimisticLock(Refused, number=11):
 
 
 class Persistence(Refused, number=12):
-    """What would be stored isn't allowed: key, null, reference, unique, generator, version, converter or callback."""
+    """What would be stored isn't allowed: key, null, reference, unique, generator, version,
+    converter or callback."""
 
 
 class Listener(Refused, number=13):
@@ -136,12 +162,17 @@ class Listener(Refused, number=13):
 
 
 class Rollback(Refused, number=14):
-    """A commit was refused, and its transaction is rolled back: `marked`, or the text of the refusal that made it so."""
+    """A commit was refused, and its transaction is rolled back: `marked`, or the text of the
+    refusal that made it so."""
 
     @property
     def cause(self) -> Optional[Refused]:
         """What made the commit roll back; None where the transaction could only roll back."""
-        return None if self.detail is None or self.detail == "marked" else refusal_of(self.detail, self.events, self.line)
+        return (
+            None
+            if self.detail is None or self.detail == "marked"
+            else refusal_of(self.detail, self.events, self.line)
+        )
 
 
 class NoResult(Refused, number=15):
@@ -162,8 +193,15 @@ class Busy(Refused, number=18):
 
 _RESTART = ": commit, and app.restart() opens the program again over its file"
 # What else a call may have too much of.
-_LONG = dict.fromkeys(("find", "getReference"), "; or the key has a text or bytes of over 65,535 bytes")
-_LONG.update(dict.fromkeys(("query", "querySingle", "executeUpdate"), "; or the query is over the limits of docs/QUERIES.md"))
+_LONG = dict.fromkeys(
+    ("find", "getReference"), "; or the key has a text or bytes of over 65,535 bytes"
+)
+_LONG.update(
+    dict.fromkeys(
+        ("query", "querySingle", "executeUpdate"),
+        "; or the query is over the limits of docs/QUERIES.md",
+    )
+)
 
 
 class Limit(Refused, number=19):
@@ -177,13 +215,17 @@ class Limit(Refused, number=19):
         if call == "set":
             return "Limit: a text or bytes have at most 65,535 bytes"
         if call == "createEntityManager":
-            return f"Limit: at most 16 managers are open at a time: close one that isn't used; and a run makes 1,000,000{_RESTART}"
+            return (
+                f"Limit: at most 16 managers are open at a time: close one that isn't used; and a "
+                f"run makes 1,000,000{_RESTART}"
+            )
         objects = f"a run makes at most 1,000,000 objects, loads counted{_RESTART}"
         return f"Limit: {objects}{_LONG.get(call, '')}"
 
 
 class Mapping(Refused, number=20):
-    """The mapping can't be served: json, shape, model or function. `faults` says what this client's own check finds in it."""
+    """The mapping can't be served: json, shape, model or function. `faults` says what this client's
+    own check finds in it."""
 
     faults: Tuple[str, ...] = ()
 
@@ -192,11 +234,13 @@ class Mapping(Refused, number=20):
 
 
 class Damaged(Refused, number=21):
-    """The store's cells stand for no set of objects; the detail is the damaged row's table and its bytes in hex."""
+    """The store's cells stand for no set of objects; the detail is the damaged row's table and its
+    bytes in hex."""
 
     @property
     def table(self) -> int:
-        """The number of the damaged row's table; 0 with no `row` where the rows together are not those of a sound set."""
+        """The number of the damaged row's table; 0 with no `row` where the rows together are not
+        those of a sound set."""
         return int((self.detail or "0:").partition(":")[0])
 
     @property
@@ -206,10 +250,14 @@ class Damaged(Refused, number=21):
 
 
 def refusal_of(text: str, events: Tuple[Event, ...] = (), line: str = "") -> Refused:
-    """The refusal of this text, `Name` or `Name(detail)`; a plain `Refused` for a name that this client doesn't know."""
+    """The refusal of this text, `Name` or `Name(detail)`; a plain `Refused` for a name that this
+    client doesn't know."""
     name, mark, rest = text.partition("(")
     kind = REFUSALS.get(name)
     return kind(rest[:-1] if mark else None, events, line) if kind else Refused(text, events, line)
 
 
-__all__ = ["GivenUp", "KarzhoulError", "NotServed", "ProgramEnded", "ProgramNotFound", "Refused", "Restarted", "StoreInMemory", *REFUSALS]
+__all__ = [
+    "GivenUp", "KarzhoulError", "NotServed", "ProgramEnded", "ProgramNotFound", "Refused",
+    "Restarted", "StoreInMemory", *REFUSALS,
+]

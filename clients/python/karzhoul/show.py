@@ -1,4 +1,5 @@
-"""What a store holds, as tables and as one page: read through the program, object by object, and never by the store's cells."""
+"""What a store holds, as tables and as one page: read through the program, object by object, and
+never by the store's cells."""
 
 from __future__ import annotations
 
@@ -36,7 +37,7 @@ class Link:
 
 @dataclass
 class Table:
-    """The stored objects of an entity. `note` says how they were found, and what else there may be."""
+    """The stored objects of an entity. `note` says how they were found, and what else may be."""
 
     entity: EntityDescription
     columns: List[str]
@@ -49,8 +50,9 @@ class Table:
 
 
 def tables(app: EntityManagerFactory, keys: Keys, most: int = MOST_KEYS) -> List[Table]:
-    """The stored objects of each entity, in the mapping's order: those that a query finds, or, where the program serves no queries, those
-    of generated keys, of which at most so many are looked for, and those of the keys that are given."""
+    """The stored objects of each entity, in the mapping's order: those that a query finds, or,
+    where the program serves no queries, those of generated keys, of which at most so many are
+    looked for, and those of the keys that are given."""
     reader = _Reader(app, keys, most)
     return [reader.table(entity) for entity in reader.entities.values()]
 
@@ -71,22 +73,32 @@ class _Reader:
     def _objects(self, entity: EntityDescription) -> Tuple[List[Entity], str]:
         name = entity.name
         try:
-            found = self._em.query(f"SELECT e FROM {name} e WHERE TYPE(e) = {name}", self._app.entity(name))
+            found = self._em.query(
+                f"SELECT e FROM {name} e WHERE TYPE(e) = {name}", self._app.entity(name)
+            )
             return found, "all that are stored"
         except NotServed:
             pass
         given = list(self._keys.get(name, ()))
         if not entity.is_generated:
-            note = "those of the keys that were given" if given else "no keys were given (--key), and the program serves no queries yet"
+            note = (
+                "those of the keys that were given"
+                if given
+                else "no keys were given (--key), and the program serves no queries yet"
+            )
             return self._found(entity, given), note
         following = next_number(self._em, self._app, entity)
         last = min(following - 1, self._most)
         some = f"those of the keys from 1 to {last:,}, of the {following - 1:,} that were given out"
-        return self._found(entity, itertools.chain(range(1, last + 1), given)), "all that are stored" if last == following - 1 else some
+        return (
+            self._found(entity, itertools.chain(range(1, last + 1), given)),
+            "all that are stored" if last == following - 1 else some,
+        )
 
     def _found(self, entity: EntityDescription, keys: Iterable[Any]) -> List[Entity]:
         found: List[Optional[Entity]] = []
-        for part in iter(lambda remaining=iter(keys): list(itertools.islice(remaining, _SLICE)), []):  # type: ignore[misc]
+        remaining = iter(keys)
+        for part in iter(lambda: list(itertools.islice(remaining, _SLICE)), []):
             found += self._em.find_many(self._app.entity(entity.name), part)
         return [each for each in dict.fromkeys(found) if each is not None]
 
@@ -102,14 +114,14 @@ class _Reader:
         if isinstance(value, Entity):
             known = self.entities.get(type(value).__name__)
             if known is None:
-                return Link(("object", (value.__number__,)))
+                return Link(("object", (value._karzhoul_number,)))
             return Link((known.name, tuple(self._app.get(value, part.name) for part in known.key)))
         return value
 
 
 def next_number(em: EntityManager, app: EntityManagerFactory, entity: EntityDescription) -> int:
-    """The number that the next object of a generated key gets: it is given one in a transaction that is rolled back, so that nothing is
-    stored. All stored objects have lower ones."""
+    """The number that the next object of a generated key gets: it is given one in a transaction
+    that is rolled back, so that nothing is stored. All stored objects have lower ones."""
     transaction = em.transaction().begin()
     try:
         probe = app.new(entity.name)
@@ -147,13 +159,24 @@ def text_page(shown: Sequence[Table]) -> str:
 
 
 def _text_table(table: Table) -> str:
-    cells = [table.columns] + [[_cut(value_text(value)) for value in row] for row in table.rows]
-    widths = [max(map(len, column)) for column in zip(*cells)]
-    numbers = [all(isinstance(row[place], int) or row[place] is None for row in table.rows) for place in range(len(widths))]
-    lines = [" | ".join(_padded(cell, width, is_number) for cell, width, is_number in zip(row, widths, numbers)).rstrip() for row in cells]
-    lines.insert(1, "-+-".join("-" * width for width in widths))
+    lines = grid(table.columns, table.rows) if table.rows else []
     count = f"{len(table.rows)} object" + ("" if len(table.rows) == 1 else "s")
-    return "\n".join([f"{table.entity.name}: {count} ({table.note})", *(lines if table.rows else []), ""])
+    return "\n".join([f"{table.entity.name}: {count} ({table.note})", *lines, ""])
+
+
+def grid(titles: Sequence[str], rows: Sequence[Sequence[Any]]) -> List[str]:
+    """The lines of a table of values, of which long ones are cut."""
+    cells = [list(titles)] + [[_cut(value_text(value)) for value in row] for row in rows]
+    widths = [max(map(len, column)) for column in zip(*cells)]
+    columns = list(zip(*rows))
+    numbers = [
+        all(value is None or isinstance(value, int) for value in column) for column in columns
+    ]
+    lines = []
+    for row in cells:
+        padded = [_padded(cell, *how) for cell, how in zip(row, zip(widths, numbers))]
+        lines.append(" | ".join(padded).rstrip())
+    return [lines[0], "-+-".join("-" * width for width in widths), *lines[1:]]
 
 
 def _padded(cell: str, width: int, is_number: bool) -> str:
@@ -170,24 +193,37 @@ _STYLE = """
 :root { color-scheme: light dark; --line: #8886; --soft: #8882; --link: #2563eb; }
 @media (prefers-color-scheme: dark) { :root { --link: #7aa2ff; } }
 body { font: 15px/1.5 system-ui, sans-serif; margin: 2rem auto; max-width: 72rem; padding: 0 1rem; }
-h1 { font-size: 1.4rem; } h2 { font-size: 1.1rem; margin-top: 2rem; } a { color: var(--link); text-decoration: none; }
+h1 { font-size: 1.4rem; } h2 { font-size: 1.1rem; margin-top: 2rem; }
+a { color: var(--link); text-decoration: none; }
 a:hover { text-decoration: underline; } .note { opacity: .7; } .scroll { overflow-x: auto; }
-table { border-collapse: collapse; } th, td { border: 1px solid var(--line); padding: .2rem .6rem; text-align: left; vertical-align: top; }
-th { background: var(--soft); font-weight: 600; } td.int { text-align: right; font-variant-numeric: tabular-nums; }
-td.bytes { font-family: ui-monospace, monospace; font-size: .85em; overflow-wrap: anywhere; } td.null { opacity: .45; }
+table { border-collapse: collapse; }
+th, td { border: 1px solid var(--line); padding: .2rem .6rem; }
+th, td { text-align: left; vertical-align: top; }
+th { background: var(--soft); font-weight: 600; }
+td.int { text-align: right; font-variant-numeric: tabular-nums; }
+td.bytes { font-family: ui-monospace, monospace; font-size: .85em; overflow-wrap: anywhere; }
+td.null { opacity: .45; }
 tr:target { outline: 2px solid var(--link); } svg { max-width: 100%; height: auto; }
-svg text { fill: currentColor; font: 13px system-ui, sans-serif; } svg .name { font-weight: 600; } svg .type { opacity: .65; }
+svg text { fill: currentColor; font: 13px system-ui, sans-serif; }
+svg .name { font-weight: 600; } svg .type { opacity: .65; }
 svg rect { fill: var(--soft); stroke: var(--line); } svg path { fill: none; stroke: var(--link); }
 svg marker path { fill: var(--link); stroke: none; } svg .kind { font-size: 11px; opacity: .8; }
 """
 
 
 def html_page(shown: Sequence[Table], title: str) -> str:
-    """One page with the entities and their relations as a diagram, and the rows of each, with links to related rows."""
-    anchors = {table.identity(row): f"{table.entity.name}-{place}" for table in shown for place, row in enumerate(table.rows, 1)}
+    """One page with the entities and their relations as a diagram, and the rows of each, with links
+    to related rows."""
+    anchors = {
+        table.identity(row): f"{table.entity.name}-{place}"
+        for table in shown
+        for place, row in enumerate(table.rows, 1)
+    }
     parts = [
-        '<!DOCTYPE html>\n<html lang="en">\n<head>\n<meta charset="utf-8">\n<meta name="viewport" content="width=device-width, initial-scale=1">',
-        f"<title>{html.escape(title)}</title>\n<style>{_STYLE}</style>\n</head>\n<body>\n<h1>{html.escape(title)}</h1>",
+        '<!DOCTYPE html>\n<html lang="en">\n<head>\n<meta charset="utf-8">\n'
+        '<meta name="viewport" content="width=device-width, initial-scale=1">',
+        f"<title>{html.escape(title)}</title>\n<style>{_STYLE}</style>\n</head>\n<body>\n"
+        f"<h1>{html.escape(title)}</h1>",
         f'<div class="scroll">{diagram([table.entity for table in shown])}</div>',
         *(_html_table(table, anchors) for table in shown),
         "</body>\n</html>\n",
@@ -195,13 +231,27 @@ def html_page(shown: Sequence[Table], title: str) -> str:
     return "\n".join(parts)
 
 
+def _html_cells(row: Sequence[Any], anchors: Dict[Identity, str]) -> str:
+    return "".join(_html_cell(value, anchors) for value in row)
+
+
 def _html_table(table: Table, anchors: Dict[Identity, str]) -> str:
-    heads = "".join(f'<th title="{html.escape(member.kind.value)}">{html.escape(member.name)}</th>' for member in table.entity.members)
-    rows = "\n".join(
-        f'<tr id="{anchors[table.identity(row)]}">{"".join(_html_cell(value, anchors) for value in row)}</tr>' for row in table.rows
+    heads = "".join(
+        f'<th title="{html.escape(member.kind.value)}">{html.escape(member.name)}</th>'
+        for member in table.entity.members
     )
-    head = f'<h2 id="{table.entity.name}">{table.entity.name} <span class="note">{len(table.rows)}: {html.escape(table.note)}</span></h2>'
-    return f'{head}\n<div class="scroll"><table>\n<thead><tr>{heads}</tr></thead>\n<tbody>\n{rows}\n</tbody>\n</table></div>'
+    rows = "\n".join(
+        f'<tr id="{anchors[table.identity(row)]}">{_html_cells(row, anchors)}</tr>'
+        for row in table.rows
+    )
+    head = (
+        f'<h2 id="{table.entity.name}">{table.entity.name} <span class="note">{len(table.rows)}: '
+        f'{html.escape(table.note)}</span></h2>'
+    )
+    return (
+        f'{head}\n<div class="scroll"><table>\n<thead><tr>{heads}</tr></thead>\n<tbody>\n{rows}\n'
+        f'</tbody>\n</table></div>'
+    )
 
 
 def _html_cell(value: Any, anchors: Dict[Identity, str]) -> str:
@@ -216,9 +266,12 @@ def _html_item(value: Any, anchors: Dict[Identity, str]) -> str:
     return f'<a href="#{anchor}">{said}</a>' if anchor else said
 
 
-def keys_of(given: Sequence[str], entities: Mapping[str, EntityDescription]) -> Dict[str, List[Any]]:
-    """The keys that are given as `Entity=7`, `Entity=1..100` or, of several parts, `Entity=[1,"a",{"hex":"0aff"}]`; a text of its own
-    may go without quotes. A `ValueError` where one is none."""
+def keys_of(
+    given: Sequence[str], entities: Mapping[str, EntityDescription]
+) -> Dict[str, List[Any]]:
+    """The keys that are given as `Entity=7`, `Entity=1..100` or, of several parts,
+    `Entity=[1,"a",{"hex":"0aff"}]`; a text of its own may go without quotes. A `ValueError`
+    where one is none."""
     keys: Dict[str, List[Any]] = {}
     for said in given:
         name, mark, text = said.partition("=")

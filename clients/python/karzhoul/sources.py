@@ -94,7 +94,9 @@ class Source(AbstractContextManager["Source"]):
         try:
             return item_of_line(line, self._shapes)
         except Unfit as fault:
-            raise self.fault(number, str(fault)) from None
+            is_other = number == 1 and not line.lstrip().startswith("{")
+            way = "; a CSV is loaded by --csv ENTITY" if is_other else ""
+            raise self.fault(number, f"{fault}{way}") from None
 
     # ---- CSV
 

@@ -1,7 +1,9 @@
-"""A reader of JSON that takes exactly the texts that the program takes, and knows where each value stands in its text.
+"""A reader of JSON that takes exactly the texts that the program takes, and knows where each value
+stands in its text.
 
-The program's reader takes no byte order mark, no lone surrogate, no number beyond a float's range and at most 127 open lists and
-objects, and of a repeated member the last one counts. Python's own `json` differs in each of these.
+The program's reader takes no byte order mark, no lone surrogate, no number beyond a float's range
+and at most 127 open lists and objects, and of a repeated member the last one counts. Python's own
+`json` differs in each of these.
 """
 
 from __future__ import annotations
@@ -30,8 +32,8 @@ class NoJson(ValueError):
 
 
 class Value(NamedTuple):
-    """A value and the offset at which it stands. Objects are dicts from names to values, lists are lists of values; a whole number
-    of 64 bits is an int, and any other number a float."""
+    """A value and the offset at which it stands. Objects are dicts from names to values, lists are
+    lists of values; a whole number of 64 bits is an int, and any other number a float."""
 
     data: Union[None, bool, int, float, str, List["Value"], Dict[str, "Value"]]
     at: int
@@ -168,7 +170,10 @@ class _Reader:
                 self.at += 1
                 return "".join(parts)
             if mark != "\\":
-                raise NoJson("a control character stands in a text" if mark else "a text isn't closed", self.at if mark else start)
+                raise NoJson(
+                    "a control character stands in a text" if mark else "a text isn't closed",
+                    self.at if mark else start,
+                )
             parts.append(self.escape())
 
     def escape(self) -> str:

@@ -1,7 +1,9 @@
-"""Typed classes of a mapping's entities: the writer of a module of them (`karzhoul stubs`), and what such a module stands on.
+"""Typed classes of a mapping's entities: the writer of a module of them (`karzhoul stubs`), and
+what such a module stands on.
 
-The classes are for type checkers and editors. They stand for their entities wherever a name does, as in `app.new(Person, name="Ada")`
-or `manager.find(Person, 1)`; `app.entity(Person)` is the class that makes objects, with the same types.
+The classes are for type checkers and editors. They stand for their entities wherever a name does,
+as in `app.new(Person, name="Ada")` or `manager.find(Person, 1)`; `app.entity(Person)` is the class
+that makes objects, with the same types.
 """
 
 from __future__ import annotations
@@ -40,7 +42,10 @@ class TypedEntity(Entity, metaclass=_ByName):
 
         def __new__(cls, /, **values):
             """Refuses: of which factory would the object be?"""
-            raise TypeError(f"{cls.__name__} alone makes no objects: app.entity({cls.__name__}) does, or app.new({cls.__name__}, ..)")
+            raise TypeError(
+                f"{cls.__name__} alone makes no objects: app.entity({cls.__name__}) does, or "
+                f"app.new({cls.__name__}, ..)"
+            )
 
 
 class TypedId(EmbeddedId):
@@ -52,7 +57,8 @@ class TypedId(EmbeddedId):
 
 
 class View(Generic[Got, Given]):
-    """The type of a member that is looked at through a view, as a collection, and takes more when it is assigned, as any list."""
+    """The type of a member that is looked at through a view, as a collection, and takes more when
+    it is assigned, as any list."""
 
     if TYPE_CHECKING:
 
@@ -80,7 +86,8 @@ _FROM = {
 }
 """What the classes are written with, and where it is imported from."""
 _TYPES = {"int": "int", "text": "str", "bytes": "bytes"}
-_HEAD = '''"""Typed classes of the entities of {source}. `karzhoul stubs` wrote this: change the mapping, and have it written again."""
+_HEAD = '''"""Typed classes of the entities of {source}. `karzhoul stubs` wrote this: \
+change the mapping, and have it written again."""
 
 from __future__ import annotations
 '''
@@ -94,7 +101,12 @@ def module_of(mapping: Mapping[str, Any], source: str) -> str:
 class _Writer:
     def __init__(self, entities: Mapping[str, EntityDescription]) -> None:
         self._entities = entities
-        self._members = {step for entity in entities.values() for member in entity.members for step in member.name.split(".")}
+        self._members = {
+            step
+            for entity in entities.values()
+            for member in entity.members
+            for step in member.name.split(".")
+        }
         self._members |= {entity.embedded for entity in entities.values() if entity.embedded}
         self._taken = {*entities, *self._members}
         self._used: Set[str] = set()
@@ -106,7 +118,12 @@ class _Writer:
         classes = [text for entity in self._superclasses_first() for text in self._classes(entity)]
         aliases = [f"{alias} = {name}" for name, alias in self._aliases.items()]
         parts = [_HEAD.format(source=source.replace("\\", "/").replace('"', "'")), *self._imports()]
-        return "\n".join(parts) + "\n\n\n" + "\n\n\n".join([*classes, *(["\n".join(aliases)] if aliases else [])]) + "\n"
+        return (
+            "\n".join(parts)
+            + "\n\n\n"
+            + "\n\n\n".join([*classes, *(["\n".join(aliases)] if aliases else [])])
+            + "\n"
+        )
 
     def _superclasses_first(self) -> Iterator[EntityDescription]:
         written: Set[str] = set()
@@ -124,8 +141,14 @@ class _Writer:
         for name in sorted(self._used):
             word = self._free(name)
             if word != name or _FROM[name] != "builtins":
-                named.setdefault(_FROM[name], []).append(name if word == name else f"{name} as {word}")
-        standard = [f"from {module} import {', '.join(named.pop(module))}" for module in ("builtins", "typing") if module in named]
+                named.setdefault(_FROM[name], []).append(
+                    name if word == name else f"{name} as {word}"
+                )
+        standard = [
+            f"from {module} import {', '.join(named.pop(module))}"
+            for module in ("builtins", "typing")
+            if module in named
+        ]
         own = [f"from {module} import {', '.join(names)}" for module, names in named.items()]
         return iter([*standard, *([""] if standard else []), *own])
 
@@ -150,21 +173,38 @@ class _Writer:
         is_root = entity.superclass is None
         if is_root and entity.embedded:
             parts = [(part.name.partition(".")[2], self._plain(part)) for part in entity.key]
-            yield self._class(self._id_of(entity), self._word("TypedId"), f"The embedded id {entity.embedded} of {entity.name}.", parts)
+            yield self._class(
+                self._id_of(entity),
+                self._word("TypedId"),
+                f"The embedded id {entity.embedded} of {entity.name}.",
+                parts,
+            )
         base = self._word("TypedEntity") if entity.superclass is None else entity.superclass
         members = list(self._typed(entity))
         own = [(member, got) for member, declarer, got, _ in members if declarer == entity.name]
-        given = [f"        {member}: {taken} = ...,\n" for member, _, _, taken in members if _can_stand(member)]
-        made = f"    def __init__(\n        {self._free('self')},\n        *,\n{''.join(given)}    ) -> None: ..."
+        given = [
+            f"        {member}: {taken} = ...,\n"
+            for member, _, _, taken in members
+            if _can_stand(member)
+        ]
+        made = (
+            f"    def __init__(\n        {self._free('self')},\n        *,\n"
+            f"{''.join(given)}    ) -> None: ..."
+        )
         yield f"{self._class(entity.name, base, f'The entity {entity.name}.', own)}\n\n{made}"
 
     @staticmethod
     def _class(name: str, base: str, what: str, members: List[Tuple[str, str]]) -> str:
-        lines = [f"    {member}: {kind}" if _can_stand(member) else f"    # {member}: {kind}" for member, kind in members]
-        return "\n".join([f"class {name}({base}):", f'    """{what}"""', *([""] if lines else []), *lines])
+        lines = [
+            f"    {member}: {kind}" if _can_stand(member) else f"    # {member}: {kind}"
+            for member, kind in members
+        ]
+        return "\n".join(
+            [f"class {name}({base}):", f'    """{what}"""', *([""] if lines else []), *lines]
+        )
 
     def _typed(self, entity: EntityDescription) -> Iterator[Tuple[str, str, str, str]]:
-        """Each member with its declarer, the type that it is read with and the type that it takes."""
+        """Each member with its declarer, and the types that it is read with and that it takes."""
         if entity.embedded:
             root = entity.key[0].declarer
             parts = ", ".join(map(self._plain, entity.key))
@@ -181,7 +221,9 @@ class _Writer:
             target = self._entity(member.type)
             taken = f"{self._word('Iterable')}[{target}]"
             return f"{self._word('View')}[{self._word('Collection')}[{target}], {taken}]", taken
-        kind = self._entity(member.type) if member.kind is MemberKind.TO_ONE else self._plain(member)
+        kind = (
+            self._entity(member.type) if member.kind is MemberKind.TO_ONE else self._plain(member)
+        )
         kind = kind if member.is_required else f"{self._word('Optional')}[{kind}]"
         return kind, kind
 

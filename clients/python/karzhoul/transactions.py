@@ -17,7 +17,8 @@ if TYPE_CHECKING:
 class EntityTransaction:
     """The transaction of a manager; each manager has one of its own.
 
-    `is_active` says whether it is open. Where one of its calls was interrupted it may be over all the same: then `rollback` is refused.
+    `is_active` says whether it is open. Where one of its calls was interrupted it may be over all
+    the same: then `rollback` is refused.
     """
 
     def __init__(self, manager: EntityManager) -> None:
@@ -36,7 +37,8 @@ class EntityTransaction:
         return self
 
     def commit(self) -> None:
-        """Stores the manager's new and changed objects, all or none. After a `Rollback` it is rolled back."""
+        """Stores the manager's new and changed objects, all or none. After a `Rollback` it is
+        rolled back."""
         try:
             self._ask("commit")
         except Rollback:
@@ -93,8 +95,8 @@ class EntityTransaction:
 
 
 class Attempt:
-    """One attempt of `EntityManager.attempts`, whose `with` block is a transaction. Where the block is
-    left by a `Rollback` since another manager's commit came first, it is to be made again."""
+    """One attempt of `EntityManager.attempts`, whose `with` block is a transaction. Where the block
+    is left by a `Rollback` since another manager's commit came first, it is to be made again."""
 
     def __init__(self, transaction: EntityTransaction, is_last: bool) -> None:
         self._transaction, self._is_last = transaction, is_last

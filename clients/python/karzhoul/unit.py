@@ -1,4 +1,5 @@
-"""What the tools know of a mapping: the entities, and the members of each along its chain of classes."""
+"""What the tools know of a mapping: the entities, and the members of each along its chain of
+classes."""
 
 from __future__ import annotations
 
@@ -19,7 +20,7 @@ class MemberKind(enum.Enum):
 
 @dataclass(frozen=True)
 class Member:
-    """A member by the name that `get` and `set` know it by: a part of an embedded id is `id.part`."""
+    """A member by the name that `get` and `set` take: a part of an embedded id is `id.part`."""
 
     name: str
     kind: MemberKind
@@ -50,7 +51,11 @@ class EntityDescription:
     @property
     def relations(self) -> Tuple[Member, ...]:
         """The relations."""
-        return tuple(member for member in self.members if member.kind in (MemberKind.TO_ONE, MemberKind.COLLECTION))
+        return tuple(
+            member
+            for member in self.members
+            if member.kind in (MemberKind.TO_ONE, MemberKind.COLLECTION)
+        )
 
 
 def entities_of(mapping: Mapping[str, Any]) -> Dict[str, EntityDescription]:
@@ -66,23 +71,37 @@ def _described(declared: Mapping[str, Any], name: str) -> EntityDescription:
     root = chain[0]
     members = [*_key(root), *(member for entity in chain for member in _own(entity))]
     return EntityDescription(
-        name, declared[name].get("extends"), root.get("embedded"), root.get("generated", False), tuple(members)
+        name, declared[name].get("extends"), root.get("embedded"), root.get("generated", False),
+        tuple(members),
     )
 
 
 def _key(root: Any) -> Iterator[Member]:
     prefix = f"{root['embedded']}." if "embedded" in root else ""
     for part in root["key"]:
-        yield Member(prefix + part["name"], MemberKind.KEY, part["type"], root["name"], is_required=True)
+        yield Member(
+            prefix + part["name"], MemberKind.KEY, part["type"], root["name"], is_required=True
+        )
     if "version" in root:
-        yield Member(root["version"]["name"], MemberKind.VERSION, "int", root["name"], is_required=True)
+        yield Member(
+            root["version"]["name"], MemberKind.VERSION, "int", root["name"], is_required=True
+        )
 
 
 def _own(entity: Any) -> Iterator[Member]:
     for attribute in entity.get("attributes", ()):
         is_required = attribute.get("required", False)
-        yield Member(attribute["name"], MemberKind.ATTRIBUTE, attribute["type"], entity["name"], is_required=is_required)
+        yield Member(
+            attribute["name"], MemberKind.ATTRIBUTE, attribute["type"], entity["name"],
+            is_required=is_required,
+        )
     for relation in entity.get("relations", ()):
-        kind = MemberKind.TO_ONE if relation["kind"] in ("manyToOne", "oneToOne") else MemberKind.COLLECTION
+        kind = (
+            MemberKind.TO_ONE
+            if relation["kind"] in ("manyToOne", "oneToOne")
+            else MemberKind.COLLECTION
+        )
         is_owner, is_required = "mappedBy" not in relation, relation.get("required", False)
-        yield Member(relation["name"], kind, relation["target"], entity["name"], is_owner, is_required)
+        yield Member(
+            relation["name"], kind, relation["target"], entity["name"], is_owner, is_required
+        )

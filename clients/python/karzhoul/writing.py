@@ -91,7 +91,7 @@ class Writer:
                 objects = self.em.find_many(entity, [row.record.key for row in some])
             for row, each in zip(some, objects):
                 row.object = each
-                self._lines[each.__number__] = row.line
+                self._lines[each._karzhoul_number] = row.line
                 if row.shape.top in self._targeted and row.record.key is not None:
                     self._objects.setdefault(row.shape.top, {})[row.record.key] = each
 
@@ -164,7 +164,7 @@ class Writer:
                 self.nexts[row.shape.top] = row.number() + 1
                 if row.number() > following:
                     unused[row.line] = self._taking(row.record, row.number() - following)
-                    self._lines.update({it.__number__: row.line for it in unused[row.line]})
+                    self._lines.update({it._karzhoul_number: row.line for it in unused[row.line]})
         return unused
 
     def _taking(self, record: Record, count: int) -> List[Any]:

@@ -1,6 +1,7 @@
 #!/usr/bin/env python3
-"""Plays a program that holds objects with values, and one transaction: enough of it to interrupt its callers. Each line that comes is
-written to the file KARZHOUL_LEDGER. A query's text is how many seconds it takes; `persist` tells an event."""
+"""Plays a program that holds objects with values, and one transaction: enough of it to interrupt
+its callers. Each line that comes is written to the file KARZHOUL_LEDGER. A query's text is how
+many seconds it takes; `persist` tells an event."""
 
 import json
 import os

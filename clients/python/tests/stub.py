@@ -1,7 +1,8 @@
 #!/usr/bin/env python3
-"""Plays a program: takes the lines after `> ` of the file KARZHOUL_TRANSCRIPT in their order and answers those after `< `; an empty line
-is answered BadLine, as the program does, and any other line ends it with status 9. `! N` in the place of an answer ends it with
-status N, `! kill` by a signal, and `! TEXT` writes the text on standard error and ends it with 3."""
+"""Plays a program: takes the lines after `> ` of the file KARZHOUL_TRANSCRIPT in their order and
+answers those after `< `; an empty line is answered BadLine, as the program does, and any other
+line ends it with status 9. `! N` in the place of an answer ends it with status N, `! kill` by a
+signal, and `! TEXT` writes the text on standard error and ends it with 3."""
 
 import json
 import os

@@ -28,26 +28,39 @@ from model.reading import STAGES  # noqa: E402
 
 SERVES_REVISION_2 = "mapping revision 2" not in STAGES
 """Whether the program serves mappings of revision 2."""
-needs_revision_2 = unittest.skipUnless(SERVES_REVISION_2, "the program serves no mapping of revision 2 yet")
+needs_revision_2 = unittest.skipUnless(
+    SERVES_REVISION_2, "the program serves no mapping of revision 2 yet"
+)
 
 
 def tested_program() -> Optional[str]:
-    """The program that is tested: the one that KARZHOUL_PROGRAM names, else the one that runs in this clone without a build."""
+    """The program that is tested: the one that KARZHOUL_PROGRAM names, else the one that runs in
+    this clone without a build."""
     named = os.environ.get("KARZHOUL_PROGRAM")
     if named:
         return shutil.which(named)
     words = [str(TOP / "tools" / "program"), "--any"]
-    return subprocess.run(words, stdin=subprocess.DEVNULL, capture_output=True, text=True).stdout.rstrip("\n") or None
+    return (
+        subprocess.run(
+            words, stdin=subprocess.DEVNULL, capture_output=True, text=True
+        ).stdout.rstrip("\n")
+        or None
+    )
 
 
 PROGRAM = tested_program()
-needs_program = unittest.skipUnless(PROGRAM, "no program runs without a build: run ./jpa --proved once, or set KARZHOUL_PROGRAM")
+needs_program = unittest.skipUnless(
+    PROGRAM, "no program runs without a build: run ./jpa --proved once, or set KARZHOUL_PROGRAM"
+)
 
 
 def package_elsewhere(place: str) -> Path:
-    """A copy of the package in this folder, as a clone has it, but in no clone: so it starts the program that KARZHOUL_PROGRAM names."""
+    """A copy of the package in this folder, as a clone has it, but in no clone: so it starts the
+    program that KARZHOUL_PROGRAM names."""
     folder = Path(place, "clients", "python")
-    shutil.copytree(HERE.parent / "karzhoul", folder / "karzhoul", ignore=shutil.ignore_patterns("__pycache__"))
+    shutil.copytree(
+        HERE.parent / "karzhoul", folder / "karzhoul", ignore=shutil.ignore_patterns("__pycache__")
+    )
     return folder
 
 
@@ -55,17 +68,17 @@ PERSONS: Dict[str, Any] = {
     "revision": 1,
     "entities": [
         {
-            "name": "Person",
-            "table": 1,
-            "key": [{"name": "id", "type": "int"}],
-            "generated": True,
+            "name": "Person", "table": 1, "key": [{"name": "id", "type": "int"}], "generated": True,
             "version": {"name": "version", "column": 1},
             "attributes": [{"name": "name", "type": "text", "column": 2}],
         },
         {
             "name": "Place",
             "table": 7,
-            "key": [{"name": "row", "type": "int"}, {"name": "shelf", "type": "text"}, {"name": "tag", "type": "bytes"}],
+            "key": [
+                {"name": "row", "type": "int"}, {"name": "shelf", "type": "text"},
+                {"name": "tag", "type": "bytes"},
+            ],
             "embedded": "at",
             "attributes": [
                 {"name": "label", "type": "text", "column": 3, "required": True},
@@ -73,7 +86,12 @@ PERSONS: Dict[str, Any] = {
                 {"name": "mood", "type": "text", "column": 5, "converter": "mood"},
             ],
         },
-        {"name": "Order", "table": 2, "key": [{"name": "number", "type": "int"}], "attributes": [{"name": "amount", "type": "int", "column": 1}]},
+        {
+            "name": "Order",
+            "table": 2,
+            "key": [{"name": "number", "type": "int"}],
+            "attributes": [{"name": "amount", "type": "int", "column": 1}],
+        },
     ],
     "functions": [{"name": "mood", "make": "table", "pairs": [["glad", 1], ["sad", 2]]}],
 }
@@ -154,10 +172,15 @@ def examples(name: str) -> Iterator[Example]:
 
 
 def long_text(lines: List[str]) -> str:
-    """The text of lines of which `FIRST..LAST PIECE` stands for its piece once for each number, in place of each `#`."""
+    """The text of lines of which `FIRST..LAST PIECE` stands for its piece once for each number, in
+    place of each `#`."""
     text = ""
     for line in lines:
         found = re.fullmatch(r"(-?\d+)\.\.(-?\d+) (.*)", line)
-        pieces = [found[3].replace("#", str(n)) for n in range(int(found[1]), int(found[2]) + 1)] if found else [line]
+        pieces = (
+            [found[3].replace("#", str(n)) for n in range(int(found[1]), int(found[2]) + 1)]
+            if found
+            else [line]
+        )
         text += "".join(pieces)
     return text

@@ -27,31 +27,63 @@ class Played(unittest.TestCase):
         self.assertIn(words, str(caught.exception))
 
     def test_an_entity_by_a_wrong_name(self) -> None:
-        for name, words in (("Persn", "there is no entity 'Persn': did you mean 'Person'?"), ("X", "there are Person, Place, Order")):
+        for name, words in (
+            ("Persn", "there is no entity 'Persn': did you mean 'Person'?"),
+            ("X", "there are Person, Place, Order"),
+        ):
             self.refused(KeyError, words, lambda app, _, name=name: app.entity(name))
             self.refused(KeyError, words, lambda app, _, name=name: app.new(name))
             self.refused(KeyError, words, lambda app, _, name=name: app.new_many(name, [{}]))
-        self.refused(TypeError, "by its name or its class, and not by 7", lambda app, _: app.entity(7))
+        self.refused(
+            TypeError, "by its name or its class, and not by 7", lambda app, _: app.entity(7)
+        )
 
     def test_a_class_for_a_query(self) -> None:
         words = "a query is a text, as 'SELECT e FROM Person e', and not the class alone"
         for call in ("query", "query_single", "execute_update"):
-            self.refused(TypeError, words, lambda app, manager, call=call: getattr(manager, call)(app.entity("Person")))
-        self.refused(TypeError, "a query is a text, and no bytes", lambda _, manager: manager.query(b"SELECT"))
+            self.refused(
+                TypeError,
+                words,
+                lambda app, manager, call=call: getattr(manager, call)(app.entity("Person")),
+            )
+        self.refused(
+            TypeError,
+            "a query is a text, and no bytes",
+            lambda _, manager: manager.query(b"SELECT"),
+        )
 
     def test_parameters_in_anothers_place(self) -> None:
         words = "parameters are handed in by name: query(text, params={..})"
-        self.refused(TypeError, words, lambda _, manager: manager.query("SELECT p FROM Person p", {"n": 1}))
-        self.refused(TypeError, "params is a dict", lambda _, manager: manager.query("SELECT p FROM Person p", params=[1]))
-        self.refused(TypeError, "the result class is an entity's, or another one as int, and not 7", lambda _, manager: manager.query("SELECT p FROM Person p", 7))
+        self.refused(
+            TypeError, words, lambda _, manager: manager.query("SELECT p FROM Person p", {"n": 1})
+        )
+        self.refused(
+            TypeError,
+            "params is a dict",
+            lambda _, manager: manager.query("SELECT p FROM Person p", params=[1]),
+        )
+        self.refused(
+            TypeError,
+            "the result class is an entity's, or another one as int, and not 7",
+            lambda _, manager: manager.query("SELECT p FROM Person p", 7),
+        )
 
     def test_names_of_parameters(self) -> None:
         for name in (1.5, True, None):
             words = f"a text for its name, or a number for ?1, and not {name!r}"
-            self.refused(TypeError, words, lambda _, manager, name=name: manager.query("SELECT p FROM Person p", params={name: 1}))
+            self.refused(
+                TypeError,
+                words,
+                lambda _, manager, name=name: manager.query(
+                    "SELECT p FROM Person p", params={name: 1}
+                ),
+            )
 
     def test_a_parameter_by_its_number(self) -> None:
-        asked = '> {"call":"query","em":1,"text":"SELECT ?1","params":{"1":7}}\n< {"events":[],"ok":[7]}\n'
+        asked = (
+            '> {"call":"query","em":1,"text":"SELECT ?1","params":{"1":7}}\n'
+            '< {"events":[],"ok":[7]}\n'
+        )
         with played(MANAGER + asked, PERSONS) as app:
             self.assertEqual(app.create_entity_manager().query("SELECT ?1", params={1: 7}), [7])
 
@@ -61,7 +93,9 @@ class Mappings(unittest.TestCase):
         with tempfile.TemporaryDirectory() as place:
             pipe = Path(place, "pipe")
             os.mkfifo(pipe)
-            writing = threading.Thread(target=lambda: pipe.write_text(json.dumps(PERSONS), encoding="utf-8"), daemon=True)
+            writing = threading.Thread(
+                target=lambda: pipe.write_text(json.dumps(PERSONS), encoding="utf-8"), daemon=True
+            )
             writing.start()
             with played("", str(pipe)) as app:
                 self.assertEqual(app.mapping, PERSONS)
@@ -81,7 +115,9 @@ class Mappings(unittest.TestCase):
 class Served(ProgramTest):
     def test_a_parameter_by_its_number(self) -> None:
         person = self.committed(name="Ada")
-        found: List[karzhoul.Entity] = self.em.query("SELECT p FROM Person p WHERE p.id = ?1", params={1: person.id})
+        found: List[karzhoul.Entity] = self.em.query(
+            "SELECT p FROM Person p WHERE p.id = ?1", params={1: person.id}
+        )
         self.assertEqual(found, [person])
 
     def test_a_mapping_of_a_pipe(self) -> None:

@@ -79,7 +79,7 @@ class Wheels(unittest.TestCase):
 
     @unittest.skipUnless(importlib.util.find_spec("pip"), "there is no pip")
     @unittest.skipUnless(
-        takes_the_program(), "the wheel is for Linux on x86-64, with the GNU C library 2.34 or later"
+        takes_the_program(), "it is for Linux on x86-64, with the GNU C library 2.34 or later"
     )
     def test_the_program_is_installed_and_found(self) -> None:
         program = STUB.read_bytes()

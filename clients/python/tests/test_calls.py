@@ -38,7 +38,10 @@ class Objects(ProgramTest):
                 self.assertEqual((order.number, order.amount), (10, -5))
 
     def test_values_of_each_type(self) -> None:
-        place = self.Place(at={"row": -1, "shelf": 'é"\0\u2028', "tag": b"\0\xff"}, label="", scan=bytearray(b"\x0a"), mood="glad")
+        place = self.Place(
+            at={"row": -1, "shelf": 'é"\0\u2028', "tag": b"\0\xff"},
+            label="", scan=bytearray(b"\x0a"), mood="glad",
+        )
         with self.em.transaction():
             self.em.persist(place)
         self.assertEqual(tuple(place.at), (-1, 'é"\0\u2028', b"\0\xff"))
@@ -75,9 +78,15 @@ class Objects(ProgramTest):
 
     def test_an_embedded_id_takes_exactly_its_parts(self) -> None:
         place = self.Place(at=(1, "a", b""))
-        wrong: List[Any] = [(7, "b", b"", 9), (7,), (), {"row": 7, "shelf": "b"}, {"row": 7, "shelf": "b", "tag": b"", "x": 1}, "abc", b"abc", 7, None]
+        wrong: List[Any] = [
+            (7, "b", b"", 9), (7,), (), {"row": 7, "shelf": "b"},
+            {"row": 7, "shelf": "b", "tag": b"", "x": 1},
+            "abc", b"abc", 7, None,
+        ]
         for given in wrong:
-            with self.subTest(given), self.assertRaisesRegex(ValueError, "at takes row, shelf, tag, and not"):
+            with self.subTest(given), self.assertRaisesRegex(
+                ValueError, "at takes row, shelf, tag, and not"
+            ):
                 place.at = given
         with self.assertRaises(TypeError):
             place.at = (7, "b", 1.5)
@@ -93,11 +102,17 @@ class Objects(ProgramTest):
 
     def test_an_embedded_id_is_set_whole_or_not_at_all(self) -> None:
         long = "x" * 65_536
-        wrong: List[Any] = [(7, "b", "c"), (7, 8, b"c"), ("7", "b", b"c"), (7, "b", self.Place()), (7, "b", 1)]
+        wrong: List[Any] = [
+            (7, "b", "c"), (7, 8, b"c"), ("7", "b", b"c"), (7, "b", self.Place()), (7, "b", 1),
+        ]
         wrong += [(7, long, b"c"), (7, "b", long.encode()), (7, "\u00e4" * 32_768, b"c")]
         place = self.Place(at=(1, "a", b""))
         for given in wrong:
-            refused = karzhoul.Limit if any(len(str(part)) > 32_767 for part in given) else karzhoul.IllegalArgument
+            refused = (
+                karzhoul.Limit
+                if any(len(str(part)) > 32_767 for part in given)
+                else karzhoul.IllegalArgument
+            )
             with self.subTest(str(given)[:40]):
                 with self.assertRaises(refused):
                     place.at = given
@@ -119,7 +134,9 @@ class Objects(ProgramTest):
 
     def test_an_embedded_id_as_a_value(self) -> None:
         first, second, third = (self.Place(at=(row, "a", b"")) for row in (1, 1, 2))
-        self.assertTrue(first.at == second.at == (1, "a", b"") and first.at != third.at and first.at != (1, "a"))
+        self.assertTrue(
+            first.at == second.at == (1, "a", b"") and first.at != third.at and first.at != (1, "a")
+        )
         self.assertEqual({first.at: 1}[(1, "a", b"")], 1)
         self.assertEqual(len({first.at, second.at, third.at}), 2)
         self.assertEqual(repr(first.at), "<at row=1 shelf='a' tag=b''>")
@@ -217,7 +234,10 @@ class Transactions(ProgramTest):
                 pass
         refused = raised.exception
         self.assertIsInstance(refused.cause, karzhoul.OptimisticLock)
-        self.assertEqual([(event.kind, event.object) for event in refused.events], [(LifecycleEvent.PRE_UPDATE, first)])
+        self.assertEqual(
+            [(event.kind, event.object) for event in refused.events],
+            [(LifecycleEvent.PRE_UPDATE, first)],
+        )
         self.assertEqual(str(refused), "Rollback(OptimisticLock)")
         again = self.em.find(self.Person, 1)
         self.assertIsNot(again, first)
@@ -303,7 +323,10 @@ class Events(ProgramTest):
 
     def test_a_callback_hears_what_it_asked_for_and_may_call(self) -> None:
         told = []
-        self.app.listen(lambda event: told.append((type(event.object), event.object.name)), LifecycleEvent.POST_LOAD)
+        self.app.listen(
+            lambda event: told.append((type(event.object), event.object.name)),
+            LifecycleEvent.POST_LOAD,
+        )
         self.committed(name="Ada")
         self.app.create_entity_manager().find(self.Person, 1)
         self.assertEqual(told, [(self.Person, "Ada")])
@@ -363,7 +386,9 @@ class Pipelines(ProgramTest):
                 order.amount = 5
                 self.app.set(order, "nothing", 1)
         self.assertEqual(raised.exception.detail, "type")
-        self.assertEqual([str(later) for later in raised.exception.later], ["IllegalArgument(name)"])
+        self.assertEqual(
+            [str(later) for later in raised.exception.later], ["IllegalArgument(name)"]
+        )
         self.assertIn('"five"', raised.exception.line)
         self.assertEqual(order.amount, 5)
 

@@ -96,6 +96,9 @@ class Dumps(Carrying):
         status, _, err = self.ran("dump", self.db, "--query", "SELECT o.id FROM Order o")
         self.assertEqual((status, "select a variable" in err), (4, True))
         self.assertEqual(self.ran("dump", self.db, "--linked")[0], 4)
+        status, _, err = self.ran("dump", self.db, "--query", "SELECT o FROM Ordr o")
+        self.assertEqual(status, 4)
+        self.assertIn("the query is refused: IllegalArgument(typing)\n  1:15: Ordr: ", err)
 
     def test_what_others_lead_to_comes_before_them(self) -> None:
         shapes = shapes_of(json.loads(CARRIED.read_text(encoding="utf-8")))
@@ -184,9 +187,10 @@ class Csv(Carrying):
 @needs_program
 class Loads(Carrying):
     def test_lines_that_are_no_rows(self) -> None:
+        way = "; a CSV is loaded by --csv ENTITY"
         told = {
-            "x": "this is no JSON: Expecting value: line 1 column 1 (char 0)",
-            "7": 'a line is an object, as {"entity":..}, and not 7',
+            "x": f"this is no JSON: Expecting value: line 1 column 1 (char 0){way}",
+            "7": f'a line is an object, as {{"entity":..}}, and not 7{way}',
             '{"dump":2}': "this is a dump of the format 2, and 1 is served",
             '{"entity":"Persn"}': "there is no entity 'Persn': did you mean 'Person'?",
             '{"entity":"Person","value":{}}':
@@ -301,8 +305,10 @@ class Loads(Carrying):
         self.assertEqual(self.loaded(self.db, dump, "--dry-run", "--update"), out)
         self.assertEqual(cells(self.db), before)
         row = '{"entity":"Order","values":{"status":"lost"},"links":{"customer":[1]}}\n'
-        why, left = self.refused(self.db, '{"entity":"Person"}\n' * 3 + row, "--dry-run")
-        self.assertEqual((why.partition(": P")[0], left), ("file:4: Order", "nothing was stored"))
+        rows = '{"entity":"Person"}\n' * 3 + row
+        why, left = self.refused(self.db, rows, "--dry-run", "--size", "2")
+        self.assertEqual(why.partition(": P")[0], "file:4: Order")
+        self.assertEqual(left, "nothing was stored, and the 2 rows up to line 2 can be")
 
     def test_an_update_gives_stored_objects_the_values_of_rows(self) -> None:
         self.stored()
@@ -339,6 +345,10 @@ class Loads(Carrying):
         rows += '{"entity":"Person","next":80}\n'
         with mock.patch.object(loading, "_SLICE", 7):
             self.loaded(self.db, rows)
+            lost = '{"entity":"Order","values":{"status":"lost"},"links":{"customer":[31]}}\n'
+            why, left = self.refused(self.other, rows + lost, "--size", "0")
+            self.assertEqual(left, "nothing was stored")
+            self.assertEqual([cell for cell in cells(self.other) if cell[0] == 0], [])
         self.loaded(self.other, rows, "--size", "2")
         self.assertEqual(cells(self.db), cells(self.other))
         self.assertIn('{"entity":"Person","next":80}', self.dumped(self.db))

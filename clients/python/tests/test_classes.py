@@ -1,4 +1,5 @@
-"""The class of each object that the client hands out: a desk with a hierarchy of customers, their orders and the orders' lines."""
+"""The class of each object that the client hands out: a desk with a hierarchy of customers, their
+orders and the orders' lines."""
 
 from __future__ import annotations
 
@@ -18,38 +19,57 @@ from .support import PROGRAM, TOP, counted, needs_program, played
 DESK: Dict[str, Any] = {
     "revision": 1,
     "entities": [
-        {"name": "Company", "extends": "Customer", "attributes": [{"name": "vat", "type": "text", "column": 3}]},
         {
-            "name": "Customer",
-            "table": 1,
-            "key": [{"name": "id", "type": "int"}],
+            "name": "Company",
+            "extends": "Customer",
+            "attributes": [{"name": "vat", "type": "text", "column": 3}],
+        },
+        {
+            "name": "Customer", "table": 1, "key": [{"name": "id", "type": "int"}],
             "generated": True,
             "attributes": [{"name": "name", "type": "text", "column": 1}],
-            "relations": [{"name": "orders", "kind": "oneToMany", "target": "Order", "mappedBy": "customer", "cascade": ["ALL"]}],
+            "relations": [
+                {
+                    "name": "orders", "kind": "oneToMany", "target": "Order",
+                    "mappedBy": "customer", "cascade": ["ALL"],
+                }
+            ],
             "callbacks": [{"name": "called", "events": ["PostLoad", "PrePersist"]}],
         },
         # A class without a member of its own.
-        {"name": "Friend", "extends": "Customer", "listeners": [{"name": "named", "events": ["PostLoad"]}], "excludeSuper": True},
+        {
+            "name": "Friend",
+            "extends": "Customer",
+            "listeners": [{"name": "named", "events": ["PostLoad"]}],
+            "excludeSuper": True,
+        },
         {
             "name": "Order",
             "table": 2,
             "key": [{"name": "number", "type": "int"}],
             "attributes": [{"name": "note", "type": "text", "column": 2}],
             "relations": [
-                {"name": "customer", "kind": "manyToOne", "target": "Customer", "column": 1, "cascade": ["MERGE"]},
-                {"name": "lines", "kind": "oneToMany", "target": "Line", "mappedBy": "order", "cascade": ["ALL"], "orphanRemoval": True},
+                {
+                    "name": "customer", "kind": "manyToOne", "target": "Customer", "column": 1,
+                    "cascade": ["MERGE"],
+                },
+                {
+                    "name": "lines", "kind": "oneToMany", "target": "Line", "mappedBy": "order",
+                    "cascade": ["ALL"], "orphanRemoval": True,
+                },
             ],
         },
         {
-            "name": "Line",
-            "table": 3,
-            "embedded": "at",
+            "name": "Line", "table": 3, "embedded": "at",
             "key": [{"name": "order", "type": "int"}, {"name": "place", "type": "int"}],
             "relations": [{"name": "order", "kind": "manyToOne", "target": "Order", "column": 1}],
         },
         {"name": "Gift", "extends": "Line"},
     ],
-    "functions": [{"name": "called", "make": "note"}, {"name": "named", "make": "require", "attribute": "name"}],
+    "functions": [
+        {"name": "called", "make": "note"},
+        {"name": "named", "make": "require", "attribute": "name"},
+    ],
 }
 
 
@@ -61,12 +81,18 @@ class DeskTest(unittest.TestCase):
         self.app = karzhoul.open(DESK, program=PROGRAM)
         self.addCleanup(self.app.close)
         self.em = self.app.create_entity_manager()
-        self.Customer, self.Company, self.Friend = map(self.app.entity, ("Customer", "Company", "Friend"))
+        self.Customer, self.Company, self.Friend = map(
+            self.app.entity, ("Customer", "Company", "Friend")
+        )
         self.Order, self.Line, self.Gift = map(self.app.entity, ("Order", "Line", "Gift"))
 
     def stored(self) -> None:
-        """A company with the orders 10, which has a line and a gift, and 11; a friend with order 12; and a customer without any."""
-        customers = [self.Company(name="Ada & Co", vat="AT1"), self.Friend(name="Bob"), self.Customer(name="Cy")]
+        """A company with the orders 10, which has a line and a gift, and 11; a friend with order
+        12; and a customer without any."""
+        customers = [
+            self.Company(name="Ada & Co", vat="AT1"), self.Friend(name="Bob"),
+            self.Customer(name="Cy"),
+        ]
         company, friend, _ = customers
         order = self.Order(number=10, customer=company)
         order.lines = [self.Line(at=(10, 1), order=order), self.Gift(at=(10, 2), order=order)]
@@ -91,42 +117,74 @@ class Found(DeskTest):
             [other] = self.em.query("SELECT o FROM Order o WHERE o.number = 11")
             other.lines = [self.Line(at=(11, 1), order=other)]
         again = self.app.create_entity_manager()
-        self.assertEqual([tuple(line.at) for line in again.find(self.Order, 10).lines], [(10, 1), (10, 2), (10, 3)])
+        self.assertEqual(
+            [tuple(line.at) for line in again.find(self.Order, 10).lines],
+            [(10, 1), (10, 2), (10, 3)],
+        )
         with again.transaction():
             [order] = again.query("SELECT o FROM Order o WHERE o.number = 10")
             order.lines.clear()
         self.assertEqual(again.query("SELECT l.at.order FROM Line l"), [11])
 
     def test_an_object_of_a_subclass_is_one(self) -> None:
-        self.assertTrue(issubclass(self.Company, self.Customer) and issubclass(self.Friend, self.Customer))
-        self.assertFalse(issubclass(self.Company, self.Friend) or issubclass(self.Customer, self.Company))
+        self.assertTrue(
+            issubclass(self.Company, self.Customer) and issubclass(self.Friend, self.Customer)
+        )
+        self.assertFalse(
+            issubclass(self.Company, self.Friend) or issubclass(self.Customer, self.Company)
+        )
         self.stored()
         with counted(self.app) as sent:
             company, friend, customer = self.em.find_many(self.Customer, (1, 2, 3))
         self.assertEqual(len(sent), 3)
         self.assertEqual(self.types((company, friend, customer)), ["Company", "Friend", "Customer"])
         self.assertIsInstance(company, self.Customer)
-        self.assertEqual([repr(each) for each in (company, friend, customer)], ["<Company id=1>", "<Friend id=2>", "<Customer id=3>"])
+        self.assertEqual(
+            [repr(each) for each in (company, friend, customer)],
+            ["<Company id=1>", "<Friend id=2>", "<Customer id=3>"],
+        )
         with self.em.transaction():
             company.vat = "AT2"
-        self.assertEqual(self.app.create_entity_manager().get_reference(self.Customer, 1).vat, "AT2")
+        self.assertEqual(
+            self.app.create_entity_manager().get_reference(self.Customer, 1).vat, "AT2"
+        )
         with self.assertRaises(AttributeError):
             friend.vat = "AT3"
         self.assertIsNone(self.em.find(self.Company, 2))
 
     def test_items_of_a_row(self) -> None:
         self.stored()
-        rows = self.em.query("SELECT c, o, l, 'FROM Line x', :p FROM Customer c, Line l JOIN c.orders o WHERE o = l.order", params={"p": 1})
-        self.assertEqual([self.types(row[:3]) for row in rows], [["Company", "Order", "Line"], ["Company", "Order", "Gift"]])
+        rows = self.em.query(
+            "SELECT c, o, l, 'FROM Line x', :p FROM Customer c, Line l JOIN c.orders o WHERE o = "
+            "l.order",
+            params={"p": 1},
+        )
+        self.assertEqual(
+            [self.types(row[:3]) for row in rows],
+            [["Company", "Order", "Line"], ["Company", "Order", "Gift"]],
+        )
         self.em.clear()
-        self.assertEqual(self.types(self.em.query("select L.ORDER.customer from Line as L".replace("ORDER", "order"))), ["Company", "Company"])
+        self.assertEqual(
+            self.types(
+                self.em.query("select L.ORDER.customer from Line as L".replace("ORDER", "order"))
+            ),
+            ["Company", "Company"],
+        )
         self.em.clear()
-        self.assertEqual(self.types([self.em.query_single("SELECT o.customer FROM Order o WHERE o.number = 12")]), ["Friend"])
+        self.assertEqual(
+            self.types(
+                [self.em.query_single("SELECT o.customer FROM Order o WHERE o.number = 12")]
+            ),
+            ["Friend"],
+        )
 
     def test_what_relations_lead_to(self) -> None:
         self.stored()
         order = self.em.find(self.Order, 10)
-        self.assertEqual(self.types([order.customer, *order.lines, *order.customer.orders]), ["Company", "Line", "Gift", "Order", "Order"])
+        self.assertEqual(
+            self.types([order.customer, *order.lines, *order.customer.orders]),
+            ["Company", "Line", "Gift", "Order", "Order"],
+        )
         friend = self.em.find(self.Order, 12).customer
         self.em.detach(friend)
         self.assertEqual((type(friend), friend.name), (self.Friend, "Bob"))
@@ -136,7 +194,9 @@ class Found(DeskTest):
         self.em.query("SELECT c, l FROM Customer c, Line l")
         with counted(self.app) as sent:
             found = self.em.find_many(self.Customer, (1, 2, 3)) + [self.em.find(self.Line, (10, 2))]
-        self.assertEqual((self.types(found), len(sent)), (["Company", "Friend", "Customer", "Gift"], 4))
+        self.assertEqual(
+            (self.types(found), len(sent)), (["Company", "Friend", "Customer", "Gift"], 4)
+        )
         self.assertIs(self.em.find(self.Customer, 1), found[0])
         self.assertEqual(len({*found, *self.em.find_many(self.Customer, (1, 2, 3))}), 4)
 
@@ -163,7 +223,10 @@ class States(DeskTest):
         self.em.find(self.Customer, 2)
         with self.em.transaction():
             self.em.remove(company)
-        self.assertEqual(self.types(event.object for event in told), ["Company", "Friend", "Order", "Order", "Line", "Gift"])
+        self.assertEqual(
+            self.types(event.object for event in told),
+            ["Company", "Friend", "Order", "Order", "Line", "Gift"],
+        )
         self.assertEqual([event.ran for event in told[:3]], [("called",), ("named", "called"), ()])
 
     def test_a_removed_object_keeps_its_class(self) -> None:
@@ -190,13 +253,19 @@ class States(DeskTest):
         self.stored()
         told = self.heard(LifecycleEvent.PRE_PERSIST, LifecycleEvent.POST_LOAD)
         friend = self.Friend(name="Dan")
-        order = self.Order(number=13, customer=friend, lines=[self.Line(at=(13, 1)), self.Gift(at=(13, 2))])
+        order = self.Order(
+            number=13, customer=friend, lines=[self.Line(at=(13, 1)), self.Gift(at=(13, 2))]
+        )
         for line in order.lines:
             line.order = order
         with self.em.transaction():
             image = self.em.merge(order)
-        self.assertEqual(self.types([image, image.customer, *image.lines]), ["Order", "Friend", "Line", "Gift"])
-        self.assertEqual(sorted(self.types(event.object for event in told)), ["Friend", "Gift", "Line", "Order"])
+        self.assertEqual(
+            self.types([image, image.customer, *image.lines]), ["Order", "Friend", "Line", "Gift"]
+        )
+        self.assertEqual(
+            sorted(self.types(event.object for event in told)), ["Friend", "Gift", "Line", "Order"]
+        )
         self.em.clear()
         company = self.Company(id=1, name="Ada", vat="AT9")
         with self.em.transaction():
@@ -210,7 +279,9 @@ class States(DeskTest):
         self.em.persist(new)
         self.em.flush()
         transaction.rollback()
-        self.assertEqual((type(first), first.vat, type(new), new.name), (self.Company, "AT1", self.Friend, "Eve"))
+        self.assertEqual(
+            (type(first), first.vat, type(new), new.name), (self.Company, "AT1", self.Friend, "Eve")
+        )
         second = self.em.find(self.Customer, 1)
         self.assertIsNot(second, first)
         self.assertIs(type(second), self.Company)
@@ -226,7 +297,9 @@ class States(DeskTest):
         told = self.heard(LifecycleEvent.POST_LOAD)
         with self.assertRaises(karzhoul.Listener) as raised:
             self.em.query("SELECT c FROM Customer c")
-        self.assertEqual([event.ran for event in raised.exception.events], [("called",), ("named",)])
+        self.assertEqual(
+            [event.ran for event in raised.exception.events], [("called",), ("named",)]
+        )
         self.assertEqual(len(told), 2)
         for event in [*raised.exception.events, *told]:
             with self.assertRaisesRegex(LookupError, "refused"):
@@ -240,7 +313,13 @@ class States(DeskTest):
         prompt = Shell(self.app, told.append)
         for said in ("new Friend", "begin", "persist #1", "commit", "clear", "find Friend 1"):
             prompt.do(said)
-        self.assertEqual(told[-2:], ["  PostLoad #2, which ran named", "refused: Listener(require name)\n  " + str(karzhoul.Listener.__doc__)])
+        self.assertEqual(
+            told[-2:],
+            [
+                "  PostLoad #2, which ran named",
+                "refused: Listener(require name)\n  " + str(karzhoul.Listener.__doc__),
+            ],
+        )
 
     def test_a_line_of_one_s_own_makes_an_object_of_its_class(self) -> None:
         made = self.app.send_line('{ "entity":"Customer", "call" : "new" }')
@@ -250,28 +329,60 @@ class States(DeskTest):
 
 class Marks(unittest.TestCase):
     def test_a_mapping_that_is_none_stays_as_it_is(self) -> None:
-        wrong = ['{"entities":{}}', '{"entities":[{"name":"A","listeners":{}}]}', '{"entities":[],"functions":"f"}', '{"entities":[1]}', "[", "[]", "1", ""]
+        wrong = [
+            '{"entities":{}}',
+            '{"entities":[{"name":"A","listeners":{}}]}',
+            '{"entities":[],"functions":"f"}', '{"entities":[1]}', "[", "[]", "1", "",
+        ]
         for text in [*wrong, '\ufeff{"entities":[]}', '{"entities":[{}]}', "[" * 100_000]:
             with self.subTest(text[:50]):
                 self.assertEqual(marked_text(text.encode()), text.encode())
         self.assertEqual(marked_text(b"\xff"), b"\xff")
 
     def test_no_mark_has_a_name_of_the_mapping(self) -> None:
-        mapping = {"revision": 1, "entities": [{"name": "A", "listeners": [{"name": "class0", "events": ["PostLoad"]}]}, {"name": "class_"}]}
+        mapping = {
+            "revision": 1,
+            "entities": [
+                {"name": "A", "listeners": [{"name": "class0", "events": ["PostLoad"]}]},
+                {"name": "class_"},
+            ],
+        }
         self.assertEqual(marks_of(mapping), {"class__0": "A", "class__1": "class_"})
         made = marked(mapping)
-        self.assertEqual(made["entities"][0]["listeners"], [{"name": "class__0", "events": ["PostLoad"]}, {"name": "class0", "events": ["PostLoad"]}])
-        self.assertEqual(made["functions"], [{"name": "class__0", "make": "note"}, {"name": "class__1", "make": "note"}])
+        self.assertEqual(
+            made["entities"][0]["listeners"],
+            [
+                {"name": "class__0", "events": ["PostLoad"]},
+                {"name": "class0", "events": ["PostLoad"]},
+            ],
+        )
+        self.assertEqual(
+            made["functions"],
+            [{"name": "class__0", "make": "note"}, {"name": "class__1", "make": "note"}],
+        )
         self.assertEqual(made["revision"], 1)
         self.assertNotIn("functions", mapping)
 
     def test_objects_that_a_merge_makes_on_its_way_are_marked_when_they_are_made(self) -> None:
-        heard = {entity["name"]: entity["listeners"][0]["events"] for entity in marked(DESK)["entities"]}
+        heard = {
+            entity["name"]: entity["listeners"][0]["events"] for entity in marked(DESK)["entities"]
+        }
         self.assertEqual(set(map(tuple, heard.values())), {("PostLoad", "PrePersist")})
         flat = {**DESK, "entities": [{**entity, "relations": []} for entity in DESK["entities"]]}
-        self.assertEqual([entity["listeners"][0]["events"] for entity in marked(flat)["entities"]], [["PostLoad"]] * 6)
-        ring = {"entities": [{"name": "A", "extends": "B"}, {"name": "B", "extends": "A", "relations": [{"target": "A", "cascade": ["ALL"]}]}]}
-        self.assertEqual([entity["listeners"][0]["events"] for entity in marked(ring)["entities"]], [["PostLoad", "PrePersist"]] * 2)
+        self.assertEqual(
+            [entity["listeners"][0]["events"] for entity in marked(flat)["entities"]],
+            [["PostLoad"]] * 6,
+        )
+        ring = {
+            "entities": [
+                {"name": "A", "extends": "B"},
+                {"name": "B", "extends": "A", "relations": [{"target": "A", "cascade": ["ALL"]}]},
+            ]
+        }
+        self.assertEqual(
+            [entity["listeners"][0]["events"] for entity in marked(ring)["entities"]],
+            [["PostLoad", "PrePersist"]] * 2,
+        )
 
     @needs_program
     def test_the_image_of_an_object_is_of_its_class(self) -> None:
@@ -280,14 +391,22 @@ class Marks(unittest.TestCase):
             app.listen(told.append)
             order, note = app.new("Order", at=(1, "a")), app.new("Note", at=(1, "b"))
             images = [em.merge(order), em.merge(note)]
-            self.assertEqual([type(each) for each in images], [app.entity("Order"), app.entity("Note")])
-            self.assertEqual([(event.object, event.ran) for event in told], [(each, ("seen",)) for each in images])
+            self.assertEqual(
+                [type(each) for each in images], [app.entity("Order"), app.entity("Note")]
+            )
+            self.assertEqual(
+                [(event.object, event.ran) for event in told],
+                [(each, ("seen",)) for each in images],
+            )
 
     @needs_program
     def test_the_program_refuses_the_mapping_that_was_given(self) -> None:
         person = {"name": "Person", "table": 1, "key": [{"name": "id", "type": "int"}]}
         refused = {
-            "function": {"revision": 1, "entities": [{**person, "listeners": [{"name": "class0", "events": ["PostLoad"]}]}]},
+            "function": {
+                "revision": 1,
+                "entities": [{**person, "listeners": [{"name": "class0", "events": ["PostLoad"]}]}],
+            },
             "shape": {"revision": 1, "entities": [{**person, "listeners": {}}]},
             "model": {"revision": 1, "entities": []},
         }
@@ -301,7 +420,9 @@ class Marks(unittest.TestCase):
             with self.assertRaises(karzhoul.Mapping) as raised:
                 karzhoul.open(path, program=PROGRAM)
             self.assertEqual((raised.exception.detail, raised.exception.faults), ("json", ()))
-            path.write_text("\ufeff" + json.dumps({"revision": 1, "entities": [person]}), encoding="utf-8")
+            path.write_text(
+                "\ufeff" + json.dumps({"revision": 1, "entities": [person]}), encoding="utf-8"
+            )
             with self.assertRaises(karzhoul.Mapping) as raised:
                 karzhoul.open(path, program=PROGRAM)
             self.assertEqual(raised.exception.detail, "json")
@@ -310,9 +431,18 @@ class Marks(unittest.TestCase):
 class Lost(unittest.TestCase):
     def test_an_object_whose_class_was_never_told(self) -> None:
         script = '> {"call":"createEntityManager"}\n< {"events":[],"ok":1}\n'
-        script += '> {"call":"find","em":1,"entity":"Customer","key":[1]}\n< {"events":[],"ok":{"object":7}}\n'
-        script += '> {"call":"find","em":1,"entity":"Company","key":[1]}\n< {"events":[],"ok":{"object":7}}\n'
-        script += '> {"call":"find","em":1,"entity":"Customer","key":[1]}\n< {"events":[],"ok":{"object":7}}\n'
+        script += (
+            '> {"call":"find","em":1,"entity":"Customer","key":[1]}\n'
+            '< {"events":[],"ok":{"object":7}}\n'
+        )
+        script += (
+            '> {"call":"find","em":1,"entity":"Company","key":[1]}\n'
+            '< {"events":[],"ok":{"object":7}}\n'
+        )
+        script += (
+            '> {"call":"find","em":1,"entity":"Customer","key":[1]}\n'
+            '< {"events":[],"ok":{"object":7}}\n'
+        )
         with played(script, DESK) as app:
             em = app.create_entity_manager()
             with self.assertRaisesRegex(LookupError, "class of object #7 isn't known"):

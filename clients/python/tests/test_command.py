@@ -93,7 +93,9 @@ class WithStore(unittest.TestCase):
 class Show(WithStore):
     def test_tables(self) -> None:
         before = Path(self.db).read_bytes()
-        status, out, err = self.over("show", self.db, "--key", "Order=1..10", "--key", 'Place=[1,"a",{"hex":"0a"}]')
+        status, out, err = self.over(
+            "show", self.db, "--key", "Order=1..10", "--key", 'Place=[1,"a",{"hex":"0a"}]'
+        )
         self.assertEqual((status, err), (0, ""))
         wanted = [
             "Person: 4 objects (all that are stored)",
@@ -133,7 +135,9 @@ class Show(WithStore):
             some = show.tables(app, {"Person": [30]}, most=3)[0]
             if some.note != "all that are stored":
                 self.assertEqual([row[0] for row in some.rows], [1, 2, 3, 30])
-                self.assertEqual(some.note, "those of the keys from 1 to 3, of the 45 that were given out")
+                self.assertEqual(
+                    some.note, "those of the keys from 1 to 3, of the 45 that were given out"
+                )
 
     def test_the_page(self) -> None:
         page = str(self.place / "page.html")
@@ -154,8 +158,14 @@ class Show(WithStore):
         self.over("show", self.db, "--html", str(page))
         browser = next(found for found in map(shutil.which, BROWSERS) if found)
         shot = self.place / "page.png"
-        words = ["--headless", "--screenshot", str(shot)] if "firefox" in browser else ["--headless", "--no-sandbox", f"--screenshot={shot}"]
-        subprocess.run([browser, *words, page.as_uri()], check=True, capture_output=True, timeout=60)
+        words = (
+            ["--headless", "--screenshot", str(shot)]
+            if "firefox" in browser
+            else ["--headless", "--no-sandbox", f"--screenshot={shot}"]
+        )
+        subprocess.run(
+            [browser, *words, page.as_uri()], check=True, capture_output=True, timeout=60
+        )
         self.assertTrue(shot.read_bytes().startswith(b"\x89PNG"))
 
     def test_a_file_that_another_program_has_open(self) -> None:
@@ -163,7 +173,11 @@ class Show(WithStore):
             for command in ("show", "shell"):
                 status, out, err = self.over(command, self.db)
                 self.assertEqual((status, out), (4, ""))
-                self.assertIn(f"karzhoul: {self.db} can't be opened (StoreFault): it seems that another program has it open", err)
+                self.assertIn(
+                    f"karzhoul: {self.db} can't be opened (StoreFault): it seems that another "
+                    f"program has it open",
+                    err,
+                )
 
     def test_files_that_are_no_database(self) -> None:
         Path(self.db).write_bytes(b"no database at all, whatever its name is")
@@ -198,20 +212,32 @@ class Queried(unittest.TestCase):
         persons = json.loads("\n".join(next(examples("mappings")).given))
         lines = [
             ('{"call":"createEntityManager"}', "1"),
-            ('{"call":"query","em":1,"text":"SELECT e FROM Person e WHERE TYPE(e) = Person"}', '[{"object":1}]'),
+            (
+                '{"call":"query","em":1,"text":"SELECT e FROM Person e WHERE TYPE(e) = Person"}',
+                '[{"object":1}]',
+            ),
             ('{"call":"get","object":1,"name":"id"}', "1"),
             ('{"call":"get","object":1,"name":"version"}', "0"),
             ('{"call":"get","object":1,"name":"name"}', '"Ada"'),
             ('{"call":"get","object":1,"name":"orders"}', '[{"object":2}]'),
             ('{"call":"get","object":2,"name":"number"}', "10"),
-            ('{"call":"query","em":1,"text":"SELECT e FROM Order e WHERE TYPE(e) = Order"}', '[{"object":2}]'),
+            (
+                '{"call":"query","em":1,"text":"SELECT e FROM Order e WHERE TYPE(e) = Order"}',
+                '[{"object":2}]',
+            ),
             ('{"call":"get","object":2,"name":"number"}', "10"),
             ('{"call":"get","object":2,"name":"amount"}', "5"),
             ('{"call":"get","object":2,"name":"person"}', '{"object":1}'),
             ('{"call":"get","object":1,"name":"id"}', "1"),
         ]
         loaded = {lines[1][0]: '["PostLoad",1,"class0"]', lines[5][0]: '["PostLoad",2,"class1"]'}
-        with played("".join(f'> {line}\n< {{"events":[{loaded.get(line, "")}],"ok":{ok}}}\n' for line, ok in lines), persons) as app:
+        with played(
+            "".join(
+                f'> {line}\n< {{"events":[{loaded.get(line, "")}],"ok":{ok}}}\n'
+                for line, ok in lines
+            ),
+            persons,
+        ) as app:
             shown = show.tables(app, {})
         text = show.text_page(shown)
         self.assertIn(" 1 |       0 | Ada  | [Order 10]", text)
@@ -226,7 +252,11 @@ class Queried(unittest.TestCase):
 
 class Diagram(unittest.TestCase):
     def test_relations_are_arrows(self) -> None:
-        entities = list(entities_of(json.loads((HERE / "data" / "relations.json").read_text(encoding="utf-8"))).values())
+        entities = list(
+            entities_of(
+                json.loads((HERE / "data" / "relations.json").read_text(encoding="utf-8"))
+            ).values()
+        )
         drawn = ElementTree.fromstring(diagram(entities))
         titles = [title.text for title in drawn.iter("{http://www.w3.org/2000/svg}title")]
         self.assertEqual(titles, ["A.b to B", "A.bs to B"])
@@ -245,7 +275,8 @@ class Keys(unittest.TestCase):
         entities = entities_of(PERSONS)
         given = ["Order=1..3", "Order=-7", 'Place=[1,"a",{"hex":"0aff"}]', "Person=x"]
         self.assertEqual(
-            show.keys_of(given, entities), {"Order": [1, 2, 3, (-7,)], "Place": [(1, "a", b"\x0a\xff")], "Person": [("x",)]}
+            show.keys_of(given, entities),
+            {"Order": [1, 2, 3, (-7,)], "Place": [(1, "a", b"\x0a\xff")], "Person": [("x",)]},
         )
         for wrong in ("Order", "Nobody=1", "Order=a..b"):
             with self.assertRaises(ValueError):
@@ -269,11 +300,18 @@ class CheckAlone(unittest.TestCase):
             self.assertEqual(alone("check", self.mapping), (0, f"{self.mapping}: good\n", ""))
 
     def test_the_program_is_asked_where_that_is_wanted(self) -> None:
-        with mock.patch("karzhoul.factory.find_program", side_effect=karzhoul.ProgramNotFound("there is none")):
-            self.assertEqual(alone("check", "--with-program", self.mapping), (4, "", "karzhoul: there is none\n"))
+        with mock.patch(
+            "karzhoul.factory.find_program", side_effect=karzhoul.ProgramNotFound("there is none")
+        ):
+            self.assertEqual(
+                alone("check", "--with-program", self.mapping), (4, "", "karzhoul: there is none\n")
+            )
         with mock.patch("karzhoul.factory.open", side_effect=karzhoul.Mapping("model")):
             status, out, _ = alone("check", "--with-program", self.mapping)
-        self.assertEqual((status, out), (3, f"{self.mapping}: well formed, and refused by the program: Mapping(model)\n"))
+        self.assertEqual(
+            (status, out),
+            (3, f"{self.mapping}: well formed, and refused by the program: Mapping(model)\n"),
+        )
 
     def test_a_warning_is_told_of_a_good_mapping(self) -> None:
         warned = copy.deepcopy(PERSONS)
@@ -281,12 +319,30 @@ class CheckAlone(unittest.TestCase):
         Path(self.mapping).write_text(json.dumps(warned), encoding="utf-8")
         status, out, _ = alone("check", self.mapping)
         self.assertEqual((status, out.splitlines()[1]), (0, f"{self.mapping}: good"))
-        self.assertIn("$.functions[1].attribute: no entity has an attribute 'visits' [warning]", out)
+        self.assertIn(
+            "$.functions[1].attribute: no entity has an attribute 'visits' [warning]", out
+        )
 
     def test_a_mapping_from_a_pipe(self) -> None:
         words = [sys.executable, "-m", "karzhoul", "check", "/dev/stdin"]
-        checked = subprocess.run(words, input=json.dumps(PERSONS).encode(), capture_output=True, cwd=HERE.parent, timeout=60)
-        self.assertEqual((checked.returncode, checked.stdout, checked.stderr), (0, b"/dev/stdin: good\n", b""))
+        checked = subprocess.run(
+            words, input=json.dumps(PERSONS).encode(), capture_output=True, cwd=HERE.parent,
+            timeout=60,
+        )
+        self.assertEqual(
+            (checked.returncode, checked.stdout, checked.stderr), (0, b"/dev/stdin: good\n", b"")
+        )
+
+    def test_no_words_are_answered_by_the_help(self) -> None:
+        status, out, err = alone()
+        self.assertEqual((status, out), (2, ""))
+        self.assertIn("a first mapping", err)
+
+    def test_a_mapping_that_is_not_there(self) -> None:
+        for command in ("show", "dump", "shell"):
+            status, _, err = alone(command, __file__, "--mapping", "/nowhere.json")
+            told = "there is no mapping /nowhere.json: --mapping names another one"
+            self.assertEqual((status, err), (4, f"karzhoul: {told}\n"))
 
     def test_an_interrupt_is_a_line(self) -> None:
         with mock.patch("karzhoul.command.lint", side_effect=KeyboardInterrupt):
@@ -296,7 +352,9 @@ class CheckAlone(unittest.TestCase):
         reading, writing = os.pipe()
         os.close(reading)
         words = [sys.executable, "-m", "karzhoul", "check", self.mapping]
-        checked = subprocess.run(words, stdout=writing, stderr=subprocess.PIPE, cwd=HERE.parent, timeout=60)
+        checked = subprocess.run(
+            words, stdout=writing, stderr=subprocess.PIPE, cwd=HERE.parent, timeout=60
+        )
         os.close(writing)
         self.assertEqual((checked.returncode, checked.stderr), (4, b""))
 
@@ -339,34 +397,55 @@ class AShell(unittest.TestCase):
         return list(self.told)
 
     def test_calls_and_their_answers(self) -> None:
-        self.assertEqual(self.says("new Person", 'set #1 name "Ada L"', "get #1 name"), ["#1 Person", "done", '"Ada L"'])
-        self.assertEqual(self.says("begin", "persist #1"), ["done", "  PrePersist #1 Person", "done"])
-        self.assertEqual(self.says("commit", "find Person 1", "find Person 2"), ["  PostPersist #1 Person", "done", "#1 Person", "null"])
-        self.assertEqual(self.says("new Place", "set #2 at.tag x'0aff'", "get #2 at.tag")[2:], ["x'0aff'"])
-        self.assertEqual(self.says("createEntityManager", "find Person 1"), ["2", "  PostLoad #3 Person", "#3 Person"])
+        self.assertEqual(
+            self.says("new Person", 'set #1 name "Ada L"', "get #1 name"),
+            ["#1 Person", "done", '"Ada L"'],
+        )
+        self.assertEqual(
+            self.says("begin", "persist #1"), ["done", "  PrePersist #1 Person", "done"]
+        )
+        self.assertEqual(
+            self.says("commit", "find Person 1", "find Person 2"),
+            ["  PostPersist #1 Person", "done", "#1 Person", "null"],
+        )
+        self.assertEqual(
+            self.says("new Place", "set #2 at.tag x'0aff'", "get #2 at.tag")[2:], ["x'0aff'"]
+        )
+        self.assertEqual(
+            self.says("createEntityManager", "find Person 1"),
+            ["2", "  PostLoad #3 Person", "#3 Person"],
+        )
         self.assertEqual(self.says("manager 1", "find Person 1"), ["#1 Person"])
 
     def test_refusals_are_told_and_nothing_ends(self) -> None:
-        self.assertTrue(self.says("find Nobody 1")[0].startswith("refused: IllegalArgument(entity)"))
+        self.assertTrue(
+            self.says("find Nobody 1")[0].startswith("refused: IllegalArgument(entity)")
+        )
         self.assertTrue(self.says('{"call":"x"}')[0].startswith("refused: BadLine"))
         self.assertEqual(self.says("frobnicate"), ["'frobnicate' is no call: 'help' lists them"])
         self.assertEqual(self.says("set #1 name"), ["value is missing: set #N NAME VALUE"])
         self.assertEqual(self.says("begin now"), ["'now' is too much: begin"])
         self.assertEqual(self.says("persist Ada"), ["'Ada' is no number, and no object as #1"])
         self.assertEqual(self.says(""), [])
-        self.assertIn("Person: id: int (key), version: int (version), name: text", self.says("entities"))
+        self.assertIn(
+            "Person: id: int (key), version: int (version), name: text", self.says("entities")
+        )
         self.assertIn("createEntityManager", self.says("help")[0])
 
     def test_completion(self) -> None:
         complete = self.shell.completions
-        self.assertEqual(complete("", "se"), ["set ", "setFlushMode ", "setRollbackOnly "])
+        self.assertEqual(
+            complete("", "se"), ["select ", "set ", "setFlushMode ", "setRollbackOnly "]
+        )
         self.assertEqual(complete("find ", "P"), ["Person ", "Place "])
         self.assertEqual(complete("get #1 ", "na"), ["name "])
         self.assertEqual(complete("set #9 ", "at.t"), ["at.tag "])
         self.says("new Order")
         self.assertEqual(complete("persist ", "#"), ["#1 "])
         self.assertEqual(complete("get #1 ", ""), ["amount ", "number "])
-        self.assertEqual(complete("lock #1 ", "OPT"), ["OPTIMISTIC ", "OPTIMISTIC_FORCE_INCREMENT "])
+        self.assertEqual(
+            complete("lock #1 ", "OPT"), ["OPTIMISTIC ", "OPTIMISTIC_FORCE_INCREMENT "]
+        )
         self.assertEqual(complete("help ", "mer"), ["merge "])
         self.assertEqual(complete("begin ", ""), [])
 
@@ -380,7 +459,10 @@ class AShell(unittest.TestCase):
 class Words(unittest.TestCase):
     def test_members_of_calls(self) -> None:
         told: Dict[str, Tuple[str, List[str]]] = {
-            '{"em":3,"entity":"Place","key":[1,"a",{"hex":"0a"}]}': ("find", ["Place", "1", "a", "x'0a'"]),
+            '{"em":3,"entity":"Place","key":[1,"a",{"hex":"0a"}]}': (
+                "find",
+                ["Place", "1", "a", "x'0a'"],
+            ),
             '{"object":1,"name":"person","value":{"object":2}}': ("set", ["#1", "person", "#2"]),
             '{"em":3,"text":"SELECT p","params":{"n":"A b","1":null},"first":0,"max":5}': (
                 "query",
@@ -390,7 +472,13 @@ class Words(unittest.TestCase):
             '{"em":3}': ("begin", []),
         }
         for wanted, (call, words) in told.items():
-            said = "{" + ",".join(f'"{name}":{value}' for name, value in members_of(call, words, 3).items()) + "}"
+            said = (
+                "{"
+                + ",".join(
+                    f'"{name}":{value}' for name, value in members_of(call, words, 3).items()
+                )
+                + "}"
+            )
             self.assertEqual(said, wanted)
         self.assertEqual(usage("query"), "query TEXT [:NAME=VALUE..] [first=N] [max=N]")
 
@@ -400,12 +488,24 @@ class Package(unittest.TestCase):
     def test_it_is_installed_by_pip(self) -> None:
         with tempfile.TemporaryDirectory() as place:
             shutil.copytree(HERE.parent, Path(place, "source"))
-            words = ["install", "--quiet", "--no-index", "--no-deps", "--target", str(Path(place, "there")), str(Path(place, "source"))]
-            made = subprocess.run([sys.executable, "-m", "pip", *words], capture_output=True, text=True, timeout=100)
+            words = [
+                "install", "--quiet", "--no-index", "--no-deps", "--target",
+                str(Path(place, "there")), str(Path(place, "source")),
+            ]
+            made = subprocess.run(
+                [sys.executable, "-m", "pip", *words], capture_output=True, text=True, timeout=100
+            )
             self.assertEqual(made.returncode, 0, made.stderr)
-            code, env = "import karzhoul; print(karzhoul.__file__)", {**os.environ, "PYTHONPATH": str(Path(place, "there"))}
-            found = subprocess.run([sys.executable, "-c", code], cwd=place, env=env, capture_output=True, text=True)
-            self.assertEqual(found.stdout.strip(), str(Path(place, "there", "karzhoul", "__init__.py")))
+            code, env = "import karzhoul; print(karzhoul.__file__)", {
+                **os.environ,
+                "PYTHONPATH": str(Path(place, "there")),
+            }
+            found = subprocess.run(
+                [sys.executable, "-c", code], cwd=place, env=env, capture_output=True, text=True
+            )
+            self.assertEqual(
+                found.stdout.strip(), str(Path(place, "there", "karzhoul", "__init__.py"))
+            )
             self.assertTrue(Path(place, "there", "karzhoul", "py.typed").exists())
             self.assertTrue(Path(place, "there", "bin", "karzhoul").exists())
 

@@ -21,7 +21,9 @@ from .support import PERSONS, STUB, TOP
 
 def sums(top: Path, *names: str) -> str:
     """Lines as sha256sum prints them."""
-    return "".join(f"{hashlib.sha256((top / name).read_bytes()).hexdigest()}  {name}\n" for name in names)
+    return "".join(
+        f"{hashlib.sha256((top / name).read_bytes()).hexdigest()}  {name}\n" for name in names
+    )
 
 
 class Finding(unittest.TestCase):
@@ -54,7 +56,9 @@ class Finding(unittest.TestCase):
 
     def test_elsewhere_it_is_the_one_that_is_named(self) -> None:
         package = Path("/karzhoul")
-        with mock.patch.dict(os.environ, PATH=str(self.place)), self.assertRaises(karzhoul.ProgramNotFound):
+        with mock.patch.dict(os.environ, PATH=str(self.place)), self.assertRaises(
+            karzhoul.ProgramNotFound
+        ):
             self.found(package)
         on_path, named = self.started("jpa"), self.started("named")
         with mock.patch.dict(os.environ, PATH=str(self.place)):
@@ -81,11 +85,16 @@ class Finding(unittest.TestCase):
         # It was taken out by hand.
         self.assertEqual(self.found(folder / "karzhoul"), (named, ""))
         own = self.started("bin/jpa")
-        words = f"karzhoul: {own} is started, and not {named}, which KARZHOUL_PROGRAM names: give it as program=..\n"
+        words = (
+            f"karzhoul: {own} is started, and not {named}, which KARZHOUL_PROGRAM names: give it "
+            f"as program=..\n"
+        )
         self.assertEqual(self.found(folder / "karzhoul"), (own, words))
         os.environ["KARZHOUL_PROGRAM"] = own
         self.assertEqual(self.found(folder / "karzhoul"), (own, ""))
-        shutil.move(str(self.place / "bin"), str(folder / "bin"))  # As `pip install --target` has it.
+        shutil.move(
+            str(self.place / "bin"), str(folder / "bin")
+        )  # As `pip install --target` has it.
         del os.environ["KARZHOUL_PROGRAM"]
         self.assertEqual(self.found(folder / "karzhoul"), (str(folder / "bin" / "jpa"), ""))
 
@@ -118,9 +127,13 @@ class Finding(unittest.TestCase):
         self.assertIn("is newer than the program that was built here", said)
         named = os.environ["KARZHOUL_PROGRAM"] = self.started("named")
         found, said = self.found(package)
-        self.assertEqual((found, f"and not {named}, which KARZHOUL_PROGRAM names" in said), (built, True))
+        self.assertEqual(
+            (found, f"and not {named}, which KARZHOUL_PROGRAM names" in said), (built, True)
+        )
 
-    @unittest.skipUnless(os.uname()[0::4] == ("Linux", "x86_64"), "dist/jpa is for Linux on x86-64 processors")
+    @unittest.skipUnless(
+        os.uname()[0::4] == ("Linux", "x86_64"), "dist/jpa is for Linux on x86-64 processors"
+    )
     def test_a_clone_s_dist(self) -> None:
         package = self.clone()
         program = self.started("dist/jpa")
@@ -132,7 +145,9 @@ class Finding(unittest.TestCase):
         (self.place / "crates" / "jpa" / "src" / "lib").write_text("changed", encoding="utf-8")
         with self.assertRaises(karzhoul.ProgramNotFound) as raised:
             self.found(package)
-        self.assertIn("of other sources than these: crates/jpa/src/lib differs", str(raised.exception))
+        self.assertIn(
+            "of other sources than these: crates/jpa/src/lib differs", str(raised.exception)
+        )
 
 
 if __name__ == "__main__":

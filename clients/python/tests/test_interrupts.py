@@ -1,4 +1,5 @@
-"""An interrupt at any moment loses nothing and does nothing twice; what takes too long can be given up."""
+"""An interrupt at any moment loses nothing and does nothing twice; what takes too long can be given
+up."""
 
 from __future__ import annotations
 
@@ -47,7 +48,8 @@ class Interrupted(unittest.TestCase):
         self.addCleanup(signal.setitimer, signal.ITIMER_REAL, 0)
 
     def lines(self, call: str) -> List[Any]:
-        """The lines of a call that have come to the program, after all that was sent before is done."""
+        """The lines of a call that have come to the program, after all that was sent before is
+        done."""
         self.app.send_line('{"call":"get","object":1,"name":"number"}')
         said = map(json.loads, self.log.read_text(encoding="utf-8").splitlines())
         return [each for each in said if each["call"] == call]
@@ -66,7 +68,8 @@ def interrupt_at(seconds: float, work: Callable[[], object]) -> None:
 
 
 def repeat(work: Callable[[], object]) -> None:
-    """Does work for 100 seconds. (An interrupt of the jump at a loop's end passes by a `try` of the same function in Python 3.13.)"""
+    """Does work for 100 seconds. (An interrupt of the jump at a loop's end passes by a `try` of the
+    same function in Python 3.13.)"""
     deadline = time.monotonic() + 100
     while time.monotonic() < deadline:
         work()
@@ -88,7 +91,9 @@ class AtRandom(Interrupted):
 
         self.interrupt_often(count)
         # Each number once: none is lost, and none is set twice.
-        self.assertEqual([each["value"] for each in self.lines("set")], list(range(order.amount + 1)))
+        self.assertEqual(
+            [each["value"] for each in self.lines("set")], list(range(order.amount + 1))
+        )
         self.assertLessEqual(len(counted), order.amount)
         self.assertLessEqual(order.amount, len(counted) + self.ROUNDS)
 
@@ -97,7 +102,7 @@ class AtRandom(Interrupted):
 
         def find() -> None:
             key = next(keys)
-            self.assertEqual(self.em.find("Order", key).__number__, key)
+            self.assertEqual(self.em.find("Order", key)._karzhoul_number, key)
 
         self.interrupt_often(find)
 
@@ -112,19 +117,23 @@ class AtRandom(Interrupted):
 
     def test_many_new_ones(self) -> None:
         amounts = iter(range(10**9))
-        self.interrupt_often(lambda: self.app.new_many("Order", [{"amount": next(amounts)} for _ in range(5)]))
+        self.interrupt_often(
+            lambda: self.app.new_many("Order", [{"amount": next(amounts)} for _ in range(5)])
+        )
         told = [each["value"] for each in self.lines("set")]
         self.assertEqual(told, sorted(set(told)))
         self.assertEqual(self.app.get(self.app.new("Order", amount=7), "amount"), 7)
 
 
 class AtEachStep(Interrupted):
-    """Ctrl-C at each place of the package, and of `contextlib` for it, where the interpreter runs the
-    handlers of signals: where a function begins, and where one of C has ended."""
+    """Ctrl-C at each place of the package, and of `contextlib` for it, where the interpreter runs
+    the handlers of signals: where a function begins, and where one of C has ended."""
 
     def setUp(self) -> None:
         super().setUp()
-        self.addCleanup(signal.signal, signal.SIGINT, signal.signal(signal.SIGINT, signal.default_int_handler))
+        self.addCleanup(
+            signal.signal, signal.SIGINT, signal.signal(signal.SIGINT, signal.default_int_handler)
+        )
 
     def interrupt_at_step(self, number: int, work: Callable[[], object]) -> bool:
         """Does work, interrupted at its step of this number; whether it has as many."""
@@ -133,8 +142,13 @@ class AtEachStep(Interrupted):
         def profile(frame: Any, event: str, _: object) -> None:
             nonlocal left
             file = frame.f_code.co_filename
-            # (Where a generator is called, a profile's exception would pass by its `finally`, as no interrupt does.)
-            is_step = event == "c_return" or event == "call" and not frame.f_code.co_flags & inspect.CO_GENERATOR
+            # (Where a generator is called, a profile's exception would pass by its `finally`, as no
+            # interrupt does.)
+            is_step = (
+                event == "c_return"
+                or event == "call"
+                and not frame.f_code.co_flags & inspect.CO_GENERATOR
+            )
             if is_step and (os.path.dirname(file) == package or file == contextlib.__file__):
                 left -= 1
                 if left == 0:
@@ -193,7 +207,10 @@ class AtEachStep(Interrupted):
         self.app.listen(heard.append)  # (a callback's own steps may be interrupted)
         self.each_step(lambda number: self.em.persist(orders[number]))
         # Each once, of its own object, and in their order.
-        self.assertEqual([event.object.__number__ for event in heard], [each["object"] for each in self.lines("persist")])
+        self.assertEqual(
+            [event.object._karzhoul_number for event in heard],
+            [each["object"] for each in self.lines("persist")],
+        )
         self.assertGreater(len(heard), 10)
 
     def ends_at_each_step(self, work: Callable[[], object]) -> None:
@@ -204,7 +221,9 @@ class AtEachStep(Interrupted):
             self.assertFalse(self.em.transaction().is_active)
             self.em.transaction().begin().rollback()
         self.assertGreater(number, 10)
-        begun, ended = len(self.lines("begin")), len(self.lines("commit")) + len(self.lines("rollback"))
+        begun, ended = len(self.lines("begin")), len(self.lines("commit")) + len(
+            self.lines("rollback")
+        )
         self.assertGreaterEqual(ended, begun)
 
     def test_a_transaction_that_is_committed(self) -> None:
@@ -255,6 +274,21 @@ class AtEachStep(Interrupted):
             number += 1
             for other in made:
                 self.assertFalse(other.transaction().is_active)
+        self.assertGreater(number, 10)
+        closed = {each["em"] for each in self.lines("close")}
+        self.assertEqual({other.number for other in made} - closed, set())
+
+    def test_a_manager_with_its_transaction(self) -> None:
+        made: List[Any] = []
+
+        def work() -> None:
+            with self.app.begin() as other:
+                made.append(other)
+
+        number = 1
+        while self.interrupt_at_step(number, work):
+            number += 1
+            self.em.transaction().begin().rollback()  # None is open.
         self.assertGreater(number, 10)
         closed = {each["em"] for each in self.lines("close")}
         self.assertEqual({other.number for other in made} - closed, set())
@@ -420,7 +454,9 @@ class Killed(unittest.TestCase):
         with tempfile.TemporaryDirectory() as place:
             env = {**os.environ, "KARZHOUL_LEDGER": str(Path(place, "log"))}
             words = [sys.executable, "-c", self.CODE, str(FLAT), str(LEDGER)]
-            with subprocess.Popen(words, cwd=PACKAGE, env=env, stdout=subprocess.PIPE, text=True) as client:
+            with subprocess.Popen(
+                words, cwd=PACKAGE, env=env, stdout=subprocess.PIPE, text=True
+            ) as client:
                 assert client.stdout is not None
                 pids = list(map(int, client.stdout.readline().split()))
                 time.sleep(0.2)
@@ -435,7 +471,9 @@ class Killed(unittest.TestCase):
         apps: List[Any] = []
         with tempfile.TemporaryDirectory() as place:
             with mock.patch.dict(os.environ, KARZHOUL_LEDGER=str(Path(place, "log"))):
-                opens = threading.Thread(target=lambda: apps.append(karzhoul.open(PERSONS, program=LEDGER)))
+                opens = threading.Thread(
+                    target=lambda: apps.append(karzhoul.open(PERSONS, program=LEDGER))
+                )
                 opens.start()
                 opens.join()
             with apps[0] as app:
@@ -451,7 +489,9 @@ class AtRandomOverTheProgram(ProgramTest):
 
     def setUp(self) -> None:
         super().setUp()
-        self.addCleanup(signal.signal, signal.SIGALRM, signal.signal(signal.SIGALRM, signal.default_int_handler))
+        self.addCleanup(
+            signal.signal, signal.SIGALRM, signal.signal(signal.SIGALRM, signal.default_int_handler)
+        )
         self.order = self.Order(number=1, amount=0)
         self.em.transaction().begin()
         self.em.persist(self.order)
@@ -500,11 +540,14 @@ class AtRandomOverTheProgram(ProgramTest):
 
 @needs_program
 class TransactionsAtRandom(ProgramTest):
-    """Ctrl-C at random moments of transactions over the program: none stays open, and each is stored whole or not at all."""
+    """Ctrl-C at random moments of transactions over the program: none stays open, and each is
+    stored whole or not at all."""
 
     def setUp(self) -> None:
         super().setUp()
-        self.addCleanup(signal.signal, signal.SIGINT, signal.signal(signal.SIGINT, signal.default_int_handler))
+        self.addCleanup(
+            signal.signal, signal.SIGINT, signal.signal(signal.SIGINT, signal.default_int_handler)
+        )
         self.addCleanup(signal.signal, signal.SIGALRM, signal.signal(signal.SIGALRM, self.press))
         self.keys, self.committed_keys = iter(range(1, 10**9)), set()
 
@@ -555,7 +598,9 @@ class TransactionsAtRandom(ProgramTest):
 @needs_program
 class OfTheProgram(ProgramTest):
     def test_a_restart(self) -> None:
-        with tempfile.TemporaryDirectory() as place, karzhoul.open(PERSONS, Path(place, "app.db"), program=PROGRAM) as app:
+        with tempfile.TemporaryDirectory() as place, karzhoul.open(
+            PERSONS, Path(place, "app.db"), program=PROGRAM
+        ) as app:
             heard: List[Optional[object]] = []
             app.listen(lambda event: heard.append(event.kind))
             em, Person = app.create_entity_manager(), app.entity("Person")
@@ -568,7 +613,10 @@ class OfTheProgram(ProgramTest):
             os.kill(app.program.pid, signal.SIGKILL)
             app.restart()
             again = app.create_entity_manager()
-            for call in (lambda: ada.name, lambda: setattr(bob, "name", "Cy"), lambda: again.contains(ada), em.clear, em.transaction().commit):
+            for call in (
+                lambda: ada.name, lambda: setattr(bob, "name", "Cy"), lambda: again.contains(ada),
+                em.clear, em.transaction().commit,
+            ):
                 with self.assertRaises(karzhoul.Restarted) as raised:
                     call()
                 self.assertIn("before a restart", str(raised.exception))

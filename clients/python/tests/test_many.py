@@ -1,4 +1,5 @@
-"""Many lines at a time, played by a stub: what is sent, in which order, and what comes of its replies."""
+"""Many lines at a time, played by a stub: what is sent, in which order, and what comes of its
+replies."""
 
 from __future__ import annotations
 
@@ -38,14 +39,23 @@ class Pipelines(unittest.TestCase):
                         order.amount = amount
             refused: List[karzhoul.KarzhoulError] = [raised.exception, *raised.exception.later]
             lines = [each.line for each in refused if isinstance(each, karzhoul.Refused)]
-            self.assertEqual(lines, [f'{{"call":"set","object":1,"name":"amount","value":{amount}}}' for amount in wrong])
+            self.assertEqual(
+                lines,
+                [
+                    f'{{"call":"set","object":1,"name":"amount","value":{amount}}}'
+                    for amount in wrong
+                ],
+            )
             order.amount = 7
 
     def test_events_of_many_lines(self) -> None:
         persists = "".join(
-            f'> {{"call":"new","entity":"Order"}}\n< {{"events":[],"ok":{{"object":{number}}}}}\n' for number in range(1, 101)
+            f'> {{"call":"new","entity":"Order"}}\n< {{"events":[],"ok":{{"object":{number}}}}}\n'
+            for number in range(1, 101)
         ) + "".join(
-            f'> {{"call":"persist","em":1,"object":{number}}}\n< {{"events":[["PrePersist",{number}]],"ok":null}}\n' for number in range(1, 101)
+            f'> {{"call":"persist","em":1,"object":{number}}}\n'
+            f'< {{"events":[["PrePersist",{number}]],"ok":null}}\n'
+            for number in range(1, 101)
         )
         with played(MANAGER + persists, PERSONS) as app:
             told: List[object] = []
@@ -74,7 +84,9 @@ class Pipelines(unittest.TestCase):
                 app.close()
 
     def test_a_program_that_ends_among_many_lines(self) -> None:
-        with played(NEW + sets(range(100), [3]) + sets([100]).replace(f"< {NULL}", "! 4"), PERSONS) as app:
+        with played(
+            NEW + sets(range(100), [3]) + sets([100]).replace(f"< {NULL}", "! 4"), PERSONS
+        ) as app:
             order = app.new("Order")
             with self.assertRaises(karzhoul.ProgramEnded) as raised:
                 with app.pipeline():
@@ -91,7 +103,10 @@ class Answers(unittest.TestCase):
         script[50] = find(50, NULL)
         script[51] = find(51, '{"events":[["PostLoad",7]],"ok":{"object":7}}')
         script[99] = find(99, REFUSED)
-        asked = "".join(f'> {{"call":"get","object":{key},"name":"number"}}\n< {{"events":[],"ok":{key}}}\n' for key in (97, 98))
+        asked = "".join(
+            f'> {{"call":"get","object":{key},"name":"number"}}\n< {{"events":[],"ok":{key}}}\n'
+            for key in (97, 98)
+        )
         with played(MANAGER + "".join(script[:99]) + asked + script[99], PERSONS) as app:
             em, told = app.create_entity_manager(), []
             app.listen(told.append)
@@ -99,13 +114,20 @@ class Answers(unittest.TestCase):
             self.assertIsNone(found[50])
             self.assertIs(found[51], found[7])
             self.assertEqual([event.object for event in told], [found[7]])
-            self.assertEqual([repr(each) for each in found[97:]], ["<Order number=97>", "<Order number=98>"])
+            self.assertEqual(
+                [repr(each) for each in found[97:]], ["<Order number=97>", "<Order number=98>"]
+            )
             with self.assertRaises(karzhoul.IllegalArgument) as raised:
                 em.find_many("Order", [99])
-            self.assertEqual(raised.exception.line, '{"call":"find","em":1,"entity":"Order","key":[99]}')
+            self.assertEqual(
+                raised.exception.line, '{"call":"find","em":1,"entity":"Order","key":[99]}'
+            )
 
     def test_a_reply_that_is_none(self) -> None:
-        for reply in ('{"events":[],"ok":{"object":01}}', '{"events":[],"ok":{"object":}}', '{"events":[]}', "nothing", '{"events":[],"ok":{"object":1}'):
+        for reply in (
+            '{"events":[],"ok":{"object":01}}', '{"events":[],"ok":{"object":}}', '{"events":[]}',
+            "nothing", '{"events":[],"ok":{"object":1}',
+        ):
             with self.subTest(reply), played(MANAGER + find(1, reply), PERSONS) as app:
                 with self.assertRaises(ValueError):
                     app.create_entity_manager().find("Order", 1)

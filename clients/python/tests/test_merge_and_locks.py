@@ -1,4 +1,5 @@
-"""Merge and locks over the program: tests/mappings/persons.json has persons, whose orders go along with them and are removed as orphans."""
+"""Merge and locks over the program: tests/mappings/persons.json has persons, whose orders go along
+with them and are removed as orphans."""
 
 from __future__ import annotations
 
@@ -35,7 +36,9 @@ class MergeAndLocksTest(unittest.TestCase):
         self.app.listen(lambda event: objects.append(event.object), *kinds)
         return objects
 
-    def refuses(self, kind: Type[karzhoul.Refused], detail: object, call: Callable[..., Any], *given: Any) -> None:
+    def refuses(
+        self, kind: Type[karzhoul.Refused], detail: object, call: Callable[..., Any], *given: Any
+    ) -> None:
         with self.assertRaises(kind) as raised:
             call(*given)
         self.assertEqual(raised.exception.detail, detail)
@@ -96,7 +99,10 @@ class Merge(MergeAndLocksTest):
         self.refuses(karzhoul.IllegalArgument, "state", self.em.merge, person)
         self.em.transaction().rollback()
         self.refuses(karzhoul.Persistence, "key", self.em.merge, self.Order())
-        self.refuses(karzhoul.IllegalState, "reference", self.em.merge, self.Order(number=2, person=self.Person()))
+        self.refuses(
+            karzhoul.IllegalState, "reference", self.em.merge,
+            self.Order(number=2, person=self.Person()),
+        )
 
 
 class Locks(MergeAndLocksTest):
@@ -116,7 +122,9 @@ class Locks(MergeAndLocksTest):
 
     def test_a_write_lock_raises_the_version_once(self) -> None:
         person = self.committed()
-        for version, mode in enumerate((LockModeType.WRITE, LockModeType.OPTIMISTIC_FORCE_INCREMENT, "WRITE"), 1):
+        for version, mode in enumerate(
+            (LockModeType.WRITE, LockModeType.OPTIMISTIC_FORCE_INCREMENT, "WRITE"), 1
+        ):
             with self.em.transaction():
                 self.em.lock(person, mode)
                 self.em.flush()
@@ -130,8 +138,12 @@ class Locks(MergeAndLocksTest):
         person = self.committed(1)
         self.refuses(karzhoul.TransactionRequired, None, self.em.lock, person, LockModeType.READ)
         transaction = self.em.transaction().begin()
-        self.refuses(karzhoul.Persistence, "version", self.em.lock, person.orders[0], LockModeType.READ)
-        self.refuses(karzhoul.IllegalArgument, "state", self.em.lock, self.Person(), LockModeType.READ)
+        self.refuses(
+            karzhoul.Persistence, "version", self.em.lock, person.orders[0], LockModeType.READ
+        )
+        self.refuses(
+            karzhoul.IllegalArgument, "state", self.em.lock, self.Person(), LockModeType.READ
+        )
         self.refuses(karzhoul.Rollback, "marked", transaction.commit)
         with self.assertRaises(ValueError):
             self.em.lock(person, "PESSIMISTIC_READ")

@@ -1,4 +1,5 @@
-"""The command that tells what an opening changes: over stores of cells, against values that were worked by hand."""
+"""The command that tells what an opening changes: over stores of cells, against values that were
+worked by hand."""
 
 from __future__ import annotations
 
@@ -27,7 +28,10 @@ Cells = List[Tuple[int, bytes, int, bytes]]
 def cells_of(text: str) -> Cells:
     """Cells as the runs have them: table, row, column, value."""
     parts = [[part.strip() for part in line.split(",")] for line in text.splitlines()]
-    return [(int(table), bytes.fromhex(row), int(column), bytes.fromhex(value)) for table, row, column, value in parts]
+    return [
+        (int(table), bytes.fromhex(row), int(column), bytes.fromhex(value))
+        for table, row, column, value in parts
+    ]
 
 
 class WithStore(unittest.TestCase):
@@ -55,11 +59,13 @@ class WithStore(unittest.TestCase):
     def laid(self, name: str) -> Any:
         """The store and the mapping of a run."""
         self.fill(cells_of((RUNS / name / "cells-before.txt").read_text(encoding="utf-8")))
-        self.mapping.write_text((RUNS / name / "mapping.json").read_text(encoding="utf-8"), encoding="utf-8")
+        self.mapping.write_text(
+            (RUNS / name / "mapping.json").read_text(encoding="utf-8"), encoding="utf-8"
+        )
         return json.loads(self.mapping.read_text(encoding="utf-8"))
 
     def told(self, *words: str) -> Tuple[int, List[str], str]:
-        status, out, err = alone("migrate", *words, str(self.mapping), str(self.db))
+        status, out, err = alone("migrate", str(self.db), "--mapping", str(self.mapping), *words)
         return status, out.splitlines(), err
 
 
@@ -91,27 +97,24 @@ class Told(WithStore):
             [
                 "Person: 1 row, 1 written again",
                 '  note is new, with "new" in column 5, in 1 row',
-                "  column 3 goes, from 1 row",
-                "  column 9 goes, from 0 rows",
+                "  column 3 goes, from 1 row", "  column 9 goes, from 0 rows",
                 "Clerk: 1 row, 1 written again",
                 "  room moves from column 2 to column 6, in 1 row",
                 '  note is new, with "new" in column 5, in 1 row',
                 "  shift is new, with 1 in column 7, in 1 row",
-                "  column 3 goes, from 0 rows",
-                "  column 9 goes, from 0 rows",
+                "  column 3 goes, from 0 rows", "  column 9 goes, from 0 rows",
                 "Head: 1 row, 1 written again",
                 "  room moves from column 2 to column 6, in 1 row",
                 '  note is new, with "new" in column 5, in 1 row',
                 "  shift is new, with 1 in column 7, in 1 row",
-                "  column 3 goes, from 0 rows",
-                "  column 9 goes, from 1 row",
+                "  column 3 goes, from 0 rows", "  column 9 goes, from 1 row",
                 "Customer: 1 row, 1 written again",
                 '  note is new, with "new" in column 5, in 1 row',
-                "  mood is new in column 8, and null",
-                "  column 3 goes, from 0 rows",
+                "  mood is new in column 8, and null", "  column 3 goes, from 0 rows",
                 "  column 9 goes, from 1 row",
                 # 2 for the revision, 1 for each row, and 3, 5, 2 and 4 cells
-                "an opening would write this in one commit, of 20 statements, which can't be undone",
+                "an opening would write this in one commit, of 20 statements, which can't be "
+                "undone",
             ],
         )
 
@@ -147,21 +150,31 @@ class Told(WithStore):
         self.addCleanup(writer.close)
         writer.execute("PRAGMA journal_mode=WAL")
         row = b"\x01\x80" + bytes(6) + b"\x0a"
-        writer.executemany("INSERT INTO cell VALUES (2, ?, ?, ?)", [(row, 0, b"\x02Order"), (row, 1, b"\xff")])
+        writer.executemany(
+            "INSERT INTO cell VALUES (2, ?, ?, ?)", [(row, 0, b"\x02Order"), (row, 1, b"\xff")]
+        )
         writer.commit()
         self.assertGreater((self.place / "app.db-wal").stat().st_size, 0)
         self.assertEqual([entity.rows for entity in outlook(mapping, self.db).entities], [1, 1])
 
     def test_an_empty_store(self) -> None:
-        self.mapping.write_text((RUNS / "migrate-person-store" / "mapping.json").read_text(encoding="utf-8"), encoding="utf-8")
+        self.mapping.write_text(
+            (RUNS / "migrate-person-store" / "mapping.json").read_text(encoding="utf-8"),
+            encoding="utf-8",
+        )
         self.db.touch()
         status, told, _ = self.told("--dry-run")
-        self.assertEqual((status, told[1], told[-1].split(",")[1]), (0, "Person: 0 rows", " of 2 statements"))
+        self.assertEqual(
+            (status, told[1], told[-1].split(",")[1]), (0, "Person: 0 rows", " of 2 statements")
+        )
         self.assertEqual(self.db.read_bytes(), b"")
 
     def test_nothing_is_due(self) -> None:
         mapping = self.laid("store-of-revision-2")
-        nothing = ["the store is of revision 2, and the mapping of revision 2", "an opening would write nothing"]
+        nothing = [
+            "the store is of revision 2, and the mapping of revision 2",
+            "an opening would write nothing",
+        ]
         self.assertEqual(self.told("--dry-run"), (0, nothing, ""))
         self.assertFalse(outlook(mapping, self.db).is_due)
         self.assertEqual(self.told("--copy", str(self.place / "copy.db")), (0, nothing, ""))
@@ -170,7 +183,10 @@ class Told(WithStore):
     def test_a_mapping_of_revision_1(self) -> None:
         self.laid("migrate-person-store")
         self.mapping.write_text(json.dumps(PERSONS), encoding="utf-8")
-        nothing = ["the store is of revision 1, and the mapping of revision 1", "an opening would write nothing"]
+        nothing = [
+            "the store is of revision 1, and the mapping of revision 1",
+            "an opening would write nothing",
+        ]
         self.assertEqual(self.told("--dry-run"), (0, nothing, ""))
 
 
@@ -178,35 +194,61 @@ class Refused(WithStore):
     def why(self, name: str) -> str:
         self.laid(name)
         status, told, err = self.told("--dry-run")
-        self.assertEqual((status, err, told[-1].partition(": ")[0]), (3, "", "an opening would be refused"))
+        self.assertEqual(
+            (status, err, told[-1].partition(": ")[0]), (3, "", "an opening would be refused")
+        )
         return told[-1].partition(": ")[2]
 
     def test_a_column_that_is_new_has_a_cell(self) -> None:
-        self.assertEqual(self.why("new-column-that-has-a-cell"), "row 018000000000000001 of table 1 has a cell in column 3 already, which 'hits' is to have")
+        self.assertEqual(
+            self.why("new-column-that-has-a-cell"),
+            "row 018000000000000001 of table 1 has a cell in column 3 already, which 'hits' is to "
+            "have",
+        )
 
     def test_a_column_that_another_one_moves_to_has_a_cell(self) -> None:
-        self.assertEqual(self.why("moved-column-that-has-a-cell"), "row 018000000000000001 of table 1 has a cell in column 4 already, which 'name' is to have")
+        self.assertEqual(
+            self.why("moved-column-that-has-a-cell"),
+            "row 018000000000000001 of table 1 has a cell in column 4 already, which 'name' is to "
+            "have",
+        )
 
     def test_a_new_column_of_another_class_has_a_cell(self) -> None:
         self.assertEqual(
-            self.why("new-column-of-another-class-that-has-a-cell"), "row 018000000000000003 of table 1 has a cell in column 7 already, which 'shift' is to have"
+            self.why("new-column-of-another-class-that-has-a-cell"),
+            "row 018000000000000003 of table 1 has a cell in column 7 already, which 'shift' is "
+            "to have",
         )
 
     def test_a_row_of_no_entity(self) -> None:
-        self.assertEqual(self.why("row-of-a-dropped-cell-alone"), "row 01800000000000000a of table 2 is a row of no entity of the mapping")
+        self.assertEqual(
+            self.why("row-of-a-dropped-cell-alone"),
+            "row 01800000000000000a of table 2 is a row of no entity of the mapping",
+        )
 
     def test_a_wrong_revision(self) -> None:
-        for name in ("revision-that-there-is-not", "revision-with-a-second-cell", "revision-in-another-column"):
+        for name in (
+            "revision-that-there-is-not", "revision-with-a-second-cell",
+            "revision-in-another-column",
+        ):
             with self.subTest(name):
                 self.db.unlink(missing_ok=True)
-                self.assertEqual(self.why(name), "row 018000000000000000 of table 0 says no revision that there is")
+                self.assertEqual(
+                    self.why(name),
+                    "row 018000000000000000 of table 0 says no revision that there is",
+                )
 
     def test_a_store_of_revision_2_by_revision_1(self) -> None:
         self.laid("store-of-revision-2")
         self.mapping.write_text(json.dumps(PERSONS), encoding="utf-8")
         status, told, _ = self.told("--dry-run")
-        why = "an opening would be refused: row 018000000000000000 of table 0 says that the store is of revision 2"
-        self.assertEqual((status, told), (3, ["the store is of revision 2, and the mapping of revision 1", why]))
+        why = (
+            "an opening would be refused: row 018000000000000000 of table 0 says that the store "
+            "is of revision 2"
+        )
+        self.assertEqual(
+            (status, told), (3, ["the store is of revision 2, and the mapping of revision 1", why])
+        )
 
     def test_a_wrong_mapping(self) -> None:
         mapping = self.laid("migrate-person-store")
@@ -250,11 +292,16 @@ class Asked(WithStore):
         self.laid("migrate-person-store")
         before = self.db.read_bytes()
         with self.opening():
-            self.assertEqual(self.told("--dry-run", "--with-program"), (0, [*PERSON_STORE, "the program opens a copy of it so"], ""))
+            self.assertEqual(
+                self.told("--dry-run", "--with-program"),
+                (0, [*PERSON_STORE, "the program opens a copy of it so"], ""),
+            )
         self.assertEqual(self.opened, [(False, self.cells())])
         with self.opening(karzhoul.Damaged("0:")):
             status, told, _ = self.told("--dry-run", "--with-program")
-        self.assertEqual((status, told[-1]), (3, "the program refuses that, tried on a copy: Damaged(0:)"))
+        self.assertEqual(
+            (status, told[-1]), (3, "the program refuses that, tried on a copy: Damaged(0:)")
+        )
         self.assertEqual(self.db.read_bytes(), before)
 
     def test_a_copy_is_made_first(self) -> None:
@@ -262,17 +309,24 @@ class Asked(WithStore):
         before, copy = self.cells(), self.place / "copy.db"
         with self.opening():
             status, told, _ = self.told("--copy", str(copy))
-        self.assertEqual((status, told[-2:]), (0, [f"{copy} is a copy of it as it is", "it is written"]))
+        self.assertEqual(
+            (status, told[-2:]), (0, [f"{copy} is a copy of it as it is", "it is written"])
+        )
         self.assertEqual((self.opened, self.cells(copy)), ([(True, before)], before))
         with self.opening():
-            self.assertEqual(self.told("--copy", str(copy)), (4, [], f"karzhoul: there is a file {copy} already\n"))
+            self.assertEqual(
+                self.told("--copy", str(copy)),
+                (4, [], f"karzhoul: there is a file {copy} already\n"),
+            )
         self.assertEqual(self.opened, [])
 
     def test_an_opening_that_is_refused(self) -> None:
         self.laid("migrate-person-store")
         with self.opening(karzhoul.Damaged("0:")):
             status, told, _ = self.told("--copy", str(self.place / "copy.db"))
-        self.assertEqual((status, told[-1]), (3, "the program refused that, and left it as it was: Damaged(0:)"))
+        self.assertEqual(
+            (status, told[-1]), (3, "the program refused that, and left it as it was: Damaged(0:)")
+        )
 
 
 @needs_program
@@ -291,7 +345,11 @@ class Locked(WithStore):
 class Migrated(WithStore):
     def runs(self) -> Iterator[Path]:
         for path in sorted(RUNS.iterdir()):
-            if (path / "stage").exists() and (path / "cells-before.txt").exists() and not (path / "status").exists():
+            if (
+                (path / "stage").exists()
+                and (path / "cells-before.txt").exists()
+                and not (path / "status").exists()
+            ):
                 yield path
 
     def test_the_program_writes_what_is_told(self) -> None:
@@ -303,7 +361,9 @@ class Migrated(WithStore):
                 with karzhoul.open(mapping, self.db, program=PROGRAM) as app:
                     em = app.create_entity_manager()
                     for entity in found.entities:
-                        rows = em.query_single(f"SELECT COUNT(e) FROM {entity.name} e WHERE TYPE(e) = {entity.name}")
+                        rows = em.query_single(
+                            f"SELECT COUNT(e) FROM {entity.name} e WHERE TYPE(e) = {entity.name}"
+                        )
                         self.assertEqual(rows, entity.rows)
                 self.assertEqual(before != self.cells(), found.is_due)
                 self.assertFalse(outlook(mapping, self.db).is_due)
@@ -313,7 +373,10 @@ class Migrated(WithStore):
         before, copy = self.cells(), self.place / "copy.db"
         status, told, _ = self.told("--copy", str(copy), "--program", str(PROGRAM))
         self.assertEqual((status, told[-1], self.cells(copy)), (0, "it is written", before))
-        self.assertEqual(self.cells(), cells_of((RUNS / "migrate-person-store" / "cells.txt").read_text(encoding="utf-8")))
+        self.assertEqual(
+            self.cells(),
+            cells_of((RUNS / "migrate-person-store" / "cells.txt").read_text(encoding="utf-8")),
+        )
 
 
 if __name__ == "__main__":

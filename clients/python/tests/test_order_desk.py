@@ -98,7 +98,11 @@ class DeskTest(FolderTest):
         self.open()
 
     def stock(self, sku: str) -> int:
-        return int(self.manager.query_single("SELECT p.stock FROM Product p WHERE p.sku = :sku", params={"sku": sku}))
+        return int(
+            self.manager.query_single(
+                "SELECT p.stock FROM Product p WHERE p.sku = :sku", params={"sku": sku}
+            )
+        )
 
     def lines(self, number: int) -> List[Tuple[int, str, int]]:
         """The lines of an order, each as its place, its product and its quantity."""
@@ -113,21 +117,29 @@ class Commands(FolderTest):
     def run_desk(self, *words: Any) -> Tuple[int, str, str]:
         out, err = io.StringIO(), io.StringIO()
         # As where the package lies in no clone, whose program would be started else.
-        with mock.patch("karzhoul.finding._PACKAGE", self.folder), mock.patch.dict(os.environ, {"KARZHOUL_PROGRAM": str(PROGRAM)}):
+        with mock.patch("karzhoul.finding._PACKAGE", self.folder), mock.patch.dict(
+            os.environ, {"KARZHOUL_PROGRAM": str(PROGRAM)}
+        ):
             with contextlib.redirect_stdout(out), contextlib.redirect_stderr(err):
                 status = desk.main(["--db", str(self.db), *map(str, words)])
         return status, out.getvalue(), err.getvalue()
 
     def does(self, words: str, *told: str) -> None:
-        self.assertEqual(self.run_desk(*words.split()), (0, "".join(f"{line}\n" for line in told), ""), words)
+        self.assertEqual(
+            self.run_desk(*words.split()), (0, "".join(f"{line}\n" for line in told), ""), words
+        )
 
     def refuses(self, words: str, told: str) -> None:
         self.assertEqual(self.run_desk(*words.split()), (1, "", f"desk: {told}\n"), words)
 
     @needs_program
     def test_a_day_at_the_desk(self) -> None:
-        self.does(f"import products {self.written('products.csv', PRODUCTS)}", "3 products are stored")
-        self.does(f"import customers {self.written('customers.csv', CUSTOMERS)}", "2 customers are stored")
+        self.does(
+            f"import products {self.written('products.csv', PRODUCTS)}", "3 products are stored"
+        )
+        self.does(
+            f"import customers {self.written('customers.csv', CUSTOMERS)}", "2 customers are stored"
+        )
         self.does("place 2 P1=2 P2=1 --day 2026-01-05", "order 1 is placed: 65.00")
         self.does("place 1 P3=3 --day 2026-01-06", "order 2 is placed: 75.00")
         self.refuses("place 1 P1=1 P3=1", "P3: 0 in stock, and 1 more wanted")
@@ -144,7 +156,9 @@ class Commands(FolderTest):
     def shows_and_reports(self) -> None:
         order = ("order 1 of 2026-01-05, shipped, for Bob & Co", "  1: 4 of Lamp at 12.50")
         # It was written by two commits after its first one, the change and the shipping.
-        self.does("show order 1", *order, "  total 50.00, changed 2 times", "  invoice 1 of 2026-01-07")
+        self.does(
+            "show order 1", *order, "  total 50.00, changed 2 times", "  invoice 1 of 2026-01-07"
+        )
         company = "company 2: Bob & Co, Porto, VAT EU2"
         self.does("show customer 2", company, "  order 1 of 2026-01-05, shipped: 50.00")
         customers = ("number  name      orders  turnover", "2       Bob & Co  1       50.00")
@@ -152,7 +166,10 @@ class Commands(FolderTest):
         self.does("report products", "sku  name  sold  turnover", "P1   Lamp  4     50.00")
         self.does("report statuses", "status     orders", "cancelled  1", "shipped    1")
         self.does("report companies", "number  name      vat", "2       Bob & Co  EU2")
-        categories = ("category  products  stock", "Kitchen   1         3", "Light     1         6", "Office    2         11")
+        categories = (
+            "category  products  stock", "Kitchen   1         3", "Light     1         6",
+            "Office    2         11",
+        )
         self.does("report categories", *categories)
 
     @needs_program
@@ -168,7 +185,10 @@ class Commands(FolderTest):
         self.assertEqual((status, told.splitlines()), (0, wanted))
 
     def test_words_that_are_no_command(self) -> None:
-        wrong = ("place 1 P1", "place 1 P1=x", "place 1 P1=1 --day 2026-13-01", "import products a.csv --size 0", "report all")
+        wrong = (
+            "place 1 P1", "place 1 P1=x", "place 1 P1=1 --day 2026-13-01",
+            "import products a.csv --size 0", "report all",
+        )
         for words in wrong:
             with self.subTest(words), self.assertRaises(SystemExit) as ended:
                 self.run_desk(*words.split())
@@ -178,18 +198,28 @@ class Commands(FolderTest):
     @unittest.skipUnless(os.name == "posix", "its blocks are for a POSIX shell")
     def test_the_page_prints_what_it_says(self) -> None:
         page = (DESK / "README.md").read_text(encoding="utf-8")
-        found = re.findall(r"^```sh\n(.*?)^```\n(?:\n```text\n(.*?)^```$)?", page, re.MULTILINE | re.DOTALL)
+        found = re.findall(
+            r"^```sh\n(.*?)^```\n(?:\n```text\n(.*?)^```$)?", page, re.MULTILINE | re.DOTALL
+        )
         (beginning, _), *blocks = found
-        own = {"KARZHOUL_PROGRAM": str(PROGRAM), "TMPDIR": str(self.folder), "PYTHONDONTWRITEBYTECODE": "1"}
+        own = {
+            "KARZHOUL_PROGRAM": str(PROGRAM), "TMPDIR": str(self.folder),
+            "PYTHONDONTWRITEBYTECODE": "1",
+        }
         # In no clone, whose program would be started else.
         top = self.folder / "top"
         package_elsewhere(str(top))
-        shutil.copytree(DESK, top / "examples" / "order-desk", ignore=shutil.ignore_patterns("__pycache__"))
+        shutil.copytree(
+            DESK, top / "examples" / "order-desk", ignore=shutil.ignore_patterns("__pycache__")
+        )
         self.assertEqual(page.count("```sh\n"), 1 + len(blocks))
         for block, printed in blocks:
             with self.subTest(block):
                 words = ["bash", "-euc", f"{beginning}\n{block}"]
-                ran = subprocess.run(words, cwd=top, env={**os.environ, **own}, capture_output=True, text=True, timeout=100)
+                ran = subprocess.run(
+                    words, cwd=top, env={**os.environ, **own}, capture_output=True, text=True,
+                    timeout=100,
+                )
                 self.assertEqual((ran.stdout, ran.stderr, ran.returncode), (printed, "", 0))
 
 
@@ -201,7 +231,9 @@ class Orders(DeskTest):
         [lamps, chairs] = order.lines
         with self.manager.transaction():
             product = self.manager.find("Product", "P3")
-            kettles = self.app.new("OrderLine", order=order, product=product, quantity=1, price=2500)
+            kettles = self.app.new(
+                "OrderLine", order=order, product=product, quantity=1, price=2500
+            )
             kettles.at = (order.id, 3)
             order.lines.append(kettles)
             order.lines.remove(lamps)
@@ -234,7 +266,9 @@ class Orders(DeskTest):
         self.reopen()
         order = self.manager.find("Order", 1)
         assert order is not None
-        self.assertEqual((type(order.customer), order.customer.vat), (self.app.entity("Company"), "EU2"))
+        self.assertEqual(
+            (type(order.customer), order.customer.vat), (self.app.entity("Company"), "EU2")
+        )
 
     def test_events_name_their_classes(self) -> None:
         orders.place_order(self.manager, 2, [("P1", 1)], "2026-01-05")
@@ -244,7 +278,10 @@ class Orders(DeskTest):
         orders.ship_order(self.manager, 1, "2026-01-06")
         self.assertEqual(
             told,
-            [("PostLoad", "Order"), ("PostLoad", "OrderLine"), ("PrePersist", "Invoice"), ("PreUpdate", "Order")]
+            [
+                ("PostLoad", "Order"), ("PostLoad", "OrderLine"), ("PrePersist", "Invoice"),
+                ("PreUpdate", "Order"),
+            ]
             + [("PostUpdate", "Order"), ("PostPersist", "Invoice")],
         )
 
@@ -274,7 +311,9 @@ class Orders(DeskTest):
     def test_a_line_takes_exactly_the_parts_of_its_key(self) -> None:
         order = orders.place_order(self.manager, 1, [("P1", 1)], "2026-01-05")
         [line] = order.lines
-        self.assertEqual((tuple(line.at), line.at == (1, 1), hash(line.at)), ((1, 1), True, hash((1, 1))))
+        self.assertEqual(
+            (tuple(line.at), line.at == (1, 1), hash(line.at)), ((1, 1), True, hash((1, 1)))
+        )
         new = self.app.new("OrderLine")
         for parts in ((7, 8, 9), (7,), (), {"order": 7}, {"order": 7, "line": 8, "page": 9}):
             with self.subTest(parts), self.assertRaises(ValueError):
@@ -316,17 +355,29 @@ class Orders(DeskTest):
 
 class Imports(DeskTest):
     def test_rows_that_there_are_get_new_values(self) -> None:
-        text = "sku,name,price,stock,categories\nP1,Lamp,13.00,20,bath\nP4,Mirror,99.90,1,bath;office\n"
-        imports.import_products(self.app, imports.read_products(self.written("more.csv", text)), untold, size=1)
+        text = (
+            "sku,name,price,stock,categories\nP1,Lamp,13.00,20,bath\n"
+            "P4,Mirror,99.90,1,bath;office\n"
+        )
+        imports.import_products(
+            self.app, imports.read_products(self.written("more.csv", text)), untold, size=1
+        )
         rows = self.manager.query("SELECT p.sku, p.price, p.stock FROM Product p")
-        self.assertEqual(rows, [["P1", 1300, 20], ["P2", 4000, 5], ["P3", 2500, 3], ["P4", 9990, 1]])
+        self.assertEqual(
+            rows, [["P1", 1300, 20], ["P2", 4000, 5], ["P3", 2500, 3], ["P4", 9990, 1]]
+        )
         _, *categories = reports.report(self.manager, "categories")
-        self.assertEqual(categories, [["Bath", "2", "21"], ["Kitchen", "1", "3"], ["Light", "0", "0"], ["Office", "2", "6"]])
+        self.assertEqual(
+            categories,
+            [["Bath", "2", "21"], ["Kitchen", "1", "3"], ["Light", "0", "0"], ["Office", "2", "6"]],
+        )
 
     def test_a_customer_stays_of_its_class(self) -> None:
         text = "number,name,city,vat\n3,Cy,Graz,\n1,Ada,Ghent,EU1\n"
         rows = imports.read_customers(self.written("more.csv", text))
-        with self.assertRaisesRegex(orders.DeskError, "^customer 1 stays what it is, a company or none$"):
+        with self.assertRaisesRegex(
+            orders.DeskError, "^customer 1 stays what it is, a company or none$"
+        ):
             imports.import_customers(self.app, rows, untold, size=1)
         self.assertEqual(self.manager.query("SELECT c.number FROM Customer c"), [1, 2])
 
@@ -345,7 +396,9 @@ class Imports(DeskTest):
         imports.import_rows(self.app, rows, store, told.append, size=1)
         self.assertEqual((told, refusals), ([1, 2, 3], []))
         manager = self.app.create_entity_manager()
-        self.assertEqual(manager.query("SELECT p.sku FROM Product p"), ["P1", "P2", "P3", "P4", "P5", "P6"])
+        self.assertEqual(
+            manager.query("SELECT p.sku FROM Product p"), ["P1", "P2", "P3", "P4", "P5", "P6"]
+        )
 
     def test_a_large_import(self) -> None:
         samples.write_samples(self.folder, ROWS, 8)
@@ -353,12 +406,16 @@ class Imports(DeskTest):
         imports.import_products(self.app, rows, untold, size=min(max(ROWS // 4, 1), 500))
         self.reopen()
         large = "FROM Product p {} WHERE p.sku LIKE 'P_____'"
-        stored = self.manager.query_single(f"SELECT COUNT(p), SUM(p.price), SUM(p.stock) {large.format('')}")
-        # By the rules of the samples: product n costs 100 + 37n modulo 20,000 cents, and 7n modulo 500 are in stock.
+        stored = self.manager.query_single(
+            f"SELECT COUNT(p), SUM(p.price), SUM(p.stock) {large.format('')}"
+        )
+        # By the rules of the samples: product n costs 100 + 37n modulo 20,000 cents, and 7n modulo
+        # 500 are in stock.
         prices = sum(100 + n * 37 % 20_000 for n in range(1, ROWS + 1))
         self.assertEqual(stored, [ROWS, prices, sum(n * 7 % 500 for n in range(1, ROWS + 1))])
         links = self.manager.query_single(f"SELECT COUNT(p) {large.format('JOIN p.categories c')}")
-        # n and n * n are the same modulo 5 where n is 0 or 1 modulo 5; else there are two categories.
+        # n and n * n are the same modulo 5 where n is 0 or 1 modulo 5; else there are two
+        # categories.
         self.assertEqual(links, sum(1 if n % 5 < 2 else 2 for n in range(1, ROWS + 1)))
 
 
@@ -374,22 +431,32 @@ class Files(FolderTest):
     def test_a_row_that_is_none_is_named_by_its_line(self) -> None:
         for row, told in (
             ("P2,Chair,40,5,office", "price is to be a sum such as 12.50, and is '40'"),
-            ("P2,Chair,40.00,-5,office", "stock is to be a whole number up to 1000000000000, and is '-5'"),
-            ("P2,Chair,40.00,1000000000001,", "stock is to be a whole number up to 1000000000000, and is '1000000000001'"),
+            (
+                "P2,Chair,40.00,-5,office",
+                "stock is to be a whole number up to 1000000000000, and is '-5'",
+            ),
+            (
+                "P2,Chair,40.00,1000000000001,",
+                "stock is to be a whole number up to 1000000000000, and is '1000000000001'",
+            ),
             ("P2,,40.00,5,office", "name is missing"),
             (",Chair,40.00,5,office", "sku is missing"),
             ("P2,Chair,40.00", "5 cells are to stand here"),
             ("P2,Chair,40.00,5,office,1", "5 cells are to stand here"),
             ("P1,Chair,40.00,5,office", "sku P1 stands in line 2 already"),
         ):
-            path = self.written("rows.csv", f"sku,name,price,stock,categories\nP1,Lamp,12.50,10,\n{row}\n")
+            path = self.written(
+                "rows.csv", f"sku,name,price,stock,categories\nP1,Lamp,12.50,10,\n{row}\n"
+            )
             with self.subTest(row), self.assertRaises(orders.DeskError) as refused:
                 imports.read_products(path)
             self.assertEqual(str(refused.exception), f"{path}:3: {told}")
 
     def test_a_file_that_is_none(self) -> None:
         path = self.written("rows.csv", "name,sku\n")
-        with self.assertRaisesRegex(orders.DeskError, ":1: the columns are to be number,name,city,vat$"):
+        with self.assertRaisesRegex(
+            orders.DeskError, ":1: the columns are to be number,name,city,vat$"
+        ):
             imports.read_customers(path)
         path.write_bytes(b"number,name,city,vat\n1,\xff,,\n")
         with self.assertRaisesRegex(orders.DeskError, "this is no CSV file in UTF-8"):
@@ -403,7 +470,9 @@ class Files(FolderTest):
         self.assertEqual(products[1], ("P00002", "Kettle, blue", 174, 14, ("office", "light")))
         self.assertEqual(len(products), 5)
         customers = imports.read_customers(self.folder / "new" / "customers.csv")
-        self.assertEqual(customers[2:], [(3, "Dan", "Tartu", ""), (4, "Eve & Co", "Graz", "EU00000004")])
+        self.assertEqual(
+            customers[2:], [(3, "Dan", "Tartu", ""), (4, "Eve & Co", "Graz", "EU00000004")]
+        )
 
 
 class Terminal(io.StringIO):
@@ -428,7 +497,10 @@ class Progresses(unittest.TestCase):
         self.assertEqual(pipe.getvalue(), "")
 
     def test_money(self) -> None:
-        self.assertEqual([reports.money(cents) for cents in (0, 5, 1250, 100_000)], ["0.00", "0.05", "12.50", "1000.00"])
+        self.assertEqual(
+            [reports.money(cents) for cents in (0, 5, 1250, 100_000)],
+            ["0.00", "0.05", "12.50", "1000.00"],
+        )
 
 
 if __name__ == "__main__":

@@ -1,4 +1,5 @@
-"""The program as a process: how it is started, and what is told where it ends, is ended or is interrupted."""
+"""The program as a process: how it is started, and what is told where it ends, is ended or is
+interrupted."""
 
 from __future__ import annotations
 
@@ -45,10 +46,15 @@ class Ends(unittest.TestCase):
     def test_an_interrupted_start_ends_what_it_started(self) -> None:
         with tempfile.TemporaryDirectory() as place:
             slow, number = Path(place, "slow"), Path(place, "number")
-            slow.write_text(f"#!/bin/sh\nsleep 100 &\necho $! >{number}\necho building >&2\nwait\n", encoding="utf-8")
+            slow.write_text(
+                f"#!/bin/sh\nsleep 100 &\necho $! >{number}\necho building >&2\nwait\n",
+                encoding="utf-8",
+            )
             slow.chmod(0o755)
             interrupt(self, 3)
-            with self.assertRaises(KeyboardInterrupt), contextlib.redirect_stderr(io.StringIO()) as told:
+            with self.assertRaises(KeyboardInterrupt), contextlib.redirect_stderr(
+                io.StringIO()
+            ) as told:
                 karzhoul.open(PERSONS, program=slow)
             self.assertEqual(told.getvalue(), f"karzhoul: waiting for {slow}: building\n")
             deadline = time.monotonic() + 10
@@ -57,7 +63,10 @@ class Ends(unittest.TestCase):
             self.assertFalse(lives(int(number.read_text())))
 
     def test_an_end_in_the_middle_of_a_call(self) -> None:
-        transcript = '> {"call":"createEntityManager"}\n< {"events":[],"ok":1}\n> {"call":"flush","em":1}\n! kill\n'
+        transcript = (
+            '> {"call":"createEntityManager"}\n< {"events":[],"ok":1}\n> {"call":"flush","em":1}\n'
+            '! kill\n'
+        )
         with played(transcript, PERSONS) as app:
             em = app.create_entity_manager()
             for _ in range(2):
@@ -78,13 +87,18 @@ class Ends(unittest.TestCase):
         line = '{"call":"set","object":1,"name":"n","value":1}'
         transcript = f'> {line}\n< {{"events":[],"ok":null}}\n' * 3 + f"> {line}\n! 4\n"
         with played(transcript, PERSONS) as app:
-            self.assertEqual(app.program.replies(Exchange([line.encode()] * 3)), [b'{"events":[],"ok":null}'] * 3)
+            self.assertEqual(
+                app.program.replies(Exchange([line.encode()] * 3)), [b'{"events":[],"ok":null}'] * 3
+            )
             with self.assertRaises(karzhoul.ProgramEnded) as raised:
                 app.program.replies(Exchange([line.encode()] * 2))
             self.assertEqual(raised.exception.status, 4)
 
     def test_a_transaction_whose_program_ends_raises_that(self) -> None:
-        transcript = '> {"call":"createEntityManager"}\n< {"events":[],"ok":1}\n> {"call":"begin","em":1}\n< {"events":[],"ok":null}\n'
+        transcript = (
+            '> {"call":"createEntityManager"}\n< {"events":[],"ok":1}\n> {"call":"begin","em":1}\n'
+            '< {"events":[],"ok":null}\n'
+        )
         with played(transcript + '> {"call":"flush","em":1}\n! 4\n', PERSONS) as app:
             em = app.create_entity_manager()
             with self.assertRaises(karzhoul.ProgramEnded):
@@ -178,7 +192,10 @@ class OfTheProgram(ProgramTest):
             "sys.exit(int(sys.argv[1]))\n"
         )
         for status in (0, 3):
-            ran = subprocess.run([sys.executable, "-c", code, str(status)], cwd=PACKAGE, capture_output=True, text=True, timeout=60)
+            ran = subprocess.run(
+                [sys.executable, "-c", code, str(status)],
+                cwd=PACKAGE, capture_output=True, text=True, timeout=60,
+            )
             self.assertEqual((ran.returncode, ran.stderr), (status, ""))
             self.assertFalse(lives(int(ran.stdout)))
 
@@ -189,7 +206,9 @@ class OfTheProgram(ProgramTest):
             "print(app.program.pid, flush=True)\n"
             "os.kill(os.getpid(), 9)\n"
         )
-        ran = subprocess.run([sys.executable, "-c", code], cwd=PACKAGE, capture_output=True, text=True, timeout=60)
+        ran = subprocess.run(
+            [sys.executable, "-c", code], cwd=PACKAGE, capture_output=True, text=True, timeout=60
+        )
         deadline = time.monotonic() + 10
         while lives(int(ran.stdout)) and time.monotonic() < deadline:
             time.sleep(0.05)
@@ -214,7 +233,9 @@ class OfTheProgram(ProgramTest):
 def interrupt(test: unittest.TestCase, seconds: float) -> None:
     """Interrupts this process after so many seconds, as Ctrl-C does."""
     timer = threading.Timer(seconds, os.kill, (os.getpid(), signal.SIGINT))
-    test.addCleanup(signal.signal, signal.SIGINT, signal.signal(signal.SIGINT, signal.default_int_handler))
+    test.addCleanup(
+        signal.signal, signal.SIGINT, signal.signal(signal.SIGINT, signal.default_int_handler)
+    )
     test.addCleanup(timer.join)
     timer.start()
 

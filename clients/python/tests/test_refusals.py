@@ -1,4 +1,5 @@
-"""Every refusal is an exception of its own: those of the program, and by a stub those that it gives only later or rarely."""
+"""Every refusal is an exception of its own: those of the program, and by a stub those that it gives
+only later or rarely."""
 
 from __future__ import annotations
 
@@ -21,7 +22,10 @@ class Table(unittest.TestCase):
         numbers = [kind.number for kind in REFUSALS.values()]
         self.assertEqual(numbers, list(range(1, 22)))
         source = (TOP / "crates" / "jpa_value" / "src" / "texts.rt").read_text(encoding="utf-8")
-        told = {name: int(number) for name, number in re.findall(r"Cause::(\w+)(?:\([_, ]*\))? => (\d+),", source)}
+        told = {
+            name: int(number)
+            for name, number in re.findall(r"Cause::(\w+)(?:\([_, ]*\))? => (\d+),", source)
+        }
         told["Rollback"] = 14
         self.assertEqual({name: kind.number for name, kind in REFUSALS.items()}, told)
 
@@ -29,11 +33,16 @@ class Table(unittest.TestCase):
         for kind in REFUSALS.values():
             self.assertTrue(issubclass(kind, karzhoul.Refused))
             self.assertIs(getattr(karzhoul, kind.__name__), kind)
-        for kind in (karzhoul.Refused, karzhoul.NotServed, karzhoul.ProgramEnded, karzhoul.ProgramNotFound):
+        for kind in (
+            karzhoul.Refused, karzhoul.NotServed, karzhoul.ProgramEnded, karzhoul.ProgramNotFound,
+        ):
             self.assertTrue(issubclass(kind, karzhoul.KarzhoulError))
 
     def test_texts(self) -> None:
-        for text in ("Busy", "Persistence(key)", "Rollback(Persistence(version))", "Rollback(Listener(a (b) \n c))", "Damaged(0:)"):
+        for text in (
+            "Busy", "Persistence(key)", "Rollback(Persistence(version))",
+            "Rollback(Listener(a (b) \n c))", "Damaged(0:)",
+        ):
             self.assertEqual(str(refusal_of(text)), text)
         rollback = refusal_of("Rollback(Listener(a (b)))")
         self.assertIsInstance(rollback, karzhoul.Rollback)
@@ -53,17 +62,23 @@ class Table(unittest.TestCase):
                     app.send_line('{"call":"new"}')
                 refused = raised.exception
                 self.assertIs(type(refused), kind)
-                self.assertEqual((refused.number, refused.name, refused.detail), (kind.number, name, detail))
+                self.assertEqual(
+                    (refused.number, refused.name, refused.detail), (kind.number, name, detail)
+                )
                 self.assertEqual(refused.line, '{"call":"new"}')
                 (event,) = refused.events
-                self.assertEqual((event.kind, event.ran), (karzhoul.LifecycleEvent.PRE_PERSIST, ("bump",)))
+                self.assertEqual(
+                    (event.kind, event.ran), (karzhoul.LifecycleEvent.PRE_PERSIST, ("bump",))
+                )
 
     def test_a_limit_says_what_to_do(self) -> None:
         objects, restart = "1,000,000 objects, loads counted", "app.restart()"
         told = {
             '{"call":"new","entity":"Order"}': (objects, restart),
             '{"call":"find","em":1,"entity":"Order","key":[1]}': (objects, restart, "65,535 bytes"),
-            '{"call":"query","em":1,"text":"SELECT o FROM Order o"}': (objects, restart, "docs/QUERIES.md"),
+            '{"call":"query","em":1,"text":"SELECT o FROM Order o"}': (
+                objects, restart, "docs/QUERIES.md",
+            ),
             '{"call":"set","object":1,"name":"name","value":"a"}': ("65,535 bytes",),
             '{"call":"createEntityManager"}': ("16 managers", "close one", restart),
             " " * 1_048_577: ("1,048,576 bytes",),
@@ -71,7 +86,9 @@ class Table(unittest.TestCase):
         for line, words in told.items():
             with self.subTest(line[:40]):
                 said = str(refusal_of("Limit", line=line))
-                self.assertEqual([word in said for word in (*words, "Limit: ")], [True] * (len(words) + 1), said)
+                self.assertEqual(
+                    [word in said for word in (*words, "Limit: ")], [True] * (len(words) + 1), said
+                )
 
     def test_what_is_not_served_is_told_with_its_line(self) -> None:
         reply = '{"error":{"name":"BadLine","no":3},"events":[]}'
@@ -90,12 +107,18 @@ class OfTheProgram(ProgramTest):
         return raised.exception
 
     def test_lines_that_are_no_calls(self) -> None:
-        for line in ("", " ", "[]", '{"call":"find"', '{"call":"x"}', '{"call":"begin","em":1,"x":1}', '{"call":"begin","em":-0}'):
+        for line in (
+            "", " ", "[]", '{"call":"find"', '{"call":"x"}', '{"call":"begin","em":1,"x":1}',
+            '{"call":"begin","em":-0}',
+        ):
             self.refuses(refusals.BadLine, None, self.app.send_line, line)
 
     def test_numbers_that_name_nothing(self) -> None:
         self.refuses(refusals.NoSuchManager, None, self.app.send_line, '{"call":"begin","em":99}')
-        self.refuses(refusals.NoSuchObject, None, self.app.send_line, '{"call":"get","object":99,"name":"name"}')
+        self.refuses(
+            refusals.NoSuchObject, None, self.app.send_line,
+            '{"call":"get","object":99,"name":"name"}',
+        )
 
     def test_arguments(self) -> None:
         person = self.committed(name="Ada")
@@ -195,7 +218,9 @@ class AtTheOpening(unittest.TestCase):
             connection.close()
             with self.assertRaises(karzhoul.Damaged) as raised:
                 karzhoul.open(FLAT, db, program=PROGRAM)
-            self.assertEqual((raised.exception.table, raised.exception.row.hex()), (1, "018000000000000001"))
+            self.assertEqual(
+                (raised.exception.table, raised.exception.row.hex()), (1, "018000000000000001")
+            )
 
     def test_a_store_that_another_program_has_open(self) -> None:
         with tempfile.TemporaryDirectory() as place:

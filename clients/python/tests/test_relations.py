@@ -1,4 +1,5 @@
-"""Links and collections, over the program: tests/mappings/linked.json has persons, their orders and badges, and items."""
+"""Links and collections, over the program: tests/mappings/linked.json has persons, their orders and
+badges, and items."""
 
 from __future__ import annotations
 
@@ -24,7 +25,9 @@ class RelationsTest(unittest.TestCase):
         self.app = karzhoul.open(LINKED, program=PROGRAM)
         self.addCleanup(self.app.close)
         self.em = self.app.create_entity_manager()
-        self.Person, self.Order, self.Badge, self.Item = map(self.app.entity, ("Person", "Order", "Badge", "Item"))
+        self.Person, self.Order, self.Badge, self.Item = map(
+            self.app.entity, ("Person", "Order", "Badge", "Item")
+        )
 
     def family(self, count: int = 2) -> Tuple[Any, List[Any]]:
         """A person with orders, committed."""
@@ -98,10 +101,15 @@ class Lists(RelationsTest):
     def test_a_collection_is_a_list(self) -> None:
         person, (a, b) = self.family()
         orders = person.orders
-        self.assertEqual((len(orders), list(orders), orders[0], orders[-1], orders[:1]), (2, [a, b], a, b, [a]))
+        self.assertEqual(
+            (len(orders), list(orders), orders[0], orders[-1], orders[:1]), (2, [a, b], a, b, [a])
+        )
         self.assertTrue(a in orders and orders)
         orders.append(a)
-        self.assertEqual((orders, orders.count(a), orders.index(b), list(reversed(orders))), ([a, b, a], 2, 1, [a, b, a]))
+        self.assertEqual(
+            (orders, orders.count(a), orders.index(b), list(reversed(orders))),
+            ([a, b, a], 2, 1, [a, b, a]),
+        )
         orders.remove(a)
         self.assertEqual(orders, [b, a])
         person.orders += [b]
@@ -180,8 +188,13 @@ class Lists(RelationsTest):
 
     def test_a_member_of_another_class(self) -> None:
         person, orders = self.family()
-        self.assertEqual(self.refuses(karzhoul.IllegalArgument, person.orders.append, person), "type")
-        self.assertEqual(self.refuses(karzhoul.IllegalArgument, person.orders.extend, [orders[0], person]), "type")
+        self.assertEqual(
+            self.refuses(karzhoul.IllegalArgument, person.orders.append, person), "type"
+        )
+        self.assertEqual(
+            self.refuses(karzhoul.IllegalArgument, person.orders.extend, [orders[0], person]),
+            "type",
+        )
         self.assertEqual(person.orders, [*orders, orders[0]])
         with self.assertRaises(ValueError):
             person.orders = ["Ada"]
@@ -206,14 +219,19 @@ class Lists(RelationsTest):
             with karzhoul.open(LINKED, db, program=PROGRAM) as app:
                 em = app.create_entity_manager()
                 order = app.new("Order", number=1)
-                items = [app.new("Item", at=(shelf, tag)) for shelf, tag in ((2, "a"), (1, "b"), (1, "a"))]
+                items = [
+                    app.new("Item", at=(shelf, tag))
+                    for shelf, tag in ((2, "a"), (1, "b"), (1, "a"))
+                ]
                 order.items = [*items, items[0]]
                 with em.transaction():
                     em.persist(order)
                 self.assertEqual(order.items, [*items, items[0]])
             with karzhoul.open(LINKED, db, program=PROGRAM) as app:
                 order = app.create_entity_manager().find("Order", 1)
-                self.assertEqual([tuple(item.at) for item in order.items], [(1, "a"), (1, "b"), (2, "a")])
+                self.assertEqual(
+                    [tuple(item.at) for item in order.items], [(1, "a"), (1, "b"), (2, "a")]
+                )
                 self.assertEqual([item.orders for item in order.items], [[order]] * 3)
 
     def test_many_at_a_time(self) -> None:
@@ -242,7 +260,9 @@ class Cascades(RelationsTest):
         with self.em.transaction():
             self.em.flush()
             self.assertTrue(self.em.contains(order))
-        kinds = [("PrePersist", each) for each in (person, *orders)] + [("PostPersist", each) for each in (person, *orders)]
+        kinds = [("PrePersist", each) for each in (person, *orders)] + [
+            ("PostPersist", each) for each in (person, *orders)
+        ]
         self.assertEqual(told, kinds + [("PrePersist", order), ("PostPersist", order)])
 
     def test_a_removal_reaches_what_was_not_read(self) -> None:
@@ -283,7 +303,9 @@ class Orphans(unittest.TestCase):
             em = app.create_entity_manager()
             Person, Order = app.entity("Person"), app.entity("Order")
             person = Person()
-            first, second, third = person.orders = [Order(number=number, person=person) for number in (1, 2, 3)]
+            first, second, third = person.orders = [
+                Order(number=number, person=person) for number in (1, 2, 3)
+            ]
             with em.transaction():
                 em.persist(person)
             person.orders.remove(first)

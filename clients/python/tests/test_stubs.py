@@ -23,7 +23,10 @@ ODD["entities"] += [
     {
         "name": "View",
         "extends": "Person",
-        "attributes": [{"name": name, "type": "bytes", "column": 10 + place} for place, name in enumerate(("bytes", "class", "View", "self"))],
+        "attributes": [
+            {"name": name, "type": "bytes", "column": 10 + place}
+            for place, name in enumerate(("bytes", "class", "View", "self"))
+        ],
         "relations": [{"name": "Place", "kind": "manyToOne", "target": "Place", "column": 20}],
     },
     {"name": "None", "table": 9, "key": [{"name": "int", "type": "int"}]},
@@ -48,16 +51,24 @@ class Written(unittest.TestCase):
         module, text = written(PERSONS)
         for name in ("Person", "Place", "Order"):
             self.assertTrue(isinstance(getattr(module, name), type), name)
-        for line in ("    name: Optional[str]\n", "    label: str\n", "    scan: Optional[bytes]\n", "    shelf: str\n"):
+        for line in (
+            "    name: Optional[str]\n", "    label: str\n", "    scan: Optional[bytes]\n",
+            "    shelf: str\n",
+        ):
             self.assertIn(line, text)
-        self.assertIn("    at: View[Place_at, Union[Place_at, Tuple[int, str, bytes], Mapping[str, Any]]]\n", text)
+        self.assertIn(
+            "    at: View[Place_at, Union[Place_at, Tuple[int, str, bytes], Mapping[str, Any]]]\n",
+            text,
+        )
 
     def test_subclasses_are_subclasses_wherever_they_stand(self) -> None:
         mapping = copy.deepcopy(PERSONS)
         mapping["entities"].insert(0, {"name": "Clerk", "extends": "Manager"})
         mapping["entities"].insert(0, {"name": "Manager", "extends": "Person"})
         module, _ = written(mapping)
-        self.assertEqual([kind.__name__ for kind in module.Clerk.__mro__[:3]], ["Clerk", "Manager", "Person"])
+        self.assertEqual(
+            [kind.__name__ for kind in module.Clerk.__mro__[:3]], ["Clerk", "Manager", "Person"]
+        )
 
     def test_odd_names(self) -> None:
         module, text = written(ODD)
@@ -110,7 +121,9 @@ class Used(ProgramTest):
         self.assertIs(self.em.find(typed.Person, 1), person)
         self.assertIs(self.em.get_reference(typed.Person, 1), person)
         self.assertEqual(self.em.query("SELECT p FROM Person p", typed.Person), [person])
-        self.assertEqual([type(each) for each in self.app.new_many(typed.Order, [{"number": 1}])], [self.Order])
+        self.assertEqual(
+            [type(each) for each in self.app.new_many(typed.Order, [{"number": 1}])], [self.Order]
+        )
 
     def test_objects_are_instances(self) -> None:
         typed, _ = written(PERSONS)

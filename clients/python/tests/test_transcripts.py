@@ -1,4 +1,5 @@
-"""Worked examples of all calls, played by a stub: the client sends exactly their lines, and gives what their replies say.
+"""Worked examples of all calls, played by a stub: the client sends exactly their lines, and gives
+what their replies say.
 
 The files data/*.txt have the lines of an example with the replies to them.
 """
@@ -29,7 +30,12 @@ def transcript(name: str) -> str:
 
 
 class Transcripts(unittest.TestCase):
-    def play(self, name: str, example: Callable[[Factory, karzhoul.EntityManager], None], mapping: Any = None) -> None:
+    def play(
+        self,
+        name: str,
+        example: Callable[[Factory, karzhoul.EntityManager], None],
+        mapping: Any = None,
+    ) -> None:
         with played(transcript(name), mapping or persons_and_orders()) as app:
             example(app, app.create_entity_manager())
             # The stub ends where a line is left that wasn't sent, or one came that it doesn't have.
@@ -83,7 +89,9 @@ class Transcripts(unittest.TestCase):
             self.assertIs(em.get_reference(Person, 1), person)
             self.refuses(karzhoul.EntityNotFound, em.get_reference, Person, 2)
             em.detach(person)
-            self.assertEqual(self.refuses(karzhoul.IllegalArgument, em.refresh, person).detail, "state")
+            self.assertEqual(
+                self.refuses(karzhoul.IllegalArgument, em.refresh, person).detail, "state"
+            )
             transaction = em.transaction().begin()
             transaction.set_rollback_only()
             self.refuses(karzhoul.Rollback, transaction.commit)
@@ -102,10 +110,14 @@ class Transcripts(unittest.TestCase):
             self.assertEqual(em.query("SELECT COUNT(p) FROM Person p"), [1])
             second = Person()
             em.persist(second)
-            refused = self.refuses(karzhoul.NonUniqueResult, em.query_single, "SELECT p FROM Person p")
+            refused = self.refuses(
+                karzhoul.NonUniqueResult, em.query_single, "SELECT p FROM Person p"
+            )
             self.assertEqual([event.object for event in refused.events], [second])
             transaction.commit()
-            self.refuses(karzhoul.NoResult, em.query_single, "SELECT p FROM Person p WHERE p.id = 9")
+            self.refuses(
+                karzhoul.NoResult, em.query_single, "SELECT p FROM Person p WHERE p.id = 9"
+            )
 
         self.play("queries", example)
 
@@ -149,7 +161,11 @@ class Transcripts(unittest.TestCase):
             self.assertEqual(self.refuses(karzhoul.Persistence, em.flush).detail, "unique")
             self.refuses(karzhoul.Rollback, transaction.commit)
 
-        self.play("relations", example, json.loads((HERE / "data" / "relations.json").read_text(encoding="utf-8")))
+        self.play(
+            "relations",
+            example,
+            json.loads((HERE / "data" / "relations.json").read_text(encoding="utf-8")),
+        )
 
     def test_listeners(self) -> None:
         def example(app: Factory, em: karzhoul.EntityManager) -> None:
@@ -162,7 +178,10 @@ class Transcripts(unittest.TestCase):
             second.name = None
             refused = self.refuses(karzhoul.Listener, em.flush)
             self.assertEqual(refused.detail, "require name")
-            self.assertEqual([(event.object, event.ran) for event in refused.events], [(first, ("bump", "need", "seen")), (second, ("bump", "need"))])
+            self.assertEqual(
+                [(event.object, event.ran) for event in refused.events],
+                [(first, ("bump", "need", "seen")), (second, ("bump", "need"))],
+            )
             self.assertIsNone(app.get(first, "hits"))
             self.refuses(karzhoul.Rollback, transaction.commit)
 
@@ -172,14 +191,19 @@ class Transcripts(unittest.TestCase):
         def example(app: Factory, em: karzhoul.EntityManager) -> None:
             Person, Order = app.entity("Person"), app.entity("Order")
             person = Person()
-            orders = [Order(number=number, amount=amount, person=person) for number, amount in ((10, 5), (11, 7))]
+            orders = [
+                Order(number=number, amount=amount, person=person)
+                for number, amount in ((10, 5), (11, 7))
+            ]
             person.orders.extend([*orders, orders[0]])
             with em.transaction():
                 em.persist(person)
             self.assertEqual(person.orders[:2], orders)
             em.clear()
             removed = []
-            app.listen(lambda event: removed.append(event.object), karzhoul.LifecycleEvent.POST_REMOVE)
+            app.listen(
+                lambda event: removed.append(event.object), karzhoul.LifecycleEvent.POST_REMOVE
+            )
             again = em.find(Person, 1)
             with em.transaction():
                 em.remove(again)
@@ -193,8 +217,10 @@ class Transcripts(unittest.TestCase):
         lines: Dict[str, str] = {
             '{"call":"createEntityManager"}': "1",
             '{"call":"new","entity":"Person"}': '{"object":1}',
-            f'{{"call":"executeUpdate","em":1,"text":"{text}","params":{{"n":{{"hex":"00ff"}},"p":{{"object":1}}}}}}': "1",
-            '{"call":"query","em":1,"text":"SELECT p, p.name FROM Person p","params":{},"first":0,"max":2}': (
+            f'{{"call":"executeUpdate","em":1,"text":"{text}",'
+            '"params":{"n":{"hex":"00ff"},"p":{"object":1}}}': "1",
+            '{"call":"query","em":1,"text":"SELECT p, p.name FROM Person '
+            'p","params":{},"first":0,"max":2}': (
                 '[[{"object":1},"Ada"],[null,{"hex":"0a"}]]'
             ),
             '{"call":"close","em":1}': "null",
@@ -214,7 +240,9 @@ class Transcripts(unittest.TestCase):
 class Lines(unittest.TestCase):
     def test_every_call_is_played(self) -> None:
         files = "".join(path.read_text(encoding="utf-8") for path in (HERE / "data").glob("*.txt"))
-        here = (HERE / "test_transcripts.py").read_text(encoding="utf-8") + (HERE / "test_calls.py").read_text(encoding="utf-8")
+        here = (HERE / "test_transcripts.py").read_text(encoding="utf-8") + (
+            HERE / "test_calls.py"
+        ).read_text(encoding="utf-8")
         played_calls = set(re.findall(r'"call":"(\w+)"', files + here))
         self.assertEqual(set(CALLS) - played_calls - {"rollback"}, set())
         self.assertIn(".rollback()", here)

@@ -18,7 +18,8 @@ TUTORIAL = TOP / "docs" / "TUTORIAL.md"
 
 
 class Block(NamedTuple):
-    """A fenced block: `sh` is run, `text` is what the run before it prints, and any other one is a file of the name beside its kind."""
+    """A fenced block: `sh` is run, `text` is what the run before it prints, and any other one is a
+    file of the name beside its kind."""
 
     kind: str
     name: str
@@ -27,7 +28,10 @@ class Block(NamedTuple):
 
 def blocks(page: Path = TUTORIAL) -> List[Block]:
     text = page.read_text(encoding="utf-8")
-    return [Block(*found) for found in re.findall(r"^```(\w+) ?(\S*)\n(.*?)^```$", text, re.MULTILINE | re.DOTALL)]
+    return [
+        Block(*found)
+        for found in re.findall(r"^```(\w+) ?(\S*)\n(.*?)^```$", text, re.MULTILINE | re.DOTALL)
+    ]
 
 
 def script(page: Path) -> Iterator[str]:
@@ -53,17 +57,29 @@ class Tutorial(unittest.TestCase):
         with tempfile.TemporaryDirectory() as place:
             package_elsewhere(place)
             follow(self, place, sys.executable, KARZHOUL_PROGRAM=str(PROGRAM))
-            self.assertIn("<svg", Path(place, "library", "library.html").read_text(encoding="utf-8"))
+            self.assertIn(
+                "<svg", Path(place, "library", "library.html").read_text(encoding="utf-8")
+            )
 
 
-def follow(test: unittest.TestCase, top: str, python: str, page: Path = TUTORIAL, **env: str) -> None:
-    """Runs each block of a page with this Python, at the top of a folder that may have the package as a clone has it."""
+def follow(
+    test: unittest.TestCase, top: str, python: str, page: Path = TUTORIAL, **env: str
+) -> None:
+    """Runs each block of a page with this Python, at the top of a folder that may have the package
+    as a clone has it."""
     python3 = Path(top, "bin", "python3")
     python3.parent.mkdir()
     python3.write_text(f'#!/bin/sh\nexec {shlex.quote(python)} "$@"\n', encoding="utf-8")
     python3.chmod(0o755)
-    own = {"TMPDIR": top, "PATH": f"{python3.parent}:{os.environ['PATH']}", "PYTHONDONTWRITEBYTECODE": "1"}
-    ran = subprocess.run(["bash", "-c", "".join(script(page))], cwd=top, env={**os.environ, **own, **env}, capture_output=True, text=True, timeout=100)
+    own = {
+        "TMPDIR": top,
+        "PATH": f"{python3.parent}:{os.environ['PATH']}",
+        "PYTHONDONTWRITEBYTECODE": "1",
+    }
+    ran = subprocess.run(
+        ["bash", "-c", "".join(script(page))], cwd=top, env={**os.environ, **own, **env},
+        capture_output=True, text=True, timeout=100,
+    )
     test.assertEqual((ran.returncode, ran.stderr), (0, ""))
     parts = re.split(r"^end of block (\d+)\n", ran.stdout, flags=re.MULTILINE)
     told = blocks(page)

@@ -24,19 +24,31 @@ SHOP = {
     "revision": 1,
     "entities": [
         {
-            "name": "Customer",
-            "table": 1,
-            "key": [{"name": "id", "type": "int"}],
+            "name": "Customer", "table": 1, "key": [{"name": "id", "type": "int"}],
             "generated": True,
-            "attributes": [{"name": "name", "type": "text", "column": 1}, {"name": "email", "type": "text", "column": 2, "required": True}],
-            "relations": [{"name": "orders", "kind": "oneToMany", "target": "Order", "mappedBy": "customer"}],
+            "attributes": [
+                {"name": "name", "type": "text", "column": 1},
+                {"name": "email", "type": "text", "column": 2, "required": True},
+            ],
+            "relations": [
+                {"name": "orders", "kind": "oneToMany", "target": "Order", "mappedBy": "customer"}
+            ],
         },
-        {"name": "Firm", "extends": "Customer", "attributes": [{"name": "seal", "type": "bytes", "column": 3}]},
+        {
+            "name": "Firm",
+            "extends": "Customer",
+            "attributes": [{"name": "seal", "type": "bytes", "column": 3}],
+        },
         {
             "name": "Order",
             "table": 2,
             "key": [{"name": "number", "type": "int"}],
-            "relations": [{"name": "customer", "kind": "manyToOne", "target": "Customer", "column": 1, "required": True}],
+            "relations": [
+                {
+                    "name": "customer", "kind": "manyToOne", "target": "Customer", "column": 1,
+                    "required": True,
+                }
+            ],
         },
         {
             "name": "Place",
@@ -59,12 +71,21 @@ def complaints(files: Dict[str, str], name: str = "program.py") -> List[str]:
     with tempfile.TemporaryDirectory() as place:
         for each, text in files.items():
             Path(place, each).write_text(text, encoding="utf-8")
-        words = [MYPY, "--strict", "--follow-imports=silent", "--no-error-summary", "--cache-dir", CACHE.name, name]
+        words = [
+            MYPY, "--strict", "--follow-imports=silent", "--no-error-summary", "--cache-dir",
+            CACHE.name, name,
+        ]
         env = {**os.environ, "MYPYPATH": str(HERE.parent)}
-        checked = subprocess.run(words, cwd=place, env=env, capture_output=True, text=True, timeout=300)
+        checked = subprocess.run(
+            words, cwd=place, env=env, capture_output=True, text=True, timeout=300
+        )
     if checked.returncode not in (0, 1):
         raise AssertionError(checked.stderr)
-    return [line for line in checked.stdout.splitlines() if ": note: Revealed" in line or ": error: " in line]
+    return [
+        line
+        for line in checked.stdout.splitlines()
+        if ": note: Revealed" in line or ": error: " in line
+    ]
 
 
 CACHE = tempfile.TemporaryDirectory()
@@ -75,7 +96,9 @@ unittest.addModuleCleanup(CACHE.cleanup)
 class Package(unittest.TestCase):
     def test_it_is_clean(self) -> None:
         words = [MYPY, "--strict", "--cache-dir", CACHE.name, "karzhoul"]
-        checked = subprocess.run(words, cwd=HERE.parent, capture_output=True, text=True, timeout=300)
+        checked = subprocess.run(
+            words, cwd=HERE.parent, capture_output=True, text=True, timeout=300
+        )
         self.assertEqual((checked.returncode, checked.stderr), (0, ""), checked.stdout)
 
 
@@ -100,14 +123,13 @@ class Programs(unittest.TestCase):
 
     def test_managers(self) -> None:
         self.passes(
-            'print(m.get_reference("X", 1).name)',
-            'found = m.find("X", 1)',
-            "if found is not None:",
-            '    found.name = "Eve"',
+            'print(m.get_reference("X", 1).name)', 'found = m.find("X", 1)',
+            "if found is not None:", '    found.name = "Eve"',
             'print([each.name for each in m.find_many("X", [1, 2]) if each])',
             'for row in m.query("SELECT x FROM X x WHERE x.id = ?1", params={1: 2}):',
             "    print(row.name)",
-            'for row in m.query("SELECT x FROM X x WHERE x.id = :id", app.entity("X"), params={"id": 2}):',
+            'for row in m.query("SELECT x FROM X x WHERE x.id = :id", app.entity("X"), '
+            'params={"id": 2}):',
             "    print(row.name)",
             'm.merge(m.get_reference("X", 1)).name = "Eve"',
         )
@@ -121,8 +143,18 @@ class Programs(unittest.TestCase):
 class TypedClasses(unittest.TestCase):
     def says(self, *lines: str) -> List[str]:
         """What mypy reveals and refuses, in short."""
-        found = complaints({"shop.py": module_of(SHOP, "mapping.json"), "program.py": TYPED + "\n".join(lines) + "\n"})
-        return [line.split(": note: Revealed type is ")[-1].split(": error: ")[-1].replace("builtins.", "") for line in found]
+        found = complaints(
+            {
+                "shop.py": module_of(SHOP, "mapping.json"),
+                "program.py": TYPED + "\n".join(lines) + "\n",
+            }
+        )
+        return [
+            line.split(": note: Revealed type is ")[-1]
+            .split(": error: ")[-1]
+            .replace("builtins.", "")
+            for line in found
+        ]
 
     def test_the_module_is_clean(self) -> None:
         self.assertEqual(complaints({"shop.py": module_of(SHOP, "mapping.json")}, "shop.py"), [])
@@ -146,11 +178,30 @@ class TypedClasses(unittest.TestCase):
     def test_types_of_members_and_answers(self) -> None:
         told = self.says(
             "c = m.get_reference(Customer, 1)",
-            *(f"reveal_type({said})" for said in ("c", "c.id", "c.name", "c.email", "c.orders", "c.orders[0].customer", "app.new(Firm).seal")),
-            *(f"reveal_type({said})" for said in ("m.find(Order, 1)", "app.new_many(Order, [])", "m.merge(c)", "app.new(Place).at.row")),
+            *(
+                f"reveal_type({said})"
+                for said in (
+                    "c", "c.id", "c.name", "c.email", "c.orders", "c.orders[0].customer",
+                    "app.new(Firm).seal",
+                )
+            ),
+            *(
+                f"reveal_type({said})"
+                for said in (
+                    "m.find(Order, 1)", "app.new_many(Order, [])", "m.merge(c)",
+                    "app.new(Place).at.row",
+                )
+            ),
         )
-        wanted = ["shop.Customer", "int", "Union[str, None]", "str", "karzhoul.entities.Collection[shop.Order]", "shop.Customer"]
-        wanted += ["Union[bytes, None]", "Union[shop.Order, None]", "list[shop.Order]", "shop.Customer", "int"]
+        wanted = [
+            "shop.Customer", "int", "Union[str, None]", "str",
+            "karzhoul.entities.Collection[shop.Order]",
+            "shop.Customer",
+        ]
+        wanted += [
+            "Union[bytes, None]", "Union[shop.Order, None]", "list[shop.Order]", "shop.Customer",
+            "int",
+        ]
         self.assertEqual([line.strip('"') for line in told], wanted)
 
     def test_what_is_wrong_is_told(self) -> None:

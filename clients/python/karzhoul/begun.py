@@ -1,0 +1,58 @@
+"""A manager with its transaction open, for the time of a block."""
+
+from __future__ import annotations
+
+from contextlib import AbstractContextManager
+from types import TracebackType
+from typing import TYPE_CHECKING, Optional, Type
+
+from .interrupts import begin_of_block, end_of_block
+from .managers import EntityManager
+from .refusals import Busy, OptimisticLock, Refused, Rollback
+
+if TYPE_CHECKING:
+    from .factory import EntityManagerFactory
+
+
+class Begun(AbstractContextManager["EntityManager"]):
+    """The block of `EntityManagerFactory.begin`. Its end commits, or rolls back where the block
+    raises, and closes the manager."""
+
+    def __init__(self, factory: EntityManagerFactory) -> None:
+        self._factory = factory
+        self._manager: Optional[EntityManager] = None
+
+    @begin_of_block
+    def __enter__(self) -> EntityManager:
+        manager = self._manager = self._factory.create_entity_manager()
+        try:
+            manager.__enter__()
+            manager.transaction().__enter__()
+        except BaseException as fault:
+            manager.__exit__(fault.__class__)
+            raise
+        return manager
+
+    @end_of_block
+    def __exit__(
+        self,
+        kind: Optional[Type[BaseException]],
+        fault: Optional[BaseException],
+        trace: Optional[TracebackType],
+    ) -> None:
+        try:
+            # (No call of another function comes first, which could be interrupted.)
+            if self._manager is not None:
+                self._manager._transaction.__exit__(kind, fault, trace)
+        except BaseException as refused:
+            kind = refused.__class__
+            raise
+        finally:
+            if self._manager is not None:
+                self._manager.__exit__(kind)
+
+
+def is_too_late(refused: Refused) -> bool:
+    """Whether a refusal says that another manager came first, so that work may be done again."""
+    found = refused.cause if isinstance(refused, Rollback) else refused
+    return isinstance(found, (OptimisticLock, Busy))

@@ -1,0 +1,275 @@
+"""What a manager is asked by queries."""
+
+from __future__ import annotations
+
+from typing import TYPE_CHECKING, Any, Dict, Iterator, List, Mapping, NamedTuple, Optional
+from typing import Type, Union
+
+from .arguments import check_query, item_class, parameter_name
+from .lines import line_of, spelled, text_spelled
+from .refusals import NoResult
+from .rewriting import ByKey, by_key, counting, with_lists
+from .rows import Names, Page, Row, Rows, as_row
+
+if TYPE_CHECKING:
+    from .factory import EntityManagerFactory
+
+# By name, or by number for ?1.
+Params = Optional[Union[Mapping[str, Any], Mapping[int, Any]]]
+Limit = Optional[int]
+Result = Union[None, str, Type[Any]]
+
+
+class Queries:
+    """The queries of a manager.
+
+    A parameter is handed in by its name, as `query(text, name="Ada")`, or in `params`, as
+    `params={"name": "Ada"}` or `params={1: "Ada"}` for `?1`. A list is a parameter of IN, as in
+    "o.number IN :numbers". With a `result_class` each row has an item of that class, or a None in
+    its place; else this is a `TypeError`. A query that isn't answered within `timeout` seconds is
+    `GivenUp`, and the program is ended.
+    """
+
+    factory: EntityManagerFactory
+
+    if TYPE_CHECKING:
+
+        @property
+        def _em(self) -> str: ...
+
+    def query(
+        self,
+        text: str,
+        result_class: Result = None,
+        *,
+        params: Params = None,
+        first: Limit = None,
+        max: Limit = None,
+        timeout: Optional[float] = None,
+        **named: Any,
+    ) -> Rows:
+        """The rows of a query, from the `first` on and at most `max`: a row of one item is that
+        item, any other one a list whose items have names, as `row.name` (`rows.Row`)."""
+        return self._asked(text, result_class, params, timeout, named).rows(first, max)
+
+    def query_single(
+        self,
+        text: str,
+        result_class: Result = None,
+        *,
+        params: Params = None,
+        first: Limit = None,
+        max: Limit = None,
+        timeout: Optional[float] = None,
+        **named: Any,
+    ) -> Any:
+        """The one row of a query; else `NoResult` or `NonUniqueResult`."""
+        asked = self._asked(text, result_class, params, timeout, named)
+        row = asked.answers([asked.line("querySingle", first, max)], is_one=True)[0]
+        return as_row(row, Names(text))
+
+    one = query_single
+
+    def one_or_none(
+        self,
+        text: str,
+        result_class: Result = None,
+        *,
+        params: Params = None,
+        timeout: Optional[float] = None,
+        **named: Any,
+    ) -> Any:
+        """The one row of a query, or None where there is none; else `NonUniqueResult`."""
+        try:
+            return self.one(text, result_class, params=params, timeout=timeout, **named)
+        except NoResult:
+            return None
+
+    def first(
+        self,
+        text: str,
+        result_class: Result = None,
+        *,
+        params: Params = None,
+        timeout: Optional[float] = None,
+        **named: Any,
+    ) -> Any:
+        """The first row of a query, or None; no other one is asked for."""
+        return self._asked(text, result_class, params, timeout, named).rows(None, 1).first()
+
+    def scalars(
+        self,
+        text: str,
+        result_class: Result = None,
+        *,
+        params: Params = None,
+        first: Limit = None,
+        max: Limit = None,
+        timeout: Optional[float] = None,
+        **named: Any,
+    ) -> List[Any]:
+        """The first item of each row of a query."""
+        return self._asked(text, result_class, params, timeout, named).rows(first, max).scalars()
+
+    def page(
+        self,
+        text: str,
+        number: int,
+        size: int,
+        result_class: Result = None,
+        /,
+        *,
+        total: bool = False,
+        params: Params = None,
+        timeout: Optional[float] = None,
+        **named: Any,
+    ) -> Page:
+        """The page of this number, from 1 on, of a query's rows, at most so many on each.
+
+        With `total` it says how many rows there are in all: these are counted by a query beside it,
+        of the same moment. Of groups and of DISTINCT all rows are asked for.
+        """
+        if number < 1 or size < 1:
+            told = f"pages have numbers and sizes from 1 on, and not {number} and {size}"
+            raise ValueError(told)
+        asked = self._asked(text, result_class, params, timeout, named)
+        lines, counted = [asked.line("query", (number - 1) * size, size + 1)], counting(text)
+        if total:
+            lines.append(asked.line("query", text=counted or text))
+        found, *more = asked.answers(lines)
+        count: Optional[int] = None
+        if total:
+            count = more[0][0] if counted else len(more[0])
+        names = Names(text)
+        return Page([as_row(row, names) for row in found], names, number, size, count)
+
+    def iterate(
+        self,
+        text: str,
+        size: int = 1000,
+        result_class: Result = None,
+        /,
+        *,
+        params: Params = None,
+        timeout: Optional[float] = None,
+        **named: Any,
+    ) -> Iterator[Any]:
+        """The rows of a query, of which so many are asked for at a time: each time those behind the
+        last row, by the key of the first variable's object, whatever was stored meanwhile.
+
+        It takes no DISTINCT, GROUP BY, aggregate or ORDER BY, since the rows come in the order of
+        the keys.
+        """
+        if size < 1:
+            raise ValueError(f"{size} rows are asked for at a time, and one is the least")
+        keys = {name: kind._karzhoul_key[1] for name, kind in self.factory._classes.items()}
+        asked = self._asked(text, result_class, params, timeout, named)
+        return _iterated(asked, by_key(text, keys), size)
+
+    def execute_update(
+        self, text: str, *, params: Params = None, timeout: Optional[float] = None, **named: Any
+    ) -> int:
+        """Runs an UPDATE or a DELETE, and answers how many objects it concerned."""
+        asked = self._asked(text, None, params, timeout, named)
+        return int(asked.answers([asked.line("executeUpdate")], is_one=True)[0])
+
+    def _asked(
+        self,
+        text: str,
+        result_class: Result,
+        params: Params,
+        timeout: Optional[float],
+        named: Mapping[str, Any],
+    ) -> _Asked:
+        """A query that is asked so, which is refused here where it is none."""
+        if timeout is not None and not timeout > 0:
+            raise ValueError(f"timeout={timeout!r} is no number of seconds above 0")
+        check_query(text, result_class, params)
+        given = _given(params, named) if named or params is not None else None
+        wanted = None
+        if result_class is not None:
+            wanted = item_class(self.factory._classes, result_class)
+        return _Asked(self, text, wanted, given, timeout)
+
+
+class _Asked(NamedTuple):
+    """A query with its parameters, the class of an item of each row, and its time limit."""
+
+    manager: Queries
+    text: str
+    wanted: Optional[Type[Any]]
+    given: Optional[Mapping[str, Any]]
+    timeout: Optional[float]
+
+    def line(
+        self,
+        call: str,
+        first: Limit = None,
+        most: Limit = None,
+        text: str = "",
+        more: Optional[Mapping[str, Any]] = None,
+    ) -> bytes:
+        """The line that asks it, by another text where one is given, and with more parameters."""
+        has_params = self.given is not None or bool(more)
+        said, values = with_lists(text or self.text, {**(self.given or {}), **(more or {})})
+        members = {"em": self.manager._em, "text": text_spelled(said)}
+        if has_params:
+            spell = self.manager.factory.given
+            listed = [f"{text_spelled(name)}:{spell(value)}" for name, value in values.items()]
+            members["params"] = f"{{{','.join(listed)}}}"
+        limits = (("first", first), ("max", most))
+        members.update({name: spelled(limit) for name, limit in limits if limit is not None})
+        return line_of(call, members)
+
+    def answers(self, lines: List[bytes], is_one: bool = False) -> List[Any]:
+        """The answers to its lines: the first has rows, or one, with an item of its class."""
+        answers = self.manager.factory.ask_lines(lines, timeout=self.timeout)
+        if self.wanted is not None:
+            for row in [answers[0]] if is_one else answers[0]:
+                _require_class(row, self.wanted)
+        return answers
+
+    def rows(self, first: Limit, most: Limit) -> Rows:
+        """Its rows, from the first on and at most so many."""
+        names = Names(self.text)
+        found = self.answers([self.line("query", first, most)])[0]
+        return Rows([as_row(row, names) for row in found], names)
+
+
+def _iterated(asked: _Asked, query: ByKey, size: int) -> Iterator[Any]:
+    """The rows of a query, asked for by the key."""
+    names, width, most = Names(asked.text), len(query.key), size
+    last: Optional[List[Any]] = None
+    is_end = False
+    while not is_end:
+        text, more = query.part(last)
+        found = asked.answers([asked.line("query", None, most, text, more)])[0]
+        is_end = len(found) < most
+        if query.has_groups and not is_end:
+            # The rows of an object come together, and the last one's may go on.
+            whole = [row for row in found if row[-width:] != found[-1][-width:]]
+            found, most = whole, size if whole else 2 * most
+        for row in found:
+            last = row[-width:]
+            items = row[:-width]
+            yield items[0] if len(items) == 1 else Row(items, names)
+
+
+def _given(params: Params, named: Mapping[str, Any]) -> Dict[str, Any]:
+    """The parameters by name."""
+    given = {parameter_name(name): value for name, value in (params or {}).items()}
+    for name, value in named.items():
+        if name in given:
+            raise TypeError(f"the parameter {name!r} is given twice")
+        if isinstance(value, Mapping):
+            raise TypeError(f"parameters are handed in by params={{..}}, and not by {name}={{..}}")
+        given[name] = value
+    return given
+
+
+def _require_class(row: Any, wanted: Type[Any]) -> None:
+    """Refuses a row that has no item of a class, and no None in its place."""
+    items = row if isinstance(row, list) else [row]
+    if not any(item is None or isinstance(item, wanted) for item in items):
+        where = f"where nothing is of the result class {wanted.__name__}"
+        raise TypeError(f"the query found {row!r}, {where}")
