@@ -9,7 +9,7 @@ if ! command -v python3 >/dev/null 2>&1; then
     exit 77
 fi
 python3 - <<'END'
-import glob, sys
+import glob, os, sys
 
 edits = wrong = 0
 FOLDERS = ("crates/*/must-fail", "planted/*", "planted/untried/*")
@@ -22,7 +22,12 @@ for path in sorted(path for folder in FOLDERS for path in glob.glob(f"{folder}/*
         rest = rest[1:]
         if word == "file":
             name = rest
-            texts.setdefault(name, open(f"crates/{crate}/{name}", encoding="utf-8").read())
+            place = f"crates/{crate}/{name}"
+            if not os.path.isfile(place):
+                wrong += 1
+                print(f"{path}: {place} is not there")
+                break
+            texts.setdefault(name, open(place, encoding="utf-8").read())
         elif word == "old":
             old = rest
         elif texts[name].count(old) == 1:

@@ -10,6 +10,8 @@
 
 It is started from the top of the repository. Exit status 0 where all of them do.
 """
+from __future__ import annotations
+
 import os
 import pathlib
 import re
@@ -17,13 +19,17 @@ import shutil
 import subprocess
 import sys
 import tempfile
+from typing import TYPE_CHECKING, Any
+
+if TYPE_CHECKING:
+    from pathlib import Path
 
 PAGES = ["README.md", "docs/GUIDE.md"]
 BLOCK = re.compile(r"^```(\w+)(?: (\w+))?\n(.*?)^```$", re.MULTILINE | re.DOTALL)
 SECONDS = 60
 
 
-def examples(page):
+def examples(page: str) -> Any:
     """The examples of a page as their blocks by kind, what it begins with, and what is left."""
     found, beginning, example = [], None, {}
     for kind, word, body in BLOCK.findall(pathlib.Path(page).read_text(encoding="utf-8")):
@@ -37,19 +43,23 @@ def examples(page):
     return found, beginning, example
 
 
-def run(words, lines, env=None):
+def run(
+    words: list[str], lines: str, env: dict[str, str] | None = None
+) -> subprocess.CompletedProcess[Any]:
     return subprocess.run(words, input=lines, capture_output=True, text=True, timeout=SECONDS,
                           check=False, env=env)
 
 
-def run_python(program, text, folder):
+def run_python(program: str, text: str, folder: Path) -> subprocess.CompletedProcess[Any]:
     # (a client inside the clone would start the clone's own program)
     shutil.copytree("clients/python/karzhoul", folder / "karzhoul")
     own = {"KARZHOUL_PROGRAM": program, "PYTHONPATH": str(folder)}
     return run([sys.executable, "-c", text], "", {**os.environ, **own})
 
 
-def run_lines(program, example, store, folder):
+def run_lines(
+    program: str, example: dict[str, str], store: Path | None, folder: Path
+) -> subprocess.CompletedProcess[Any]:
     words = [program]
     if "json" in example:
         mapping = folder / "mapping.json"
@@ -60,7 +70,7 @@ def run_lines(program, example, store, folder):
     return run(words, example.get("jsonl", ""))
 
 
-def printed(program, example, store, folder):
+def printed(program: str, example: dict[str, str], store: Path | None, folder: Path) -> list[str]:
     """What an example prints: of its answers as many as the page has."""
     if "python" in example:
         ran = run_python(program, example["python"], folder)
@@ -70,7 +80,7 @@ def printed(program, example, store, folder):
     return ran.stdout.splitlines()[-wanted:] + ran.stderr.splitlines()
 
 
-def differing(program, page):
+def differing(program: str, page: str) -> tuple[int, list[Any]]:
     """How many examples a page has, and what differs in them."""
     found, beginning, rest = examples(page)
     faults = [f"{page}: an example has no answers: {rest}"] if rest else []
@@ -88,7 +98,7 @@ def differing(program, page):
     return len(found), faults
 
 
-def main(program):
+def main(program: str) -> int:
     count, faults = 0, []
     for page in PAGES:
         found, differ = differing(program, page)

@@ -14,17 +14,24 @@
 It prints what is not so. Exit status 0 where all of it is so. With --index it first writes the
 index of tests/runs/README.md.
 """
+from __future__ import annotations
+
 import pathlib
 import re
 import sys
 import textwrap
 from urllib.parse import unquote
+from typing import TYPE_CHECKING, Any, Iterator
+
+if TYPE_CHECKING:
+    from pathlib import Path
 
 PAGES = ("*.md", "docs/*.md", "tests/*.md", "tests/*/*.md", "clients/python/*.md",
          "examples/*/*.md", "crates/*/README.md")
 RUNS = "tests/runs/README.md"
 INDEXES = ("docs/CHAPTERS.md", "docs/PROMISES.md")
-EXAMPLES = dict.fromkeys(("mappings", "limits", "functions", "stores"), "jpa_examples")
+EXAMPLES = dict.fromkeys(
+    ("mappings", "revisions", "limits", "functions", "stores", "migrations"), "jpa_examples")
 EXAMPLES.update(dict.fromkeys(("queries", "typed"), "jpql_examples"))
 TITLE = re.compile(r"^(?:mapping|limit|functions|store|query|typed) (.+)$", re.MULTILINE)
 VERSIONS = {
@@ -39,24 +46,24 @@ DECLARING = r"(?:(?:abbrev|opaque|unfoldable|record|data|pub)\s+)+"
 faults = []
 
 
-def fault(page, words):
+def fault(page: str, words: str) -> None:
     faults.append(f"{page}: {words}")
 
 
-def read(name):
+def read(name: Path | str) -> str:
     return pathlib.Path(name).read_text(encoding="utf-8")
 
 
-def found_in(pattern, text):
+def found_in(pattern: str, text: str) -> list[str]:
     return re.findall(pattern, text, re.MULTILINE)
 
 
-def pages():
+def pages() -> list[str]:
     paths = [path for pattern in PAGES for path in sorted(pathlib.Path().glob(pattern))]
     return [path.as_posix() for path in paths]
 
 
-def prose(text):
+def prose(text: str) -> str:
     """A page without its blocks of code, with as many lines."""
     kept, fenced = [], False
     for line in text.split("\n"):
@@ -68,7 +75,7 @@ def prose(text):
     return "\n".join(kept)
 
 
-def anchors(name):
+def anchors(name: Path) -> set[str]:
     """What a link can name in a page: its headings, as they are spelled in links."""
     found = set()
     for heading in found_in(r"^#+ (.*)$", prose(read(name))):
@@ -77,7 +84,7 @@ def anchors(name):
     return found
 
 
-def check_links(page):
+def check_links(page: str) -> None:
     for text, target in LINK.findall(prose(read(page))):
         if re.match(r"\w+:", target):
             continue
@@ -89,7 +96,7 @@ def check_links(page):
             fault(page, f"[{text}] leads to {target}, and there is no such heading")
 
 
-def check_files(page):
+def check_files(page: str) -> None:
     """Papers at the top, in docs/ and in tests/ name files from the top."""
     text = read(page)
     named = [code.split()[0] for code in CODE.findall(prose(text)) if code.strip()]
@@ -104,7 +111,7 @@ def check_files(page):
             fault(page, f"{name} is not there")
 
 
-def is_declared(name, path):
+def is_declared(name: str, path: Path) -> list[str]:
     """Whether a file of definitions or of code declares a name; clauses of contracts count too."""
     text, word = read(path), re.escape(name)
     if path.suffix == ".antt":
@@ -112,12 +119,12 @@ def is_declared(name, path):
     return found_in(rf"\b(?:fn|struct|enum|trait|const|ensures|requires)\s+{word}\b", text)
 
 
-def rows(page):
+def rows(page: str) -> Iterator[Any]:
     """The rows of a page's tables, each as its cells by the titles of the table."""
     return rows_in(read(page))
 
 
-def rows_in(text):
+def rows_in(text: str) -> Iterator[dict[str, str]]:
     titles = None
     for line in text.split("\n"):
         if not line.startswith("|"):
@@ -130,7 +137,7 @@ def rows_in(text):
             yield dict(zip(titles, cells))
 
 
-def check_cited(page, cell):
+def check_cited(page: str, cell: str) -> None:
     """Names behind a link into crates/ are declared in its file, up to the next link."""
     for part in re.split(r"(?=\[[^][]*\]\()", cell):
         link = LINK.match(part)
@@ -142,20 +149,20 @@ def check_cited(page, cell):
                 fault(page, f"{link.group(2)} doesn't declare {name}")
 
 
-def check_index(page):
+def check_index(page: str) -> None:
     for row in rows(page):
         for cell in row.values():
             check_cited(page, cell)
 
 
-def has_title(word, title):
+def has_title(word: str, title: str) -> bool:
     titles = TITLE.findall(read(f"crates/{EXAMPLES[word]}/data/{word}"))
     if title.endswith(" .."):
         return any(name.startswith(title[:-3]) for name in titles)
     return title in titles
 
 
-def check_titles(page, cell):
+def check_titles(page: str, cell: str) -> None:
     for word, title in re.findall(r"\b(\w+): \*([^*]+)\*", cell):
         if word not in EXAMPLES:
             fault(page, f"{word} is no file of worked examples")
@@ -163,12 +170,12 @@ def check_titles(page, cell):
             fault(page, f"{word} has no example '{title}'")
 
 
-def cited_runs(cell):
+def cited_runs(cell: str) -> list[str]:
     """The runs that a cell names: names behind a link are declared in its file instead."""
     return CODE.findall(re.sub(r"\[[^][]*\]\([^()]*\)(?:,? `[^`]+`)*", "", cell))
 
 
-def run_index(page):
+def run_index(page: str) -> str:
     """The runs that an index of chapters cites, by its headings."""
     found = []
     for part in re.split(r"^##+ ", read(page), flags=re.MULTILINE):
@@ -181,7 +188,7 @@ def run_index(page):
     return "\n".join(found)
 
 
-def check_run_index(page, is_written):
+def check_run_index(page: str, is_written: bool) -> None:
     head, title, index = read(RUNS).partition("## By chapter\n\n")
     wanted = run_index(page)
     if is_written:
@@ -190,7 +197,7 @@ def check_run_index(page, is_written):
         fault(RUNS, f"its index is not that of {page}: 'python3 tests/papers.py --index' writes it")
 
 
-def check_runs(page):
+def check_runs(page: str) -> None:
     runs = {path.name for path in pathlib.Path("tests/runs").iterdir() if path.is_dir()}
     cited = set()
     for row in rows(page):
@@ -203,20 +210,20 @@ def check_runs(page):
         fault(page, f"no row cites tests/runs/{name}")
 
 
-def check_words(page):
+def check_words(page: str) -> None:
     for crate, name in re.findall(r"\b(jp[aq]\w*): ([A-Z]\w+)", prose(read(page))):
         if not pathlib.Path(f"crates/{crate}/specs/{name}.antt").exists():
             fault(page, f"{crate}: {name} is no file of definitions")
 
 
-def check_version(page):
+def check_version(page: str) -> None:
     version = found_in(r"^## (\d+\.\d+\.\d+)", read(page))[:1]
     for name, pattern in VERSIONS.items():
         if not version or found_in(pattern, read(name)) != version:
             fault(page, f"its first version {version} is not that of {name}")
 
 
-def check_calls(guide):
+def check_calls(guide: str) -> None:
     words = found_in(r'^ +"(\w+)" => Ok\(Word::', read("crates/jpa_lines/src/reading.rt"))
     tables = read(guide) + read("docs/QUERIES.md")
     for word in sorted(set(words) - set(found_in(r'^\| `\{"call":"(\w+)"', tables))):
@@ -230,7 +237,7 @@ def check_calls(guide):
                 fault(page, f"'{count}': {guide} alone counts the calls, as '{wanted}'")
 
 
-def main(words):
+def main(words: list[Any]) -> int:
     if words not in ([], ["--index"]):
         print(__doc__)
         return 2

@@ -11,12 +11,16 @@ them,
 - calls-2.jsonl and replies-2.jsonl, a second process over the file that the first left,
 - status and stderr, where the program ends with another status than 0,
 - words, a word a line, which the program gets in the place of a mapping and a store,
-- stage: what it needs, where the program did not serve that from its first version on. All is
-  compared byte for byte. A run of a stage that the program does not serve yet (STAGES of
-  tests/model/reading.py) is skipped, and said so; with --any, one with a call that it does not
-  serve yet too. Exit status 0 where all that ran agree.
+- stage: what it needs, where the program did not serve that from its first version on.
+
+All is compared byte for byte. A run of a stage that the program does not serve yet (STAGES of
+tests/model/reading.py) is skipped, and said so; with --any, one with a call that it does not serve
+yet too. Exit status 0 where all that ran agree.
 """
+from __future__ import annotations
+
 import json, os, sqlite3, subprocess, sys, tempfile
+from typing import Any
 
 sys.dont_write_bytecode = True
 from model.reading import STAGES, UNSERVED
@@ -28,7 +32,7 @@ TABLE = ("CREATE TABLE cell (t INTEGER NOT NULL, r BLOB NOT NULL, c INTEGER NOT 
 SECONDS = 60
 
 
-def read(folder, name):
+def read(folder: str, name: str) -> bytes | None:
     path = os.path.join(folder, name)
     if not os.path.exists(path):
         return None
@@ -36,13 +40,13 @@ def read(folder, name):
         return file.read()
 
 
-def unserved_stage(folder):
+def unserved_stage(folder: str) -> str | None:
     """The stage that a run needs and the program does not serve, or None."""
     stage = (read(folder, "stage") or b"").decode().strip()
     return stage if stage in STAGES else None
 
 
-def unserved(folder):
+def unserved(folder: str) -> str | None:
     """Why a run can't be made today, or None."""
     stage = unserved_stage(folder)
     if stage:
@@ -58,7 +62,7 @@ def unserved(folder):
     return None
 
 
-def cells(path):
+def cells(path: str) -> str:
     """The cells of a store's file; none where there is no file, or no table in it."""
     if not os.path.exists(path):
         return ""
@@ -69,7 +73,7 @@ def cells(path):
         return "".join(f"{t}, {r.lower()}, {c}, {v.lower()}\n" for t, r, c, v in rows)
 
 
-def fill(path, text):
+def fill(path: str, text: bytes) -> None:
     with sqlite3.connect(path) as store:
         store.execute(TABLE)
         for line in text.decode().splitlines():
@@ -80,12 +84,12 @@ def fill(path, text):
             )
 
 
-def run(program, words, calls):
+def run(program: str, words: list[str], calls: bytes) -> subprocess.CompletedProcess[Any]:
     """What the program answers, ended and said."""
     return subprocess.run([program, *words], input=calls, capture_output=True, timeout=SECONDS)
 
 
-def words_of(folder, store):
+def words_of(folder: str, store: str) -> list[str]:
     words = read(folder, "words")
     if words is not None:
         return words.decode().splitlines()
@@ -93,7 +97,7 @@ def words_of(folder, store):
     return (["--mapping", mapping] if os.path.exists(mapping) else []) + ["--db", store]
 
 
-def other_replies(found, wanted):
+def other_replies(found: bytes, wanted: bytes) -> str | None:
     """Where the replies are others than are wanted, or None."""
     if found == wanted:
         return None
@@ -104,7 +108,7 @@ def other_replies(found, wanted):
     return f"{len(found.splitlines())} lines, and not {len(wanted.splitlines())}"
 
 
-def difference(program, folder):
+def difference(program: str, folder: str) -> str | None:
     """What differs from the run in a folder, or None."""
     with tempfile.TemporaryDirectory() as place:
         store = os.path.join(place, "store.db")
@@ -132,7 +136,7 @@ def difference(program, folder):
         return None
 
 
-def main(words):
+def main(words: list[str]) -> int:
     is_any = words[:1] == ["--any"]
     words = words[1:] if is_any else words
     if len(words) < 2:

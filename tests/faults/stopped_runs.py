@@ -9,7 +9,10 @@ answered. So are those that sqlite3 finds in a copy of the files of a store that
 where the opening itself writes, as one that migrates does, it may find those of before it. Such a
 store is then opened once more, and no more is written than over a store of nothing.
 """
+from __future__ import annotations
+
 import glob, os, shutil, signal, struct, subprocess, sys, tempfile
+from typing import TYPE_CHECKING, Any
 
 sys.dont_write_bytecode = True
 sys.path[0] = os.path.dirname(os.path.dirname(os.path.abspath(__file__)))
@@ -17,8 +20,11 @@ from model.against_runs import cells_of, left_by
 from faults.refused_runs import Differs, over
 from runs import SECONDS, cells, fill, read, run, words_of
 
+if TYPE_CHECKING:
+    from model.kinds import Cell
 
-def answered(process, line):
+
+def answered(process: subprocess.Popen[bytes], line: bytes) -> bytes:
     """The reply to a line; empty where the program has ended."""
     try:
         process.stdin.write(line)
@@ -28,7 +34,7 @@ def answered(process, line):
     return process.stdout.readline()
 
 
-def counting(stop, count, write=0, torn=False):
+def counting(stop: str, count: str, write: int = 0, torn: bool = False) -> dict[str, str]:
     """The environment in which this write is stopped, and writes are counted."""
     with open(count, "wb") as file:
         file.write(bytes(8))
@@ -38,12 +44,12 @@ def counting(stop, count, write=0, torn=False):
     }
 
 
-def counted(count):
+def counted(count: str) -> int:
     with open(count, "rb") as file:
         return struct.unpack("q", file.read())[0]
 
 
-def writes_of_opening(program, stop, words, count):
+def writes_of_opening(program: str, stop: str, words: list[str], count: str) -> int:
     """How often the program writes that opens a store and ends."""
     subprocess.run(
         [program, *words], stdin=subprocess.DEVNULL, capture_output=True, timeout=SECONDS,
@@ -52,7 +58,7 @@ def writes_of_opening(program, stop, words, count):
     return counted(count)
 
 
-def idle(program, stop):
+def idle(program: str, stop: str) -> int:
     """How often it writes over a store of nothing that was opened before."""
     with tempfile.TemporaryDirectory() as place:
         words, count = ["--db", os.path.join(place, "store.db")], os.path.join(place, "writes")
@@ -60,7 +66,7 @@ def idle(program, stop):
         return writes_of_opening(program, stop, words, count)
 
 
-def found_in_copy(store):
+def found_in_copy(store: str) -> str:
     """The cells that sqlite3 finds in a copy of a store's files."""
     with tempfile.TemporaryDirectory() as place:
         for path in glob.glob(store + "*"):
@@ -68,7 +74,7 @@ def found_in_copy(store):
         return cells(os.path.join(place, os.path.basename(store)))
 
 
-def ended(words, calls, how):
+def ended(words: list[str], calls: list[bytes], how: dict[str, str]) -> Any:
     """The replies of a run, what it wrote after them and to standard error, and how it ended."""
     with subprocess.Popen(
         words, stdin=subprocess.PIPE, stdout=subprocess.PIPE, stderr=subprocess.PIPE, env=how
@@ -81,7 +87,7 @@ def ended(words, calls, how):
         return replies, process.stdout.read(), process.stderr.read(), process.wait(SECONDS)
 
 
-def see_opening(program, stop, words, store, most):
+def see_opening(program: str, stop: str, words: list[str], store: str, most: int) -> None:
     """A store that was opened again is opened once more with no more writes, and has the same cells
     then."""
     before, writes = cells(store), writes_of_opening(program, stop, words, store + ".count")
@@ -89,7 +95,15 @@ def see_opening(program, stop, words, store, most):
         raise Differs(f"opened once more, {writes} writes, and not {most}, cells {cells(store)}")
 
 
-def see_stopped(program, stop, folder, stood, most, write, torn=False):
+def see_stopped(
+    program: str,
+    stop: str,
+    folder: str,
+    stood: list[list[Cell]],
+    most: int,
+    write: int,
+    torn: bool = False,
+) -> int:
     """Runs with this write stopped, 0 for none, and gives how many there were."""
     calls, wanted = read(folder, "calls.jsonl").splitlines(keepends=True), read(
         folder, "replies.jsonl"
@@ -127,13 +141,13 @@ def see_stopped(program, stop, folder, stood, most, write, torn=False):
         return writes
 
 
-def main(given):
+def main(given: list[str]) -> int:
     if len(given) < 3:
         sys.exit(__doc__)
     program, stop = given[:2]
     most = idle(program, stop)
 
-    def look(folder, stood):
+    def look(folder: str, stood: list[list[Cell]]) -> str:
         writes = see_stopped(program, stop, folder, stood, most, 0)
         for write in range(1, writes + 1):
             for torn in (False, True):

@@ -1,6 +1,15 @@
 """Plots of long contexts (tests/fuzz/contexts.py) about relations: what untouched objects lead
 to is added, removed, let go, orphaned, or held by another manager too."""
+from __future__ import annotations
+
+from typing import TYPE_CHECKING
+
 from model.cells import members
+
+if TYPE_CHECKING:
+    from fuzz.kinds import Plot
+    from model.live import Live
+    from model.unit import Relation
 
 
 class ContextLinkPlots:
@@ -9,23 +18,23 @@ class ContextLinkPlots:
 
     # -- what a plot looks at, and calls that plots are made of
 
-    def cascading(self, live, operation):
+    def cascading(self, live: Live, operation: str) -> list[Relation]:
         """The relations of an object along which an operation goes."""
         return [each for each in live.entity.relations.values() if each.cascades(operation)]
 
-    def near(self, live, relations=None):
+    def near(self, live: Live, relations: list[Relation] | None = None) -> list[Live]:
         """What an object is known to lead to, of the same manager's, in all relations or these."""
         relations = relations or live.entity.relations.values()
         return [other for relation in relations for other in live.read_of(relation)
                 if other.is_managed(live.held)]
 
-    def orphaning(self, em, live):
+    def orphaning(self, em: int, live: Live) -> list[Relation]:
         """The relations of an object that have members which would be orphans without it."""
         seen = self.seen_by(em)
         return [each for each in live.entity.relations.values() if each.removes_orphans
                 and (live.read_of(each) or members(seen, live.identity(), each))]
 
-    def step_away(self, em):
+    def step_away(self, em: int) -> Plot:
         """Calls that read from an object to another one that the manager manages; the other one, or
         None."""
         above = self.managed(em, lambda live: any(self.cascading(live, "PERSIST")))
@@ -35,7 +44,7 @@ class ContextLinkPlots:
         near = self.near(above)
         return self.random.choice(near) if near else above
 
-    def led_by(self, em, live):
+    def led_by(self, em: int, live: Live) -> Plot:
         """Calls that make one more managed object lead to this one, and commit it."""
         fits = lambda each: [relation for relation in each.entity.owned
                              if relation.kind != "oneToOne" and live.entity.is_a(relation.target)]
@@ -45,14 +54,14 @@ class ContextLinkPlots:
             yield self.linked(other, self.random.choice(fits(other)), live)
             yield "commit", {"em": em}
 
-    def chosen(self, em, relation, live):
+    def chosen(self, em: int, relation: Relation, live: Live) -> Plot:
         """One that the manager manages already, as calls that make one give it."""
         yield "contains", {"em": em, "object": live.number}
         return self.fitting(em, relation, live)
 
     # -- plots
 
-    def branching(self, em):
+    def branching(self, em: int) -> Plot:
         """New objects hang on managed ones, some of them steps away from what leads to them, and a
         flush persists them in its order."""
         yield from self.working(em) if self.random.random() < 0.6 else self.settled(em)
@@ -73,7 +82,7 @@ class ContextLinkPlots:
         yield from self.working(em)
         yield from self.ending(em)
 
-    def led_to(self, em):
+    def led_to(self, em: int) -> Plot:
         """An object to which others lead that are not touched is removed or let go, within a
         transaction or before it."""
         yield from self.working(em) if self.random.random() < 0.6 else self.settled(em)
@@ -105,7 +114,7 @@ class ContextLinkPlots:
         yield from self.working(em)
         yield from self.ending(em)
 
-    def orphaned_later(self, em):
+    def orphaned_later(self, em: int) -> Plot:
         """The members of a relation change, with transactions between; what leaves it then may be
         an orphan."""
         live = self.managed(em, lambda each: self.orphaning(em, each))
@@ -138,7 +147,7 @@ class ContextLinkPlots:
         yield from self.working(em)
         yield from self.ending(em)
 
-    def orphan_led_to(self, em):
+    def orphan_led_to(self, em: int) -> Plot:
         """A member leaves a relation that removes orphans, while others lead to it that are not
         touched."""
         live = self.managed(em, lambda each: self.orphaning(em, each))
@@ -158,7 +167,7 @@ class ContextLinkPlots:
         yield from self.working(em)
         yield from self.ending(em)
 
-    def shared(self, em):
+    def shared(self, em: int) -> Plot:
         """What is held here leads to an object that another manager makes, holds, removes or lets
         go, while this one commits."""
         others = self.others(em)
@@ -191,7 +200,7 @@ class ContextLinkPlots:
         yield from self.working(em)
         yield from self.ending(em)
 
-    def both_hold(self, em):
+    def both_hold(self, em: int) -> Plot:
         """Two managers hold the same identities, and touch, flush and commit them by turns."""
         others = self.others(em)
         if not others:
@@ -212,7 +221,7 @@ class ContextLinkPlots:
             yield from self.working(here)
             yield "commit", {"em": here}
 
-    def refused_apart(self, em):
+    def refused_apart(self, em: int) -> Plot:
         """Outside a transaction a cascade is refused after some of its way, so that all is undone;
         then a transaction follows."""
         yield from self.settled(em)
@@ -238,7 +247,7 @@ class ContextLinkPlots:
         yield from self.working(em)
         yield from self.ending(em)
 
-    def named_later(self, em):
+    def named_later(self, em: int) -> Plot:
         """A managed object holds a new one whose key is set afterwards, or that is persisted by
         another call or manager."""
         yield from self.settled(em)

@@ -4,14 +4,26 @@ each of many transactions touches a few.
 What is tried is which of them a flush has to look at: what was touched long before, by a listener,
 by another manager, by a call that was refused, or only along relations of objects that nobody
 touched."""
+from __future__ import annotations
+
+from typing import TYPE_CHECKING, Any, Callable
+
 from fuzz.context_links import ContextLinkPlots
 from fuzz.lines import Calls
+
+if TYPE_CHECKING:
+    from fuzz.kinds import Plot
+    from model.kinds import Part, Value, Values
+    from model.live import Live
+    from model.machine import Machine
+    from model.unit import Entity, Relation
+    from random import Random
 
 
 class ContextPlots(ContextLinkPlots):
     """The plots over a long context. Each is a generator of calls, as their words and members."""
 
-    def some_plot(self):
+    def some_plot(self) -> Plot:
         em = self.long_one()
         if em is None:
             return self.opening()
@@ -21,7 +33,7 @@ class ContextPlots(ContextLinkPlots):
             return self.random.choice(self.other_plots())()
         return self.random.choice(self.long_plots())(em)
 
-    def other_plots(self):
+    def other_plots(self) -> list[Callable[..., Any]]:
         """Those of the other rounds that leave most of a context alone."""
         plots = [self.one_object, self.another_writes, self.locked, self.copied, self.flushes,
                  self.queried]
@@ -30,7 +42,7 @@ class ContextPlots(ContextLinkPlots):
                       self.orphaned]
         return plots
 
-    def long_plots(self):
+    def long_plots(self) -> list[Callable[..., Any]]:
         plots = [self.between, self.between, self.undone, self.same_again, self.heard,
                  self.refreshed, self.refreshed, self.locked_among, self.locked_among,
                  self.revived, self.merged_among, self.changed_by_another, self.emptied,
@@ -43,46 +55,46 @@ class ContextPlots(ContextLinkPlots):
 
     # -- what a plot looks at
 
-    def long_one(self):
+    def long_one(self) -> int | None:
         """The open manager that holds most, or rarely another one."""
         found = sorted(self.open_ones(), key=lambda em: -len(self.held_by(em)))
         return found and self.random.choice(found[:1] * 5 + found[:3]) or None
 
-    def is_short(self, em):
+    def is_short(self, em: int) -> bool:
         return len(self.held_by(em)) < min(60, len(self.seen_by(em)) // 2)
 
-    def some_held(self, em):
+    def some_held(self, em: int) -> Live:
         held = self.held_by(em)
         return self.random.choice(held) if held else None
 
-    def managed(self, em, wanted=lambda live: True):
+    def managed(self, em: int, wanted: Callable[..., Any] = lambda live: True) -> Live | None:
         """An object that the manager manages, mostly one that is wanted."""
         held = [live for live in self.held_by(em) if not live.is_removed]
         chosen = [live for live in self.random.sample(held, min(40, len(held))) if wanted(live)]
         return self.random.choice(chosen or held) if held else None
 
-    def fitting(self, em, relation, live=None):
+    def fitting(self, em: int, relation: Relation, live: Live | None = None) -> Live | None:
         """An object that the manager manages and that may be led to."""
         fits = lambda other: other.entity.is_a(relation.target) and other is not live
         found = self.managed(em, fits)
         return found if found and found.entity.is_a(relation.target) else None
 
-    def others(self, em):
+    def others(self, em: int) -> list[int]:
         return [other for other in self.open_ones() if other != em]
 
     # -- calls that plots are made of
 
-    def opening(self):
+    def opening(self) -> Plot:
         for _ in range(self.random.choice([1, 2, 2, 3])):
             yield "createEntityManager", {}
 
-    def settled(self, em):
+    def settled(self, em: int) -> Plot:
         """Calls after which the manager has no open transaction, and mostly holds what it held."""
         manager = self.machine.managers[em - 1]
         if manager.is_begun:
             yield "rollback" if manager.is_marked else "commit", {"em": em}
 
-    def working(self, em):
+    def working(self, em: int) -> Plot:
         """Calls after which the manager has an open transaction that can commit."""
         manager = self.machine.managers[em - 1]
         if manager.is_marked and manager.is_begun:
@@ -90,10 +102,10 @@ class ContextPlots(ContextLinkPlots):
         if not manager.is_begun:
             yield "begin", {"em": em}
 
-    def whole(self, entity):
+    def whole(self, entity: Entity) -> str:
         return f"SELECT x FROM {entity.name} x"
 
-    def loading(self, em):
+    def loading(self, em: int) -> Plot:
         """What is stored is loaded by queries of whole classes, and some of it is read around."""
         if self.random.random() < 0.7:
             yield from self.settled(em)
@@ -106,7 +118,7 @@ class ContextPlots(ContextLinkPlots):
         for _ in range(self.random.randint(0, 3)):
             yield from self.around(em, self.managed(em))
 
-    def around(self, em, live, steps=2):
+    def around(self, em: int, live: Live, steps: int = 2) -> Plot:
         """Calls that read what an object leads to, and mostly what that leads to."""
         if live is None or live.held is not self.machine.managers[em - 1]:
             return
@@ -117,7 +129,7 @@ class ContextPlots(ContextLinkPlots):
             if near and steps > 1 and self.random.random() < 0.5:
                 yield from self.around(em, self.random.choice(near), steps - 1)
 
-    def reading_to(self, em, live):
+    def reading_to(self, em: int, live: Live) -> Plot:
         """Calls that read, of what the manager holds, some relations that lead to an object."""
         seen = self.seen_by(em)
         leads = lambda stored, relation: (stored is not None and stored.entity.has(relation)
@@ -127,7 +139,7 @@ class ContextPlots(ContextLinkPlots):
         for other, relation in self.random.sample(found, min(2, len(found))):
             yield "get", {"object": other.number, "name": relation.name}
 
-    def touching(self, em, live):
+    def touching(self, em: int, live: Live) -> Plot:
         """A call that changes an object, or sets what it holds already."""
         relations = list(live.entity.relations.values())
         if not relations or self.random.random() < 0.5:
@@ -143,7 +155,7 @@ class ContextPlots(ContextLinkPlots):
         elif other:
             yield from self.linking(live, relation, other, self.random.random() < 0.7)
 
-    def modest(self, live):
+    def modest(self, live: Live) -> tuple[str, Values]:
         """A change of an attribute that a flush mostly accepts."""
         every = list(live.entity.attributes.values())
         attributes = [each for each in every if "converter" not in each] or every
@@ -154,12 +166,14 @@ class ContextPlots(ContextLinkPlots):
         value = {"int": number, "text": f"w{number}", "bytes": bytes([number])}[attribute["type"]]
         return self.setting(live, attribute["name"], self.given(value))
 
-    def setting(self, live, name, *value):
+    def setting(
+        self, live: Live, name: str, *value: Part | dict[str, int]
+    ) -> tuple[str, dict[str, Part | dict[str, int]]]:
         """The call that sets a value, or what the object holds already."""
         given = value[0] if value else self.given(live.values[name])
         return "set", {"object": live.number, "name": name, "value": given}
 
-    def flushing(self, em):
+    def flushing(self, em: int) -> Plot:
         """A call that flushes in a transaction, also as a query does it."""
         entity = self.random.choice(list(self.machine.unit.entities.values()))
         count = f"SELECT COUNT(x) FROM {entity.name} x"
@@ -167,7 +181,7 @@ class ContextPlots(ContextLinkPlots):
                                   ("query", {"em": em, "text": self.whole(entity), "max": 3}),
                                   ("querySingle", {"em": em, "text": count})])
 
-    def undoing(self, em):
+    def undoing(self, em: int) -> Plot:
         """A call that flushes and then is refused, so that the flush is undone; mostly one that
         leaves the transaction unmarked."""
         entity = self.random.choice(list(self.machine.unit.entities.values()))
@@ -179,7 +193,7 @@ class ContextPlots(ContextLinkPlots):
             none = {"max": 0} if roll < 0.6 else {}
             yield "querySingle", {"em": em, "text": self.whole(entity), **none}
 
-    def ending(self, em):
+    def ending(self, em: int) -> Plot:
         """Calls that end the transaction, and mostly further ones that touch nothing or little."""
         if self.random.random() < 0.25:
             yield from self.flushing(em)
@@ -191,7 +205,7 @@ class ContextPlots(ContextLinkPlots):
                 yield self.modest(live)
             yield "commit", {"em": em}
 
-    def apart(self, em):
+    def apart(self, em: int) -> Plot:
         """Calls that let go of some other object, or make another one, between what a plot does."""
         roll, live = self.random.random(), self.managed(em)
         if live and roll < 0.15:
@@ -205,7 +219,7 @@ class ContextPlots(ContextLinkPlots):
 
     # -- plots
 
-    def between(self, em):
+    def between(self, em: int) -> Plot:
         """Objects are touched outside a transaction, or in one; then a later one writes them."""
         if self.random.random() < 0.7:
             yield from self.settled(em)
@@ -222,7 +236,7 @@ class ContextPlots(ContextLinkPlots):
                 yield from self.touching(em, live)
         yield from self.ending(em)
 
-    def undone(self, em):
+    def undone(self, em: int) -> Plot:
         """What was touched is flushed by a call that is refused; then it is written."""
         yield from self.working(em)
         lives = [self.managed(em) for _ in range(self.random.randint(1, 3))]
@@ -240,7 +254,7 @@ class ContextPlots(ContextLinkPlots):
             yield self.modest(self.random.choice(lives))
         yield from self.ending(em)
 
-    def same_again(self, em):
+    def same_again(self, em: int) -> Plot:
         """What objects hold is set again, or set to something else and back."""
         yield from self.working(em)
         for _ in range(self.random.randint(1, 4)):
@@ -265,7 +279,7 @@ class ContextPlots(ContextLinkPlots):
                 yield self.setting(live, name, before)
         yield from self.ending(em)
 
-    def heard(self, em):
+    def heard(self, em: int) -> Plot:
         """Objects are loaded anew, by a find, along a relation, by a query or by a merge, so that
         listeners may assign; then transactions follow."""
         live = self.managed(em)
@@ -288,7 +302,7 @@ class ContextPlots(ContextLinkPlots):
         yield from self.working(em)
         yield from self.ending(em)
 
-    def refreshed(self, em):
+    def refreshed(self, em: int) -> Plot:
         """What was touched, or not, is read again, perhaps after another manager changed it; then
         it is committed."""
         is_heard = lambda each: self.machine.unit.heard_by(each.entity, "PostLoad")
@@ -309,7 +323,7 @@ class ContextPlots(ContextLinkPlots):
         yield from self.working(em)
         yield from self.ending(em)
 
-    def locked_among(self, em):
+    def locked_among(self, em: int) -> Plot:
         """Objects that nothing else touches are locked; flushes follow, perhaps beside changes of
         another manager."""
         yield from self.working(em)
@@ -329,7 +343,7 @@ class ContextPlots(ContextLinkPlots):
         yield from self.ending(em)
         yield "get", {"object": live.number, "name": live.entity.version["name"]}
 
-    def revived(self, em):
+    def revived(self, em: int) -> Plot:
         """An object is removed, in a transaction or before it, perhaps flushed, touched and
         persisted again."""
         if self.random.random() < 0.5:
@@ -357,7 +371,7 @@ class ContextPlots(ContextLinkPlots):
         yield from self.ending(em)
         yield self.finding(em, live) if None not in live.key() else ("flush", {"em": em})
 
-    def merged_among(self, em):
+    def merged_among(self, em: int) -> Plot:
         """What was let go, a copy, or the object of another manager is merged onto what is held,
         with changes or without."""
         live = self.managed(em)
@@ -385,7 +399,7 @@ class ContextPlots(ContextLinkPlots):
         yield from self.working(em)
         yield from self.ending(em)
 
-    def changed_by_another(self, em):
+    def changed_by_another(self, em: int) -> Plot:
         """Another manager changes what is held here, and commits it before or within a transaction
         of this one, which touches it or others."""
         live, others = self.managed(em), self.others(em)
@@ -401,7 +415,7 @@ class ContextPlots(ContextLinkPlots):
             yield "refresh", {"em": em, "object": live.number}
         yield from self.ending(em)
 
-    def emptied(self, em):
+    def emptied(self, em: int) -> Plot:
         """What is touched is let go, alone or with all; a little is loaded and touched, and a
         transaction follows."""
         live = self.managed(em)
@@ -425,7 +439,7 @@ class ContextPlots(ContextLinkPlots):
         yield from self.working(em)
         yield from self.ending(em)
 
-    def in_bulk(self, em):
+    def in_bulk(self, em: int) -> Plot:
         """Statements change the rows of what is held; then some of it is touched or read again."""
         yield from self.working(em)
         entity = self.random.choice(list(self.machine.unit.entities.values()))
@@ -447,11 +461,11 @@ class ContextPlots(ContextLinkPlots):
 class LongCalls(ContextPlots, Calls):
     """Makes calls over a machine whose managers hold much, nearly all of them in plots."""
 
-    def __init__(self, random, machine):
+    def __init__(self, random: Random, machine: Machine) -> None:
         super().__init__(random, machine)
         self.crowd, self.mutated_share = random.choice([1, 2, 2, 3]), 0.03
 
-    def call(self):
+    def call(self) -> tuple[str, dict[str, Any]]:
         self.plot = self.plot or self.some_plot()
         if self.random.random() < 0.98:
             call = next(self.plot, None)

@@ -1,10 +1,19 @@
 """Stores for tests/fuzz/hostile-stores and tests/fuzz/hostile-migrations: cells that are changed,
 and the calls that look at all that stands."""
+from __future__ import annotations
+
 import json
+from typing import TYPE_CHECKING
 
 from model.cells import integer_bytes, part_bytes
 from model.reading import GREATEST, LEAST
 from model.unit import LENGTH
+
+if TYPE_CHECKING:
+    from model.cells import State
+    from model.kinds import Cell
+    from model.unit import Unit
+    from random import Random
 
 VALUES = [
     b"", b"\0", b"\x01", b"\x01" + b"\0" * 7, b"\x01" + b"\0" * 9, b"\x02", b"\x02\xff",
@@ -22,7 +31,7 @@ ROWS = [
 ]
 
 
-def changed(chance, unit, cells):
+def changed(chance: Random, unit: Unit, cells: list[Cell]) -> list[Cell]:
     """The cells with one change."""
     cells = {cell[:3]: cell[3] for cell in cells}
     tables = [0, -1, 8, *[entity.table for entity in unit.entities.values()], *unit.joined()]
@@ -61,7 +70,7 @@ def changed(chance, unit, cells):
     return [(*place, value) for place, value in cells.items()]
 
 
-def looked_at(state):
+def looked_at(state: State) -> list[bytes]:
     """Calls that find each object and get its values, and then what it holds in its relations."""
     calls, links = [{"call": "createEntityManager"}], []
     for number, ((name, key), stored) in enumerate(state.objects.items(), 1):

@@ -1,9 +1,19 @@
 """Texts of queries for tests/fuzz/hostile-lines: statements over the entities of a unit that are
 well typed, in words and blanks that vary, and damaged ones; and the parameters that they take."""
+from __future__ import annotations
+
+from typing import TYPE_CHECKING, Any, Callable
+
+from fuzz.equations import Equations
+
+if TYPE_CHECKING:
+    from fuzz.lines import Calls
+    from model.kinds import Objects, Part, Value, Values
+    from model.unit import Entity, Relation
 
 KINDS = {int: "int", str: "text", bytes: "bytes"}
 BLANKS = [" ", " ", " ", " ", "  ", "\t", "\n", "\r\n", " \t "]
-WIDEST, MOST_TUPLES = 8, 1500
+WIDEST = 8
 PATTERNS = [
     "%", "_", "a%", "%a", "%a%", "A_a", "a_", "__", "", "%%", "\\%", "Ada", "a%a%", "_%", "é%",
     "%é",
@@ -26,34 +36,42 @@ TESTS = {
 class Block:
     """The variables in scope, and what may stand here."""
 
-    def __init__(self, variables, steps=3, takes_aggregates=False, groups=None, depth=0):
+    def __init__(
+        self,
+        variables: dict[str, Entity],
+        steps: int = 3,
+        takes_aggregates: bool = False,
+        groups: list[tuple[list[str], Entity | type | None]] | None = None,
+        depth: int = 0,
+    ) -> None:
         self.variables, self.steps, self.takes_aggregates, self.groups, self.depth = (
             variables, steps, takes_aggregates, groups, depth,
         )
 
-    def but(self, **others):
+    def but(self, **others: bool | list[tuple[list[Any], Entity | type | None]] | None) -> Block:
         return Block(**{**vars(self), **others})
 
 
-class Texts:
+class Texts(Equations):
     """Makes statements by chance over a unit. Values come from the maker of calls; objects that a
     manager sees are counted, so that a query has no more tuples than it should."""
 
-    def __init__(self, calls, objects):
+    def __init__(self, calls: Calls, objects: Objects) -> None:
         self.calls, self.random, self.unit, self.objects = (
             calls, calls.random, calls.machine.unit, objects,
         )
         self.parameters, self.names, self.product = {}, [], 1
 
-    def chance(self, most):
+    def chance(self, most: float) -> bool:
         return self.random.random() < most
 
-    def some(self, choices):
+    def some(self, choices: list[Any] | str) -> Any:
         return self.random.choice(choices)
 
     # -- statements: lists of tokens
 
-    def statement(self, is_bulk):
+    def statement(self, is_bulk: bool) -> list[str]:
+        self.equating(self.calls.equated_share)
         tokens = (
             self.select() if not is_bulk else self.update() if self.chance(0.65) else self.delete()
         )
@@ -64,12 +82,11 @@ class Texts:
         }
         return tokens
 
-    def select(self):
+    def select(self) -> list[str]:
         variables, sources = self.sources({}, 0)
         block = Block(variables)
-        where = (
-            ["WHERE", *self.condition(block, self.some([1, 2, 2, 3]))] if self.chance(0.55) else []
-        )
+        where = self.where(block, self.some([1, 2, 2, 3]), 0.55)
+        self.is_calm = False
         form = self.random.random()
         if form < 0.25:
             return self.grouped(block, sources, where)
@@ -96,7 +113,7 @@ class Texts:
             keys += [tokens for tokens in (self.path(kind, block) for kind in KINDS) if tokens]
         return self.whole(is_distinct, items, sources, where, [], [], self.ordering(keys))
 
-    def grouped(self, block, sources, where):
+    def grouped(self, block: Block, sources: list[str], where: list[str]) -> list[str]:
         found = [
             (path, kind)
             for kind in (*KINDS, *self.roots())
@@ -124,18 +141,27 @@ class Texts:
             self.chance(0.1), items, sources, where, groups[0], having, self.ordering(keys)
         )
 
-    def whole(self, is_distinct, items, sources, where, groups, having, ordering):
+    def whole(
+        self,
+        is_distinct: bool,
+        items: list[list[str]],
+        sources: list[str],
+        where: list[str],
+        groups: list[str],
+        having: list[str],
+        ordering: list[str],
+    ) -> list[str]:
         return [
             "SELECT", *(["DISTINCT"] if is_distinct else []), *self.listed(items), "FROM", *sources,
             *where, *groups, *having, *ordering,
         ]
 
-    def item(self, tokens, block, name=None):
+    def item(self, tokens: list[str], block: Block, name: str | None = None) -> list[str]:
         if name is None and self.chance(0.05):
             name = self.variable()
         return [*tokens, *([*(["AS"] if self.chance(0.5) else []), name] if name else [])]
 
-    def ordering(self, keys):
+    def ordering(self, keys: list[list[str]]) -> list[str]:
         keys = self.random.sample(keys, min(len(keys), self.some([0, 1, 1, 2])))
         return (
             [
@@ -149,30 +175,31 @@ class Texts:
             else []
         )
 
-    def listed(self, parts):
+    def listed(self, parts: list[list[str]]) -> list[str]:
         return [
             token
             for place, part in enumerate(parts)
             for token in ([","] if place else []) + list(part)
         ]
 
-    def update(self):
+    def update(self) -> list[str]:
         entity = self.some_entity()
         variable = self.variable()
         block = Block({variable: entity})
+        where = self.where(block, 2, 0.75)
+        self.is_calm = False
         sets = []
         links = [relation.name for relation in entity.owned if not relation.is_many]
         names = [*entity.attributes, *([entity.version["name"]] if entity.version else []), *links]
         for name in self.random.sample(names, min(len(names), self.some([1, 1, 2]))):
             sets.append([self.cased(variable), ".", name, "=", *self.assigned(entity, name, block)])
         sets = sets or [[variable, ".", self.some(list(entity.key)), "=", "1"]]
-        where = ["WHERE", *self.condition(block, 2)] if self.chance(0.75) else []
         return [
             "UPDATE", entity.name, *(["AS"] if self.chance(0.3) else []), variable, "SET",
             *self.listed(sets), *where,
         ]
 
-    def assigned(self, entity, name, block):
+    def assigned(self, entity: Entity, name: str, block: Block) -> list[str]:
         if name in entity.relations:
             return (
                 ["NULL"] if self.chance(0.3) else self.parameter(entity.relations[name].target.root)
@@ -181,11 +208,11 @@ class Texts:
             return ["NULL"]
         return self.value(entity.kind(name), block, 2)
 
-    def delete(self):
+    def delete(self) -> list[str]:
         entity = self.some_entity()
         variable = self.variable() if self.chance(0.85) else None
         block = Block({variable: entity} if variable else {})
-        where = ["WHERE", *self.condition(block, 2)] if self.chance(0.85) else []
+        where = self.where(block, 2, 0.85)
         return [
             "DELETE", "FROM", entity.name,
             *([*(["AS"] if self.chance(0.3) else []), variable] if variable else []),
@@ -194,21 +221,21 @@ class Texts:
 
     # -- FROM
 
-    def roots(self):
+    def roots(self) -> list[Entity]:
         return list(
             {entity.root.name: entity.root for entity in self.unit.entities.values()}.values()
         )
 
-    def some_entity(self):
+    def some_entity(self) -> Entity:
         """An entity, mostly one that has objects."""
         entities = list(self.unit.entities.values())
         full = [entity for entity in entities if self.count(entity)]
         return self.some(full if full and self.chance(0.85) else entities)
 
-    def count(self, entity):
+    def count(self, entity: Entity) -> int:
         return sum(stored.entity.is_a(entity) for stored in self.objects.values())
 
-    def variable(self):
+    def variable(self) -> str:
         """A name that nothing has yet, ignoring case."""
         for _ in range(50):
             name = self.some("pqrxyzabnov") + self.some(["", "", "1", "_", "2x"])
@@ -218,13 +245,14 @@ class Texts:
         self.names.append(name.lower())
         return name
 
-    def cased(self, variable):
+    def cased(self, variable: str) -> str:
         return variable.swapcase() if self.chance(0.08) else variable
 
-    def sources(self, outer, depth):
+    def sources(self, outer: dict[str, Entity], depth: int) -> tuple[dict[str, Entity], list[str]]:
         """What FROM has, and the variables that are in scope then."""
         variables, tokens, count = dict(outer), [], 0
-        while count == 0 or count < 3 and self.chance(0.3) and len(self.names) < WIDEST - 1:
+        more = 0.7 if self.equates and not depth else 0.3
+        while count == 0 or count < 3 and self.chance(more) and len(self.names) < WIDEST - 1:
             related = [
                 (variable, relation)
                 for variable, entity in outer.items()
@@ -236,7 +264,8 @@ class Texts:
                 self.product *= 2
             else:
                 entity = self.some_entity()
-                if count and self.product * max(1, self.count(entity)) > MOST_TUPLES:
+                most = self.calls.most_tuples
+                if count and self.product * max(1, self.count(entity)) > most:
                     break
                 range_ = [entity.name]
                 self.product *= max(1, self.count(entity))
@@ -250,7 +279,7 @@ class Texts:
                 tokens += self.join(variables)
         return variables, tokens
 
-    def join(self, variables):
+    def join(self, variables: dict[str, Entity]) -> list[str]:
         related = [
             (variable, relation)
             for variable, entity in variables.items()
@@ -268,16 +297,17 @@ class Texts:
         ]
         return [
             *tokens,
-            *(
-                ["ON", *self.condition(Block(dict(variables), steps=1), 1)]
-                if self.chance(0.3)
-                else []
-            ),
+            *self.on(Block(dict(variables), steps=1)),
         ]
+
+    def on(self, block: Block) -> list[str]:
+        if self.equates and self.chance(0.5):
+            return ["ON", *self.equated(block)]
+        return ["ON", *self.condition(block, 1)] if self.chance(0.3) else []
 
     # -- conditions
 
-    def condition(self, block, depth):
+    def condition(self, block: Block, depth: int) -> list[str]:
         if depth and self.chance(0.4):
             word = self.some(["AND", "AND", "OR"])
             parts = [self.part(block, depth - 1) for _ in range(self.some([2, 2, 3]))]
@@ -288,14 +318,14 @@ class Texts:
             ]
         return self.part(block, depth)
 
-    def part(self, block, depth):
+    def part(self, block: Block, depth: int) -> list[str]:
         """A condition that AND and OR may join: a test, or one in parentheses; NOT may stand
         before."""
         within = depth and self.chance(0.3)
         found = ["(", *self.condition(block, depth - 1), ")"] if within else self.test(block, depth)
         return ["NOT", *found] if self.chance(0.15) else found
 
-    def test(self, block, depth):
+    def test(self, block: Block, depth: int) -> list[str]:
         kind = self.some([int, int, int, str, str, bytes])
         negation = self.some([[], [], [], ["NOT"]])
         word = self.random.choices(list(TESTS), TESTS.values())[0]
@@ -303,7 +333,7 @@ class Texts:
             word == "exists"
             and block.depth < 2
             and block.groups is None
-            and self.product < MOST_TUPLES / 4
+            and self.product < self.calls.most_tuples / 4
         ):
             return self.exists(block)
         if word in ("empty", "member") and block.groups is None:
@@ -324,10 +354,10 @@ class Texts:
             ]
         return self.value_test(word, kind, negation, block, depth)
 
-    def exists(self, block):
+    def exists(self, block: Block) -> list[str]:
         variables, sources = self.sources(block.variables, block.depth + 1)
         inner = Block(variables, depth=block.depth + 1)
-        where = ["WHERE", *self.condition(inner, 1)] if self.chance(0.7) else []
+        where = self.where(inner, 1, 0.7)
         item = ["1"] if self.chance(0.5) else self.any_value(inner)[0]
         return [
             "EXISTS", "(", "SELECT",
@@ -335,7 +365,7 @@ class Texts:
             *item, "FROM", *sources, *where, ")",
         ]
 
-    def type_test(self, block, negation):
+    def type_test(self, block: Block, negation: list[str]) -> list[str]:
         grouped = [path[0] for path, _ in block.groups or [] if len(path) == 1]
         if block.groups is not None and not grouped:
             return self.value_test("compare", int, negation, block, 0)
@@ -353,7 +383,9 @@ class Texts:
             "TYPE", "(", self.cased(variable), ")", *negation, "IN", "(", *self.listed(some), ")",
         ]
 
-    def value_test(self, word, kind, negation, block, depth):
+    def value_test(
+        self, word: str, kind: type, negation: list[str], block: Block, depth: int
+    ) -> list[str]:
         left = self.value(kind, block, 2)
         if word == "between":
             return [
@@ -386,13 +418,13 @@ class Texts:
 
     # -- values
 
-    def any_value(self, block):
+    def any_value(self, block: Block) -> tuple[list[str], Entity | type]:
         kind = self.some([int, int, str, bytes])
         if self.chance(0.25):
             kind = self.some(self.roots() or [int])
         return self.value(kind, block, 2), kind
 
-    def value(self, kind, block, depth):
+    def value(self, kind: Entity | type, block: Block, depth: int) -> list[str]:
         """The tokens of a value of a kind, or the root of entities."""
         if kind not in KINDS:
             path = self.path(kind, block)
@@ -411,10 +443,10 @@ class Texts:
                 return made
         return self.literal(kind)
 
-    def int_value(self, block, depth):
+    def int_value(self, block: Block, depth: int) -> list[str]:
         word = self.random.choices(
             ["arithmetic", "signed", "LENGTH", "LOCATE", "ABS", "MOD", "SIZE", "call"],
-            [6, 2, 2, 2, 1, 2, 2, 4],
+            [0, 0, 2, 2, 0, 0, 2, 4] if self.is_calm else [6, 2, 2, 2, 1, 2, 2, 4],
         )[0]
         if word == "SIZE" and block.groups is None:
             found = self.collection(block)
@@ -443,7 +475,7 @@ class Texts:
             ]
         return self.call(int, block, depth)
 
-    def arithmetic(self, block, depth):
+    def arithmetic(self, block: Block, depth: int) -> list[str]:
         parts = [self.value(int, block, depth) for _ in range(self.some([2, 2, 3]))]
         parts = [
             part if len(part) == 1 or "." in part and len(part) < 6 else ["(", *part, ")"]
@@ -455,7 +487,7 @@ class Texts:
             for token in ([self.some("+-*")] if place else []) + part
         ]
 
-    def call(self, kind, block, depth):
+    def call(self, kind: type, block: Block, depth: int) -> list[str]:
         if block.takes_aggregates and self.chance(0.5):
             return self.aggregate(kind, block)
         word = self.some(
@@ -474,13 +506,13 @@ class Texts:
             ")",
         ]
 
-    def aggregate(self, kind, block):
+    def aggregate(self, kind: type, block: Block) -> list[str]:
         inner = block.but(takes_aggregates=False, groups=None)
         word = self.some(["COUNT", "SUM", "MIN", "MAX"] if kind is int else ["MIN", "MAX"])
         value = self.any_value(inner)[0] if word == "COUNT" else self.value(kind, inner, 1)
         return [word, "(", *(["DISTINCT"] if self.chance(0.25) else []), *value, ")"]
 
-    def literal(self, kind):
+    def literal(self, kind: type) -> list[str]:
         value = self.calls.value(kind)
         if (
             kind is bytes
@@ -488,16 +520,19 @@ class Texts:
             or not isinstance(value, kind)
             or isinstance(value, str)
             and len(value) > 100
+            or self.is_calm
+            and kind is int
+            and value < 0
         ):
             return self.parameter(kind)
         if isinstance(value, str):
             return self.quoted(value)
         return [str(value)] if value >= 0 else ["-", str(min(-value, 2**63 - 1))]
 
-    def quoted(self, text):
+    def quoted(self, text: str) -> list[str]:
         return ["'" + text.replace("'", "''") + "'"]
 
-    def parameter(self, kind):
+    def parameter(self, kind: Entity | type) -> list[str]:
         """A parameter of a kind: one that is there, or another one."""
         same = [name for name, (other, _) in self.parameters.items() if other is kind]
         if same and self.chance(0.25):
@@ -510,7 +545,7 @@ class Texts:
             self.parameters[name] = (kind, self.handed(kind))
         return [("?" if name[0].isdigit() else ":") + name]
 
-    def handed(self, kind):
+    def handed(self, kind: Entity | type) -> Value | Values:
         """The value that a call hands in for a parameter of a kind, as JSON says it."""
         if self.chance(0.06):
             return None
@@ -536,10 +571,10 @@ class Texts:
 
     # -- paths
 
-    def is_path(self, tokens):
+    def is_path(self, tokens: list[str]) -> bool:
         return "." in tokens and not {"(", ",", "+", "-", "*"} & set(tokens)
 
-    def path(self, kind, block):
+    def path(self, kind: Entity | type, block: Block) -> list[str] | None:
         """The tokens of some path of a kind, if there is one."""
         if block.groups is not None:
             found = [path for path, other in block.groups if other is kind]
@@ -555,7 +590,7 @@ class Texts:
                 return [self.cased(variable), *steps]
         return None
 
-    def ends(self, entity, kind):
+    def ends(self, entity: Entity, kind: Entity | type) -> list[str]:
         """The members of an entity that are of a kind."""
         if kind in KINDS:
             members = [
@@ -570,7 +605,7 @@ class Texts:
             if not relation.is_many and relation.target.root is kind
         ]
 
-    def steps(self, entity, most, ends):
+    def steps(self, entity: Entity, most: int, ends: Callable[..., Any]) -> list[str] | None:
         """Steps along to-one relations to one of the ends that the last entity has, or none."""
         tokens = []
         for left in reversed(range(most)):
@@ -589,7 +624,7 @@ class Texts:
             entity = relation.target
         return None
 
-    def collection(self, block):
+    def collection(self, block: Block) -> tuple[list[str], Relation] | None:
         """The tokens of a path to a collection, and the relation, if there is one."""
         names = list(block.variables)
         self.random.shuffle(names)
@@ -611,7 +646,7 @@ class Texts:
 
     # -- texts
 
-    def text(self, tokens):
+    def text(self, tokens: list[str]) -> str:
         """The tokens as a text: keywords in either case, with blanks of any sort, none where there
         need be none."""
         parts = []
@@ -636,7 +671,7 @@ class Texts:
             )
         return "".join(parts) + (self.some(BLANKS) if self.chance(0.05) else "")
 
-    def damaged(self, tokens):
+    def damaged(self, tokens: list[str]) -> list[str]:
         """The tokens with something left out, doubled, moved or put in."""
         tokens = list(tokens)
         for _ in range(self.some([1, 1, 1, 2])):
@@ -666,7 +701,7 @@ class Texts:
                 tokens[at:at + (word == "odd")] = [self.some(ODD)]
         return tokens
 
-    def deep(self):
+    def deep(self) -> str:
         """A text with parentheses about as deep as is allowed, or with about as many variables."""
         entity = self.some_entity()
         if self.chance(0.5):
@@ -679,7 +714,7 @@ class Texts:
         ]
         return f"SELECT 1 FROM {', '.join(wide)}" + (" WHERE" if self.chance(0.2) else "")
 
-    def long(self):
+    def long(self) -> str:
         """A text about as long as is allowed."""
         entity, length = self.some_entity(), self.some([16384, 16385, 16383, 20000])
         before, after = f"SELECT p FROM {entity.name} p WHERE '", "' = 'a'"

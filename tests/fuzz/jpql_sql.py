@@ -7,7 +7,10 @@ with unknown, groups, DISTINCT and ORDER BY come so from a second hand. Left out
 LOCATE, LIKE with ESCAPE and what overflows, which SQL has otherwise. No program is run. Exit status
 0 where nothing differs.
 """
+from __future__ import annotations
+
 import argparse, os, random, sqlite3, sys
+from typing import TYPE_CHECKING, Any, Iterator
 
 sys.dont_write_bytecode = True
 sys.path[0] = os.path.dirname(os.path.dirname(os.path.abspath(__file__)))
@@ -20,6 +23,12 @@ from fuzz.lines import MAPPINGS, Calls, some_mapping, unit_of
 from model.machine import Machine
 from model.queries import Given
 from model.reading import Refused, given
+
+if TYPE_CHECKING:
+    from model.jpql_text import Node
+    from model.kinds import Datum, Identity, Key, Objects, Part
+    from model.unit import Entity, Relation, Unit
+    from random import Random
 
 TEXTS, BYTES, INTEGERS = (
     ["", "a", "Ada", "Bob", "é", "glad", 'a"b', "it's", "AdA"],
@@ -36,15 +45,15 @@ class NoSql(Exception):
 class FewValues(Calls):
     """A maker of calls whose values are few, so that they meet, and don't overflow."""
 
-    def value(self, kind):
+    def value(self, kind: type) -> Part:
         return self.random.choice({int: INTEGERS, str: TEXTS, bytes: BYTES}[kind])
 
 
-def column(name):
+def column(name: str) -> str:
     return f'"c {name}"'
 
 
-def table(entity):
+def table(entity: Entity) -> str:
     return f"t{entity.root.table}"
 
 
@@ -52,7 +61,7 @@ class Tables:
     """The objects of a set as rows: a table for each hierarchy, with a number for each object that
     rises as identities do, and one of pairs."""
 
-    def __init__(self, unit, objects):
+    def __init__(self, unit: Unit, objects: Objects) -> None:
         self.unit, self.store = unit, sqlite3.connect(":memory:")
         self.numbers = {
             identity: n
@@ -70,7 +79,7 @@ class Tables:
         for identity, stored in objects.items():
             self.fill(identity, stored)
 
-    def members(self, root):
+    def members(self, root: Entity) -> list[str]:
         """What objects of a hierarchy have in their own rows."""
         names = dict.fromkeys([*root.key, *([root.version["name"]] if root.version else [])])
         for entity in self.unit.entities.values():
@@ -85,7 +94,7 @@ class Tables:
                 )
         return list(names)
 
-    def fill(self, identity, stored):
+    def fill(self, identity: Identity, stored: Stored) -> None:
         entity, number = stored.entity, self.numbers[identity]
         row = {
             "number": number,
@@ -109,7 +118,7 @@ class Tables:
             list(row.values()),
         )
 
-    def classes(self, entity):
+    def classes(self, entity: Entity) -> str:
         return (
             "("
             + ", ".join(
@@ -122,16 +131,16 @@ class Tables:
 class Sql:
     """A SELECT as SQL over such tables. A variable is the number of its object, with its entity."""
 
-    def __init__(self, tables, parameters):
+    def __init__(self, tables: Tables, parameters: dict[str, Datum]) -> None:
         self.tables, self.parameters, self.count = tables, parameters, 0
 
-    def alias(self):
+    def alias(self) -> str:
         self.count += 1
         return f"a{self.count}"
 
     # -- paths
 
-    def step(self, start, name):
+    def step(self, start: tuple[str, Entity], name: str) -> tuple[str, Entity | None]:
         """What an object has under a name, and of which entity it is where it is an object."""
         (number, entity), row = start, self.alias()
         relation = entity.relations.get(name)
@@ -146,18 +155,22 @@ class Sql:
         found = f"(SELECT {row}.{column(name)} FROM {table(entity)} {row} WHERE {where})"
         return found, relation and relation.target
 
-    def walk(self, path, variables, steps=None):
+    def walk(
+        self, path: Node, variables: dict[str, tuple[str, Entity]], steps: list[str] | None = None
+    ) -> tuple[str, Entity | None]:
         found = variables[path.variable.lower()]
         for name in path.steps if steps is None else steps:
             found = self.step(found, name)
         return found
 
-    def members(self, path, variables):
+    def members(
+        self, path: Node, variables: dict[str, tuple[str, Entity]]
+    ) -> tuple[tuple[str, Entity], Relation]:
         """Whose collection a path leads to, and the collection's relation."""
         start = self.walk(path, variables, path.steps[:-1])
         return start, start[1].relations[path.steps[-1]]
 
-    def related(self, start, relation, row):
+    def related(self, start: tuple[str, Entity], relation: Relation, row: str) -> str:
         """The condition that a row is a member of what an object leads to."""
         number, of_class = start[0], f" AND {row}.class IN {self.tables.classes(relation.target)}"
         if relation.kind == "manyToMany":
@@ -171,7 +184,9 @@ class Sql:
             return f"{row}.number = {self.step(start, relation.name)[0]}"
         return f"{row}.{column(relation.owner.name)} = {number}{of_class}"
 
-    def without_null_steps(self, paths, variables):
+    def without_null_steps(
+        self, paths: Iterator[Any], variables: dict[str, tuple[str, Entity]]
+    ) -> list[str]:
         return [
             f"{self.walk(path, variables, path.steps[:-1])[0]} IS NOT NULL"
             for path in paths
@@ -180,7 +195,7 @@ class Sql:
 
     # -- blocks
 
-    def sources(self, block, variables):
+    def sources(self, block: Node, variables: dict[str, tuple[str, Entity]]) -> Any:
         variables, text, conditions, numbers = dict(variables), "", [], []
         for source in block.sources:
             row, name = self.alias(), source.variable.lower()
@@ -204,7 +219,7 @@ class Sql:
             numbers.append(f"{row}.number")
         return variables, text, conditions, numbers
 
-    def select(self, block):
+    def select(self, block: Node) -> str:
         variables, sources, conditions, numbers = self.sources(block, {})
         keys = block.keys or []
         heads = [
@@ -248,55 +263,55 @@ class Sql:
 
     # -- conditions
 
-    def condition(self, node, variables):
+    def condition(self, node: Node, variables: dict[str, tuple[str, Entity]]) -> str:
         return "(" + getattr(self, f"{node.sort}_condition")(node, variables) + ")"
 
-    def or_condition(self, node, variables):
+    def or_condition(self, node: Node, variables: dict[str, tuple[str, Entity]]) -> str:
         return f" {node.sort.upper()} ".join(self.condition(part, variables) for part in node.parts)
 
     and_condition = or_condition
 
-    def not_condition(self, node, variables):
+    def not_condition(self, node: Node, variables: dict[str, tuple[str, Entity]]) -> str:
         return f"NOT {self.condition(node.part, variables)}"
 
-    def compare_condition(self, node, variables):
+    def compare_condition(self, node: Node, variables: dict[str, tuple[str, Entity]]) -> str:
         left, right = self.value(node.left, variables), self.value(node.right, variables)
         return f"{left} {node.operator} {right}"
 
-    def null_condition(self, node, variables):
+    def null_condition(self, node: Node, variables: dict[str, tuple[str, Entity]]) -> str:
         return f"{self.value(node.value, variables)} IS NULL"
 
-    def between_condition(self, node, variables):
+    def between_condition(self, node: Node, variables: dict[str, tuple[str, Entity]]) -> str:
         value, low, high = (
             self.value(part, variables) for part in (node.value, node.low, node.high)
         )
         return f"{value} BETWEEN {low} AND {high}"
 
-    def in_condition(self, node, variables):
+    def in_condition(self, node: Node, variables: dict[str, tuple[str, Entity]]) -> str:
         values = ", ".join(self.value(value, variables) for value in node.values)
         return f"{self.value(node.value, variables)} IN ({values})"
 
-    def like_condition(self, node, variables):
+    def like_condition(self, node: Node, variables: dict[str, tuple[str, Entity]]) -> str:
         if node.escape is not None or node.pattern.sort != "literal":
             raise NoSql("LIKE")
         return f"{self.value(node.value, variables)} LIKE {self.value(node.pattern, variables)}"
 
-    def type_condition(self, node, variables):
+    def type_condition(self, node: Node, variables: dict[str, tuple[str, Entity]]) -> str:
         (number, entity), row = variables[node.variable.lower()], self.alias()
         names = ", ".join(f"'{name}'" for name in node.entities)
         where = f"{row}.number = {number}"
         return f"(SELECT {row}.class FROM {table(entity)} {row} WHERE {where}) IN ({names})"
 
-    def some(self, start, relation, more=""):
+    def some(self, start: tuple[str, Entity], relation: Relation, more: str = "") -> str:
         row = self.alias()
         where = self.related(start, relation, row) + more.format(row=row)
         return f"EXISTS (SELECT 1 FROM {table(relation.target)} {row} WHERE {where})"
 
-    def empty_condition(self, node, variables):
+    def empty_condition(self, node: Node, variables: dict[str, tuple[str, Entity]]) -> str:
         start, relation = self.members(node.path, variables)
         return f"CASE WHEN {start[0]} IS NULL THEN NULL ELSE NOT {self.some(start, relation)} END"
 
-    def member_condition(self, node, variables):
+    def member_condition(self, node: Node, variables: dict[str, tuple[str, Entity]]) -> str:
         start, relation = self.members(node.path, variables)
         value = self.value(node.value, variables)
         found = self.some(start, relation, f" AND {{row}}.number = {value}")
@@ -307,7 +322,7 @@ class Sql:
         ]
         return f"CASE {' '.join(cases)} ELSE {found} END"
 
-    def exists_condition(self, node, variables):
+    def exists_condition(self, node: Node, variables: dict[str, tuple[str, Entity]]) -> str:
         block = node.block
         variables, sources, conditions, _ = self.sources(block, variables)
         conditions += self.without_null_steps(
@@ -318,7 +333,7 @@ class Sql:
 
     # -- values
 
-    def value(self, node, variables):
+    def value(self, node: Node, variables: dict[str, tuple[str, Entity]]) -> str:
         if node.sort in ("literal", "parameter"):
             return self.literal(
                 node.value if node.sort == "literal" else self.parameters[node.name]
@@ -340,7 +355,7 @@ class Sql:
             return f"{node.function}({distinct}{self.value(node.value, variables)})"
         return self.call(node.function, [self.value(value, variables) for value in node.values])
 
-    def literal(self, value):
+    def literal(self, value: Datum) -> str:
         if isinstance(value, tuple):
             return str(self.tables.numbers.get(value, -1))
         if isinstance(value, bytes):
@@ -353,7 +368,7 @@ class Sql:
             else "'" + value.replace("'", "''") + "'"
         )
 
-    def call(self, function, values):
+    def call(self, function: str, values: list[str]) -> str:
         if function in ("SUBSTRING", "LOCATE"):
             raise NoSql(function)
         operator = {"CONCAT": " || ", "MOD": " % "}.get(function)
@@ -362,7 +377,7 @@ class Sql:
 
 # ---- sets and statements
 
-def some_objects(chance, unit):
+def some_objects(chance: Random, unit: Unit) -> Objects:
     """A random set of few objects, each of whose links leads to one of them, and which is sound but
     for what is required."""
     objects, entities, parts = (
@@ -398,7 +413,9 @@ def some_objects(chance, unit):
     return objects
 
 
-def some_statement(calls, machine, unit, objects):
+def some_statement(
+    calls: FewValues, machine: Machine, unit: Unit, objects: Objects
+) -> tuple[str, Node, dict[str, Datum]] | None:
     """A well-typed SELECT, and what its parameters mean; None where there is none."""
     texts = Texts(calls, objects)
     text = texts.text(texts.statement(False))
@@ -413,14 +430,16 @@ def some_statement(calls, machine, unit, objects):
     return None if params.has_keyless() else (text, statement, params.meant())
 
 
-def sorted_rows(rows):
+def sorted_rows(rows: list[Key]) -> list[Key]:
     return sorted(
         rows,
         key=lambda row: [(value is not None, value if value is not None else 0) for value in row],
     )
 
 
-def compared(unit, objects, tables, statement, parameters):
+def compared(
+    unit: Unit, objects: Objects, tables: Tables, statement: Node, parameters: dict[str, Datum]
+) -> tuple[list[Key], list[Key]] | None:
     """What the model says of a statement and what SQL says, or None where SQL says nothing."""
     try:
         text = Sql(tables, parameters).select(statement)
@@ -439,7 +458,7 @@ def compared(unit, objects, tables, statement, parameters):
     )
 
 
-def judged(seed, at):
+def judged(seed: str, at: int) -> tuple[int, int, list[Any]]:
     """How many statements over a random unit were compared and gave rows, and those that differ."""
     chance = random.Random(f"{seed}/{at}")
     unit = unit_of(some_mapping(f"{seed}/{at}", MAPPINGS[at % len(MAPPINGS)]))
@@ -461,7 +480,7 @@ def judged(seed, at):
     return count, full, differing
 
 
-def main():
+def main() -> int:
     words = argparse.ArgumentParser(
         description=__doc__, formatter_class=argparse.RawDescriptionHelpFormatter
     )

@@ -1,6 +1,9 @@
 """Lines for tests/fuzz/hostile-lines and tests/fuzz/hostile-stores: calls over a unit with members
 at their limits, mutations of their bytes, and the cells of a store's file."""
+from __future__ import annotations
+
 import json, os, random, re, sqlite3
+from typing import TYPE_CHECKING, Any, Callable
 
 from model.machine import Machine
 from fuzz.plots import Plots
@@ -8,6 +11,13 @@ from fuzz.query_plots import QueryCalls
 from model.reading import DEPTH, GREATEST, LEAST, LINE, UNSERVED, Number, lines_of
 from model.unit import LENGTH, Unit
 from fuzz.units import random_mapping
+
+if TYPE_CHECKING:
+    from model.cells import State
+    from model.kinds import Cell, Part, Value, Values
+    from model.live import Live
+    from model.unit import Entity, Relation
+    from random import Random
 
 TESTS = os.path.dirname(os.path.dirname(os.path.abspath(__file__)))
 RANDOM = "random"
@@ -48,14 +58,16 @@ OTHERS = [
 class Calls(Plots, QueryCalls):
     """Makes calls over a machine, mostly such as it accepts."""
 
-    def __init__(self, random, machine):
+    def __init__(self, random: Random, machine: Machine) -> None:
         self.random, self.machine, self.plot = random, machine, None
         # How many managers there are mostly; up to 16 may have a transaction open.
         self.crowd = random.choice([2, 3, 3, 6, 16])
         self.has_relations = any(entity.relations for entity in machine.unit.entities.values())
         self.mutated_share = 0.12 if self.has_relations else 0.3
+        # How many statements equate what variables lead to, and how many tuples one may have.
+        self.equated_share, self.most_tuples = 0.15, 1500
 
-    def line(self):
+    def line(self) -> tuple[bytes, bool]:
         """A line, and whether a plot wants it as it stands."""
         word, members = self.call()
         members = list({"call": word, **members}.items())
@@ -63,7 +75,7 @@ class Calls(Plots, QueryCalls):
             self.random.shuffle(members)
         return self.written(dict(members)), self.plot is not None
 
-    def call(self):
+    def call(self) -> tuple[str, dict[str, Any]]:
         """The next call of the plot, or any other one."""
         if self.plot is None and self.random.random() < (0.35 if self.has_relations else 0.16):
             self.plot = self.some_plot()
@@ -75,7 +87,7 @@ class Calls(Plots, QueryCalls):
         word = self.word()
         return word, getattr(self, word)()
 
-    def word(self):
+    def word(self) -> str:
         """The word of a call, the likelier where it makes sense now."""
         managers = [manager for manager in self.machine.managers if manager.is_open]
         begun = any(manager.is_begun for manager in managers)
@@ -100,7 +112,7 @@ class Calls(Plots, QueryCalls):
         weights = {word: weight for word, weight in weights.items() if word not in UNSERVED}
         return self.random.choices(list(weights), weights.values())[0]
 
-    def written(self, members):
+    def written(self, members: dict[str, Any]) -> bytes:
         roll = self.random.random()
         text = json.dumps(
             members, ensure_ascii=roll < 0.1, separators=(", ", " : ") if roll > 0.9 else (",", ":")
@@ -111,7 +123,7 @@ class Calls(Plots, QueryCalls):
 
     # -- members
 
-    def em(self, most=0.4):
+    def em(self, most: float = 0.4) -> int:
         """A manager's number: one of an open transaction so often at least, and rarely none, or a
         closed one."""
         open_ones = [n for n, manager in enumerate(self.machine.managers, 1) if manager.is_open]
@@ -126,7 +138,7 @@ class Calls(Plots, QueryCalls):
             open_ones[: self.crowd] if self.random.random() < 0.9 else open_ones
         )
 
-    def object(self, wanted=lambda live: True):
+    def object(self, wanted: Callable[..., Any] = lambda live: True) -> int:
         """An object's number: mostly of one that is wanted, and rarely none."""
         count = len(self.machine.objects)
         if self.random.random() < 0.02 or not count:
@@ -138,17 +150,17 @@ class Calls(Plots, QueryCalls):
             else self.random.randint(1, count)
         )
 
-    def live(self, number):
+    def live(self, number: int) -> Live | None:
         return (
             self.machine.objects[number - 1] if 1 <= number <= len(self.machine.objects) else None
         )
 
-    def entity(self):
+    def entity(self) -> str:
         if self.random.random() < 0.03:
             return self.random.choice(["", "person", "Nobody", "Person\0", *TEXTS])
         return self.random.choice(list(self.machine.unit.entities))
 
-    def value(self, kind):
+    def value(self, kind: type) -> Number | Value:
         """A value of the kind, or rarely of another one."""
         if self.random.random() < 0.05:
             kind = self.random.choice([int, str, bytes])
@@ -163,18 +175,18 @@ class Calls(Plots, QueryCalls):
             (LONG_TEXTS if rare else TEXTS) if kind is str else LONG_BYTES if rare else BYTES
         )
 
-    def given(self, value):
+    def given(self, value: Number | Value) -> Value | Values:
         if isinstance(value, bytes):
             return {"hex": value.hex().upper() if self.random.random() < 0.3 else value.hex()}
         return {"object": value.number} if isinstance(value, Number) else value
 
-    def member(self, entity, key_too):
+    def member(self, entity: Entity, key_too: bool) -> str:
         names = [*(entity.key if key_too else []), *entity.attributes]
         if self.random.random() < 0.05 or not names:
             names = [*entity.key, "", "at", "at.", "version", "turn", "Name", "name "]
         return self.random.choice(names)
 
-    def kind(self, entity, name):
+    def kind(self, entity: Entity, name: str) -> type:
         return (
             entity.key.get(name)
             or {"int": int, "text": str, "bytes": bytes}[
@@ -184,13 +196,13 @@ class Calls(Plots, QueryCalls):
 
     # -- calls
 
-    def createEntityManager(self):
+    def createEntityManager(self) -> dict[str, Any]:
         return {}
 
-    def new(self):
+    def new(self) -> dict[str, str]:
         return {"entity": self.entity()}
 
-    def get(self):
+    def get(self) -> Values:
         number = self.object()
         live = self.live(number)
         return {
@@ -200,7 +212,7 @@ class Calls(Plots, QueryCalls):
             else "name",
         }
 
-    def set(self):
+    def set(self) -> dict[str, Value | Values]:
         number = self.object(lambda live: live.held != "detached")
         live = self.live(number)
         if not live:
@@ -236,7 +248,7 @@ class Calls(Plots, QueryCalls):
             "value": self.given(self.value(self.kind(live.entity, name))),
         }
 
-    def linkable(self, live, relation):
+    def linkable(self, live: Live, relation: Relation) -> int:
         """An object that one may lead to: mostly of the target's class, and new or of the same
         manager."""
         fits = lambda other: other.entity.is_a(relation.target)
@@ -249,7 +261,7 @@ class Calls(Plots, QueryCalls):
             else lambda other: True
         )
 
-    def add(self):
+    def add(self) -> Values:
         number = self.object(
             lambda live: live.held != "detached"
             and any(each.is_many for each in live.entity.relations.values())
@@ -269,7 +281,7 @@ class Calls(Plots, QueryCalls):
         relation = self.random.choice(relations)
         return {"object": number, "name": relation.name, "member": self.linkable(live, relation)}
 
-    def takeOut(self):
+    def takeOut(self) -> Values:
         members = self.add()
         live = self.live(members["object"])
         held = live.links.get(members["name"]) if live else None
@@ -277,7 +289,7 @@ class Calls(Plots, QueryCalls):
             members["member"] = self.random.choice(held).number
         return members
 
-    def persist(self):
+    def persist(self) -> dict[str, int]:
         em = self.em(0.7)
         held = self.held_by(em)
         can_be = (
@@ -287,19 +299,19 @@ class Calls(Plots, QueryCalls):
         )
         return {"em": em, "object": self.object(can_be)}
 
-    def held_by(self, em):
+    def held_by(self, em: int) -> list[Live]:
         return (
             self.machine.managers[em - 1].context if 1 <= em <= len(self.machine.managers) else []
         )
 
-    def remove(self):
+    def remove(self) -> dict[str, int]:
         em = self.em(0.7)
         held = self.held_by(em)
         return {"em": em, "object": self.object(lambda live: live in held and not live.is_removed)}
 
     refresh = detach = remove
 
-    def merge(self):
+    def merge(self) -> dict[str, int]:
         """Mostly of what the manager does not hold, and often of what it has an instance or a row
         of."""
         em = self.em(0.6)
@@ -313,7 +325,7 @@ class Calls(Plots, QueryCalls):
             ),
         }
 
-    def lock(self):
+    def lock(self) -> Values:
         em = self.em(0.9)
         held = self.held_by(em)
         mode = (
@@ -329,15 +341,15 @@ class Calls(Plots, QueryCalls):
             "mode": mode,
         }
 
-    def begin(self):
+    def begin(self) -> dict[str, int]:
         return {"em": self.em()}
 
-    def commit(self):
+    def commit(self) -> dict[str, int]:
         return {"em": self.em(0.95)}
 
     rollback = setRollbackOnly = clear = flush = commit
 
-    def close(self):
+    def close(self) -> dict[str, int]:
         idle = [
             n
             for n, manager in enumerate(self.machine.managers, 1)
@@ -347,13 +359,13 @@ class Calls(Plots, QueryCalls):
             "em": self.random.choice(idle) if idle and self.random.random() < 0.8 else self.em()
         }
 
-    def contains(self):
+    def contains(self) -> dict[str, int]:
         return {"em": self.em(), "object": self.object(lambda live: True)}
 
-    def getReference(self):
+    def getReference(self) -> dict[str, Part | list[Value | dict[str, str]]]:
         return self.find()
 
-    def find(self):
+    def find(self) -> dict[str, Part | list[Value | Values]]:
         seen = [manager.seen for manager in self.machine.managers if manager.is_begun]
         stored = list(
             self.machine.committed.objects if not seen or self.random.random() < 0.4 else seen[0]
@@ -384,23 +396,23 @@ class Calls(Plots, QueryCalls):
 
 # ---- mutations
 
-def cut(random, line):
+def cut(random: Random, line: bytes) -> bytes:
     at = random.randrange(len(line) + 1)
     return line[:at] if random.random() < 0.7 else line[at:]
 
 
-def doubled(random, line):
+def doubled(random: Random, line: bytes) -> bytes:
     return line + random.choice([b"", b" ", b",", b"\r"]) + line
 
 
-def flipped(random, line):
+def flipped(random: Random, line: bytes) -> bytes:
     bytes_ = bytearray(line or b"x")
     for _ in range(random.choice([1, 1, 2, 9])):
         bytes_[random.randrange(len(bytes_))] ^= 1 << random.randrange(8)
     return bytes(bytes_)
 
 
-def inserted(random, line):
+def inserted(random: Random, line: bytes) -> bytes:
     at = random.randrange(len(line) + 1)
     odd = random.choice(
         [
@@ -413,7 +425,7 @@ def inserted(random, line):
     return line[:at] + odd + line[at:]
 
 
-def nested(random, line):
+def nested(random: Random, line: bytes) -> bytes:
     depth = random.choice([1, 2, 10, DEPTH - 2, DEPTH - 1, DEPTH, DEPTH + 1, 200, 5000])
     opened, closed = random.choice([(b"[", b"]"), (b'{"a":', b"}")])
     deep = opened * depth + b"1" + closed * depth
@@ -424,7 +436,7 @@ def nested(random, line):
     )
 
 
-def swapped(random, line, other):
+def swapped(random: Random, line: bytes, other: bytes) -> bytes:
     """With other in the place of a number or a text of the line."""
     places = list(re.finditer(rb'(?<=:)(-?[0-9]+|"[^"]*"|null)', line[:4096]))
     if not places:
@@ -433,15 +445,15 @@ def swapped(random, line, other):
     return line[:place.start()] + other + line[place.end():]
 
 
-def numbered(random, line):
+def numbered(random: Random, line: bytes) -> bytes:
     return swapped(random, line, random.choice(NUMBERS_TEXTS).encode())
 
 
-def worded(random, line):
+def worded(random: Random, line: bytes) -> bytes:
     return swapped(random, line, json.dumps(random.choice(OTHERS + TEXTS)).encode())
 
 
-def longer(random, line):
+def longer(random: Random, line: bytes) -> bytes:
     length = random.choice(
         [LENGTH, LENGTH + 1, LINE - len(line), LINE - len(line) + 1, LINE, 2 * LINE]
     )
@@ -454,7 +466,7 @@ def longer(random, line):
     )()
 
 
-def more_members(random, line):
+def more_members(random: Random, line: bytes) -> bytes:
     more = random.choice(
         [
             b'"em":1', b'"x":null', b'"call":"begin"', b'"object":1', b'"em":1e400',
@@ -468,7 +480,7 @@ def more_members(random, line):
     )
 
 
-def fewer_members(random, line):
+def fewer_members(random: Random, line: bytes) -> bytes:
     places = list(re.finditer(rb',?"[a-z]+" ?: ?(-?[0-9]+|"[^"]*"|null),?', line[:4096]))
     if not places:
         return b""
@@ -476,7 +488,7 @@ def fewer_members(random, line):
     return line[:place.start()] + line[place.end():]
 
 
-def escaped(random, line):
+def escaped(random: Random, line: bytes) -> bytes:
     """The same text in other words: letters of names and texts as escapes."""
     letters = [place.start() for place in re.finditer(rb"[a-zA-Z](?=[a-zA-Z]*\")", line[:4096])]
     if not letters:
@@ -485,7 +497,7 @@ def escaped(random, line):
     return line[:at] + b"\\u%04x" % line[at] + line[at + 1:]
 
 
-def odd_hex(random, line):
+def odd_hex(random: Random, line: bytes) -> bytes:
     digits = random.choice(["", "0", "0g", "0A", "aF", "00 ", " 00", "0aff0", "é", "0x00"])
     return swapped(random, line, json.dumps({"hex": digits}, ensure_ascii=False).encode())
 
@@ -497,7 +509,7 @@ MUTATIONS = [
 WEIGHTS = [4, 1, 4, 4, 2, 4, 2, 3, 2, 2, 2]
 
 
-def mutated(random, line):
+def mutated(random: Random, line: bytes) -> bytes:
     if random.random() < 0.01:
         return longer(random, line)
     if random.random() < 0.03:
@@ -515,13 +527,13 @@ def mutated(random, line):
 
 # ---- cases
 
-def some_mapping(seed, name):
+def some_mapping(seed: str, name: str | None) -> dict[str, int | list[dict[str, Any]]] | str | None:
     """The mapping of this name: None where the program gets none, the name of a file, or a random
     one as JSON says it."""
     return random_mapping(random.Random(seed)) if name == RANDOM else name
 
 
-def words_for(mapping, place):
+def words_for(mapping: dict[str, int | list[dict[str, Any]]] | str | None, place: str) -> list[str]:
     """The words of the command line that give the program the mapping, for which a file is made at
     this place where there is none."""
     if isinstance(mapping, dict):
@@ -531,7 +543,7 @@ def words_for(mapping, place):
     return ["--mapping", os.path.join(TESTS, "mappings", mapping)] if mapping else []
 
 
-def unit_of(mapping):
+def unit_of(mapping: dict[str, int | list[dict[str, Any]]] | str | None) -> Unit:
     if isinstance(mapping, dict):
         return Unit(mapping)
     with open(os.path.join(TESTS, "mappings", mapping or PERSONS), "rb") as file:
@@ -541,11 +553,17 @@ def unit_of(mapping):
 class Case:
     """A run: a unit, what is committed before, and the lines."""
 
-    def __init__(self, mapping, unit, state, lines):
+    def __init__(
+        self,
+        mapping: dict[str, int | list[dict[str, Any]]] | str | None,
+        unit: Unit,
+        state: State,
+        lines: list[bytes],
+    ) -> None:
         self.mapping, self.unit, self.state, self.lines = mapping, unit, state, lines
         self.known = None
 
-    def predicted(self):
+    def predicted(self) -> tuple[list[bytes], State]:
         """The replies, and the state afterwards."""
         if self.known is None:
             machine = Machine(self.unit, self.state)
@@ -554,16 +572,23 @@ class Case:
             ], machine.committed
         return self.known
 
-    def with_lines(self, lines):
+    def with_lines(self, lines: list[bytes]) -> Case:
         return Case(self.mapping, self.unit, self.state, lines)
 
 
-def made(seed, mapping, unit, state, count, maker=Calls):
+def made(
+    seed: str,
+    mapping: dict[str, int | list[dict[str, Any]]] | str | None,
+    unit: Unit,
+    state: State,
+    count: int,
+    maker: type = Calls,
+) -> Case:
     """A case of so many lines, of which some hold line feeds by mutation."""
     chance, machine, lines, heard, replies = random.Random(seed), Machine(unit, state), [], [], []
     calls = maker(chance, machine)
 
-    def take(line):
+    def take(line: bytes) -> None:
         lines.append(line + b"\n")
         for each in lines_of(lines[-1]):
             heard.append(each)
@@ -584,14 +609,14 @@ def made(seed, mapping, unit, state, count, maker=Calls):
     return case
 
 
-def fill(store, cells):
+def fill(store: str, cells: list[Cell]) -> None:
     with sqlite3.connect(store) as open_store:
         open_store.execute(TABLE)
         open_store.executemany("INSERT INTO cell VALUES (?, ?, ?, ?)", cells)
     open_store.close()
 
 
-def cells_in(store):
+def cells_in(store: str) -> list[Cell]:
     open_store = sqlite3.connect(store)
     try:
         sound = open_store.execute("PRAGMA integrity_check").fetchone()[0]

@@ -1,8 +1,18 @@
 """Plots of tests/fuzz/hostile-lines about relations: objects that lead to one another, which are
 stored, read again, changed and removed along cascades."""
+from __future__ import annotations
+
+from typing import TYPE_CHECKING, Any, Callable
 
 
-def cascading(operation):
+if TYPE_CHECKING:
+    from fuzz.kinds import Plot
+    from model.kinds import Part, Values
+    from model.live import Live
+    from model.unit import Entity, Relation
+
+
+def cascading(operation: str) -> Callable[..., Any]:
     return lambda relation: relation.cascades(operation)
 
 
@@ -10,7 +20,7 @@ class LinkPlots:
     """The plots over the relations of a machine's unit. Each is a generator of calls, as their
     words and members."""
 
-    def link_plots(self):
+    def link_plots(self) -> list[Callable[..., Any]]:
         return [
             self.family, self.family, self.orphaned, self.orphaned, self.refused_link,
             self.removed_family, self.read_apart, self.read_again, self.handed_over, self.once_more,
@@ -20,7 +30,7 @@ class LinkPlots:
 
     # -- what a plot looks at
 
-    def some_relation(self, wanted):
+    def some_relation(self, wanted: Callable[..., Any]) -> tuple[Entity, Relation]:
         """An entity with one of its relations, mostly one that is wanted."""
         found = [
             (entity, relation)
@@ -30,13 +40,13 @@ class LinkPlots:
         chosen = [pair for pair in found if wanted(pair[1])]
         return self.random.choice(chosen if chosen and self.random.random() < 0.7 else found)
 
-    def some_class(self, entity):
+    def some_class(self, entity: Entity) -> Entity:
         """An entity or one of its subclasses."""
         return self.random.choice(
             [each for each in self.machine.unit.entities.values() if each.is_a(entity)]
         )
 
-    def other_side(self, relation):
+    def other_side(self, relation: Relation) -> Relation | None:
         """The relation on the other side of one, if there is one."""
         if not relation.owns:
             return relation.owner
@@ -44,34 +54,38 @@ class LinkPlots:
             (each for each in relation.target.relations.values() if each.owner is relation), None
         )
 
-    def linking(self, live, relation, other, is_whole=True):
+    def linking(self, live: Live, relation: Relation, other: Live, is_whole: bool = True) -> Plot:
         """Calls after which an object leads to another one, and mostly the other one back."""
         yield self.linked(live, relation, other)
         back = self.other_side(relation)
         if back and other.entity.has(back) and is_whole:
             yield self.linked(other, back, live)
 
-    def linked(self, live, relation, other):
+    def linked(
+        self, live: Live, relation: Relation, other: Live
+    ) -> tuple[str, dict[str, Part | dict[str, int]]]:
         if relation.is_many:
             return "add", {"object": live.number, "name": relation.name, "member": other.number}
         return "set", {
             "object": live.number, "name": relation.name, "value": {"object": other.number},
         }
 
-    def unlinked(self, live, relation, other=None):
+    def unlinked(
+        self, live: Live, relation: Relation, other: Live | None = None
+    ) -> tuple[str, Values]:
         if relation.is_many:
             held = [other] if other else live.read_of(relation) if live.entity.has(relation) else []
             number = self.random.choice(held).number if held else self.object()
             return "takeOut", {"object": live.number, "name": relation.name, "member": number}
         return "set", {"object": live.number, "name": relation.name, "value": None}
 
-    def reading(self, live):
+    def reading(self, live: Live) -> Plot:
         """Calls that get what an object holds in its relations."""
         for relation in live.entity.relations.values():
             if self.random.random() < 0.7:
                 yield "get", {"object": live.number, "name": relation.name}
 
-    def another(self, em, entity, most=0.5):
+    def another(self, em: int, entity: Entity, most: float = 0.5) -> Plot:
         """Calls that give an object of the entity or a subclass, be it one that the manager holds
         already."""
         held = [
@@ -83,12 +97,12 @@ class LinkPlots:
             return self.random.choice(held)
         return (yield from self.shaping(em, self.some_class(entity)))
 
-    def found(self, em, live):
+    def found(self, em: int, live: Live) -> Plot:
         """The call that finds an object's identity, and the manager's instance of it."""
         yield self.finding(em, live)
         return next((each for each in self.held_by(em) if each.identity() == live.identity()), None)
 
-    def tied(self, em, wanted=lambda relation: True):
+    def tied(self, em: int, wanted: Callable[..., Any] = lambda relation: True) -> Plot:
         """Calls that make an object with members in one of its relations, and persist what no
         cascade reaches."""
         entity, relation = self.some_relation(wanted)
@@ -109,7 +123,7 @@ class LinkPlots:
                 yield "persist", {"em": em, "object": other.number}
         return lives, relation
 
-    def stored(self, em, wanted=lambda relation: True):
+    def stored(self, em: int, wanted: Callable[..., Any] = lambda relation: True) -> Plot:
         """Calls that tie objects and commit or flush them; a transaction is open then, and the
         manager has let them go or not."""
         made = yield from self.tied(em, wanted)
@@ -123,7 +137,7 @@ class LinkPlots:
 
     # -- plots
 
-    def family(self):
+    def family(self) -> Plot:
         """Objects that lead to one another are stored, found and read again, and their relations
         changed."""
         em = yield from self.at_work()
@@ -157,7 +171,7 @@ class LinkPlots:
         yield from self.reading(live)
         yield self.random.choice(["commit", "rollback", "clear"]), {"em": em}
 
-    def orphaned(self):
+    def orphaned(self) -> Plot:
         """What leaves a relation is an orphan or not, and moves, is let go, removed or persisted
         before and after the flush."""
         em = yield from self.at_work()
@@ -200,7 +214,7 @@ class LinkPlots:
             yield "flush", {"em": em}
         yield self.random.choice(["commit", "commit", "rollback"]), {"em": em}
 
-    def refused_link(self):
+    def refused_link(self) -> Plot:
         """A link that a flush may refuse: to a removed, new or detached object, to one that another
         owns, or none where one is required."""
         em = yield from self.at_work()
@@ -251,7 +265,7 @@ class LinkPlots:
             yield from self.reading(each)
         yield self.random.choice(["commit", "rollback"]), {"em": em}
 
-    def one_found(self, operation):
+    def one_found(self, operation: str) -> Plot:
         """Calls that store related objects along a cascade of the operation and find one of them:
         the manager, it, all and the relation."""
         em = yield from self.at_work()
@@ -264,7 +278,7 @@ class LinkPlots:
         )
         return None if live is None else (em, live, lives, relation)
 
-    def removed_family(self):
+    def removed_family(self) -> Plot:
         """An object is removed, of which relations were read or not; what leads to it is taken out
         or not; and perhaps it is persisted again."""
         begun = yield from self.one_found("REMOVE")
@@ -295,14 +309,14 @@ class LinkPlots:
         yield self.random.choice(["commit", "rollback", "flush"]), {"em": em}
         yield from self.reading(live)
 
-    def side_of(self, live, relation):
+    def side_of(self, live: Live, relation: Relation) -> Relation:
         """The relation, or its other side, or any one that the object has."""
         sides = [
             each for each in (relation, self.other_side(relation)) if each and live.entity.has(each)
         ]
         return self.random.choice(sides or list(live.entity.relations.values()) or [relation])
 
-    def read_apart(self):
+    def read_apart(self) -> Plot:
         """What was not read of an object that its manager let go is asked for, and changed."""
         em = yield from self.at_work()
         made = em and (yield from self.stored(em, cascading("DETACH")))
@@ -337,7 +351,7 @@ class LinkPlots:
         yield from self.beginning(em)
         yield self.random.choice(["flush", "commit"]), {"em": em}
 
-    def read_again(self):
+    def read_again(self) -> Plot:
         """What an object holds is changed and refreshed, also along cascades."""
         begun = yield from self.one_found("REFRESH")
         if begun is None:
@@ -367,7 +381,7 @@ class LinkPlots:
         yield from self.reading(live)
         yield self.random.choice(["commit", "rollback"]), {"em": em}
 
-    def handed_over(self):
+    def handed_over(self) -> Plot:
         """An object of another manager is linked to, added and taken out."""
         managers = self.open_ones()
         if len(managers) < 2:
@@ -400,7 +414,7 @@ class LinkPlots:
         yield from self.reading(live)
         yield self.random.choice(["commit", "commit", "rollback"]), {"em": em}
 
-    def once_more(self):
+    def once_more(self) -> Plot:
         """What another manager changed of a collection since it was loaded, or read, is read, kept
         or written over."""
         managers = self.open_ones()
@@ -447,7 +461,7 @@ class LinkPlots:
         yield from self.reading(live)
         yield self.random.choice(["commit", "commit", "rollback"]), {"em": em}
 
-    def merged_family(self):
+    def merged_family(self) -> Plot:
         """What was stored and let go, with relations that were read or not, is changed and merged
         onto what the manager has, reads or removed."""
         em = yield from self.at_work()
@@ -486,7 +500,7 @@ class LinkPlots:
                     }
         yield from self.merging(em, apart)
 
-    def changing_apart(self, em, live, lives):
+    def changing_apart(self, em: int, live: Live, lives: list[Live]) -> Plot:
         """Calls that change an object which no manager holds: its values, and what it leads to."""
         relations = list(live.entity.relations.values())
         word = self.random.choice(["set", "link", "unlink", "unlink", "empty", "new", "copy"])
@@ -518,7 +532,7 @@ class LinkPlots:
             if other:
                 yield from self.linking(live, relation, other, self.random.random() < 0.5)
 
-    def merging(self, em, live):
+    def merging(self, em: int, live: Live) -> Plot:
         """Calls that merge an object and look at its image, then flush and end the transaction."""
         yield "merge", {"em": em, "object": live.number}
         newest = self.machine.objects[-1] if self.machine.objects else None
@@ -534,7 +548,7 @@ class LinkPlots:
             yield from self.reading(image)
         yield self.random.choice(["commit", "commit", "rollback", "flush"]), {"em": em}
 
-    def new_family(self):
+    def new_family(self) -> Plot:
         """New objects that lead to one another and to managed ones are merged, from a new one or
         from a managed one."""
         em = yield from self.at_work()

@@ -7,10 +7,20 @@ remembered, and no new one among them. Linked says that what is unmarked leads t
 pass. Persist along cascades and the removal of orphans go over all objects where a marked one gives
 a reason, else over none; what follows goes over the marked and what the call itself has changed.
 """
+from __future__ import annotations
+
 import itertools
+from typing import TYPE_CHECKING, Any, Callable
 
 from model.machine import Machine
 from model.reading import Refused
+
+if TYPE_CHECKING:
+    from model.cells import State, Stored
+    from model.kinds import Datum, Events, Identity, Part, Value
+    from model.live import Live, Manager
+    from model.reading import Number
+    from model.unit import Relation, Unit
 
 # What each fault does wrong. Those of NEEDLESS only cost time, and change no answer.
 FAULTS = {
@@ -49,7 +59,7 @@ NEEDLESS = {
 }
 
 
-def standing(live):
+def standing(live: Live) -> tuple[Any, ...]:
     return (dict(live.values), dict(live.links), live.held, live.is_removed, live.lock, live.base,
             live.known)
 
@@ -57,14 +67,14 @@ def standing(live):
 class Marks:
     """What a manager has marked; all where nothing is known."""
 
-    def __init__(self):
+    def __init__(self) -> None:
         self.is_all, self.marked, self.is_linked = True, {}, False
 
 
 class Marked(Machine):
     """The machine with marks, and a fault or none."""
 
-    def __init__(self, unit, state, fault=None):
+    def __init__(self, unit: Unit, state: State, fault: str | None = None) -> None:
         super().__init__(unit, state)
         self.fault, self.marks = fault, {}
         # Of the call at hand: how objects stood, what listeners assigned over, and who was flushed.
@@ -72,7 +82,7 @@ class Marked(Machine):
 
     # -- the end of a call
 
-    def answered(self, events, word, given):
+    def answered(self, events: Events, word: str, given: list[Any]) -> Any:
         self.unheard, self.flushed = {}, None
         self.before = {live: standing(live) for live in self.objects if live.held != "detached"}
         try:
@@ -89,22 +99,22 @@ class Marked(Machine):
                 self.mark(manager, word)
         return answer
 
-    def manager_of(self, word, given):
+    def manager_of(self, word: str, given: list[Any]) -> Manager | str | None:
         """The manager that a call names, or that holds the object which it names."""
         if word in ("createEntityManager", "new"):
             return None
         is_of_object = word in ("get", "set", "add", "takeOut")
         return self.objects[given[0] - 1].held if is_of_object else self.managers[given[0] - 1]
 
-    def noted(self, manager):
+    def noted(self, manager: Manager) -> list[Live]:
         """What the call at hand has changed, of this manager and of none."""
         lives = {**self.before, **dict.fromkeys(manager.context)}
         return [live for live in lives if self.before.get(live) != standing(live)]
 
-    def has_entered(self, manager, live):
+    def has_entered(self, manager: Manager, live: Live) -> bool:
         return live not in self.before or self.before[live][2] is not manager
 
-    def mark(self, manager, word):
+    def mark(self, manager: Manager, word: str) -> None:
         marks = self.marks.setdefault(manager, Marks())
         if not manager.context:
             self.marks[manager] = Marks()
@@ -129,7 +139,7 @@ class Marked(Machine):
             self.is_linked(manager, live) for live in (manager.context if is_anew else looked)
             if live not in marked)
 
-    def stops(self, manager, live):
+    def stops(self, manager: Manager, live: Live) -> bool:
         """Whether an object was managed before the call, and is no longer."""
         if self.has_entered(manager, live) or self.before[live][3] or live.is_managed(manager):
             return False
@@ -137,7 +147,7 @@ class Marked(Machine):
 
     # -- what is calm
 
-    def is_calm(self, manager, live):
+    def is_calm(self, manager: Manager, live: Live) -> bool:
         if live.is_removed:
             return self.fault == "removed"
         if live.lock and self.fault != {"WRITE": "write lock", "READ": "read lock"}[live.lock]:
@@ -148,7 +158,7 @@ class Marked(Machine):
         is_same = all(values[name] == live.base.values[name] for name in live.entity.attributes)
         return is_same and all(self.is_kept(live, each) for each in live.entity.relations.values())
 
-    def is_kept(self, live, relation):
+    def is_kept(self, live: Live, relation: Relation) -> bool:
         """Whether a relation holds what is remembered of it, and no new object."""
         if self.fault == "links" or self.fault == "inverse links" and not relation.owns:
             return True
@@ -156,7 +166,7 @@ class Marked(Machine):
         is_same = live.known[relation.name] == live.identities_of(relation)
         return is_same and (self.fault == "holds new" or not has_new)
 
-    def is_linked(self, manager, live):
+    def is_linked(self, manager: Manager, live: Live) -> bool:
         """Whether a flush lets pass what an object leads to."""
         refused = (manager,) if self.fault == "holds new" else ("new", manager)
         relations = live.entity.relations.values()
@@ -164,7 +174,7 @@ class Marked(Machine):
         return all(other.is_managed(manager) or passes(other, each)
                    for each in relations for other in live.read_of(each))
 
-    def fire(self, events, event, live):
+    def fire(self, events: Events, event: str, live: Live) -> None:
         before = dict(live.values)
         super().fire(events, event, live)
         unheard = {"callback of a load": ("PostLoad",),
@@ -174,7 +184,7 @@ class Marked(Machine):
 
     # -- flushes
 
-    def looked(self, manager):
+    def looked(self, manager: Manager) -> list[Live]:
         """The marked objects and what the call has changed, in order of the context."""
         marked = self.marks[manager].marked
         if self.fault == "order":
@@ -183,12 +193,12 @@ class Marked(Machine):
         looked = {**marked, **dict.fromkeys(changed)}
         return [live for live in manager.context if live in looked]
 
-    def flush_before(self, events, manager):
+    def flush_before(self, events: Events, manager: Manager) -> None:
         super().flush_before(events, manager)
         if manager.is_begun and manager.flush_mode == "AUTO":
             self.flushed = manager
 
-    def write(self, events, manager):
+    def write(self, events: Events, manager: Manager) -> None:
         marks = self.marks.setdefault(manager, Marks())
         known = {live: (live.base, live.known) for live in manager.context}
         if marks.is_all:
@@ -199,7 +209,7 @@ class Marked(Machine):
             for live, (base, members) in known.items():
                 live.known = members if base and live.base is base else live.known
 
-    def write_looked(self, events, manager, marks):
+    def write_looked(self, events: Events, manager: Manager, marks: Marks) -> None:
         if not marks.is_linked or any(map(self.is_reaching, self.looked(manager))):
             self.persist_targets(events, manager)
         if any(not live.is_removed and any(live.orphans()) for live in self.looked(manager)):
@@ -209,7 +219,7 @@ class Marked(Machine):
             self.see_references(manager)
         self.over(manager, self.looked(manager), lambda: self.write_held(events, manager))
 
-    def over(self, manager, lives, does):
+    def over(self, manager: Manager, lives: list[Live], does: Callable[..., Any]) -> None:
         """Does something as if the manager held these objects alone."""
         whole, manager.context = manager.context, lives
         try:
@@ -217,12 +227,12 @@ class Marked(Machine):
         finally:
             manager.context = whole
 
-    def is_reaching(self, live):
+    def is_reaching(self, live: Live) -> bool:
         """Whether a managed object leads to what a flush persists."""
         targets = [] if live.is_removed else self.targets("PERSIST", live.held, live)
         return not all(other.is_managed(live.held) for other in targets)
 
-    def persist_targets(self, events, manager):
+    def persist_targets(self, events: Events, manager: Manager) -> None:
         if self.fault != "reach" or self.marks[manager].is_all:
             super().persist_targets(events, manager)
             return
@@ -235,13 +245,13 @@ class Marked(Machine):
 
     # -- locks
 
-    def see_first(self, manager, changed):
+    def see_first(self, manager: Manager, changed: list[Identity]) -> None:
         self.over_locked(manager, lambda: super(Marked, self).see_first(manager, changed))
 
-    def see_read_locks(self, manager):
+    def see_read_locks(self, manager: Manager) -> None:
         self.over_locked(manager, lambda: super(Marked, self).see_read_locks(manager))
 
-    def over_locked(self, manager, look):
+    def over_locked(self, manager: Manager, look: Callable[..., Any]) -> None:
         """Looks at what is marked alone, where the fault is that a lock READ sets no mark."""
         is_less = self.fault == "read lock" and not self.marks[manager].is_all
         self.over(manager, self.looked(manager) if is_less else manager.context, look)

@@ -2,14 +2,25 @@
 by chance comes often. A plot gives the next call once the last one was answered; other calls may
 come between.
 """
+from __future__ import annotations
+
+from typing import TYPE_CHECKING, Any
+
 from fuzz.links import LinkPlots
 from model.reading import UNSERVED
+
+if TYPE_CHECKING:
+    from fuzz.kinds import Plot
+    from model.kinds import Part, Value, Values
+    from model.live import Live
+    from model.reading import Number
+    from model.unit import Entity, Relation
 
 
 class Plots(LinkPlots):
     """The plots over a machine. Each is a generator of calls, as their words and members."""
 
-    def some_plot(self):
+    def some_plot(self) -> Plot:
         if "query" not in UNSERVED and self.random.random() < 0.4:
             return self.queried()
         if self.has_relations and self.random.random() < 0.6:
@@ -22,27 +33,27 @@ class Plots(LinkPlots):
 
     # -- what a plot looks at
 
-    def open_ones(self):
+    def open_ones(self) -> list[int]:
         return [n for n, manager in enumerate(self.machine.managers, 1) if manager.is_open]
 
-    def begun(self):
+    def begun(self) -> int | None:
         begun = [n for n in self.open_ones() if self.machine.managers[n - 1].is_begun]
         return self.random.choice(begun) if begun else None
 
-    def newest(self):
+    def newest(self) -> int:
         return len(self.machine.objects)
 
-    def a_value(self, live, name):
+    def a_value(self, live: Live, name: str) -> Value | Values:
         return self.given(self.value(self.kind(live.entity, name)))
 
-    def some_attribute(self, live):
+    def some_attribute(self, live: Live) -> str:
         return self.random.choice(list(live.entity.attributes) or ["name"])
 
-    def change(self, live):
+    def change(self, live: Live) -> tuple[str, dict[str, Value | Values]]:
         name = self.some_attribute(live)
         return "set", {"object": live.number, "name": name, "value": self.a_value(live, name)}
 
-    def finding(self, em, live):
+    def finding(self, em: int, live: Live) -> Any:
         key = [self.given(part) for part in live.key()]
         classes = [
             name
@@ -54,7 +65,7 @@ class Plots(LinkPlots):
             "em": em, "entity": name, "key": key,
         }
 
-    def beginning(self, em):
+    def beginning(self, em: int) -> Plot:
         """Calls after which the manager has an open transaction, mostly one that can commit; those
         of others mostly stay open."""
         manager = self.machine.managers[em - 1]
@@ -65,7 +76,7 @@ class Plots(LinkPlots):
             yield self.random.choice(["commit", "commit", "rollback"]), {"em": ending}
         yield "begin", {"em": em}
 
-    def making(self, em, key=None):
+    def making(self, em: int, key: Any = None) -> Plot:
         """Calls that make an object and persist it; its key is that, if one is given."""
         if not self.machine.unit.entities:
             return
@@ -78,7 +89,9 @@ class Plots(LinkPlots):
         if live:
             yield "persist", {"em": em, "object": live.number}
 
-    def shaping(self, em, entity, key=None, depth=0):
+    def shaping(
+        self, em: int, entity: Entity, key: tuple[int, str] | None = None, depth: int = 0
+    ) -> Plot:
         """Calls that make an object of the entity, with a key and what is required; the object
         then, or None."""
         yield "new", {"entity": entity.name}
@@ -102,7 +115,7 @@ class Plots(LinkPlots):
                 yield from self.requiring(em, live, relation, depth)
         return live
 
-    def fresh_key(self, entity):
+    def fresh_key(self, entity: Entity) -> list[Number | Part]:
         """A key that mostly is whole, and that no object has."""
         taken, kinds = {live.identity() for live in self.machine.objects}, entity.key.values()
         for _ in range(20):
@@ -115,7 +128,7 @@ class Plots(LinkPlots):
                 break
         return key
 
-    def requiring(self, em, live, relation, depth):
+    def requiring(self, em: int, live: Live, relation: Relation, depth: int) -> Plot:
         """Calls that give an object what it must lead to."""
         held = [each for each in self.held_by(em)[-20:] if each.entity.is_a(relation.target)]
         if relation.kind == "oneToOne" or not held or self.random.random() < 0.3:
@@ -125,7 +138,7 @@ class Plots(LinkPlots):
         if other:
             yield self.linked(live, relation, other)
 
-    def at_work(self):
+    def at_work(self) -> Plot:
         """One of the open managers, whose transaction is begun; None where none is open."""
         managers = self.open_ones()
         if not managers:
@@ -134,12 +147,12 @@ class Plots(LinkPlots):
         yield from self.beginning(em)
         return em
 
-    def some_held(self, em):
+    def some_held(self, em: int) -> Live | None:
         """An object that the manager holds; it is loaded or made where there is none."""
         held = self.machine.managers[em - 1].context
         return self.random.choice(held[-6:]) if held else None
 
-    def looking(self, lives):
+    def looking(self, lives: list[Live]) -> Plot:
         """Calls that get what objects hold."""
         for live in lives:
             for name in live.values:
@@ -148,7 +161,7 @@ class Plots(LinkPlots):
 
     # -- plots
 
-    def refused_flush(self):
+    def refused_flush(self) -> Plot:
         """Objects are made, changed and removed, one of them so that it may be refused; then what
         they hold is looked at."""
         em = yield from self.at_work()
@@ -171,7 +184,7 @@ class Plots(LinkPlots):
         yield self.random.choice(["commit", "rollback", "flush"]), {"em": em}
         yield from self.looking(lives)
 
-    def flushes(self):
+    def flushes(self) -> Plot:
         """Objects are made and changed, with a flush after each, and all is rolled back or
         committed."""
         em = yield from self.at_work()
@@ -195,7 +208,7 @@ class Plots(LinkPlots):
                 yield self.finding(self.random.choice(self.open_ones()), self.machine.objects[-1])
         yield self.random.choice(["commit", "commit", "rollback", "clear"]), {"em": em}
 
-    def one_object(self):
+    def one_object(self) -> Plot:
         """An object is removed, persisted, flushed, changed, refreshed and looked for in turns."""
         em = yield from self.at_work()
         if em is None:
@@ -232,7 +245,7 @@ class Plots(LinkPlots):
                 yield word, {"em": em, "object": live.number}
         yield self.random.choice(["commit", "commit", "commit", "rollback"]), {"em": em}
 
-    def another_writes(self):
+    def another_writes(self) -> Plot:
         """What a manager holds another one changes or removes, and commits; then the first one
         writes it, or reads it again."""
         managers = self.open_ones()
@@ -282,13 +295,15 @@ class Plots(LinkPlots):
         yield self.random.choice(["flush", "commit"]), {"em": em}
         yield self.random.choice(["commit", "commit", "rollback"]), {"em": em}
 
-    def locking(self, em, live):
+    def locking(self, em: int, live: Live) -> tuple[str, Values]:
         mode = self.random.choice(
             ["READ", "OPTIMISTIC", "WRITE", "WRITE", "OPTIMISTIC_FORCE_INCREMENT"]
         )
         return "lock", {"em": em, "object": live.number, "mode": mode}
 
-    def stale_for(self, em, live, words=("set", "set", "remove")):
+    def stale_for(
+        self, em: int, live: Live, words: tuple[str, ...] = ("set", "set", "remove")
+    ) -> Plot:
         """Calls by which another manager changes or removes what the object is of, and commits it;
         its instance, or None."""
         managers = [each for each in self.open_ones() if each != em]
@@ -308,7 +323,7 @@ class Plots(LinkPlots):
         yield "commit", {"em": other}
         return same
 
-    def locked(self):
+    def locked(self) -> Plot:
         """An object is locked, once or more, and flushed, changed, removed, read again or let go;
         another manager may have changed it."""
         em = yield from self.at_work()
@@ -354,7 +369,7 @@ class Plots(LinkPlots):
         yield self.random.choice(["commit", "commit", "rollback"]), {"em": em}
         yield "contains", {"em": em, "object": live.number}
 
-    def copying(self, live):
+    def copying(self, live: Live) -> Plot:
         """Calls that make a new object with the key of one, and perhaps a version and values; or
         one of another class."""
         classes = [
@@ -384,7 +399,7 @@ class Plots(LinkPlots):
                 }
         return copy
 
-    def copied(self):
+    def copied(self) -> Plot:
         """An object that is held, let go, stale, removed or of another manager, or a new one with
         its key, is merged."""
         em = yield from self.at_work()
@@ -436,7 +451,7 @@ class Plots(LinkPlots):
         yield self.random.choice(["flush", "commit", "commit"]), {"em": em}
         yield self.random.choice(["commit", "commit", "rollback"]), {"em": em}
 
-    def same_key_again(self):
+    def same_key_again(self) -> Plot:
         """An object is dropped by a flush, or only removed, and another one of its identity is
         persisted."""
         em = yield from self.at_work()
@@ -469,7 +484,7 @@ class Plots(LinkPlots):
             yield "flush", {"em": em}
         yield self.random.choice(["commit", "commit", "rollback"]), {"em": em}
 
-    def many_managers(self):
+    def many_managers(self) -> Plot:
         """Managers are made up to one too many, some are closed, and others made."""
         for _ in range(self.random.choice([2, 3, 17])):
             yield "createEntityManager", {}

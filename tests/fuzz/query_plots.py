@@ -1,13 +1,21 @@
 """The calls of queries for tests/fuzz/hostile-lines, and plots in which they come among flushes,
 changes and commits."""
+from __future__ import annotations
+
+from typing import TYPE_CHECKING
+
 from fuzz.jpql_lines import Texts
 from model.reading import GREATEST, LEAST
+
+if TYPE_CHECKING:
+    from fuzz.kinds import Plot
+    from model.kinds import Objects, Part, Value, Values
 
 
 class QueryCalls:
     """The makers of calls that query, beside those of tests/fuzz/lines.py."""
 
-    def setFlushMode(self):
+    def setFlushMode(self) -> Values:
         return {
             "em": self.em(0.8),
             "mode": self.random.choice(
@@ -15,16 +23,16 @@ class QueryCalls:
             ),
         }
 
-    def query(self):
+    def query(self) -> dict[str, Part | dict[str, Value | Values]]:
         return self.querying(self.em(0.6), self.random.random() < 0.05)
 
-    def querySingle(self):
+    def querySingle(self) -> dict[str, Part | dict[str, Value | Values]]:
         return self.query()
 
-    def executeUpdate(self):
+    def executeUpdate(self) -> dict[str, Part | dict[str, Value | Values]]:
         return self.updating(self.em(0.9))
 
-    def updating(self, em):
+    def updating(self, em: int) -> dict[str, Part | dict[str, Value | Values]]:
         members = self.querying(em, self.random.random() < 0.93)
         return {
             name: value
@@ -32,7 +40,7 @@ class QueryCalls:
             if name not in ("first", "max") or self.random.random() < 0.02
         }
 
-    def querying(self, em, is_bulk):
+    def querying(self, em: int, is_bulk: bool) -> dict[str, Part | dict[str, Value | Values]]:
         """The members of a call with a statement, and mostly the parameters that it takes."""
         texts = Texts(self, self.seen_by(em))
         tokens, is_odd = texts.statement(is_bulk), self.random.random() < (
@@ -53,17 +61,17 @@ class QueryCalls:
                 )
         return members
 
-    def marks(self, em):
+    def marks(self, em: int) -> bool:
         """Whether a refusal of the manager marks a transaction, so that it should be rare."""
         return 1 <= em <= len(self.machine.managers) and self.machine.managers[em - 1].is_begun
 
-    def seen_by(self, em):
+    def seen_by(self, em: int) -> Objects:
         """The objects that a manager sees."""
         if not 1 <= em <= len(self.machine.managers):
             return self.machine.committed.objects
         return self.machine.view(self.machine.managers[em - 1])
 
-    def damaged_params(self, params):
+    def damaged_params(self, params: dict[str, Value | Values]) -> dict[str, Value | Values]:
         """The parameters, of which one may be missing, too much, of another kind, or an object that
         is nowhere or has no key."""
         roll = self.random.random()
@@ -83,7 +91,7 @@ class QueryCalls:
 
     # -- plots
 
-    def queried(self):
+    def queried(self) -> Plot:
         """What was changed and not flushed is queried, with a flush or without, and changed by
         statements; then it is written, read or stale."""
         em = yield from self.at_work()

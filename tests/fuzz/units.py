@@ -1,5 +1,13 @@
 """Random mappings for tests/fuzz/hostile-lines and tests/fuzz/hostile-stores: hierarchies whose
 classes lead to one another along all kinds of relations."""
+from __future__ import annotations
+
+from typing import TYPE_CHECKING, Any
+
+
+if TYPE_CHECKING:
+    from model.kinds import Part
+    from random import Random
 
 EVENTS = [
     "PrePersist", "PostPersist", "PreRemove", "PostRemove", "PreUpdate", "PostUpdate", "PostLoad",
@@ -24,18 +32,18 @@ FUNCTIONS = [
 class RandomMapping:
     """A mapping that is well formed, as JSON says it, with entities by their names."""
 
-    def __init__(self, random):
+    def __init__(self, random: Random) -> None:
         self.random, self.count, self.functions = random, 0, list(FUNCTIONS)
         self.classes, self.roots = {}, {}
 
-    def chance(self, most):
+    def chance(self, most: float) -> bool:
         return self.random.random() < most
 
-    def next(self):
+    def next(self) -> int:
         self.count += 1
         return self.count
 
-    def described(self):
+    def described(self) -> dict[str, int | list[dict[str, Any]]]:
         for _ in range(self.random.choice([1, 2, 2, 3])):
             self.hierarchy()
         for _ in range(self.random.randint(2, 6)):
@@ -53,7 +61,7 @@ class RandomMapping:
 
     # -- classes
 
-    def hierarchy(self):
+    def hierarchy(self) -> None:
         name = f"E{self.next()}"
         kinds = self.random.choice(
             [
@@ -81,14 +89,14 @@ class RandomMapping:
             names.append(below["name"])
             self.entity(below, name)
 
-    def entity(self, described, root):
+    def entity(self, described: dict[str, Any], root: str) -> None:
         described["attributes"] = [
             self.attribute() for _ in range(self.random.choice([0, 1, 1, 2]))
         ]
         described["relations"] = []
         self.classes[described["name"]], self.roots[described["name"]] = described, root
 
-    def attribute(self):
+    def attribute(self) -> dict[str, Part | bool]:
         kind = self.random.choice(["int", "int", "text", "bytes"])
         attribute = {"name": f"a{self.next()}", "type": kind, "column": self.next()}
         if self.chance(0.15):
@@ -99,7 +107,7 @@ class RandomMapping:
 
     # -- relations
 
-    def relation(self):
+    def relation(self) -> None:
         """An owning relation, and mostly its inverse side in the target's entity, perhaps of a
         subclass of the owner alone."""
         owner, target = (self.random.choice(list(self.classes.values())) for _ in range(2))
@@ -123,11 +131,11 @@ class RandomMapping:
             }
             target["relations"].append(other)
 
-    def chain(self, described):
+    def chain(self, described: dict[str, Any]) -> list[str]:
         above = described.get("extends")
         return [described["name"], *(self.chain(self.classes[above]) if above else [])]
 
-    def cascades(self, kind):
+    def cascades(self, kind: str) -> dict[str, bool | list[str]]:
         some = self.random.sample(CASCADES, self.random.choice([0, 1, 2, 3]))
         found = {"cascade": ["ALL"] if self.chance(0.25) else some}
         if kind in ("oneToOne", "oneToMany") and self.chance(0.35):
@@ -136,11 +144,11 @@ class RandomMapping:
 
     # -- who hears
 
-    def function(self, made):
+    def function(self, made: dict[str, str]) -> str:
         self.functions.append({"name": f"f{self.next()}", **made})
         return self.functions[-1]["name"]
 
-    def listeners(self, described):
+    def listeners(self, described: dict[str, Any]) -> None:
         """Mostly such as notice events, and some that assign attributes, or throw."""
         along = [
             attribute
@@ -159,7 +167,7 @@ class RandomMapping:
             if self.chance(0.1):
                 described[flag] = True
 
-    def made(self, along):
+    def made(self, along: list[dict[str, Part | bool]]) -> dict[str, str]:
         integers = [
             attribute["name"]
             for attribute in along
@@ -186,5 +194,5 @@ class RandomMapping:
         return self.random.choice(choices)
 
 
-def random_mapping(random):
+def random_mapping(random: Random) -> dict[str, int | list[dict[str, Any]]]:
     return RandomMapping(random).described()

@@ -8,7 +8,10 @@ call that it does not have, and those of a command line or of a mapping of revis
 refused. Stages that the program does not serve yet are not skipped. It runs no program. Exit status
 0 where all that ran agree.
 """
+from __future__ import annotations
+
 import json, os, sys
+from typing import TYPE_CHECKING
 
 sys.dont_write_bytecode = True
 sys.path[0] = os.path.dirname(os.path.dirname(os.path.abspath(__file__)))
@@ -20,8 +23,11 @@ from model.reading import UNSERVED, lines_of
 from model.unit import Unit
 from runs import HERE, other_replies, read
 
+if TYPE_CHECKING:
+    from model.kinds import Cell, Mapping
 
-def skipped(folder):
+
+def skipped(folder: str) -> str | None:
     """Why the model has nothing to say of a run, or None."""
     if (
         read(folder, "words") is not None
@@ -39,7 +45,7 @@ def skipped(folder):
     return None
 
 
-def cells_of(text):
+def cells_of(text: bytes | None) -> list[Cell]:
     parts = [
         [part.strip() for part in line.split(",")] for line in (text or b"").decode().splitlines()
     ]
@@ -49,7 +55,7 @@ def cells_of(text):
     ]
 
 
-def difference(folder):
+def difference(folder: str) -> str | None:
     """What the model says otherwise than the run, or None."""
     said, word = (read(folder, "stderr") or b"").decode().strip(), refusal(mapping_text(folder))
     if word or said.startswith("jpa: Mapping"):
@@ -75,7 +81,7 @@ def difference(folder):
     return None if after is None or cells_of(after) == found else f"cells {found}"
 
 
-def stands(folder):
+def stands(folder: str) -> list[list[Cell]]:
     """The cells that stand before the opening of a run, and after so many lines, from none to all,
     as the model has them."""
     unit, before = Unit(mapping_of(folder)), sorted(cells_of(read(folder, "cells-before.txt")))
@@ -87,14 +93,14 @@ def stands(folder):
     return found
 
 
-def left_by(stood, answered):
+def left_by(stood: list[list[Cell]], answered: int) -> list[list[Cell]]:
     """Which of these cells a run may leave that ended once so many lines were answered: those of
     before the line at hand, or of after it. Where no line was answered, the opening may have
     been at hand too."""
     return stood[answered + bool(answered):answered + 3]
 
 
-def mapping_text(folder):
+def mapping_text(folder: str) -> bytes:
     """The mapping of a run, as its bytes."""
     text = read(folder, "mapping.json")
     if text is None:
@@ -103,11 +109,11 @@ def mapping_text(folder):
     return text
 
 
-def mapping_of(folder):
+def mapping_of(folder: str) -> Mapping:
     return json.loads(mapping_text(folder))
 
 
-def main(tops):
+def main(tops: list[str]) -> int:
     if not tops:
         sys.exit(__doc__)
     agree = differ = skip = 0

@@ -1,7 +1,15 @@
 """Sets of stored objects for the model: which are sound, the cells of one, and the set that cells
 stand for."""
+from __future__ import annotations
+
+from typing import TYPE_CHECKING, Any, Iterator
+
 from model.reading import Refused
 from model.unit import KINDS, LENGTH, Entity, converted_back
+
+if TYPE_CHECKING:
+    from model.kinds import Cell, Identity, Key, Objects, Part, Value, Values
+    from model.unit import Relation, Unit
 
 
 # ---- sets
@@ -10,40 +18,46 @@ class Stored:
     """A stored object: its values, and what it owns by the relation: an identity or none, or a set
     of them."""
 
-    def __init__(self, entity, version, values, links=None):
+    def __init__(
+        self,
+        entity: Entity,
+        version: int | None,
+        values: Values,
+        links: dict[str, Identity | frozenset[Identity] | None] | None = None,
+    ) -> None:
         self.entity, self.version, self.values = entity, version, values
         self.links = links or {
             relation.name: frozenset() if relation.is_many else None for relation in entity.owned
         }
 
-    def with_link(self, name, held):
+    def with_link(self, name: str, held: Identity | frozenset[Identity] | None) -> Stored:
         return Stored(self.entity, self.version, self.values, {**self.links, name: held})
 
-    def is_same(self, other):
+    def is_same(self, other: Stored) -> bool:
         return (self.entity, self.version, self.values, self.links) == (
             other.entity, other.version, other.values, other.links,
         )
 
-    def lacks(self):
+    def lacks(self) -> bool:
         """Whether a required value or link is null."""
         return any(self.values[name] is None for name in self.entity.required) or any(
             relation.is_required and self.links[relation.name] is None
             for relation in self.entity.owned
         )
 
-    def linked(self, relation):
+    def linked(self, relation: Relation) -> frozenset[Identity] | list[Identity]:
         """The identities that it owns in a relation."""
         held = self.links[relation.name]
         return held if relation.is_many else [] if held is None else [held]
 
 
-def agree(some, others, identity):
+def agree(some: Objects, others: Objects, identity: Identity) -> bool:
     """Whether two sets have the very same object under an identity, or none."""
     one, other = some.get(identity), others.get(identity)
     return one is other or one is not None and other is not None and one.is_same(other)
 
 
-def members(objects, identity, relation):
+def members(objects: Objects, identity: Identity, relation: Relation) -> list[Identity]:
     """The identities that the object of an identity has in a relation, rising. One that isn't
     there, or is of a class without the relation, has none. In an inverse relation these are the
     objects of the target's class whose owning relation leads to it."""
@@ -62,7 +76,7 @@ def members(objects, identity, relation):
     )
 
 
-def unsound(objects):
+def unsound(objects: Objects) -> str | None:
     """What keeps a set from being sound, or None: a null, a reference to what isn't there, or two
     owners of one target."""
     if any(stored.lacks() for stored in objects.values()):
@@ -88,11 +102,11 @@ def unsound(objects):
 
 # ---- the cells of a set
 
-def integer_bytes(number):
+def integer_bytes(number: int) -> bytes:
     return b"\x01" + (number + 2**63).to_bytes(8, "big")
 
 
-def part_bytes(value):
+def part_bytes(value: Part) -> bytes:
     if isinstance(value, int):
         return integer_bytes(value)
     text = isinstance(value, str)
@@ -103,11 +117,11 @@ def part_bytes(value):
     )
 
 
-def key_bytes(key):
+def key_bytes(key: Key) -> bytes:
     return b"".join(part_bytes(part) for part in key)
 
 
-def cell_bytes(value):
+def cell_bytes(value: Part) -> bytes:
     if isinstance(value, int):
         return integer_bytes(value)
     return b"\x02" + value.encode() if isinstance(value, str) else b"\x03" + value
@@ -120,10 +134,12 @@ REVISION_ROW = (0, integer_bytes(0))
 class State:
     """The committed objects by identity, and the next number of each generator by its root."""
 
-    def __init__(self, objects=None, numbers=None):
+    def __init__(
+        self, objects: Objects | None = None, numbers: dict[str, int] | None = None
+    ) -> None:
         self.objects, self.numbers = objects or {}, numbers or {}
 
-    def cells(self, unit):
+    def cells(self, unit: Unit) -> list[Cell]:
         rows = [(*REVISION_ROW, 0, integer_bytes(2))] if unit.revision == 2 else []
         rows += [
             (0, integer_bytes(unit.entities[name].table), 0, integer_bytes(n))
@@ -145,7 +161,7 @@ class State:
         return sorted(rows)
 
 
-def columns_of(unit, stored):
+def columns_of(unit: Unit, stored: Stored) -> Iterator[tuple[int, bytes]]:
     """The columns of an object's own row, with their cells."""
     entity = stored.entity
     yield 0, cell_bytes(entity.discriminator)
@@ -166,12 +182,12 @@ def columns_of(unit, stored):
 class Damaged(Exception):
     """A store that is refused: the table and row that are named."""
 
-    def __init__(self, table, row):
+    def __init__(self, table: int, row: bytes) -> None:
         super().__init__(table, row)
         self.table, self.row = table, row
 
 
-def value_of(cell):
+def value_of(cell: bytes) -> Part:
     """The value that a cell spells; a reference is none."""
     tag, rest = cell[:1], cell[1:]
     if tag == b"\x01" and len(rest) == 8:
@@ -181,7 +197,7 @@ def value_of(cell):
     raise ValueError("cell")
 
 
-def part_of(kind, row):
+def part_of(kind: type, row: bytes) -> tuple[Part, bytes]:
     """The first part of a key's bytes, and the bytes after it."""
     if row[:1] != {int: b"\x01", str: b"\x02", bytes: b"\x03"}[kind]:
         raise ValueError("kind")
@@ -198,7 +214,7 @@ def part_of(kind, row):
     return part.decode() if kind is str else part, row[at + 2:]
 
 
-def identities_of(roots, row):
+def identities_of(roots: list[Entity], row: bytes) -> list[Identity]:
     """The identities whose keys a row's bytes spell, one of each root."""
     found = []
     for root in roots:
@@ -212,7 +228,7 @@ def identities_of(roots, row):
     return found
 
 
-def attribute_of(unit, attribute, cell):
+def attribute_of(unit: Unit, attribute: dict[str, Any], cell: bytes | None) -> Value:
     """What an attribute holds for its cell, if it has one."""
     if cell is None:
         return None
@@ -224,7 +240,7 @@ def attribute_of(unit, attribute, cell):
     return value
 
 
-def link_of(relation, cell):
+def link_of(relation: Relation, cell: bytes | None) -> Identity | frozenset[Any] | None:
     """What an owned relation holds for its cell, if it has one."""
     if relation.is_many:
         return frozenset()
@@ -235,14 +251,14 @@ def link_of(relation, cell):
     return identities_of([relation.target.root], cell[1:])[0]
 
 
-def class_of(classes, cells):
+def class_of(classes: list[Entity], cells: dict[int, bytes]) -> Entity | None:
     """The class that a row's discriminator names."""
     return next(
         (entity for entity in classes if cells.get(0) == cell_bytes(entity.discriminator)), None
     )
 
 
-def object_of(unit, classes, cells):
+def object_of(unit: Unit, classes: list[Entity], cells: dict[int, bytes]) -> Stored:
     """The object that the cells of a row, by their columns, say."""
     entity = class_of(classes, cells)
     if entity is None:
@@ -269,7 +285,7 @@ def object_of(unit, classes, cells):
     )
 
 
-def number_of(unit, row, cells):
+def number_of(unit: Unit, row: bytes, cells: dict[int, bytes]) -> tuple[str, int]:
     """The root whose next number a row of table 0 is, and the number."""
     ((_, (table,)),) = identities_of(
         [Entity({"name": "", "table": 0, "key": [{"name": "table", "type": "int"}]})], row
@@ -288,20 +304,20 @@ def number_of(unit, row, cells):
     return name, number
 
 
-def see_revision(cells):
+def see_revision(cells: dict[int, bytes]) -> None:
     """The row of the revision says 2, and nothing else."""
     if cells != {0: integer_bytes(2)}:
         raise ValueError("revision")
 
 
-def pair_of(relation, row, cells):
+def pair_of(relation: Relation, row: bytes, cells: dict[int, bytes]) -> list[Identity]:
     """The owner and the member that a row of a join table says."""
     if cells != {0: integer_bytes(1)}:
         raise ValueError("pair")
     return identities_of([relation.declaring.root, relation.target.root], row)
 
 
-def with_pairs(state, pairs):
+def with_pairs(state: State, pairs: list[tuple[Relation, Identity, Identity]]) -> None:
     """The state once its objects own these pairs; ValueError where one has no owner."""
     for relation, owner, member in pairs:
         stored = state.objects.get(owner)
@@ -312,7 +328,7 @@ def with_pairs(state, pairs):
         )
 
 
-def is_numbered(state):
+def is_numbered(state: State) -> bool:
     """Whether each generated key lies below its next number."""
     return all(
         not stored.entity.generated or 1 <= key[0] < state.numbers.get(name, 1)
@@ -320,11 +336,11 @@ def is_numbered(state):
     )
 
 
-def tables_of(unit):
+def tables_of(unit: Unit) -> set[int]:
     return {0, *unit.joined(), *(entity.table for entity in unit.entities.values())}
 
 
-def rows_of(unit, cells):
+def rows_of(unit: Unit, cells: list[Cell]) -> dict[tuple[int, bytes], dict[int, bytes]]:
     """The cells by their columns of each row in table 0 and in the unit's tables."""
     tables, rows = tables_of(unit), {}
     for table, row, column, value in cells:
@@ -333,18 +349,22 @@ def rows_of(unit, cells):
     return rows
 
 
-def left_alone(unit, cells):
+def left_alone(unit: Unit, cells: list[Cell]) -> list[Cell]:
     """The cells of other tables, which stay as they are."""
     tables = tables_of(unit)
     return [cell for cell in cells if cell[0] not in tables]
 
 
-def state_of(unit, cells):
+def state_of(unit: Unit, cells: list[Cell]) -> State:
     """What cells stand for, or `Damaged`."""
     return state_of_rows(unit, rows_of(unit, cells))
 
 
-def state_of_rows(unit, rows, damaged=()):
+def state_of_rows(
+    unit: Unit,
+    rows: dict[tuple[int, bytes], dict[int, bytes]],
+    damaged: set[tuple[int, bytes]] | tuple[Any, ...] = (),
+) -> State:
     """What rows stand for, or `Damaged`; some are damaged already."""
     tables, joined = {}, unit.joined()
     for entity in unit.entities.values():

@@ -2,9 +2,15 @@
 they make by the grammar, with the limits of a text. A statement is a `Node`; parentheses leave
 none.
 """
+from __future__ import annotations
+
 import re
+from typing import TYPE_CHECKING, Any, Callable, Iterator
 
 from model.reading import GREATEST, Refused
+
+if TYPE_CHECKING:
+    from model.kinds import Value
 
 TEXT_LENGTH, NESTING, VARIABLES = 16384, 32, 8
 KEYWORDS = set(
@@ -33,16 +39,16 @@ class Syntax(Exception):
 class Node:
     """A part of a statement: its sort, and its members by name."""
 
-    def __init__(self, sort, **members):
+    def __init__(self, sort: str, **members: Any) -> None:
         self.sort = sort
         self.__dict__.update(members)
 
-    def __repr__(self):
+    def __repr__(self) -> str:
         members = [f"{name}={value!r}" for name, value in vars(self).items() if name != "sort"]
         return f"{self.sort}({', '.join(members)})"
 
 
-def tokens_of(text):
+def tokens_of(text: str) -> list[tuple[str, str]]:
     """The tokens of a text: pairs of a sort and what it says."""
     found, at = [], 0
     while True:
@@ -65,7 +71,7 @@ def tokens_of(text):
         at = token.end()
 
 
-def nesting(text):
+def nesting(text: str) -> int:
     """The most parentheses that are open at a place outside quotes."""
     depth = most = 0
     is_quoted = False
@@ -84,20 +90,20 @@ class Reader:
     """A reader of tokens. Each rule of the grammar is a method from a place to what it reads and
     the place after it, or None."""
 
-    def __init__(self, tokens):
+    def __init__(self, tokens: list[tuple[str, str]]) -> None:
         self.tokens, self.known = tokens, {}
 
     # -- tokens
 
-    def is_mark(self, at, mark):
+    def is_mark(self, at: int, mark: str) -> bool:
         return at < len(self.tokens) and self.tokens[at] == ("mark", mark)
 
-    def is_word(self, at, *words):
+    def is_word(self, at: int, *words: str) -> bool:
         """Whether these keywords stand here."""
         there = self.tokens[at:at + len(words)]
         return [sort == "word" and said.upper() for sort, said in there] == list(words)
 
-    def word(self, at):
+    def word(self, at: int) -> tuple[str, int] | None:
         """Any word: an entity, or a name after a dot."""
         return (
             (self.tokens[at][1], at + 1)
@@ -105,16 +111,16 @@ class Reader:
             else None
         )
 
-    def name(self, at):
+    def name(self, at: int) -> tuple[str, int] | None:
         """A variable or an item's name, which is no keyword."""
         found = self.word(at)
         return found if found and found[0].upper() not in KEYWORDS else None
 
-    def named(self, at):
+    def named(self, at: int) -> tuple[str, int] | None:
         """A variable, which AS may stand before."""
         return self.name(at + 1 if self.is_word(at, "AS") else at)
 
-    def listed(self, rule, at):
+    def listed(self, rule: Callable[..., Any], at: int) -> tuple[list[Any], int] | None:
         """What a rule reads once or more, with commas between."""
         found = rule(at)
         if not found:
@@ -127,12 +133,12 @@ class Reader:
             read.append(found[0])
         return read, found[1]
 
-    def closed(self, rule, at):
+    def closed(self, rule: Callable[..., Any], at: int) -> tuple[Any, int] | None:
         """What a rule reads, in parentheses."""
         found = rule(at + 1) if self.is_mark(at, "(") else None
         return (found[0], found[1] + 1) if found and self.is_mark(found[1], ")") else None
 
-    def once(self, rule, at):
+    def once(self, rule: str, at: int) -> tuple[Node, int] | None:
         """What a rule reads here, remembered."""
         if (rule, at) not in self.known:
             self.known[rule, at] = getattr(self, rule)(at)
@@ -140,18 +146,22 @@ class Reader:
 
     # -- statements
 
-    def statement(self):
+    def statement(self) -> Node:
         for rule in (self.select, self.update, self.delete):
             found = rule(0)
             if found and found[1] == len(self.tokens):
                 return found[0]
         raise Syntax("statement")
 
-    def clause(self, words, rule, at):
+    def clause(
+        self, words: list[str], rule: Callable[..., Any], at: int
+    ) -> tuple[Node | list[Node] | None, int] | None:
         """What a rule reads after these words, or nothing where they don't stand here."""
         return rule(at + len(words)) if self.is_word(at, *words) else (None, at)
 
-    def clauses(self, at, *clauses):
+    def clauses(
+        self, at: int, *clauses: tuple[list[str], Callable[..., Any]]
+    ) -> tuple[list[Node | list[Node] | None], int] | None:
         """What clauses read that follow on one another."""
         read = []
         for words, rule in clauses:
@@ -162,7 +172,7 @@ class Reader:
             at = found[1]
         return read, at
 
-    def select(self, at):
+    def select(self, at: int) -> tuple[Node, int] | None:
         if not self.is_word(at, "SELECT"):
             return None
         is_distinct = self.is_word(at + 1, "DISTINCT")
@@ -186,7 +196,7 @@ class Reader:
         )
         return select, found[1]
 
-    def nested(self, at):
+    def nested(self, at: int) -> tuple[Node, int] | None:
         """A nested SELECT."""
         if not self.is_word(at, "SELECT"):
             return None
@@ -204,7 +214,7 @@ class Reader:
         )
         return nested, found[1]
 
-    def item(self, at):
+    def item(self, at: int) -> tuple[Node, int] | None:
         found = self.value(at)
         if not found:
             return None
@@ -218,7 +228,7 @@ class Reader:
             else (Node("item", value=value, name=None), at)
         )
 
-    def key(self, at):
+    def key(self, at: int) -> tuple[Node, int] | None:
         """An ORDER BY key: a path, or the name of an item."""
         found = self.path(at)
         if not found:
@@ -230,12 +240,12 @@ class Reader:
 
     # -- FROM
 
-    def sources(self, rule, at):
+    def sources(self, rule: Callable[..., Any], at: int) -> tuple[list[Node], int] | None:
         """Ranges with their joins, as one list."""
         found = self.listed(lambda at: self.joined(rule, at), at)
         return ([source for sources in found[0] for source in sources], found[1]) if found else None
 
-    def joined(self, rule, at):
+    def joined(self, rule: Callable[..., Any], at: int) -> tuple[list[Node], int] | None:
         found = rule(at)
         if not found:
             return None
@@ -248,7 +258,7 @@ class Reader:
             at = found[1]
         return read, at
 
-    def range(self, at):
+    def range(self, at: int) -> tuple[Node, int] | None:
         entity = self.word(at)
         variable = entity and self.named(entity[1])
         return (
@@ -257,10 +267,10 @@ class Reader:
             else None
         )
 
-    def nested_range(self, at):
+    def nested_range(self, at: int) -> tuple[Node, int]:
         return self.range(at) or self.related(at)
 
-    def related(self, at):
+    def related(self, at: int) -> tuple[Node, int] | None:
         """What a variable leads to along a relation, under a variable."""
         start = self.name(at)
         relation = start and self.is_mark(start[1], ".") and self.word(start[1] + 1)
@@ -277,7 +287,7 @@ class Reader:
             else None
         )
 
-    def join(self, at):
+    def join(self, at: int) -> tuple[Node, int] | None:
         is_left = self.is_word(at, "LEFT")
         at += is_left or self.is_word(at, "INNER")
         at += is_left and self.is_word(at, "OUTER")
@@ -293,7 +303,7 @@ class Reader:
 
     # -- UPDATE and DELETE
 
-    def update(self, at):
+    def update(self, at: int) -> tuple[Node, int] | None:
         if not self.is_word(at, "UPDATE"):
             return None
         found = self.range(at + 1)
@@ -307,7 +317,7 @@ class Reader:
             else None
         )
 
-    def assignment(self, at):
+    def assignment(self, at: int) -> tuple[Node, int] | None:
         variable = self.name(at)
         name = variable and self.is_mark(variable[1], ".") and self.word(variable[1] + 1)
         if not name or not self.is_mark(name[1], "="):
@@ -320,7 +330,7 @@ class Reader:
             else None
         )
 
-    def delete(self, at):
+    def delete(self, at: int) -> tuple[Node, int] | None:
         entity = self.word(at + 2) if self.is_word(at, "DELETE", "FROM") else None
         if not entity:
             return None
@@ -333,10 +343,12 @@ class Reader:
 
     # -- conditions
 
-    def condition(self, at):
+    def condition(self, at: int) -> tuple[Node, int] | None:
         return self.once("alternatives", at)
 
-    def joined_by(self, word, rule, sort, at):
+    def joined_by(
+        self, word: str, rule: Callable[..., Any], sort: str, at: int
+    ) -> tuple[Node, int] | None:
         found = rule(at)
         if not found:
             return None
@@ -348,18 +360,18 @@ class Reader:
             parts.append(found[0])
         return (parts[0] if len(parts) == 1 else Node(sort, parts=parts)), found[1]
 
-    def alternatives(self, at):
+    def alternatives(self, at: int) -> tuple[Node, int] | None:
         return self.joined_by(
             "OR", lambda at: self.joined_by("AND", self.negation, "and", at), "or", at
         )
 
-    def negation(self, at):
+    def negation(self, at: int) -> tuple[Node, int] | None:
         if not self.is_word(at, "NOT"):
             return self.once("test", at)
         found = self.once("test", at + 1)
         return (Node("not", part=found[0]), found[1]) if found else None
 
-    def test(self, at):
+    def test(self, at: int) -> tuple[Node, int] | None:
         if self.is_word(at, "EXISTS"):
             found = self.closed(self.nested, at + 1)
             return (Node("exists", block=found[0]), found[1]) if found else None
@@ -367,7 +379,7 @@ class Reader:
             return self.type_test(at + 1)
         return self.closed(self.condition, at) or self.value_test(at) or self.empty_test(at)
 
-    def type_test(self, at):
+    def type_test(self, at: int) -> tuple[Node, int] | None:
         variable = self.closed(self.name, at)
         if not variable:
             return None
@@ -395,10 +407,10 @@ class Reader:
             else None
         )
 
-    def negated(self, is_not, test):
+    def negated(self, is_not: bool, test: Node) -> Node:
         return Node("not", part=test) if is_not else test
 
-    def empty_test(self, at):
+    def empty_test(self, at: int) -> tuple[Node, int] | None:
         path = self.path(at)
         if not path or not self.is_word(path[1], "IS"):
             return None
@@ -410,7 +422,7 @@ class Reader:
             else None
         )
 
-    def value_test(self, at):
+    def value_test(self, at: int) -> tuple[Node, int] | None:
         found = self.value(at)
         if not found:
             return None
@@ -434,7 +446,7 @@ class Reader:
         found = self.worded_test(value, at + is_not)
         return (self.negated(is_not, found[0]), found[1]) if found else None
 
-    def worded_test(self, value, at):
+    def worded_test(self, value: Node, at: int) -> tuple[Node, int] | None:
         """A test of a value by BETWEEN, IN, LIKE or MEMBER, which NOT may stand before."""
         if self.is_word(at, "BETWEEN"):
             low = self.value(at + 1)
@@ -452,7 +464,7 @@ class Reader:
             return (Node("member", value=value, path=path[0]), path[1]) if path else None
         return None
 
-    def like_test(self, value, pattern):
+    def like_test(self, value: Node, pattern: tuple[Node, int]) -> tuple[Node, int] | None:
         if not pattern:
             return None
         at, escape = pattern[1], None
@@ -464,10 +476,10 @@ class Reader:
 
     # -- values
 
-    def value(self, at):
+    def value(self, at: int) -> tuple[Node, int] | None:
         return self.once("sum", at)
 
-    def folded(self, marks, rule, at):
+    def folded(self, marks: str, rule: Callable[..., Any], at: int) -> tuple[Node, int] | None:
         """What a rule reads once or more, with these marks between: one node with the marks and
         parts."""
         found = rule(at)
@@ -482,17 +494,17 @@ class Reader:
             parts.append((mark, found[0]))
         return (parts[0][1] if len(parts) == 1 else Node("arithmetic", parts=parts)), found[1]
 
-    def sum(self, at):
+    def sum(self, at: int) -> tuple[Node, int] | None:
         return self.folded("+-", lambda at: self.folded("*", self.signed, at), at)
 
-    def signed(self, at):
+    def signed(self, at: int) -> tuple[Node, int] | None:
         sign = next((mark for mark in "+-" if self.is_mark(at, mark)), None)
         if not sign:
             return self.once("atom", at)
         found = self.once("atom", at + 1)
         return (Node("signed", sign=sign, value=found[0]), found[1]) if found else None
 
-    def atom(self, at):
+    def atom(self, at: int) -> tuple[Node, int] | None:
         if at >= len(self.tokens):
             return None
         sort, said = self.tokens[at]
@@ -506,7 +518,7 @@ class Reader:
             return self.closed(self.value, at)
         return self.path(at) or self.call(at)
 
-    def path(self, at):
+    def path(self, at: int) -> tuple[Node, int] | None:
         found = self.name(at)
         if not found:
             return None
@@ -520,7 +532,7 @@ class Reader:
             at = found[1]
         return Node("path", variable=variable, names=names), at
 
-    def call(self, at):
+    def call(self, at: int) -> tuple[Node, int] | None:
         word = self.tokens[at][1].upper()
         if word == "SIZE":
             path = self.closed(self.path, at + 1)
@@ -551,7 +563,7 @@ class Reader:
 
 # ---- statements
 
-def parts_of(node):
+def parts_of(node: Node) -> Iterator[Node | None]:
     """A part of a statement with all parts below it."""
     yield node
     for member in vars(node).values():
@@ -561,7 +573,7 @@ def parts_of(node):
                 yield from parts_of(part)
 
 
-def variables_of(statement):
+def variables_of(statement: Node) -> list[str]:
     """The variables that a statement declares."""
     return [
         node.variable
@@ -570,7 +582,7 @@ def variables_of(statement):
     ]
 
 
-def statement_of(text):
+def statement_of(text: str) -> Node | None:
     """The statement that a text is; None where it is outside the grammar, and a refusal where it is
     past a limit."""
     if len(text.encode()) > TEXT_LENGTH or nesting(text) > NESTING:

@@ -5,7 +5,16 @@ A kind is int, str, bytes, the root of a hierarchy (of entities), or None of wha
 goes with all. Each path is given its steps here: the names of its members, of which a part of an
 embedded id is one.
 """
+from __future__ import annotations
+
+from typing import TYPE_CHECKING, Any
+
 from model.jpql_text import parts_of, variables_of
+
+if TYPE_CHECKING:
+    from model.jpql_text import Node
+    from model.kinds import Identity
+    from model.unit import Entity, Relation, Unit
 
 ORDERED = (int, str, bytes)
 
@@ -14,12 +23,12 @@ class IllTyped(Exception):
     """The statement is ill-typed."""
 
 
-def see(is_so, why):
+def see(is_so: Any, why: str) -> None:
     if not is_so:
         raise IllTyped(why)
 
 
-def joined(kinds):
+def joined(kinds: list[Entity | type | None]) -> Entity | type | None:
     """The kind of what is of all these kinds, which must be one."""
     found = {kind for kind in kinds if kind is not None}
     see(len(found) <= 1, "kinds")
@@ -30,22 +39,27 @@ class Scope:
     """The variables that can be used at a place, with their entities, and what is allowed there."""
 
     def __init__(
-        self, variables, in_on=False, groups=None, takes_aggregates=False, takes_exists=True
-    ):
+        self,
+        variables: dict[str, Entity],
+        in_on: bool = False,
+        groups: set[Identity] | None = None,
+        takes_aggregates: bool = False,
+        takes_exists: bool = True,
+    ) -> None:
         self.variables, self.in_on, self.groups = variables, in_on, groups
         self.takes_aggregates, self.takes_exists = takes_aggregates, takes_exists
 
-    def within_aggregate(self):
+    def within_aggregate(self) -> Scope:
         return Scope(self.variables)
 
 
 class Typing:
     """The typing of a statement over a unit, with the kinds of the parameters by their names."""
 
-    def __init__(self, unit, parameters):
+    def __init__(self, unit: Unit, parameters: dict[str, Entity | type | None]) -> None:
         self.unit, self.parameters = unit, parameters
 
-    def statement(self, statement):
+    def statement(self, statement: Node) -> None:
         variables = [variable.lower() for variable in variables_of(statement)]
         see(len(set(variables)) == len(variables), "a variable twice")
         names = [
@@ -64,11 +78,11 @@ class Typing:
 
     # -- blocks
 
-    def entity(self, name):
+    def entity(self, name: str) -> Entity:
         see(name in self.unit.entities, "entity")
         return self.unit.entities[name]
 
-    def sources(self, block, outer):
+    def sources(self, block: Node, outer: dict[str, Entity]) -> dict[str, Entity]:
         """The variables of a block with those around it."""
         variables = dict(outer)
         for source in block.sources:
@@ -82,17 +96,17 @@ class Typing:
                 self.condition(source.on, Scope(dict(variables), in_on=True))
         return variables
 
-    def variable(self, name, variables):
+    def variable(self, name: str, variables: dict[str, Entity]) -> Entity:
         see(name.lower() in variables, "variable")
         return variables[name.lower()]
 
-    def nested(self, block, outer):
+    def nested(self, block: Node, outer: dict[str, Entity]) -> None:
         variables = self.sources(block, outer)
         self.value(block.items[0].value, Scope(variables))
         if block.where:
             self.condition(block.where, Scope(variables))
 
-    def select(self, block):
+    def select(self, block: Node) -> None:
         variables = self.sources(block, {})
         if block.where:
             self.condition(block.where, Scope(variables))
@@ -109,7 +123,7 @@ class Typing:
         for key in block.keys or []:
             self.key(block, key.value, kinds, Scope(variables, groups=groups))
 
-    def key(self, block, key, kinds, scope):
+    def key(self, block: Node, key: Node, kinds: list[Entity | type | None], scope: Scope) -> None:
         if key.sort == "name":
             places = [place for place, item in enumerate(block.items) if item.name == key.name]
             see(places, "name")
@@ -128,12 +142,12 @@ class Typing:
                 )
         see(kind is None or kind in ORDERED, "key")
 
-    def spelled(self, path):
+    def spelled(self, path: Node) -> Identity:
         return path.variable.lower(), tuple(path.steps)
 
     # -- UPDATE and DELETE
 
-    def bulk(self, statement):
+    def bulk(self, statement: Node) -> None:
         entity, variable = self.entity(statement.source.entity), statement.source.variable
         scope = Scope({variable.lower(): entity} if variable is not None else {})
         if statement.sort == "update":
@@ -145,7 +159,7 @@ class Typing:
         if statement.where:
             self.condition(statement.where, scope)
 
-    def assignment(self, entity, assignment, scope):
+    def assignment(self, entity: Entity, assignment: Node, scope: Scope) -> None:
         name, value = assignment.name, assignment.value
         relation = entity.relations.get(name)
         kind = None if value is None else self.value(value, scope)
@@ -163,23 +177,23 @@ class Typing:
 
     # -- conditions
 
-    def condition(self, node, scope):
+    def condition(self, node: Node, scope: Scope) -> None:
         getattr(self, f"{node.sort}_condition")(node, scope)
 
-    def or_condition(self, node, scope):
+    def or_condition(self, node: Node, scope: Scope) -> None:
         for part in node.parts:
             self.condition(part, scope)
 
     and_condition = or_condition
 
-    def not_condition(self, node, scope):
+    def not_condition(self, node: Node, scope: Scope) -> None:
         self.condition(node.part, scope)
 
-    def exists_condition(self, node, scope):
+    def exists_condition(self, node: Node, scope: Scope) -> None:
         see(scope.takes_exists, "EXISTS in HAVING")
         self.nested(node.block, scope.variables)
 
-    def type_condition(self, node, scope):
+    def type_condition(self, node: Node, scope: Scope) -> None:
         entity = self.variable(node.variable, scope.variables)
         see(
             scope.groups is None or (node.variable.lower(), ()) in scope.groups,
@@ -187,63 +201,63 @@ class Typing:
         )
         see(all(self.entity(name).root is entity.root for name in node.entities), "TYPE")
 
-    def compare_condition(self, node, scope):
+    def compare_condition(self, node: Node, scope: Scope) -> None:
         kind = joined([self.value(node.left, scope), self.value(node.right, scope)])
         see(node.operator in ("=", "<>") or kind is None or kind in ORDERED, "order")
 
-    def null_condition(self, node, scope):
+    def null_condition(self, node: Node, scope: Scope) -> None:
         self.value(node.value, scope)
 
-    def between_condition(self, node, scope):
+    def between_condition(self, node: Node, scope: Scope) -> None:
         kind = joined([self.value(part, scope) for part in (node.value, node.low, node.high)])
         see(kind is None or kind in ORDERED, "order")
 
-    def in_condition(self, node, scope):
+    def in_condition(self, node: Node, scope: Scope) -> None:
         joined([self.value(part, scope) for part in [node.value, *node.values]])
 
-    def like_condition(self, node, scope):
+    def like_condition(self, node: Node, scope: Scope) -> None:
         self.of(str, [node.value, node.pattern], scope)
         see(node.escape is None or len(node.escape) == 1, "ESCAPE")
 
-    def empty_condition(self, node, scope):
+    def empty_condition(self, node: Node, scope: Scope) -> None:
         self.collection(node.path, scope)
 
-    def member_condition(self, node, scope):
+    def member_condition(self, node: Node, scope: Scope) -> None:
         kind = self.value(node.value, scope)
         relation = self.collection(node.path, scope)
         see(kind in (None, relation.target.root), "MEMBER")
 
     # -- values
 
-    def of(self, kind, values, scope):
+    def of(self, kind: type, values: list[Node], scope: Scope) -> None:
         for value in values:
             see(self.value(value, scope) in (None, kind), "kind")
 
-    def value(self, node, scope):
+    def value(self, node: Node, scope: Scope) -> Entity | type | None:
         return getattr(self, f"{node.sort}_value")(node, scope)
 
-    def literal_value(self, node, scope):
+    def literal_value(self, node: Node, scope: Scope) -> type:
         return type(node.value)
 
-    def parameter_value(self, node, scope):
+    def parameter_value(self, node: Node, scope: Scope) -> Entity | type | None:
         return self.parameters.get(node.name)
 
-    def path_value(self, node, scope):
+    def path_value(self, node: Node, scope: Scope) -> Entity | type:
         return self.path(node, scope)
 
-    def arithmetic_value(self, node, scope):
+    def arithmetic_value(self, node: Node, scope: Scope) -> type[int]:
         self.of(int, [part for _, part in node.parts], scope)
         return int
 
-    def signed_value(self, node, scope):
+    def signed_value(self, node: Node, scope: Scope) -> type[int]:
         self.of(int, [node.value], scope)
         return int
 
-    def size_value(self, node, scope):
+    def size_value(self, node: Node, scope: Scope) -> type[int]:
         self.collection(node.path, scope)
         return int
 
-    def aggregate_value(self, node, scope):
+    def aggregate_value(self, node: Node, scope: Scope) -> type | None:
         see(scope.takes_aggregates, "an aggregate")
         kind = self.value(node.value, scope.within_aggregate())
         if node.function == "COUNT":
@@ -251,7 +265,7 @@ class Typing:
         see(kind is None or kind in (ORDERED if node.function != "SUM" else (int,)), node.function)
         return int if node.function == "SUM" else kind
 
-    def call_value(self, node, scope):
+    def call_value(self, node: Node, scope: Scope) -> type | None:
         if node.function in ("COALESCE", "NULLIF"):
             kind = joined([self.value(value, scope) for value in node.values])
             see(kind is None or kind in ORDERED, node.function)
@@ -266,7 +280,7 @@ class Typing:
 
     # -- paths
 
-    def path(self, path, scope):
+    def path(self, path: Node, scope: Scope) -> Entity | type:
         """The kind of a path that ends in a value or in one object."""
         entity, last = self.walk(path, scope)
         if last is None:
@@ -284,14 +298,14 @@ class Typing:
         )
         return entity.kind(last)
 
-    def collection(self, path, scope):
+    def collection(self, path: Node, scope: Scope) -> Relation:
         """The relation of a path that ends in a collection."""
         entity, last = self.walk(path, scope)
         relation = entity.relations.get(last)
         see(relation and relation.is_many, "no collection")
         return relation
 
-    def walk(self, path, scope):
+    def walk(self, path: Node, scope: Scope) -> tuple[Entity, str | None]:
         """The entity that a path's last step is a member of, and this step; the path gets its
         steps."""
         entity = self.variable(path.variable, scope.variables)

@@ -6,13 +6,21 @@ nothing of how that is built.
 Values are None, int, str (a text), bytes and Number (the number of an object); an identity is a
 root entity's name with the key as a tuple.
 """
+from __future__ import annotations
+
 import json
+from typing import TYPE_CHECKING, Any, Iterator
 
 from model.cells import State, Stored, agree, members, unsound
+from model.live import Live, Manager
 from model.merge import Merging
 from model.queries import Queries
 from model.reading import GREATEST, Number, Refused, call_of
 from model.unit import KINDS, LENGTH, assigned, size
+
+if TYPE_CHECKING:
+    from model.kinds import Events, Identity, Objects, Part, Value, Values
+    from model.unit import Entity, Relation, Unit
 
 MANAGERS, MADE = 16, 1000000
 NUMBERS = {
@@ -33,130 +41,11 @@ MARKED_BY_CALLBACK = {"get", "add", "takeOut"}
 
 # ---- the machine
 
-class Live:
-    """A live object: its values, and what it holds in its relations, by their names; held is new,
-    detached, or the manager that manages it or has it removed, then with a lock or without. The
-    base is what was loaded or written last, if anything; known are the identities that each
-    relation had when it was read or written last, None of a collection that wasn't.
-
-    A relation to one holds None, an object, or the identity of one that was not read yet; a
-    collection a list of objects, which is never changed but replaced, or UNREAD."""
-
-    UNREAD = "unread"
-
-    def __init__(self, entity, number):
-        self.entity, self.number = entity, number
-        self.values = dict.fromkeys(
-            [*entity.key, *([entity.version["name"]] if entity.version else []), *entity.attributes]
-        )
-        self.links = {
-            name: [] if relation.is_many else None for name, relation in entity.relations.items()
-        }
-        self.held, self.is_removed, self.lock, self.base, self.known = "new", False, None, None, {}
-
-    def key(self):
-        return tuple([self.values[name] for name in self.entity.key])
-
-    def identity(self):
-        return self.entity.root.name, self.key()
-
-    def attributes(self):
-        return {name: self.values[name] for name in self.entity.attributes}
-
-    def is_managed(self, manager):
-        return self.held is manager and not self.is_removed
-
-    def is_unread(self, relation):
-        held = self.links[relation.name]
-        return isinstance(held, tuple) or held is Live.UNREAD
-
-    def read_of(self, relation):
-        """The objects in a relation, none where it is unread."""
-        held = self.links[relation.name]
-        return (
-            [] if held is None or self.is_unread(relation) else held if relation.is_many else [held]
-        )
-
-    def identities_of(self, relation):
-        """The identities in a relation, of those whose key is whole; None of a collection that is
-        unread."""
-        held = self.links[relation.name]
-        if held is Live.UNREAD:
-            return None
-        found = (
-            [held]
-            if isinstance(held, tuple)
-            else [other.identity() for other in self.read_of(relation)]
-        )
-        return frozenset(identity for identity in found if None not in identity[1])
-
-    def load(self, key, stored, objects):
-        """Becomes the object that is stored among these ones."""
-        self.values.update(zip(self.entity.key, key), **stored.values)
-        for relation in self.entity.relations.values():
-            found = None if relation.is_many else members(objects, self.identity(), relation)
-            self.links[relation.name] = (
-                Live.UNREAD if relation.is_many else found[0] if found else None
-            )
-        self.written(stored)
-        self.remember()
-
-    def written(self, stored):
-        if self.entity.version:
-            self.values[self.entity.version["name"]] = stored.version
-        self.base = stored
-
-    def remember(self):
-        self.known = {
-            relation.name: self.identities_of(relation)
-            for relation in self.entity.relations.values()
-        }
-
-    def differs(self):
-        return self.attributes() != self.base.values or any(
-            map(self.differs_along, self.entity.owned)
-        )
-
-    def differs_along(self, relation):
-        before, now = self.known[relation.name], self.identities_of(relation)
-        return before is not None and now is not None and before != now
-
-    def orphans(self):
-        """The identities that left relations with orphan removal since these were read or written
-        last."""
-        for relation in self.entity.relations.values():
-            if self.base and relation.removes_orphans:
-                yield from sorted(
-                    (self.known[relation.name] or frozenset())
-                    - (self.identities_of(relation) or frozenset())
-                )
-
-    def is_due(self):
-        """Whether a flush replaces it: it has a base and differs from that, or its version is to
-        rise."""
-        return self.base is not None and (self.lock == "WRITE" or self.differs())
-
-    def detach(self):
-        self.held, self.is_removed, self.lock = "detached", False, None
-
-
-class Manager:
-    """A manager: what it manages or has removed, in order of entry, whether its transaction is open
-    and can only roll back, the objects that were committed at the begin of this one and those
-    that it sees, and when a query flushes."""
-
-    def __init__(self):
-        self.context, self.is_open, self.is_begun, self.is_marked, self.flush_mode = (
-            [], True, False, False, "AUTO",
-        )
-        self.first, self.seen = None, None
-
-
 class Before:
     """What a refused call may have changed, as it was: no detached object, since what changes one
     is not refused afterwards."""
 
-    def __init__(self, machine):
+    def __init__(self, machine: Machine) -> None:
         self.machine, self.numbers, self.objects = (
             machine, dict(machine.numbers), list(machine.objects),
         )
@@ -170,7 +59,7 @@ class Before:
         ]
         self.managers = [(list(manager.context), manager.seen) for manager in machine.managers]
 
-    def restore(self):
+    def restore(self) -> None:
         self.machine.numbers, self.machine.objects = self.numbers, self.objects
         for live, *before in self.lives:
             (
@@ -184,31 +73,31 @@ class Before:
 class Machine(Merging, Queries):
     """The machine over a unit, from what was committed before."""
 
-    def __init__(self, unit, state):
+    def __init__(self, unit: Unit, state: State) -> None:
         self.unit, self.committed = unit, state
         self.numbers = dict(state.numbers)
         self.objects, self.managers = [], []
 
     # -- what a call hands in
 
-    def manager(self, em):
+    def manager(self, em: int) -> Manager:
         if not 1 <= em <= len(self.managers) or not self.managers[em - 1].is_open:
             raise Refused("NoSuchManager")
         return self.managers[em - 1]
 
-    def object(self, number):
+    def object(self, number: int) -> Live:
         if not 1 <= number <= len(self.objects):
             raise Refused("NoSuchObject")
         return self.objects[number - 1]
 
-    def entity(self, name):
+    def entity(self, name: str) -> Entity:
         if name not in self.unit.entities:
             raise Refused("IllegalArgument", "entity")
         return self.unit.entities[name]
 
     # -- managers
 
-    def createEntityManager(self, events):
+    def createEntityManager(self, events: Events) -> int:
         if (
             sum(manager.is_open for manager in self.managers) == MANAGERS
             or len(self.managers) == MADE
@@ -217,7 +106,7 @@ class Machine(Merging, Queries):
         self.managers.append(Manager())
         return len(self.managers)
 
-    def close(self, events, em):
+    def close(self, events: Events, em: int) -> None:
         manager = self.manager(em)
         if manager.is_begun:
             raise Refused("IllegalState", "active")
@@ -226,18 +115,18 @@ class Machine(Merging, Queries):
 
     # -- objects
 
-    def new(self, events, name):
+    def new(self, events: Events, name: str) -> Number:
         if len(self.objects) == MADE:
             raise Refused("Limit")
         return Number(self.made(self.entity(name)).number)
 
-    def made(self, entity):
+    def made(self, entity: Entity) -> Live:
         if len(self.objects) == MADE:
             raise Refused("Limit")
         self.objects.append(Live(entity, len(self.objects) + 1))
         return self.objects[-1]
 
-    def get(self, events, number, name):
+    def get(self, events: Events, number: int, name: str) -> Any:
         live = self.object(number)
         relation = live.entity.relations.get(name)
         if relation:
@@ -245,7 +134,7 @@ class Machine(Merging, Queries):
         live.entity.kind(name)
         return live.values[name]
 
-    def set(self, events, number, name, value):
+    def set(self, events: Events, number: int, name: str, value: Number | Value) -> None:
         live = self.object(number)
         other = self.object(value.number) if isinstance(value, Number) else None
         if size(value) > LENGTH:
@@ -262,12 +151,12 @@ class Machine(Merging, Queries):
             raise Refused("IllegalArgument", "key" if name in live.entity.key else "version")
         live.values[name] = value
 
-    def add(self, events, number, name, member):
+    def add(self, events: Events, number: int, name: str, member: int) -> None:
         live, other = self.object(number), self.object(member)
         relation = self.collection(live, name, other)
         live.links[name] = [*self.read(events, live, relation), other]
 
-    def takeOut(self, events, number, name, member):
+    def takeOut(self, events: Events, number: int, name: str, member: int) -> bool:
         live, other = self.object(number), self.object(member)
         relation = self.collection(live, name, other)
         held = self.read(events, live, relation)
@@ -277,7 +166,7 @@ class Machine(Merging, Queries):
         live.links[name] = held[:at] + held[at + 1:]
         return True
 
-    def collection(self, live, name, other):
+    def collection(self, live: Live, name: str, other: Live) -> Relation:
         """The collection of an object that may have the other one as a member."""
         relation = live.entity.relations.get(name)
         if not relation or not relation.is_many:
@@ -286,7 +175,7 @@ class Machine(Merging, Queries):
             raise Refused("IllegalArgument", "type")
         return relation
 
-    def read(self, events, live, relation):
+    def read(self, events: Events, live: Live, relation: Relation) -> Live | list[Live] | None:
         """What an object holds in a relation, which is read first where it was not yet."""
         held = live.links[relation.name]
         if not live.is_unread(relation):
@@ -303,7 +192,7 @@ class Machine(Merging, Queries):
             live.links[relation.name] = self.reached(events, live.held, held)
         return live.links[relation.name]
 
-    def fire(self, events, event, live):
+    def fire(self, events: Events, event: str, live: Live) -> None:
         """The listeners and callbacks of the object hear of the event."""
         names = []
         events.append([event, live.number, names])
@@ -322,10 +211,10 @@ class Machine(Merging, Queries):
 
     # -- what a manager finds
 
-    def view(self, manager):
+    def view(self, manager: Manager) -> Objects:
         return manager.seen if manager.is_begun else self.committed.objects
 
-    def instance(self, manager, identity):
+    def instance(self, manager: Manager, identity: Identity) -> Live | None:
         name, key = identity
         return next(
             (
@@ -336,7 +225,7 @@ class Machine(Merging, Queries):
             None,
         )
 
-    def reached(self, events, manager, identity):
+    def reached(self, events: Events, manager: Manager, identity: Identity) -> Live:
         """The manager's instance of an identity, which is loaded where it has none."""
         live = self.instance(manager, identity)
         if live:
@@ -345,7 +234,7 @@ class Machine(Merging, Queries):
             raise Refused("EntityNotFound")
         return self.loaded(events, manager, identity)
 
-    def loaded(self, events, manager, identity):
+    def loaded(self, events: Events, manager: Manager, identity: Identity) -> Live:
         row = self.view(manager)[identity]
         live = self.made(row.entity)
         live.load(identity[1], row, self.view(manager))
@@ -353,11 +242,11 @@ class Machine(Merging, Queries):
         self.fire(events, "PostLoad", live)
         return live
 
-    def enter(self, manager, live):
+    def enter(self, manager: Manager, live: Live) -> None:
         live.held = manager
         manager.context.append(live)
 
-    def find(self, events, em, name, key):
+    def find(self, events: Events, em: int, name: str, key: list[Number | Value]) -> Number | None:
         manager = self.manager(em)
         if any(size(part) > LENGTH for part in key):
             raise Refused("Limit")
@@ -375,19 +264,19 @@ class Machine(Merging, Queries):
             return None
         return Number(self.loaded(events, manager, identity).number)
 
-    def getReference(self, events, em, name, key):
+    def getReference(self, events: Events, em: int, name: str, key: list[Value]) -> Number:
         found = self.find(events, em, name, key)
         if found is None:
             raise Refused("EntityNotFound")
         return found
 
-    def contains(self, events, em, number):
+    def contains(self, events: Events, em: int, number: int) -> bool:
         manager = self.manager(em)
         return self.object(number).is_managed(manager)
 
     # -- cascades
 
-    def waves(self, operation, manager, start):
+    def waves(self, operation: str, manager: Manager, start: Live) -> list[Identity | Live]:
         """The nodes that an operation reaches from a start: objects, and identities that the
         manager has no instance of."""
         nodes = {start: None}
@@ -398,7 +287,9 @@ class Machine(Merging, Queries):
             nodes.update(dict.fromkeys(wave))
         return list(nodes)
 
-    def targets(self, operation, manager, node):
+    def targets(
+        self, operation: str, manager: Manager, node: Identity | Live
+    ) -> Iterator[Identity | Live | None]:
         """Where the operation goes from a node."""
         is_live = isinstance(node, Live)
         goes_on = is_live and (
@@ -418,7 +309,9 @@ class Machine(Merging, Queries):
             elif operation == "REMOVE":
                 yield from self.unread_targets(manager, node, relation)
 
-    def unread_targets(self, manager, node, relation):
+    def unread_targets(
+        self, manager: Manager, node: Identity | Live, relation: Relation
+    ) -> Iterator[Identity | Live]:
         """The members of a relation that was not read, off what the manager sees: its instances, or
         identities."""
         if isinstance(node, Live) and not relation.is_many:
@@ -432,15 +325,15 @@ class Machine(Merging, Queries):
             if live or identity in self.view(manager):
                 yield live or identity
 
-    def persist(self, events, em, number):
+    def persist(self, events: Events, em: int, number: int) -> None:
         manager, start = self.manager(em), self.object(number)
         self.persist_from(events, manager, start)
 
-    def persist_from(self, events, manager, start):
+    def persist_from(self, events: Events, manager: Manager, start: Live) -> None:
         for live in self.waves("PERSIST", manager, start):
             self.persist_one(events, manager, live)
 
-    def persist_one(self, events, manager, live):
+    def persist_one(self, events: Events, manager: Manager, live: Live) -> None:
         if live.held is manager:
             if live.is_removed:
                 live.is_removed = False
@@ -456,12 +349,12 @@ class Machine(Merging, Queries):
         self.enter(manager, live)
         self.fire(events, "PrePersist", live)
 
-    def give_number(self, live, number):
+    def give_number(self, live: Live, number: int | None) -> None:
         if number is not None:
             live.values[next(iter(live.entity.key))] = number
             self.numbers[live.entity.root.name] = number + 1
 
-    def number_for(self, live):
+    def number_for(self, live: Live) -> int | None:
         """The number that the generator gives, or None where the key is whole without."""
         if live.entity.generated != all(part is None for part in live.key()) or (
             not live.entity.generated and None in live.key()
@@ -474,11 +367,11 @@ class Machine(Merging, Queries):
             raise Refused("Persistence", "generator")
         return number
 
-    def remove(self, events, em, number):
+    def remove(self, events: Events, em: int, number: int) -> None:
         manager, start = self.manager(em), self.object(number)
         self.remove_from(events, manager, start)
 
-    def remove_from(self, events, manager, start):
+    def remove_from(self, events: Events, manager: Manager, start: Live) -> None:
         for node in self.waves("REMOVE", manager, start):
             live = node if isinstance(node, Live) else self.loaded(events, manager, node)
             if live.held == "new":
@@ -489,7 +382,7 @@ class Machine(Merging, Queries):
                 live.is_removed = True
                 self.fire(events, "PreRemove", live)
 
-    def refresh(self, events, em, number):
+    def refresh(self, events: Events, em: int, number: int) -> None:
         manager, start = self.manager(em), self.object(number)
         for live in self.waves("REFRESH", manager, start):
             if not live.is_managed(manager):
@@ -500,50 +393,50 @@ class Machine(Merging, Queries):
             live.load(live.key(), row, self.view(manager))
             self.fire(events, "PostLoad", live)
 
-    def detach(self, events, em, number):
+    def detach(self, events: Events, em: int, number: int) -> None:
         manager, start = self.manager(em), self.object(number)
         for live in self.waves("DETACH", manager, start):
             if live.held is manager:
                 manager.context.remove(live)
                 live.detach()
 
-    def clear(self, events, em):
+    def clear(self, events: Events, em: int) -> None:
         self.detach_all(self.manager(em))
 
-    def detach_all(self, manager):
+    def detach_all(self, manager: Manager) -> None:
         for live in manager.context:
             live.detach()
         manager.context = []
 
     # -- transactions
 
-    def begin(self, events, em):
+    def begin(self, events: Events, em: int) -> None:
         manager = self.manager(em)
         if manager.is_begun:
             raise Refused("IllegalState", "active")
         manager.is_begun, manager.is_marked = True, False
         manager.first = manager.seen = self.committed.objects
 
-    def begun(self, em):
+    def begun(self, em: int) -> Manager:
         manager = self.manager(em)
         if not manager.is_begun:
             raise Refused("IllegalState", "inactive")
         return manager
 
-    def setRollbackOnly(self, events, em):
+    def setRollbackOnly(self, events: Events, em: int) -> None:
         self.begun(em).is_marked = True
 
-    def rollback(self, events, em):
+    def rollback(self, events: Events, em: int) -> None:
         self.roll_back(self.begun(em))
 
-    def roll_back(self, manager):
+    def roll_back(self, manager: Manager) -> None:
         self.detach_all(manager)
         self.end(manager)
 
-    def end(self, manager):
+    def end(self, manager: Manager) -> None:
         manager.is_begun, manager.first, manager.seen = False, None, None
 
-    def commit(self, events, em):
+    def commit(self, events: Events, em: int) -> None:
         manager = self.begun(em)
         if manager.is_marked:
             self.roll_back(manager)
@@ -567,7 +460,7 @@ class Machine(Merging, Queries):
             live.lock = None
         self.end(manager)
 
-    def changed(self, manager):
+    def changed(self, manager: Manager) -> list[Identity]:
         """The identities under which the transaction changed something."""
         return [
             identity
@@ -575,7 +468,7 @@ class Machine(Merging, Queries):
             if not agree(manager.first, manager.seen, identity)
         ]
 
-    def see_first(self, manager, changed):
+    def see_first(self, manager: Manager, changed: list[Identity]) -> None:
         """What the transaction changed, and what it holds locked READ, is committed as it was at
         its begin: the first committer wins."""
         locked = [
@@ -589,7 +482,7 @@ class Machine(Merging, Queries):
         ):
             raise Refused("OptimisticLock")
 
-    def merged(self, manager, changed):
+    def merged(self, manager: Manager, changed: list[Identity]) -> Objects:
         """What is committed, with what the transaction changed; it is to be sound."""
         objects = {
             identity: each
@@ -606,7 +499,7 @@ class Machine(Merging, Queries):
 
     # -- locks
 
-    def lock(self, events, em, number, lock):
+    def lock(self, events: Events, em: int, number: int, lock: str) -> None:
         manager, live = self.manager(em), self.object(number)
         if not manager.is_begun:
             raise Refused("TransactionRequired")
@@ -616,7 +509,7 @@ class Machine(Merging, Queries):
             raise Refused("Persistence", "version")
         live.lock = live.lock if live.lock == "WRITE" else lock
 
-    def see_read_locks(self, manager):
+    def see_read_locks(self, manager: Manager) -> None:
         """What is locked READ stands with the version that it was read or written with."""
         for live in manager.context:
             if live.lock == "READ" and not live.is_removed:
@@ -624,20 +517,20 @@ class Machine(Merging, Queries):
 
     # -- flushes
 
-    def flush(self, events, em):
+    def flush(self, events: Events, em: int) -> None:
         manager = self.manager(em)
         if not manager.is_begun:
             raise Refused("TransactionRequired")
         self.write(events, manager)
 
-    def write(self, events, manager):
+    def write(self, events: Events, manager: Manager) -> None:
         """The flush: what the manager's objects say is written to the objects that its transaction
         sees."""
         self.persist_targets(events, manager)
         self.remove_orphans(events, manager)
         self.write_held(events, manager)
 
-    def write_held(self, events, manager):
+    def write_held(self, events: Events, manager: Manager) -> None:
         """The flush of what is managed and removed, once cascades and orphans are done."""
         self.see_references(manager)
         for live in manager.context:
@@ -672,7 +565,7 @@ class Machine(Merging, Queries):
         for event, live, _ in done:
             self.fire(events, event, live)
 
-    def persist_targets(self, events, manager):
+    def persist_targets(self, events: Events, manager: Manager) -> None:
         """What managed objects lead to along a cascade of persist is persisted, also where objects
         enter meanwhile."""
         for live in manager.context:
@@ -680,7 +573,7 @@ class Machine(Merging, Queries):
                 for target in list(self.targets("PERSIST", manager, live)):
                     self.persist_from(events, manager, target)
 
-    def remove_orphans(self, events, manager):
+    def remove_orphans(self, events: Events, manager: Manager) -> None:
         """What left a relation with orphan removal is removed."""
         for live in list(manager.context):
             for identity in list(live.orphans()) if not live.is_removed else []:
@@ -690,7 +583,7 @@ class Machine(Merging, Queries):
                 if orphan and not orphan.is_removed:
                     self.remove_from(events, manager, orphan)
 
-    def see_references(self, manager):
+    def see_references(self, manager: Manager) -> None:
         """No managed object leads to a new or removed one, but along a cascade of persist."""
         for live in manager.context:
             for relation in live.entity.relations.values():
@@ -701,24 +594,24 @@ class Machine(Merging, Queries):
                     ):
                         raise Refused("IllegalState", "reference")
 
-    def see_current(self, manager, live):
+    def see_current(self, manager: Manager, live: Live) -> None:
         """The row that the object's base was is the one that stands."""
         row = manager.seen.get(live.identity())
         if row is None or row.version != live.base.version:
             raise Refused("OptimisticLock")
 
-    def inserted(self, manager, live):
+    def inserted(self, manager: Manager, live: Live) -> Stored:
         if live.identity() in manager.seen:
             raise Refused("EntityExists")
         return self.stored(manager, live, 0)
 
-    def replaced(self, manager, live):
+    def replaced(self, manager: Manager, live: Live) -> Stored:
         self.see_current(manager, live)
         if live.base.version == GREATEST:
             raise Refused("Persistence", "version")
         return self.stored(manager, live, live.base.version + 1 if live.entity.version else None)
 
-    def stored(self, manager, live, version):
+    def stored(self, manager: Manager, live: Live, version: int | None) -> Stored:
         """What is written of an object; a set that was not read stays as it is seen."""
         for name, attribute in live.entity.attributes.items():
             self.unit.column(attribute, live.values[name])
@@ -737,7 +630,7 @@ class Machine(Merging, Queries):
 
     # -- lines
 
-    def answer(self, line):
+    def answer(self, line: bytes) -> bytes:
         """The reply to a line, as its bytes."""
         events = []
         try:
@@ -750,7 +643,7 @@ class Machine(Merging, Queries):
         except Refused as refused:
             return reply({"error": told(refused), "events": told_events(events)})
 
-    def answered(self, events, word, given):
+    def answered(self, events: Events, word: str, given: list[Any]) -> Any:
         """What a call is answered. A refused one changes nothing, but for the mark; a commit sees
         to that itself."""
         before = Before(self) if word in MARKED_BY | MARKED_BY_CALLBACK else None
@@ -763,7 +656,7 @@ class Machine(Merging, Queries):
                     manager.is_marked = True
             raise
 
-    def marked(self, word, number, refused):
+    def marked(self, word: str, number: int, refused: Refused) -> list[Manager]:
         """The managers whose transactions a refused call marks: at most one."""
         if word in MARKED_BY:
             return (
@@ -782,16 +675,16 @@ class Machine(Merging, Queries):
         ]
 
 
-def told(refused):
+def told(refused: Refused) -> Values:
     error = {"name": refused.name, "no": NUMBERS[refused.name]}
     return {**error, "why": refused.why} if refused.why else error
 
 
-def told_events(events):
+def told_events(events: Events) -> list[list[Part]]:
     return [[event, number, *names] for event, number, names in events]
 
 
-def shown(value):
+def shown(value: Any) -> Any:
     if isinstance(value, list):
         return [shown(each) for each in value]
     if isinstance(value, (Live, Number)):
@@ -799,5 +692,5 @@ def shown(value):
     return {"hex": value.hex()} if isinstance(value, bytes) else value
 
 
-def reply(data):
+def reply(data: dict[str, Any]) -> bytes:
     return json.dumps(data, separators=(",", ":"), ensure_ascii=False).encode() + b"\n"

@@ -1,14 +1,22 @@
 """The merge of the model: what is merged, each along the cascades of MERGE, finds or gets an image
 that the manager manages; then its values and relations are copied onto that, and at last the new
 images are told."""
+from __future__ import annotations
+
+from typing import TYPE_CHECKING
+
 from model.cells import members
 from model.reading import Number, Refused
+
+if TYPE_CHECKING:
+    from model.kinds import Events
+    from model.live import Live, Manager
 
 
 class Merging:
     """The part of the machine that merges."""
 
-    def merge(self, events, em, number):
+    def merge(self, events: Events, em: int, number: int) -> Number:
         manager, start = self.manager(em), self.object(number)
         nodes, images, new = self.waves("MERGE", manager, start), {}, []
         for node in nodes:
@@ -24,7 +32,7 @@ class Merging:
 
     # -- images
 
-    def image(self, events, manager, node, new):
+    def image(self, events: Events, manager: Manager, node: Live, new: list[Live]) -> Live:
         """What the manager manages in the place of an object; a new one is added to these."""
         if node.is_managed(manager):
             return node
@@ -40,7 +48,7 @@ class Merging:
             raise Refused("IllegalArgument", "type")
         return found
 
-    def found_image(self, events, manager, node):
+    def found_image(self, events: Events, manager: Manager, node: Live) -> Live | None:
         """The manager's instance of the object's identity, which is loaded where a row stands; None
         where none does, or the key is not whole."""
         identity = node.identity()
@@ -53,7 +61,7 @@ class Merging:
             self.loaded(events, manager, identity) if identity in self.view(manager) else None
         )
 
-    def new_image(self, manager, node):
+    def new_image(self, manager: Manager, node: Live) -> Live:
         """A new object of the class, with the key of the object, or with one that is generated."""
         live = self.made(node.entity)
         if not live.entity.generated:
@@ -64,7 +72,7 @@ class Merging:
 
     # -- copies
 
-    def copy(self, events, manager, node, images):
+    def copy(self, events: Events, manager: Manager, node: Live, images: dict[Live, Live]) -> None:
         """The values of an object and what it leads to, as far as it was read, become those of its
         image."""
         image, version = images[node], node.entity.version
@@ -86,7 +94,9 @@ class Merging:
                 }
             image.links[relation.name] = found if relation.is_many else found[0] if found else None
 
-    def counterpart(self, events, manager, other, images):
+    def counterpart(
+        self, events: Events, manager: Manager, other: Live, images: dict[Live, Live]
+    ) -> Live:
         """What the image of an object leads to where the object leads to this other one."""
         if other in images:
             return images[other]
@@ -98,7 +108,7 @@ class Merging:
             raise Refused("IllegalState", "reference")
         return live or self.loaded(events, manager, identity)
 
-    def lead_to_images(self, live, images):
+    def lead_to_images(self, live: Live, images: dict[Live, Live]) -> None:
         """What a managed object leads to along the cascades is replaced by the images."""
         for relation in live.entity.relations.values():
             if relation.cascades("MERGE") and not live.is_unread(relation):

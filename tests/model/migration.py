@@ -4,10 +4,19 @@ set that stands then.
 A store is of revision 1 where row [Int(0)] of table 0 has no cell. Any such row, right or wrong, is
 judged as it stands.
 """
+from __future__ import annotations
+
+from typing import TYPE_CHECKING, Any
+
 from model.cells import REVISION_ROW, cell_bytes, class_of, integer_bytes, rows_of, state_of_rows
 
+if TYPE_CHECKING:
+    from model.cells import State
+    from model.kinds import Cell, Part
+    from model.unit import Entity, Unit
 
-def opened(unit, cells):
+
+def opened(unit: Unit, cells: list[Cell]) -> State:
     """The set that stands once the unit has opened a store of these cells, or `Damaged`."""
     rows = rows_of(unit, cells)
     if not is_due(unit, rows):
@@ -16,11 +25,13 @@ def opened(unit, cells):
     return state_of_rows(unit, rows, taken)
 
 
-def is_due(unit, rows):
+def is_due(unit: Unit, rows: dict[tuple[int, bytes], dict[int, bytes]]) -> bool:
     return unit.revision == 2 and REVISION_ROW not in rows
 
 
-def migrated(unit, rows):
+def migrated(
+    unit: Unit, rows: dict[tuple[int, bytes], dict[int, bytes]]
+) -> tuple[dict[tuple[int, bytes], dict[int, bytes]], set[tuple[int, bytes]]]:
     """The rows as they are migrated, and those that are damaged since a column that is new has a
     cell already."""
     after, taken = {REVISION_ROW: {0: integer_bytes(2)}}, set()
@@ -37,12 +48,12 @@ def migrated(unit, rows):
     return after, taken
 
 
-def is_new(attribute):
+def is_new(attribute: dict[str, Any]) -> bool:
     """Whether the attribute's column is one that revision 1 doesn't have."""
     return "since" in attribute or "was" in attribute
 
 
-def cells_after(unit, hierarchy, cells):
+def cells_after(unit: Unit, hierarchy: list[Entity], cells: dict[int, bytes]) -> dict[int, bytes]:
     """The cells of a main row: without the dropped columns, with the cells of columns that moved,
     and the defaults of its class."""
     entity = class_of(hierarchy, cells)
@@ -62,7 +73,7 @@ def cells_after(unit, hierarchy, cells):
     return after
 
 
-def written(unit, cells):
+def written(unit: Unit, cells: list[Cell]) -> int:
     """How many statements an opening runs that migrates these cells: for each row that differs one
     that drops it, and one for each of its cells; none where nothing is due."""
     before = rows_of(unit, cells)

@@ -1,16 +1,27 @@
 """The queries of the model: the calls that take the text of a statement (tests/model/jpql_text.py
 reads it, model/jpql_types.py types it, model/jpql_run.py says what it means)."""
+from __future__ import annotations
+
+from typing import TYPE_CHECKING, Any
+
 from model.jpql_run import Meaning
 from model.jpql_text import parts_of, statement_of
 from model.jpql_types import IllTyped, Typing
 from model.reading import Number, Refused
 from model.unit import LENGTH, size
 
+if TYPE_CHECKING:
+    from model.jpql_text import Node
+    from model.kinds import Datum, Events, Value
+    from model.live import Live, Manager
+    from model.machine import Machine
+    from model.unit import Entity
+
 
 class Given:
     """The parameters that a call hands in: what each is, and an object's identity in its place."""
 
-    def __init__(self, machine, params):
+    def __init__(self, machine: Machine, params: dict[str, Number | Value]) -> None:
         self.values = {
             name: machine.object(value.number) if isinstance(value, Number) else value
             for name, value in params.items()
@@ -18,7 +29,7 @@ class Given:
         if any(size(value) > LENGTH for value in self.values.values()):
             raise Refused("Limit")
 
-    def objects(self):
+    def objects(self) -> dict[str, Live]:
         """The live objects among them."""
         return {
             name: value
@@ -26,32 +37,57 @@ class Given:
             if value is not None and not isinstance(value, (int, str, bytes))
         }
 
-    def kinds(self):
+    def kinds(self) -> dict[str, Entity | type | None]:
         kinds = {
             name: None if value is None else type(value) for name, value in self.values.items()
         }
         return {**kinds, **{name: live.entity.root for name, live in self.objects().items()}}
 
-    def meant(self):
+    def meant(self) -> dict[str, Datum]:
         return {**self.values, **{name: live.identity() for name, live in self.objects().items()}}
 
-    def has_keyless(self):
+    def has_keyless(self) -> bool:
         return any(None in live.key() for live in self.objects().values())
 
 
 class Queries:
     """The part of the machine that queries."""
 
-    def setFlushMode(self, events, em, mode):
+    def setFlushMode(self, events: Events, em: int, mode: str) -> None:
         self.manager(em).flush_mode = mode
 
-    def query(self, events, em, text, params, first, most):
+    def query(
+        self,
+        events: Events,
+        em: int,
+        text: str,
+        params: dict[str, Number | Value],
+        first: int | None,
+        most: int | None,
+    ) -> list[Any]:
         return self.selected(events, em, text, params, first, most, False)
 
-    def querySingle(self, events, em, text, params, first, most):
+    def querySingle(
+        self,
+        events: Events,
+        em: int,
+        text: str,
+        params: dict[str, Number | Value],
+        first: int | None,
+        most: int | None,
+    ) -> Any:
         return self.selected(events, em, text, params, first, most, True)
 
-    def selected(self, events, em, text, params, first, most, is_single):
+    def selected(
+        self,
+        events: Events,
+        em: int,
+        text: str,
+        params: dict[str, Number | Value],
+        first: int | None,
+        most: int | None,
+        is_single: bool,
+    ) -> Any:
         manager, given = self.manager(em), Given(self, params)
         statement = statement_of(text)
         if any(number is not None and number < 0 for number in (first, most)):
@@ -68,7 +104,9 @@ class Queries:
         rows = [row[0] if len(row) == 1 else row for row in rows]
         return rows[0] if is_single else rows
 
-    def executeUpdate(self, events, em, text, params):
+    def executeUpdate(
+        self, events: Events, em: int, text: str, params: dict[str, Number | Value]
+    ) -> int:
         manager, given = self.manager(em), Given(self, params)
         statement = statement_of(text)
         if not manager.is_begun:
@@ -80,7 +118,7 @@ class Queries:
         manager.seen, count = Meaning(self.unit, manager.seen, given.meant()).changed(statement)
         return count
 
-    def typed(self, statement, given):
+    def typed(self, statement: Node | None, given: Given) -> None:
         """The statement is one of the grammar, is well typed, and has exactly the parameters that
         are given."""
         if statement is None:
@@ -94,11 +132,11 @@ class Queries:
         ) or given.has_keyless():
             raise Refused("IllegalArgument", "parameter")
 
-    def flush_before(self, events, manager):
+    def flush_before(self, events: Events, manager: Manager) -> None:
         if manager.is_begun and manager.flush_mode == "AUTO":
             self.write(events, manager)
 
-    def resulting(self, events, manager, value):
+    def resulting(self, events: Events, manager: Manager, value: Datum) -> Live | Value:
         """What a row shows of a value: of an identity the manager's instance, which is loaded where
         it has none."""
         return self.reached(events, manager, value) if isinstance(value, tuple) else value

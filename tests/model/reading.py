@@ -1,6 +1,12 @@
 """The reading of an input: its lines, the JSON of a line, and the call that it means."""
+from __future__ import annotations
+
 import re
 from json.decoder import scanstring
+from typing import TYPE_CHECKING, Any
+
+if TYPE_CHECKING:
+    from model.kinds import Part, Value, Values
 
 LEAST, GREATEST = -2**63, 2**63 - 1
 LINE, DEPTH = 1048576, 127
@@ -23,7 +29,7 @@ OPTIONAL = {"params": {}, "first": None, "max": None}
 # them.
 UNSERVED = set()
 # The stages that the program does not serve: runs that need one are skipped.
-STAGES = {"mapping revision 2"}
+STAGES: set[str] = set()
 # What the modes of a call ask for.
 MODES = {
     "lock": {
@@ -37,18 +43,18 @@ MODES = {
 class Refused(Exception):
     """A refusal by its name and detail."""
 
-    def __init__(self, name, why=None):
+    def __init__(self, name: str, why: str | None = None) -> None:
         super().__init__(name)
         self.name, self.why = name, why
 
-    def text(self):
+    def text(self) -> str:
         return f"{self.name}({self.why})" if self.why else self.name
 
 
 class Number:
     """The number of an object, as a value."""
 
-    def __init__(self, number):
+    def __init__(self, number: int) -> None:
         self.number = number
 
 
@@ -62,31 +68,31 @@ class Json:
     """A text of JSON: at most 127 lists and objects in one another, no number past the floats, no
     half of a surrogate pair."""
 
-    def __init__(self, text):
+    def __init__(self, text: str) -> None:
         self.text, self.at = text, 0
 
-    def whole(self):
+    def whole(self) -> dict[str, Any] | list[Any] | None:
         value = self.value(0)
         self.blanks()
         if self.at != len(self.text):
             raise ValueError("more")
         return value
 
-    def blanks(self):
+    def blanks(self) -> None:
         self.at = BLANKS.match(self.text, self.at).end()
 
-    def take(self, word):
+    def take(self, word: str) -> bool:
         self.blanks()
         if not self.text.startswith(word, self.at):
             return False
         self.at += len(word)
         return True
 
-    def need(self, word):
+    def need(self, word: str) -> None:
         if not self.take(word):
             raise ValueError(word)
 
-    def value(self, depth):
+    def value(self, depth: int) -> Any:
         for word, value in (("null", None), ("true", True), ("false", False)):
             if self.take(word):
                 return value
@@ -98,12 +104,12 @@ class Json:
             return self.members(depth + 1)
         return self.number()
 
-    def string(self):
+    def string(self) -> str:
         value, self.at = scanstring(self.text, self.at, True)
         value.encode()
         return value
 
-    def number(self):
+    def number(self) -> float | int:
         found = NUMBER.match(self.text, self.at)
         if not found:
             raise ValueError("number")
@@ -120,7 +126,7 @@ class Json:
             raise ValueError("too large")
         return float(digits)
 
-    def items(self, depth):
+    def items(self, depth: int) -> list[Any]:
         if depth > DEPTH:
             raise ValueError("deep")
         values = []
@@ -130,7 +136,7 @@ class Json:
             values.append(self.value(depth))
         return values
 
-    def members(self, depth):
+    def members(self, depth: int) -> dict[str, Any]:
         if depth > DEPTH:
             raise ValueError("deep")
         values, first = {}, True
@@ -147,11 +153,11 @@ class Json:
 
 # ---- calls
 
-def is_integer(data):
+def is_integer(data: Any) -> bool:
     return type(data) is int and LEAST <= data <= GREATEST
 
 
-def given(data):
+def given(data: Any) -> Number | Value:
     """The value that a member gives."""
     if data is None or isinstance(data, str) or is_integer(data):
         return data
@@ -168,7 +174,7 @@ def given(data):
     raise ValueError("value")
 
 
-def member_of(word, name, data):
+def member_of(word: str, name: str, data: Any) -> Any:
     if name in ("em", "object", "member", "first", "max"):
         if not is_integer(data):
             raise ValueError(name)
@@ -188,7 +194,7 @@ def member_of(word, name, data):
     return MODES[word][data] if name == "mode" else data
 
 
-def call_of(line):
+def call_of(line: bytes) -> tuple[str, list[Any]]:
     """The call that a line means: its word and its members in order."""
     if len(line) > LINE:
         raise Refused("Limit")
@@ -207,7 +213,7 @@ def call_of(line):
         raise Refused("BadLine") from None
 
 
-def lines_of(text):
+def lines_of(text: bytes) -> list[bytes]:
     """The lines of an input: a line feed ends each, but a last one that isn't empty."""
     lines = text.split(b"\n")
     return lines if lines[-1] else lines[:-1]

@@ -1,13 +1,22 @@
 """Units for the model: the entities of a mapping with their members and relations, who hears of
 them, and the functions of the mapping. tests/model/machine.py tells what values are.
 """
+from __future__ import annotations
+
+from typing import TYPE_CHECKING, Any
+
 from model.reading import GREATEST, Refused
+
+if TYPE_CHECKING:
+    from model.kinds import Part, Value, Values
+    from model.live import Live
+    from model.reading import Number
 
 LENGTH = 65535
 KINDS = {"int": int, "text": str, "bytes": bytes}
 
 
-def size(value):
+def size(value: Any) -> int:
     return (
         len(value.encode())
         if isinstance(value, str)
@@ -21,7 +30,7 @@ class Relation:
     """A relation of an entity. One that owns has a column or a join table; an inverse one has the
     owning relation of its target."""
 
-    def __init__(self, described, declaring):
+    def __init__(self, described: dict[str, Any], declaring: Entity) -> None:
         self.name, self.kind, self.declaring = described["name"], described["kind"], declaring
         self.is_many = self.kind in ("oneToMany", "manyToMany")
         self.column, self.table, self.mapped_by = (
@@ -34,7 +43,7 @@ class Relation:
         self.owns = self.mapped_by is None
         self.target = self.owner = None
 
-    def cascades(self, operation):
+    def cascades(self, operation: str) -> bool:
         return (
             operation in self.cascade
             or "ALL" in self.cascade
@@ -46,7 +55,7 @@ class Entity:
     """An entity of a mapping: its members and relations by their names, in order, the root's first;
     its chain are the entities from the root to it."""
 
-    def __init__(self, described, above=None):
+    def __init__(self, described: dict[str, Any], above: Entity | None = None) -> None:
         self.name, self.above, self.root = described["name"], above, above.root if above else self
         self.chain = [*(above.chain if above else []), self]
         self.discriminator = described.get("discriminator", self.name)
@@ -78,13 +87,13 @@ class Entity:
             "excludeDefault", False
         ), described.get("excludeSuper", False)
 
-    def is_a(self, other):
+    def is_a(self, other: Entity) -> bool:
         return other in self.chain
 
-    def has(self, relation):
+    def has(self, relation: Relation) -> bool:
         return self.relations.get(relation.name) is relation
 
-    def kind(self, name):
+    def kind(self, name: str) -> type:
         """The kind of a value's member, if the entity has one of this name."""
         if name in self.key:
             return self.key[name]
@@ -95,7 +104,7 @@ class Entity:
         raise Refused("IllegalArgument", "name")
 
 
-def side(data):
+def side(data: Part | dict[str, str]) -> Part:
     return bytes.fromhex(data["hex"]) if isinstance(data, dict) else data
 
 
@@ -103,7 +112,7 @@ class Unit:
     """The entities of a mapping, who listens to them, and the functions of the mapping; the
     revision of the stores that it writes."""
 
-    def __init__(self, mapping):
+    def __init__(self, mapping: dict[str, int | list[dict[str, Any]]]) -> None:
         self.revision = mapping.get("revision", 1)
         self.described = {each["name"]: each for each in mapping["entities"]}
         self.entities = {}
@@ -118,7 +127,7 @@ class Unit:
         self.functions = {each["name"]: each for each in mapping.get("functions", [])}
         self.default = mapping.get("listeners", [])
 
-    def entity(self, name):
+    def entity(self, name: str) -> Entity:
         if name not in self.entities:
             above = self.described[name].get("extends")
             self.entities[name] = Entity(
@@ -126,7 +135,7 @@ class Unit:
             )
         return self.entities[name]
 
-    def joined(self):
+    def joined(self) -> dict[int, Relation]:
         """The relations with a join table, by its number."""
         return {
             relation.table: relation
@@ -135,7 +144,7 @@ class Unit:
             if relation.table
         }
 
-    def column(self, attribute, value):
+    def column(self, attribute: dict[str, Any], value: Value) -> Value:
         """What the attribute's column holds for a value."""
         if value is None or "converter" not in attribute:
             return value
@@ -144,11 +153,11 @@ class Unit:
             raise Refused("Persistence", "converter")
         return found
 
-    def default_of(self, attribute):
+    def default_of(self, attribute: dict[str, Any]) -> Part:
         """What the column of an attribute that is new holds for its default."""
         return self.column(attribute, side(attribute["default"]))
 
-    def defaults_pass(self):
+    def defaults_pass(self) -> bool:
         """Whether no converter throws for a default."""
         try:
             for entity in self.entities.values():
@@ -159,7 +168,7 @@ class Unit:
             return False
         return True
 
-    def heard_by(self, entity, event):
+    def heard_by(self, entity: Entity, event: str) -> list[dict[str, str]]:
         """The functions that hear an event of an entity, in order."""
         chain, entries = entity.chain, []
         if not any(each.excludes_default for each in chain):
@@ -172,7 +181,7 @@ class Unit:
         return [self.functions[entry["name"]] for entry in entries if event in entry["events"]]
 
 
-def assigned(function, values):
+def assigned(function: dict[str, str], values: Values) -> Values:
     """What a listener assigns when it hears of an object with these values."""
     make = function["make"]
     if make == "set_text":
@@ -190,7 +199,7 @@ def assigned(function, values):
     return {}
 
 
-def converted(function, value):
+def converted(function: Any, value: Part) -> Value:
     if function["make"] == "flip":
         return -1 - value if isinstance(value, int) else None
     if function["make"] == "hextext":
@@ -198,7 +207,7 @@ def converted(function, value):
     return next((side(there) for here, there in function["pairs"] if side(here) == value), None)
 
 
-def converted_back(function, value):
+def converted_back(function: Any, value: Part) -> Value:
     if function["make"] == "flip":
         return -1 - value if isinstance(value, int) else None
     if function["make"] == "hextext":
