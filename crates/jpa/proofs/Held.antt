@@ -1,5 +1,5 @@
 -- What an opened provider says of its unit, and what is held of it after the run.
-use Rattle.std.proofs.Common.{◌≡◌, ◌∙◌, refl, sym, subst, Bool, true, false, ℕ, List, Option, Result, Ok, Err, OnOk}
+use Rattle.std.proofs.Common.{◌≡◌, ◌⊎◌, ◌&&◌, ◌∙◌, inl, inr, refl, sym, subst, Bool, true, false, ℕ, List, Option, Result, Ok, Err, OnOk}
 use Rattle.sqlite_trees.specs.declared.store.Store.{Ghosts}
 use Rattle.sqlite.specs.Held.{Held}
 use Rattle.jpa_model.specs.declared.unit.PersistenceUnit.{PersistenceUnit}
@@ -10,7 +10,10 @@ use Rattle.jpa_functions.specs.Known.{names_are_known}
 use Rattle.jpa_functions.specs.declared.make.Listener.{Listener}
 use Rattle.jpa_functions.specs.declared.make.Converter.{Converter}
 use Rattle.jpa_program.specs.Opening.{HoldsCells}
-use Rattle.jpa.specs.Served.{ProgramUnit, unit_from, HoldsUnit, IsServable, GivesServable}
+use Rattle.jpa_history.specs.declared.history.History.{History}
+use Rattle.jpa_behaviour.specs.Served.{world_of_unit}
+use Rattle.jpa_migration.specs.Migration.{defaults_pass}
+use Rattle.jpa.specs.Served.{ProgramUnit, unit_from, HoldsUnit, is_servable, IsServable, GivesServable}
 
 module _ {S : Type 0} (g : Ghosts S) where
   -- what holds of the provider's unit holds of the one that it was opened with
@@ -22,16 +25,33 @@ module _ {S : Type 0} (g : Ghosts S) where
       let of_model : HoldsCells g (world_of meaning unit.metamodel registry) last set numbers = subst (λ m. HoldsCells g (world_of meaning m registry) last set numbers) is_model holds in
       (set, numbers, subst (λ r. HoldsCells g (world_of meaning unit.metamodel r) last set numbers) is_registry of_model)
 
--- an answer that no refusal of the unit allows comes of a unit that can be served
-pub is_servable : {A E : Type 0} (unit : ProgramUnit) (answer : Result A E) (function : E) (a : A) → answer ≡ Ok a
-    → (names_are_known unit.registry unit.metamodel ≡ false → answer ≡ Err function) → IsServable unit
-is_servable unit answer function a is unknown = known (names_are_known unit.registry unit.metamodel) (λ no. sym is ∙ unknown no)
-  where
-    known : (test : Bool) → (test ≡ false → Ok a ≡ Err function) → test ≡ true
-    known true never = refl
-    known false never = let bad = never refl in cc
+module _ {A E : Type 0} (answer : Result A E) (function memory : E) where
+  -- both tests, of which the second is made where the first passes
+  either_fails : (known pass : Bool) → (known ≡ false → answer ≡ Err function) → (known ≡ true → pass ≡ false → (answer ≡ Err function) ⊎ (answer ≡ Err memory)) → known && pass ≡ false
+      → (answer ≡ Err function) ⊎ (answer ≡ Err memory)
+  either_fails true pass unknown thrown fails = thrown refl fails
+  either_fails false pass unknown thrown fails = inl (unknown refl)
+
+  accepted : (a : A) → answer ≡ Ok a → (answer ≡ Err function) ⊎ (answer ≡ Err memory) → ⊥
+  accepted a is (inl e) = cc
+  accepted a is (inr e) = cc
+
+  both_pass : (a : A) (known pass : Bool) → answer ≡ Ok a → (known ≡ false → answer ≡ Err function) → (known ≡ true → pass ≡ false → (answer ≡ Err function) ⊎ (answer ≡ Err memory)) → known && pass ≡ true
+  both_pass a true true is unknown thrown = refl
+  both_pass a true false is unknown thrown = absurd (accepted a is (thrown refl refl))
+  both_pass a false pass is unknown thrown = absurd (accepted a is (inl (unknown refl)))
+
+  module _ (unit : ProgramUnit) (history : History) (unknown : names_are_known unit.registry unit.metamodel ≡ false → answer ≡ Err function)
+      (thrown : names_are_known unit.registry unit.metamodel ≡ true → defaults_pass (world_of_unit meaning unit) history ≡ false → (answer ≡ Err function) ⊎ (answer ≡ Err memory)) where
+    -- a unit that can't be served is refused so, or for want of memory
+    pub unservable : is_servable unit history ≡ false → (answer ≡ Err function) ⊎ (answer ≡ Err memory)
+    unservable = either_fails (names_are_known unit.registry unit.metamodel) (defaults_pass (world_of_unit meaning unit) history) unknown thrown
+
+    -- an answer that no refusal of the unit allows comes of a unit that can be served
+    pub servable : (a : A) → answer ≡ Ok a → IsServable unit history
+    servable a is = both_pass a (names_are_known unit.registry unit.metamodel) (defaults_pass (world_of_unit meaning unit) history) is unknown thrown
 
 -- what serves the unit that bytes give ends well only where they give one that can be served
-pub gives_servable : {A E : Type 0} (mapping : Option (List ℕ)) (unit : ProgramUnit) (answer : Result A E) → Ok unit ≡ unit_from mapping → OnOk answer (IsServable unit) → OnOk answer (GivesServable mapping)
-gives_servable mapping unit (Ok a) is serves = (unit, sym is, serves)
-gives_servable mapping unit (Err e) is serves = serves
+pub gives_servable : {A E : Type 0} (mapping : Option (List ℕ)) (unit : ProgramUnit) (history : History) (answer : Result A E) → Ok (unit, history) ≡ unit_from mapping → OnOk answer (IsServable unit history) → OnOk answer (GivesServable mapping)
+gives_servable mapping unit history (Ok a) is serves = (unit, history, sym is, serves)
+gives_servable mapping unit history (Err e) is serves = serves

@@ -2,7 +2,6 @@
 use Rattle.std.proofs.Common.{◌≡◌, ◌⊎◌, ◌∙◌, inl, inr, refl, sym, subst, ℕ, Bool, cond, true, false, List, Option, Some, None, Result, Ok, Err, IfErr, ok_or}
 use Rattle.jpa_value.specs.declared.refusal.Cause.{Cause}
 use Rattle.jpa_value.specs.declared.refusal.MappingFault.{MappingFault}
-use Rattle.std.specs.Prelude.{◌==◌}
 use Rattle.jpa_model.specs.Described.{checked, unit_of}
 use Rattle.jpa_model.specs.WellFormed.{is_well_formed}
 use Rattle.jpa_model.specs.declared.draft.Draft.{Draft}
@@ -13,9 +12,8 @@ use Rattle.serde_json.specs.Data.{Data, null, boolean, number, string, array, ob
 use Rattle.jpa_json.specs.JsonOf.{json_of, text_data}
 use Rattle.jpa_json.specs.Outcome.{and_then}
 use Rattle.jpa_mapping.specs.MappingOf.{drafts_of, drafts_in, checked_mapping, mapping_of}
-use Rattle.jpa_mapping.specs.declared.reading.Mapping.{Mapping}
 use Rattle.jpa_functions.specs.FunctionsIn.{functions_at, functions_in}
-use Rattle.jpa.specs.Served.{first_revision, IsMappingCause}
+use Rattle.jpa.specs.Served.{IsMappingCause}
 
 -- where it refuses, it refuses the mapping
 abbrev pub RefusesMapping : {A : Type 0} → Result A Cause → Type 0
@@ -49,13 +47,6 @@ of_mapping bytes = of_steps (drafts_in bytes) checked_mapping
     (of_steps (json_of bytes) _ (of_fault MappingFault.Json (text_data bytes)) (λ d. of_fault MappingFault.Shape (drafts_of d)))
     (λ drafts. of_steps (checked drafts.draft) _ (of_check drafts.draft) (λ m. of_steps (checked_history m drafts.history) _ (of_history m drafts.history) (λ h. tt)))
 
-of_revision : (mapping : Mapping) → RefusesMapping (first_revision mapping)
-of_revision mapping = go (mapping.metamodel.revision == 1)
-  where
-    go : (test : Bool) → RefusesMapping (cond test (Ok mapping.metamodel) (Err (Cause.Mapping MappingFault.Model)))
-    go true = tt
-    go false = inr (MappingFault.Model, refl)
-
 of_functions_at : (json : Data) → RefusesMapping (functions_at json)
 of_functions_at null = inr (MappingFault.Shape, refl)
 of_functions_at (boolean b) = inr (MappingFault.Shape, refl)
@@ -75,9 +66,6 @@ as_wanted cause wanted (inr is) refuses = subst RefusesMapping (sym is) refuses
 
 pub mapping_refused : (bytes : List ℕ) (cause : Cause) → (cause ≡ Cause.OutOfMemory) ⊎ (Err cause ≡ mapping_of bytes) → IsMappingCause cause
 mapping_refused bytes cause is = as_wanted cause (mapping_of bytes) is (of_mapping bytes)
-
-pub revision_refused : (mapping : Mapping) (cause : Cause) → Err cause ≡ first_revision mapping → IsMappingCause cause
-revision_refused mapping cause is = as_wanted cause (first_revision mapping) (inr is) (of_revision mapping)
 
 pub functions_refused : (bytes : List ℕ) (cause : Cause) → (cause ≡ Cause.OutOfMemory) ⊎ (Err cause ≡ functions_in bytes) → IsMappingCause cause
 functions_refused bytes cause is = as_wanted cause (functions_in bytes) is (of_functions bytes)

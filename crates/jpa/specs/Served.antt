@@ -1,16 +1,16 @@
 -- Which unit the program serves, and what a store that was served holds.
-use Rattle.std.specs.Prelude.{◌≡◌, ◌⊎◌, ◌==◌, ℕ, List, [], if◌then◌else◌, Option, Some, None, Result, Ok, Err, IsErrAnd, true}
+use Rattle.std.specs.Prelude.{◌≡◌, ◌⊎◌, ◌&&◌, ℕ, Bool, List, [], Option, Some, None, Result, Ok, Err, IsErrAnd, true}
 use Rattle.sqlite_trees.specs.declared.store.Store.{Ghosts}
 use Rattle.sqlite.specs.Held.{Held}
 use Rattle.jpa_value.specs.declared.refusal.Cause.{Cause}
 use Rattle.jpa_value.specs.declared.refusal.MappingFault.{MappingFault}
-use Rattle.jpa_model.specs.declared.unit.PersistenceUnit.{PersistenceUnit}
+use Rattle.jpa_history.specs.declared.history.History.{History}
+use Rattle.jpa_history.specs.History.{unchanged}
 use Rattle.jpa_behaviour.specs.Served.{world_of_unit}
 use Rattle.jpa_behaviour.specs.declared.served_unit.ServedUnit.{ServedUnit}
 use Rattle.jpa_stored.specs.Sets.{StoredSet}
 use Rattle.jpa_json.specs.Outcome.{and_then}
 use Rattle.jpa_mapping.specs.MappingOf.{mapping_of}
-use Rattle.jpa_mapping.specs.declared.reading.Mapping.{Mapping}
 use Rattle.jpa_functions.specs.declared.behaviour.ProgramFunctions.{ProgramFunctions}
 use Rattle.jpa_functions.specs.declared.make.Listener.{Listener}
 use Rattle.jpa_functions.specs.declared.make.Converter.{Converter}
@@ -18,6 +18,7 @@ use Rattle.jpa_functions.specs.Functions.{meaning}
 use Rattle.jpa_functions.specs.FunctionsIn.{functions_in}
 use Rattle.jpa_functions.specs.Known.{names_are_known}
 use Rattle.jpa_functions.specs.Sorts.{registered}
+use Rattle.jpa_migration.specs.Migration.{defaults_pass}
 use Rattle.jpa_program.specs.Opening.{HoldsCells}
 use Rattle.jpa_program.specs.Persons.{persons}
 
@@ -25,27 +26,22 @@ use Rattle.jpa_program.specs.Persons.{persons}
 abbrev pub ProgramUnit : Type 0
 ProgramUnit = ServedUnit ProgramFunctions Listener Converter
 
--- no later revision than the first is served
-abbrev pub first_revision : Mapping → Result PersistenceUnit Cause
-first_revision mapping =
-    if mapping.metamodel.revision == 1 then Ok mapping.metamodel else Err (Cause.Mapping MappingFault.Model)
-
--- the unit that the bytes of a mapping describe, or the first that is wrong: with its entities, then with its functions
-abbrev pub unit_in : List ℕ → Result ProgramUnit Cause
+-- the unit that the bytes of a mapping describe, with what has changed of it since revision 1, or the first that is wrong: with its
+-- entities, then with its functions
+abbrev pub unit_in : List ℕ → Result (ProgramUnit × History) Cause
 unit_in bytes =
     and_then (mapping_of bytes) (λ mapping.
-    and_then (first_revision mapping) (λ metamodel.
     and_then (functions_in bytes) (λ functions.
-    and_then (registered functions) (λ registry. Ok (record { metamodel = metamodel; registry = registry })))))
+    and_then (registered functions) (λ registry. Ok (record { metamodel = mapping.metamodel; registry = registry }, mapping.history))))
 
 -- the unit that is served without a mapping: the program's own persons with their orders, and no function
 abbrev pub own_unit : ProgramUnit
 own_unit = record { metamodel = persons; registry = record { listeners = []; converters = [] } }
 
 -- the unit of a mapping's bytes, or the first that is wrong with them, and of no bytes the program's own
-abbrev pub unit_from : Option (List ℕ) → Result ProgramUnit Cause
+abbrev pub unit_from : Option (List ℕ) → Result (ProgramUnit × History) Cause
 unit_from (Some bytes) = unit_in bytes
-unit_from None = Ok own_unit
+unit_from None = Ok (own_unit, unchanged)
 
 -- where the unit can't be made the first that is wrong is told, unless memory ran out
 abbrev pub RefusesUnit : {T : Type 0} → Option (List ℕ) → Result T Cause → Type 0
@@ -55,13 +51,16 @@ RefusesUnit mapping result = (cause : Cause) → unit_from mapping ≡ Err cause
 abbrev pub IsMappingCause : Cause → Type 0
 IsMappingCause cause = (cause ≡ Cause.OutOfMemory) ⊎ ((fault : MappingFault) × (cause ≡ Cause.Mapping fault))
 
--- each function that the unit names is registered
-abbrev pub IsServable : ProgramUnit → Type 0
-IsServable unit = names_are_known unit.registry unit.metamodel ≡ true
+-- each function that the unit names is registered, and no converter throws for a default
+abbrev pub is_servable : ProgramUnit → History → Bool
+is_servable unit history = names_are_known unit.registry unit.metamodel && defaults_pass (world_of_unit meaning unit) history
+
+abbrev pub IsServable : ProgramUnit → History → Type 0
+IsServable unit history = is_servable unit history ≡ true
 
 -- the unit of these bytes, or of none, can be served
 abbrev pub GivesServable : Option (List ℕ) → Type 0
-GivesServable mapping = (unit : ProgramUnit) × (unit_from mapping ≡ Ok unit) × IsServable unit
+GivesServable mapping = (unit : ProgramUnit) × (history : History) × (unit_from mapping ≡ Ok (unit, history)) × IsServable unit history
 
 module _ {S : Type 0} (g : Ghosts S) where
   -- the cells of the unit's tables are those of a set of its objects and of next numbers, and no others

@@ -6,17 +6,18 @@ ghost use Rattle.std.specs.Prelude.{◌≡◌, ◌⊎◌, true, false, None, Ok,
 ghost use Rattle.jpa_value.specs.declared.refusal.Cause.{Cause};
 ghost use Rattle.jpa_value.specs.declared.refusal.MappingFault.{MappingFault};
 ghost use Rattle.jpa_model.specs.Described.{IsUnlessMemory};
+ghost use Rattle.jpa_history.specs.Condition.{IsHistoryOf};
 ghost use Rattle.jpa_cells_meaning.specs.Store.{IsOrderedIfFound};
 ghost use Rattle.jpa_functions.specs.Known as known;
 ghost use Rattle.jpa.specs.Served as spec;
 
 use jpa_behaviour::{Registry, ServedUnit};
 use jpa_functions::{ProgramFunctions, read_functions, registry_of};
+use jpa_history::History;
 use jpa_mapping::{Mapping, read_mapping};
-use jpa_model::Metamodel;
 use jpa_program::{first_unit, open, run};
 use jpa_settings::{Settings, Stop, read_settings, status};
-use jpa_value::{Cause, MappingFault, Refusal, Text, refusal_text};
+use jpa_value::{Cause, MappingFault, Refusal, Seq, Text, refusal_text};
 use sqlite::{Alter, Connection, Error, ErrorCode, Unknown};
 use std::alloc::Global;
 use std::io::ErrorKind;
@@ -75,33 +76,23 @@ fn mapping_bytes(rt: &HostRuntime, settings: &Settings) -> Result<Option<Vec<u8>
     }
 }
 
-/// The metamodel of a mapping, where it is of revision 1: no later one is served.
-fn first_revision(mapping: Mapping) -> Result<Metamodel, Cause>
-    ensures { result ≡ spec.first_revision mapping }
-{
-    if mapping.metamodel.unit().revision != 1 {
-        return Err(Cause::Mapping(MappingFault::Model));
-    }
-    let Mapping {
-        metamodel,
-        history: _,
-    } = mapping;
-    Ok(metamodel)
-}
-
-/// The unit that a mapping's bytes describe: its entities are read before its functions.
-fn described(alloc: Global, bytes: &[u8]) -> Result<ServedUnit<ProgramFunctions>, Cause>
+/// The unit that a mapping's bytes describe, with what has changed of it since revision 1: its entities are read before its
+/// functions.
+fn described(alloc: Global, bytes: &[u8]) -> Result<(ServedUnit<ProgramFunctions>, History), Cause>
     ensures unit { IsUnlessMemory result (spec.unit_in bytes.now) }
+    ensures history { IfOk result (λ given. IsHistoryOf (given.0).metamodel given.1) }
     ensures refused { IfErr result spec.IsMappingCause }
 {
-    let mapping = read_mapping(alloc, bytes)?;
-    let metamodel = first_revision(mapping)?;
+    let Mapping { metamodel, history } = read_mapping(alloc, bytes)?;
     let functions = read_functions(alloc, bytes)?;
     let registry = registry_of(alloc, functions)?;
-    Ok(ServedUnit {
-        metamodel,
-        registry,
-    })
+    Ok((
+        ServedUnit {
+            metamodel,
+            registry,
+        },
+        history,
+    ))
 }
 
 /// The unit that is served without a mapping: the program's own persons with their orders, and no function.
@@ -115,14 +106,22 @@ fn own_unit(alloc: Global) -> Result<ServedUnit<ProgramFunctions>, Cause>
     })
 }
 
-/// The unit of a mapping's bytes: the one that they describe, and of no bytes the program's own.
-fn unit_from(alloc: Global, mapping: Option<&[u8]>) -> Result<ServedUnit<ProgramFunctions>, Cause>
+/// The unit of a mapping's bytes: the one that they describe, and of no bytes the program's own, of which nothing has changed.
+fn unit_from(
+    alloc: Global,
+    mapping: Option<&[u8]>,
+) -> Result<(ServedUnit<ProgramFunctions>, History), Cause>
     ensures unit { IsUnlessMemory result (spec.unit_from (option_copied mapping.entry)) }
+    ensures history { IfOk result (λ given. IsHistoryOf (given.0).metamodel given.1) }
     ensures refused { IfErr result spec.IsMappingCause }
 {
     match mapping {
         Some(bytes) => described(alloc, bytes),
-        None => own_unit(alloc),
+        None => {
+            let unit = own_unit(alloc)?;
+            let classes = Seq::new(alloc);
+            Ok((unit, History { classes }))
+        }
     }
 }
 
@@ -131,14 +130,19 @@ fn serve<S: Alter + Drop>(
     rt: &HostRuntime,
     conn: Connection<S>,
     unit: ServedUnit<ProgramFunctions>,
+    history: &History,
 ) -> Result<(Stop, Connection<S>), Cause>
-    requires { IsOrderedIfFound S.Store conn }
+    requires ordered { IsOrderedIfFound S.Store conn }
+    requires history { IsHistoryOf unit.metamodel history.now }
     ensures unknown { known.names_are_known unit.registry unit.metamodel ≡ false
         → IsErrAnd result (λ cause. cause ≡ Cause.Mapping MappingFault.Function) }
-    ensures served { OnOk result (spec.IsServable unit) }
+    ensures unservable { spec.is_servable unit history.now ≡ false
+        → IsErrAnd result (λ cause. (cause ≡ Cause.Mapping MappingFault.Function)
+        ⊎ (cause ≡ Cause.OutOfMemory)) }
+    ensures served { OnOk result (spec.IsServable unit history.now) }
     ensures cells { IfOk result (λ served. spec.HoldsUnit S.Store unit served.1) }
 {
-    let mut provider = match open(rt.alloc(), conn, unit) {
+    let mut provider = match open(rt.alloc(), conn, unit, history) {
         Ok(provider) => provider,
         Err((cause, _)) => return Err(cause),
     };
@@ -154,11 +158,16 @@ fn serve<S: Alter + Drop>(
     Ok((stop, provider.into_rows().store.into_connection()))
 }
 
-fn serve_in_memory(rt: &HostRuntime, unit: ServedUnit<ProgramFunctions>) -> Result<Stop, Cause>
-    ensures { OnOk result (spec.IsServable unit) }
+fn serve_in_memory(
+    rt: &HostRuntime,
+    unit: ServedUnit<ProgramFunctions>,
+    history: &History,
+) -> Result<Stop, Cause>
+    requires { IsHistoryOf unit.metamodel history.now }
+    ensures { OnOk result (spec.IsServable unit history.now) }
 {
     let conn = Connection::open_in_memory(rt.alloc())?;
-    let (stop, _conn) = serve(rt, conn, unit)?;
+    let (stop, _conn) = serve(rt, conn, unit, history)?;
     Ok(stop)
 }
 
@@ -176,14 +185,16 @@ fn serve_file(
     rt: &HostRuntime,
     path: &Text,
     unit: ServedUnit<ProgramFunctions>,
+    history: &History,
 ) -> Result<Stop, Cause>
-    ensures { OnOk result (spec.IsServable unit) }
+    requires { IsHistoryOf unit.metamodel history.now }
+    ensures { OnOk result (spec.IsServable unit history.now) }
 {
     let conn = match Connection::open_from(rt, path.as_str(), false, Unknown) {
         Ok(conn) => conn,
         Err((error, _)) => return Err(cause_of(error)),
     };
-    let (stop, conn) = serve(rt, conn, unit)?;
+    let (stop, conn) = serve(rt, conn, unit, history)?;
     let _closed = conn.close();
     Ok(stop)
 }
@@ -193,10 +204,10 @@ fn serve_mapping(rt: &HostRuntime, mapping: Option<&[u8]>, db: Option<&Text>) ->
     ensures served { OnOk result (spec.GivesServable (option_copied mapping.entry)) }
     ensures refused { spec.RefusesUnit (option_copied mapping.entry) result }
 {
-    let unit = unit_from(rt.alloc(), mapping)?;
+    let (unit, history) = unit_from(rt.alloc(), mapping)?;
     match db {
-        Some(path) => serve_file(rt, path, unit),
-        None => serve_in_memory(rt, unit),
+        Some(path) => serve_file(rt, path, unit, &history),
+        None => serve_in_memory(rt, unit, &history),
     }
 }
 

@@ -208,6 +208,8 @@ impl<S: Alter> CellStore<S> {
         ensures rise { IsClean S.Store self.new.conn → IfOk result AreRows }
         ensures open { StaysOpen S.Store result self.old.conn self.new.conn }
         ensures kept { Keeps S.Store self.old.conn self.new.conn }
+        ensures kept_content { KeepsContent (state S.Store self.old.conn)
+            (state S.Store self.new.conn) }
         ensures counted { self.new.table_selects ≡ up_to_greatest (self.old.table_selects + 1) }
         ensures told { Tells result self.old.faults self.new.faults }
         ensures cause { FaultHasCause S.Store result self.old.conn self.new.conn }

@@ -11,7 +11,8 @@ use hex::FromHexError;
 use jpa_behaviour::Registry;
 use jpa_cells::{Cell, CellChange, CellStore};
 use jpa_functions::{ProgramFunctions, read_functions, registry_of};
-use jpa_judgment::{Committed, read_store};
+use jpa_history::History;
+use jpa_judgment::{Committed, open_store};
 use jpa_key::encode_key;
 use jpa_mapper::to_rows;
 use jpa_mapping::read_mapping;
@@ -84,6 +85,7 @@ pub(crate) fn store_of(alloc: Global, rows: &str) -> Result<CellStore<MemStore>,
 fn committed_of(
     alloc: Global,
     metamodel: &Metamodel,
+    history: &History,
     functions: &str,
     rows: &str,
 ) -> Result<Committed, Stop>
@@ -92,7 +94,7 @@ fn committed_of(
     let registry = registry_of(alloc, read_functions(alloc, functions.as_bytes())?)?;
     let schema = Schema::of(alloc, metamodel)?;
     let mut space = RowSpace::new(alloc, store_of(alloc, rows)?, schema);
-    Ok(read_store(alloc, metamodel, &registry, &mut space)?)
+    Ok(open_store(alloc, metamodel, &registry, history, &mut space)?)
 }
 
 /// How many objects there are, and the next number of each entity.
@@ -190,7 +192,7 @@ fn told(alloc: Global, answered: Result<String, Cause>) -> Result<String, Stop> 
 pub(crate) fn store_answer(alloc: Global, unit: Unit<'_>, rows: &str) -> Result<String, Stop> {
     let mapping = read_mapping(alloc, unit.mapping.as_bytes())?;
     let metamodel = &mapping.metamodel;
-    let committed = match committed_of(alloc, metamodel, unit.mapping, rows) {
+    let committed = match committed_of(alloc, metamodel, &mapping.history, unit.mapping, rows) {
         Ok(committed) => committed,
         Err(Stop::Refused(cause)) => return told(alloc, Err(cause)),
         Err(stop) => return Err(stop),

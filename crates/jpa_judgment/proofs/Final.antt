@@ -1,28 +1,29 @@
 -- What is known of a store after its judgment.
-use Rattle.std.specs.Prelude.{◌≡◌, ◌⊎◌, ℕ, suc, ◌<◌, true, List, [], ◌∷◌, ◌++◌, length, take, drop, Option, Some, None, Result, Ok, Err, IfOk, IfErr, OnOk}
-use Rattle.std.proofs.Common.{refl, sym, ap, subst, ◌∙◌, arith, inl, inr, zero, get_or}
+use Rattle.std.specs.Prelude.{◌≡◌, ◌⊎◌, ℕ, suc, true, List, [], ◌∷◌, ◌++◌, take, drop, Option, Some, None}
+use Rattle.std.proofs.Common.{refl, sym, ap, subst, ◌∙◌, inl, inr, zero, get_or}
 use Rattle.sqlite_trees.specs.declared.store.Store.{Ghosts}
 use Rattle.jpa_value.specs.declared.refusal.Cause.{Cause}
 use Rattle.jpa_key.specs.Keys.{key_bytes}
 use Rattle.jpa_model.specs.Chains.{entity_at}
 use Rattle.jpa_behaviour.specs.Behaviour.{World, IsRegular}
+use Rattle.jpa_history.specs.declared.history.History.{History}
+use Rattle.jpa_migration.specs.Migration.{opened_tables}
 use Rattle.jpa_rows.specs.declared.schema.Schema.{Schema}
-use Rattle.jpa_rows.specs.Cells.{CanBeHeld, StandFor}
 use Rattle.jpa_rows.specs.Rows.{RowId, Row, Rows}
 use Rattle.jpa_rows.specs.Tables.{schema_of}
 use Rattle.jpa_view.specs.Unambiguous.{is_class}
 use Rattle.jpa_view.proofs.Mapped.{IsMapped}
 use Rattle.jpa_object_rows.specs.Objects.{is_discriminator}
-use Rattle.jpa_object_rows.specs.Sets.{rows_of}
 use Rattle.jpa_cells_meaning.specs.Tables.{Tables}
 use Rattle.jpa_cells_meaning.specs.Store.{IsClean, IsOpen, tables_in}
 use Rattle.jpa_rowspace.specs.Stored.{AreRowsOf, AreStored}
-use Rattle.jpa_rowspace.specs.Space.{Space, HoldsRows, IsStoreCause}
+use Rattle.jpa_rowspace.specs.Space.{Space, IsStoreCause}
 use Rattle.jpa_rowspace.proofs.Whole.{reads_all}
 use Rattle.jpa_judgment.specs.declared.judge.Committed.{Committed}
 use Rattle.jpa_judgment.specs.Sound.{IsSoundRow, AreSoundRows}
 use Rattle.jpa_judgment.specs.Judged.{AreHeld, StartsUnsound, IsFirstDamaged}
-use Rattle.jpa_judgment.specs.Damage.{cells_in, AreDamagedAt, IsLowestDamage}
+use Rattle.jpa_judgment.specs.Damage.{AreDamagedAt, IsLowestDamage}
+use Rattle.jpa_judgment.specs.Opened.{HaveCommitted}
 use Rattle.jpa_judgment.specs.Reads.{AreNumbersOf, AreReadUpTo, IsFirstUnsound, IsTold, KeepsTables}
 use Rattle.jpa_judgment.proofs.Reading.{whole_all, into_all, into_rises, seen}
 use Rattle.jpa_judgment.proofs.Lowest.{lowest_unsound, lowest_ended, lowest_before}
@@ -66,73 +67,64 @@ module _ (world : World) where
   told_first schema rows place e end cause h is (inl none) = inl none
   told_first schema rows place e end cause h is (inr told) = inr ((e.0).table, key_bytes (e.0).key, told ∙ ap (λ (x : RowId × Row). Cause.Damaged (x.0).table (key_bytes (x.0).key)) (sym is), λ _. inl (first_unsound rows place e h is))
 
--- ---- the store
+-- ---- the store, as the unit opens it
 
 module _ {S : Type 0} (g : Ghosts S) (world : World) (mapped : IsMapped world.model) (regular : IsRegular world) (discriminators : (class : ℕ) → is_class world.model class ≡ true → is_discriminator (entity_at world.model class) ≡ true)
-    (first new : Space S) (schema_is : first.schema ≡ schema_of world.model) (numbers : List ℕ) (given : AreNumbersOf first.schema numbers) (keeps : KeepsTables g first new) (rows : Rows) (end : Option (ℕ × List ℕ))
-    (found : IsClean g new.store.conn → AreReadUpTo first.schema (tables_in g first.store.conn) numbers rows end)
-    (live : IsClean g new.store.conn → 0 < length numbers → IsOpen g first.store.conn × IsOpen g new.store.conn) where
+    (h : History) (first new : Space S) (schema_is : first.schema ≡ schema_of world.model) (numbers : List ℕ) (given : AreNumbersOf first.schema numbers) (keeps : KeepsTables g first new) (rows : Rows) (end : Option (ℕ × List ℕ))
+    (found : IsClean g new.store.conn → AreReadUpTo first.schema (opened_tables world h (tables_in g first.store.conn)) numbers rows end) (live : IsClean g new.store.conn → IsOpen g first.store.conn × IsOpen g new.store.conn) where
   abbrev schema : Schema
   schema = schema_of world.model
+
+  -- the tables that are judged
+  abbrev opened : Tables
+  opened = opened_tables world h (tables_in g first.store.conn)
 
   are : AreNumbersOf schema numbers
   are = subst (λ (s : Schema). AreNumbersOf s numbers) schema_is given
 
-  pub some_tables : 0 < length numbers
-  some_tables = let all = are.all in omega arith
+  same_opened : IsClean g new.store.conn → opened ≡ opened_tables world h (tables_in g new.store.conn)
+  same_opened clean = ap (opened_tables world h) (sym (keeps.kept clean (live clean).1).1)
 
-  same_tables : IsClean g new.store.conn → tables_in g first.store.conn ≡ tables_in g new.store.conn
-  same_tables clean = sym (keeps.kept clean (live clean some_tables).1).1
+  read : IsClean g new.store.conn → AreReadUpTo schema opened numbers rows end
+  read clean = subst (λ (s : Schema). AreReadUpTo s opened numbers rows end) schema_is (found clean)
 
-  read : IsClean g new.store.conn → AreReadUpTo schema (tables_in g new.store.conn) numbers rows end
-  read clean = subst (λ (t : Tables). AreReadUpTo schema t numbers rows end) (same_tables clean) (subst (λ (s : Schema). AreReadUpTo s (tables_in g first.store.conn) numbers rows end) schema_is (found clean))
+  -- the rows are the schema's
+  rows_named : (end : Option (ℕ × List ℕ)) → AreReadUpTo schema opened numbers rows end → AreRowsOf schema rows
+  rows_named None r = (reads_all schema opened rows r.rising (whole_all schema opened numbers rows are r)).0
+  rows_named (Some at) r =
+      (reads_all schema (seen schema opened numbers are.rising rows at.0 at.1 r) rows (into_rises schema opened numbers are.rising rows at.0 at.1 r) (into_all schema opened numbers are.rising rows at.0 at.1 r)).0
 
-  module _ (tables : Tables) where
-    -- the rows are the schema's
-    rows_named : (end : Option (ℕ × List ℕ)) → AreReadUpTo schema tables numbers rows end → AreRowsOf schema rows
-    rows_named None h = (reads_all schema tables rows h.rising (whole_all schema tables numbers rows are h)).0
-    rows_named (Some at) h =
-        (reads_all schema (seen schema tables numbers are.rising rows at.0 at.1 h) rows (into_rises schema tables numbers are.rising rows at.0 at.1 h) (into_all schema tables numbers are.rising rows at.0 at.1 h)).0
-
-    damaged_at : (end : Option (ℕ × List ℕ)) → AreReadUpTo schema tables numbers rows end → (t : ℕ) (bytes : List ℕ) → IsTold world rows end t bytes → AreDamagedAt world tables t bytes
-    damaged_at None h t bytes (inl first) = inl (lowest_unsound world tables rows h.rising (whole_all schema tables numbers rows are h) t bytes first)
-    damaged_at None h t bytes (inr none) = inr (none.0, none.1, stand_none world mapped regular discriminators tables rows h.rising (whole_all schema tables numbers rows are h) none.2)
-    damaged_at (Some at) h t bytes (inl first) = inl (lowest_before world tables numbers are rows at.0 at.1 h t bytes first)
-    damaged_at (Some at) h t bytes (inr ended) =
-        inl (subst (λ n. IsLowestDamage world tables n bytes) (sym ended.0) (subst (IsLowestDamage world tables at.0) (sym ended.1) (lowest_ended world tables numbers are rows at.0 at.1 h ended.2)))
+  damaged_at : (end : Option (ℕ × List ℕ)) → AreReadUpTo schema opened numbers rows end → (t : ℕ) (bytes : List ℕ) → IsTold world rows end t bytes → AreDamagedAt world opened t bytes
+  damaged_at None r t bytes (inl first) = inl (lowest_unsound world opened rows r.rising (whole_all schema opened numbers rows are r) t bytes first)
+  damaged_at None r t bytes (inr none) = inr (none.0, none.1, stand_none world mapped regular discriminators opened rows r.rising (whole_all schema opened numbers rows are r) none.2)
+  damaged_at (Some at) r t bytes (inl first) = inl (lowest_before world opened numbers are rows at.0 at.1 r t bytes first)
+  damaged_at (Some at) r t bytes (inr ended) =
+      inl (subst (λ n. IsLowestDamage world opened n bytes) (sym ended.0) (subst (IsLowestDamage world opened at.0) (sym ended.1) (lowest_ended world opened numbers are rows at.0 at.1 r ended.2)))
 
   -- ---- what is answered
 
-  whole : end ≡ None → IsClean g new.store.conn → AreRowsOf schema rows × AreStored schema (tables_in g new.store.conn) rows
+  whole : end ≡ None → IsClean g new.store.conn → AreRowsOf schema rows × AreStored schema opened rows
   whole none clean =
-      let h = subst (AreReadUpTo schema (tables_in g new.store.conn) numbers rows) none (read clean) in
-      reads_all schema (tables_in g new.store.conn) rows h.rising (whole_all schema (tables_in g new.store.conn) numbers rows are h)
+      let r = subst (AreReadUpTo schema opened numbers rows) none (read clean) in
+      reads_all schema opened rows r.rising (whole_all schema opened numbers rows are r)
 
-  pub holds : (r : Result Committed Cause) → OnOk r (end ≡ None) → IfOk r (λ c. AreHeld world rows c) → IsClean g new.store.conn
-      → IfOk r (λ c. CanBeHeld world c.set c.numbers × HoldsRows g schema new.store.conn (rows_of world c.set c.numbers))
-  holds (Err e) none held clean = tt
-  holds (Ok c) none held clean =
+  pub committed : (c : Committed) → end ≡ None → AreHeld world rows c → IsClean g new.store.conn → HaveCommitted world opened c
+  committed c none held clean =
       let w = whole none clean in
-      (held.held, record { whole = λ _. subst (AreRowsOf schema) held.same w.0; stored = λ _ _. subst (AreStored schema (tables_in g new.store.conn)) held.same w.1 })
+      record {
+        named = subst (AreRowsOf schema) held.same w.0;
+        stored = subst (AreStored schema opened) held.same w.1;
+        stand = stand_held world mapped regular discriminators opened rows w.0 w.1 held.sound c.set c.numbers held.held held.same;
+      }
 
-  pub stands : (r : Result Committed Cause) → OnOk r (end ≡ None) → IfOk r (λ c. AreHeld world rows c) → IsClean g new.store.conn
-      → IfOk r (λ c. StandFor world (cells_in world (tables_in g new.store.conn)) c.set c.numbers)
-  stands (Err e) none held clean = tt
-  stands (Ok c) none held clean =
-      let w = whole none clean in
-      stand_held world mapped regular discriminators (tables_in g new.store.conn) rows w.0 w.1 held.sound c.set c.numbers held.held held.same
-
-  pub refuses : (r : Result Committed Cause) → IfErr r (λ cause. (cause ≡ Cause.OutOfMemory) ⊎ ((t : ℕ) × (bytes : List ℕ) × (cause ≡ Cause.Damaged t bytes) × (AreRowsOf schema rows → IsTold world rows end t bytes)))
-      → IfErr r (λ cause. IsStoreCause cause ⊎ ((t : ℕ) × (bytes : List ℕ) × (cause ≡ Cause.Damaged t bytes) × (IsClean g new.store.conn → AreDamagedAt world (tables_in g new.store.conn) t bytes)))
-  refuses (Ok c) h = tt
-  refuses (Err cause) (inl none) = inl (inl none)
-  refuses (Err cause) (inr told) =
-      inr (told.0, told.1, told.2, λ clean. damaged_at (tables_in g new.store.conn) end (read clean) told.0 told.1 (told.3 (rows_named (tables_in g new.store.conn) end (read clean))))
-
-  -- at least one table was read
-  pub both_open : IsClean g new.store.conn → IsOpen g first.store.conn × IsOpen g new.store.conn
-  both_open clean = live clean some_tables
-
-  pub opens : (r : Result Committed Cause) → IsClean g new.store.conn → OnOk r (IsOpen g first.store.conn × IsOpen g new.store.conn)
-  opens (Ok c) clean = both_open clean
-  opens (Err e) clean = tt
+  pub refuses : (cause : Cause) → (cause ≡ Cause.OutOfMemory) ⊎ ((t : ℕ) × (bytes : List ℕ) × (cause ≡ Cause.Damaged t bytes) × (AreRowsOf schema rows → IsTold world rows end t bytes))
+      → IsStoreCause cause ⊎ ((t : ℕ) × (bytes : List ℕ) × (cause ≡ Cause.Damaged t bytes) × (IsClean g new.store.conn → AreDamagedAt world (opened_tables world h (tables_in g new.store.conn)) t bytes))
+  refuses cause (inl none) = inl (inl none)
+  refuses cause (inr told) =
+      inr (
+        told.0,
+        told.1,
+        told.2,
+        λ clean.
+            subst (λ (t : Tables). AreDamagedAt world t told.0 told.1) (same_opened clean) (damaged_at end (read clean) told.0 told.1 (told.3 (rows_named end (read clean)))),
+      )

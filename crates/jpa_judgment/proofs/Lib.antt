@@ -9,5 +9,8 @@ pub mod Lowest
 pub mod Standing
 pub mod Rising
 pub mod Keeping
+pub mod Migrated
+pub mod OneTable
 pub mod Steps
+pub mod Writing
 pub mod Final

@@ -1,5 +1,5 @@
 -- The rows of one table among those of several, and rows that rise one table after another.
-use Rattle.std.specs.Prelude.{◌≡◌, ℕ, ◌<◌, ◌≤◌, true, false, cond, ◌==◌, nat_lt, T, List, [], ◌∷◌, ◌++◌}
+use Rattle.std.specs.Prelude.{◌≡◌, ℕ, zero, suc, ◌<◌, ◌≤◌, true, false, cond, ◌==◌, nat_lt, T, List, [], ◌∷◌, ◌++◌, length, slice_index_or}
 use Rattle.std.proofs.Common.{refl, sym, ap, subst, ◌∙◌, arith, eq-eqb, eqb→eq, Less, Equal, Greater}
 use Rattle.std.specs.List.{AllByRecursion}
 use Rattle.std.specs.FinMap.Entries.{below_all}
@@ -28,6 +28,11 @@ all_back P (x ∷ xs) ys h = all_back P xs ys h.1
 pub append_nil : {X : Type 0} (xs : List X) → xs ++ [] ≡ xs
 append_nil [] = refl
 append_nil (x ∷ xs) = ap (λ l. x ∷ l) (append_nil xs)
+
+pub one_of : (P : ℕ → Type 0) (xs : List ℕ) (i : ℕ) → i < length xs → AllByRecursion P xs → P (slice_index_or xs i 0)
+one_of P [] i less h = absurd (omega arith)
+one_of P (x ∷ xs) zero less h = h.0
+one_of P (x ∷ xs) (suc i) less h = one_of P xs i (omega arith) h.1
 
 -- ---- the rows of a table
 

@@ -1,5 +1,5 @@
 -- Entries of which each is below the next rise, and numbers that are sorted and come once.
-use Rattle.std.specs.Prelude.{◌≡◌, ℕ, zero, suc, ◌+◌, ◌<◌, ◌≤◌, Bool, true, false, cond, ◌==◌, ◌||◌, not, T, Some, ◌-◌, List, [], ◌∷◌, length, map, find, is_some, sum_by}
+use Rattle.std.specs.Prelude.{◌≡◌, ℕ, zero, suc, ◌+◌, ◌<◌, ◌≤◌, Bool, true, false, cond, ◌==◌, ◌||◌, not, T, Some, pos, ◌-◌, List, [], ◌∷◌, length, map, find, is_some, sum_by}
 use Rattle.std.proofs.Common.{refl, sym, ap, subst, ◌∙◌, arith, add-one, get_or, eqb→eq}
 use Rattle.std.proofs.Common.{inl, inr}
 use Rattle.std.proofs.lemmas.Bool.{cases_lt}
@@ -10,22 +10,27 @@ use Rattle.std.specs.List.{AllByRecursion, AllAdjacentBelow, list_any}
 use Rattle.std.specs.List.Sorted.{IsPermutation, IsNonDecreasingBy}
 use Rattle.std.specs.FinMap.Entries.{below_all}
 use Rattle.std.specs.Ordering.{is_lt, ordering_index}
+use Rattle.sqlite_trees.proofs.ListLemmas.{all-permutation}
 use Rattle.std.specs.declared.cmp.Ordering.{Ordering}
 use Rattle.std.specs.declared.cmp.Ordering.TheVariants.{Less}
-use Rattle.jpa_value.specs.Value.{identity_cmp}
+use Rattle.jpa_value.specs.Value.{identity_cmp, is_i64}
 use Rattle.jpa_value.proofs.Orders.{identity_total}
 use Rattle.jpa_model.specs.declared.unit.PersistenceUnit.{PersistenceUnit}
 use Rattle.jpa_rows.specs.declared.schema.Schema.{Schema}
 use Rattle.jpa_rows.specs.declared.schema.TableRule.{TableRule}
-use Rattle.jpa_rows.specs.Rows.{RowId, Row, Rows, AreRising}
+use Rattle.jpa_rows.specs.Rows.{RowId, Row, Rows, AreRising, table_of}
 use Rattle.jpa_rows.specs.Tables.{schema_of}
 use Rattle.jpa_rows.specs.Cells.{tables_of}
 use Rattle.jpa_row_laws.proofs.Facts.{is_less, first_holds, second_holds, both_hold, and_first, and_second, true_false}
+use Rattle.jpa_row_laws.proofs.Elements.{Has}
+use Rattle.jpa_row_laws.proofs.Lists.{all_each}
 use Rattle.jpa_stored.proofs.Entries.{rising_at}
-use Rattle.jpa_view.specs.Unambiguous.{are_distinct_numbers}
+use Rattle.jpa_view.specs.Unambiguous.{IsUnambiguous, are_distinct_numbers}
+use Rattle.jpa_view.proofs.Classes.{below}
 use Rattle.jpa_object_rows.proofs.Tables.{numbers, unit_numbers}
 use Rattle.jpa_judgment.specs.Reads.{IsRising, AreNumbersOf}
-use Rattle.jpa_judgment.proofs.Parts.{same_number, apart_number}
+use Rattle.jpa_judgment.proofs.Parts.{one_of, same_number, apart_number}
+use Rattle.jpa_judgment.proofs.Reading.{known_number}
 
 -- ---- ids
 
@@ -150,4 +155,27 @@ sorted_numbers schema ns sorted is distinct moved up = record {
   rising = rises_once sorted up (λ n. let few = once n ns (ap are_distinct_numbers is ∙ distinct) in subst (λ k. k ≤ 1) (sym (sum_by-IsPermutation (λ x. cond (x == n) 1 0) ns sorted moved)) few);
   same = λ n. sym (list_any-IsPermutation (λ t. t == n) ns sorted moved) ∙ ap (list_any (λ t. t == n)) is ∙ known_by n schema.tables;
   all = length_permutation ns sorted moved ∙ ap length is ∙ length-map schema.tables (λ (t : TableRule). t.table);
+  order = subst (λ l. IsPermutation l sorted) is moved;
 }
+
+-- ---- the numbers of a unit's tables
+
+module _ (m : PersistenceUnit) (schema : Schema) (is : schema ≡ schema_of m) (ns : List ℕ) (given : AreNumbersOf schema ns) where
+  pub unit_order : IsPermutation (tables_of m) ns
+  unit_order = subst (λ l. IsPermutation l ns) (ap (λ (s : Schema). map (λ (t : TableRule). t.table) s.tables) is ∙ sym (as_map (schema_of m).tables) ∙ unit_numbers m) given.order
+
+  pub some_numbers : 0 < length ns
+  some_numbers = let all = given.all ∙ ap (λ (s : Schema). length s.tables) is in omega arith
+
+  -- table 0 is the first
+  pub begins_at_zero : get_or ns 0 0 ≡ 0
+  begins_at_zero = first ns given.rising (known_number 0 ns (given.same 0 ∙ ap (λ (s : Schema). is_some (table_of s 0)) is))
+    where
+      first : (xs : List ℕ) → IsRising xs → Has xs 0 → get_or xs 0 0 ≡ 0
+      first [] up k = refl
+      first (x ∷ xs) up (inl e) = e
+      first (x ∷ xs) up (inr k) = let less = all_each (λ y. x < y) xs up.0 0 k in absurd (omega arith)
+
+  pub narrow_number : IsUnambiguous m → (i : ℕ) → i < length ns → get_or ns i 0 < 9223372036854775808
+  narrow_number clear i less =
+      below (get_or ns i 0) 9223372036854775808 (one_of (λ n. is_i64 (pos n) ≡ true) ns i less (all-permutation (λ n. is_i64 (pos n) ≡ true) (tables_of m) ns unit_order clear.small))

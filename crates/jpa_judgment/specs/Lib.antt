@@ -6,3 +6,4 @@ pub mod Read
 pub mod Together
 pub mod Damage
 pub mod Reads
+pub mod Opened

@@ -1,6 +1,8 @@
 -- What is read of a store, one table after another, and the place that is told of what was read.
-use Rattle.std.specs.Prelude.{◌≡◌, ◌⊎◌, ◌<◌, ℕ, pos, true, ◌==◌, List, [], ◌∷◌, ◌++◌, length, Option, Some, None, is_some}
+use Rattle.std.specs.Prelude.{◌≡◌, ◌⊎◌, ◌<◌, ℕ, pos, true, ◌==◌, List, [], ◌∷◌, ◌++◌, length, map, Option, Some, None, is_some}
 use Rattle.std.specs.List.{AllByRecursion, list_any}
+use Rattle.std.specs.List.Sorted.{IsPermutation}
+use Rattle.sqlite.specs.Held.{state}
 use Rattle.sqlite_trees.specs.declared.store.Store.{Ghosts}
 use Rattle.sqlite_trees.specs.Tree.{IsAscending}
 use Rattle.jpa_key.specs.Keys.{key_bytes}
@@ -8,6 +10,7 @@ use Rattle.jpa_behaviour.specs.Behaviour.{World}
 use Rattle.jpa_rows.specs.declared.schema.Schema.{Schema}
 use Rattle.jpa_rows.specs.declared.schema.TableRule.{TableRule}
 use Rattle.jpa_rows.specs.Rows.{RowId, Row, Rows, AreRising, table_of, table_rows}
+use Rattle.jpa_cells_meaning.specs.Content.{KeepsContent}
 use Rattle.jpa_cells_meaning.specs.Tables.{Tables, AreRows}
 use Rattle.jpa_cells_meaning.specs.Store.{Keeps, Endures}
 use Rattle.jpa_rowspace.specs.Reading.{AreRead, IsReadBy}
@@ -23,6 +26,7 @@ pub record AreNumbersOf (schema : Schema) (numbers : List ℕ) : Type 0 where
   pub rising : IsRising numbers
   pub same : (n : ℕ) → list_any (λ t. t == n) numbers ≡ is_some (table_of schema n)
   pub all : length numbers ≡ length schema.tables
+  pub order : IsPermutation (map (λ t. t.table) schema.tables) numbers
 
 -- ---- what is read
 
@@ -76,8 +80,9 @@ IsTold world rows end table bytes = IsFirstUnsound world rows table bytes ⊎ Te
 
 -- ---- what a reading leaves
 
--- the tables are as they were, and so is what is counted apart from SELECTs and faults
+-- the tables are as they were, and how the database holds them, and so is what is counted apart from SELECTs and faults
 pub record KeepsTables {S : Type 0} (g : Ghosts S) (old new : Space S) : Type 0 where
   pub kept : Keeps g old.store.conn new.store.conn
+  pub content : KeepsContent (state g old.store.conn) (state g new.store.conn)
   pub crash : Endures g old.store.conn new.store.conn (λ _. ⊥)
   pub others : new ≡ record old { store = record old.store { conn = new.store.conn; table_selects = new.store.table_selects; faults = new.store.faults } }

@@ -1,15 +1,17 @@
 //! The judgment of a whole store: the set and the next numbers that its cells stand for, or the place where they are damaged.
 //!
-//! `read_store` reads the tables that a metamodel names in rising order and judges their rows together. `specs/Sound.antt` says
-//! which rows an object, a pair, a next number or the revision may have, `specs/Damage.antt` which place is told where the cells
-//! stand for nothing. The crate stands on the rows of `jpa_rowspace`, objects as rows (`jpa_mapper`), and sound sets
-//! (`jpa_stored`).
+//! `open_store` reads the tables that a metamodel names in rising order, as they are to be where they are migrated, judges their
+//! rows together, and writes the migration. `specs/Sound.antt` says which rows an object, a pair, a next number or the revision
+//! may have, `specs/Damage.antt` which place is told where the cells stand for nothing, and `specs/Opened.antt` what an opening
+//! makes of the tables. The crate stands on the rows of `jpa_rowspace`, the migration of cells (`jpa_migration`), objects as rows
+//! (`jpa_mapper`), and sound sets (`jpa_stored`).
 #![tactic(auto)]
 
 mod entries;
 mod judge;
 mod keys;
 mod meaning;
+mod migration;
 mod next_numbers;
 mod numbers;
 mod objects;
@@ -18,4 +20,4 @@ mod read;
 mod store;
 
 pub use judge::Committed;
-pub use store::read_store;
+pub use store::open_store;

@@ -1,5 +1,5 @@
 -- A run over states is one over what they stand for.
-use Rattle.std.proofs.Common.{◌≡◌, List, [], ◌∷◌, Option, Result, Ok, Err, OnOk, IfErr, ℕ, ap, sym, subst}
+use Rattle.std.proofs.Common.{List, [], ◌∷◌, Option, Result, Ok, Err, OnOk, IfErr, ℕ, ap, sym, subst}
 use Rattle.jpa_value.specs.declared.refusal.Cause.{Cause}
 use Rattle.jpa_protocol.specs.declared.call.Call.{Call}
 use Rattle.jpa_protocol.specs.declared.reply.Reply.{Reply}

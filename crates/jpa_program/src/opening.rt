@@ -1,5 +1,5 @@
 //! The opening of a provider.
-ghost use Rattle.std.specs.Prelude.{◌≡◌, true, false, length, Ok, Err, IfOk, IfErr};
+ghost use Rattle.std.specs.Prelude.{◌≡◌, ◌≢◌, ◌⊎◌, true, false, length, Ok, Err, IsErr, IfOk, IfErr};
 ghost use Rattle.jpa_value.specs.declared.refusal.Cause.{Cause};
 ghost use Rattle.jpa_value.specs.declared.refusal.MappingFault.{MappingFault};
 ghost use Rattle.jpa_behaviour.specs.Served.{world_of_unit};
@@ -10,13 +10,18 @@ ghost use Rattle.jpa_cells_meaning.specs.Store.{IsClean, IsOpen, IsOrderedIfFoun
 ghost use Rattle.jpa_rowspace.specs.Space.{HoldsRows, IsStoreCause};
 ghost use Rattle.jpa_functions.specs.Known as known;
 ghost use Rattle.jpa_machine.specs.Machine.{opened};
-ghost use Rattle.jpa_program.specs.Opening.{OpensReading, KeepsOrMakes, EnduresMaking, HoldsCells, IsOpenCause};
+ghost use Rattle.jpa_history.specs.Condition.{IsHistoryOf};
+ghost use Rattle.jpa_migration.specs.Migration.{defaults_pass};
+ghost use Rattle.jpa_judgment.specs.Opened.{AllowsDue};
+ghost use Rattle.jpa_program.specs.Opening.{OpensCounting, Opened, KeepsOrMakes, EnduresMaking, EnduresOpening, HoldsCells, IsOpenCause};
 ghost use Rattle.jpa_program.specs.Run.{HoldsCommitted};
 
 use jpa_behaviour::{Behaviour, ServedUnit};
 use jpa_cells::CellStore;
 use jpa_functions::names_are_known;
-use jpa_judgment::{Committed, read_store};
+use jpa_history::History;
+use jpa_judgment::{Committed, open_store};
+use jpa_migration::defaults_pass;
 use jpa_model::Metamodel;
 use jpa_provider::Provider;
 use jpa_rows::Schema;
@@ -52,20 +57,44 @@ fn rows_over<S: Alter + Drop>(
     }
 }
 
+/// Refuses a name that the registry lacks, and then a default for which its converter throws.
+fn check_functions<B: Behaviour>(unit: &ServedUnit<B>, history: &History) -> Result<(), Cause>
+    ensures unknown { known.names_are_known unit.now.registry unit.now.metamodel ≡ false
+        → result ≡ Err (Cause.Mapping MappingFault.Function) }
+    ensures thrown { known.names_are_known unit.now.registry unit.now.metamodel ≡ true
+        → defaults_pass (world_of_unit B.meaning unit.now) history.now ≡ false →
+        IfErr result (λ cause. (cause ≡ Cause.Mapping MappingFault.Function)
+        ⊎ (cause ≡ Cause.OutOfMemory)) × IsErr result }
+    ensures memory { known.names_are_known unit.now.registry unit.now.metamodel ≡ true
+        → defaults_pass (world_of_unit B.meaning unit.now) history.now ≡ true →
+        IfErr result (λ cause. cause ≡ Cause.OutOfMemory) }
+    ensures fault { IfErr result (λ cause. cause ≢ Cause.StoreFault) }
+{
+    if !names_are_known(&unit.metamodel, &unit.registry)
+        || !defaults_pass(&unit.metamodel, &unit.registry, history)?
+    {
+        return Err(Cause::Mapping(MappingFault::Function));
+    }
+    Ok(())
+}
+
 /// The rows of a metamodel over the cells of a database, and what they stand for. A database that is empty gets the table of
-/// cells, and is held to have no object. Beside that the store counts one SELECT for each table of the metamodel, and no
-/// other statement and no fault. Refused, it hands the connection back.
+/// cells, and is held to have no object. A store of revision 1 that a unit of revision 2 opens is migrated, in one commit. The
+/// store counts one SELECT for each table of the metamodel, the statements of that commit, no other statement and no fault.
+/// Refused, it hands the connection back, with the tables as they were.
 ///
-/// `Mapping(function)` where the metamodel names a listener, callback or converter that the registry lacks, before the store
-/// is looked at. Then `OutOfMemory` where a growth was refused, `StoreFault` where the database holds anything else than
-/// cells, where the connection is in a transaction and where the store fails, and `Damaged` with its place where the cells of
-/// the metamodel's tables stand for no set of objects.
+/// `Mapping(function)` where the metamodel names a listener, callback or converter that the registry lacks, and then where a
+/// converter throws for a default, before the store is looked at. Then `OutOfMemory` where a growth was refused, `StoreFault`
+/// where the database holds anything else than cells, where the connection is in a transaction and where the store fails, and
+/// `Damaged` with its place where the cells of the metamodel's tables, as they are to be, stand for no set of objects.
 pub fn open_rows<S: Alter + Drop, B: Behaviour>(
     alloc: Global,
     conn: Connection<S>,
     unit: &ServedUnit<B>,
+    history: &History,
 ) -> Result<(RowSpace<S>, Committed), (Cause, Connection<S>)>
     requires ordered { IsOrderedIfFound S.Store conn }
+    requires history { IsHistoryOf unit.now.metamodel history.now }
     ensures schema { IfOk result (λ o. o.0.schema ≡ schema_of unit.now.metamodel) }
     ensures held { IfOk result (λ o. CanBeHeld (world_of_unit B.meaning unit.now) o.1.set
         o.1.numbers) }
@@ -76,47 +105,61 @@ pub fn open_rows<S: Alter + Drop, B: Behaviour>(
         o.0.store.conn o.1.set o.1.numbers) }
     ensures live { IfOk result (λ o. IsClean S.Store o.0.store.conn →
         IsOpen S.Store o.0.store.conn) }
-    ensures opens { IfOk result (λ o. KeepsOrMakes S.Store conn o.0.store.conn) }
-    ensures crash { IfOk result (λ o. EnduresMaking S.Store conn o.0.store.conn) }
-    ensures counted { IfOk result (λ o. OpensReading S.Store conn o.0.store
-        (length (schema_of unit.now.metamodel).tables)) }
+    ensures opens { IfOk result (λ o. Opened S.Store (world_of_unit B.meaning unit.now)
+        history.now conn o.0.store.conn) }
+    ensures crash { IfOk result (λ o. EnduresOpening S.Store (world_of_unit B.meaning unit.now)
+        history.now conn o.0.store.conn) }
+    ensures counted { IfOk result (λ o. OpensCounting S.Store (world_of_unit B.meaning unit.now)
+        history.now conn o.0.store (length (schema_of unit.now.metamodel).tables)) }
     ensures unknown { known.names_are_known unit.now.registry unit.now.metamodel ≡ false
         → result ≡ Err (Cause.Mapping MappingFault.Function, conn) }
+    ensures thrown { known.names_are_known unit.now.registry unit.now.metamodel ≡ true
+        → defaults_pass (world_of_unit B.meaning unit.now) history.now ≡ false → (result
+        ≡ Err (Cause.Mapping MappingFault.Function, conn))
+        ⊎ (result ≡ Err (Cause.OutOfMemory, conn)) }
     ensures refused { IfErr result (λ e. known.names_are_known unit.now.registry unit.now.metamodel
-        ≡ true → IsOpenCause S.Store (world_of_unit B.meaning unit.now) e.1 e.0) }
+        ≡ true → defaults_pass (world_of_unit B.meaning unit.now) history.now ≡ true →
+        IsOpenCause S.Store (world_of_unit B.meaning unit.now) history.now e.1 e.0) }
     ensures cause { IfErr result (λ e. e.0 ≡ Cause.StoreFault → IsClean S.Store e.1 →
-        conn.in_transaction ≡ false → HoldsTable S.Store conn → HasFault S.Store conn e.1) }
+        conn.in_transaction ≡ false → HoldsTable S.Store conn →
+        AllowsDue S.Store (world_of_unit B.meaning unit.now) history.now conn →
+        HasFault S.Store conn e.1) }
     ensures kept { IfErr result (λ e. KeepsOrMakes S.Store conn e.1) }
-    ensures crash_err { IfErr result (λ e. EnduresMaking S.Store conn e.1) }
+    ensures crash_err { IfErr result (λ e. EnduresOpening S.Store
+        (world_of_unit B.meaning unit.now) history.now conn e.1) }
     ensures again { IfErr result (λ e. IsOrderedIfFound S.Store e.1) }
 {
-    if !names_are_known(&unit.metamodel, &unit.registry) {
-        return Err((Cause::Mapping(MappingFault::Function), conn));
+    if let Err(cause) = check_functions(unit, history) {
+        return Err((cause, conn));
     }
     let mut space = match rows_over(alloc, conn, &unit.metamodel) {
         Ok(space) => space,
         Err(refused) => return Err(refused),
     };
-    match read_store(alloc, &unit.metamodel, &unit.registry, &mut space) {
+    match open_store(alloc, &unit.metamodel, &unit.registry, history, &mut space) {
         Ok(committed) => Ok((space, committed)),
         Err(cause) => Err((cause, space.store.into_connection())),
     }
 }
 
 /// A provider of a metamodel over the cells of a database, with what they stand for committed: no object lives and no manager
-/// was made. A database that is empty gets the table of cells, and is held to have no object. Beside that the store counts
-/// one SELECT for each table of the metamodel, and no other statement and no fault. Refused, it hands the connection back.
+/// was made. A database that is empty gets the table of cells, and is held to have no object. A store of revision 1 that a unit
+/// of revision 2 opens is migrated, in one commit. The store counts one SELECT for each table of the metamodel, the statements
+/// of that commit, no other statement and no fault. Refused, it hands the connection back, with the tables as they were, or as
+/// they were migrated where memory was refused after the commit.
 ///
-/// `Mapping(function)` where the metamodel names a listener, callback or converter that the registry lacks, before the store is
-/// looked at. Then `OutOfMemory` where a growth was refused, `StoreFault` where the database holds anything else than cells,
-/// where the connection is in a transaction and where the store fails, and `Damaged` with its place where the cells of the
-/// metamodel's tables stand for no set of objects.
+/// `Mapping(function)` where the metamodel names a listener, callback or converter that the registry lacks, and then where a
+/// converter throws for a default, before the store is looked at. Then `OutOfMemory` where a growth was refused, `StoreFault`
+/// where the database holds anything else than cells, where the connection is in a transaction and where the store fails, and
+/// `Damaged` with its place where the cells of the metamodel's tables, as they are to be, stand for no set of objects.
 pub fn open<S: Alter + Drop, B: Behaviour>(
     alloc: Global,
     conn: Connection<S>,
     unit: ServedUnit<B>,
+    history: &History,
 ) -> Result<Provider<RowSpace<S>, B>, (Cause, Connection<S>)>
     requires ordered { IsOrderedIfFound S.Store conn }
+    requires history { IsHistoryOf unit.metamodel history.now }
     ensures model { IfOk result (λ provider. provider.model ≡ unit.metamodel) }
     ensures registry { IfOk result (λ provider. provider.registry ≡ unit.registry) }
     ensures machine { IfOk result (λ provider. provider.machine
@@ -126,23 +169,34 @@ pub fn open<S: Alter + Drop, B: Behaviour>(
     ensures cells { IfOk result (HoldsCommitted S.Store B.meaning) }
     ensures live { IfOk result (λ provider. IsClean S.Store (provider.rows).store.conn →
         IsOpen S.Store (provider.rows).store.conn) }
-    ensures opens { IfOk result (λ provider. KeepsOrMakes S.Store conn
-        (provider.rows).store.conn) }
-    ensures crash { IfOk result (λ provider. EnduresMaking S.Store conn
-        (provider.rows).store.conn) }
-    ensures counted { IfOk result (λ provider. OpensReading S.Store conn (provider.rows).store
+    ensures opens { IfOk result (λ provider. Opened S.Store (world_of_unit B.meaning unit)
+        history.now conn (provider.rows).store.conn) }
+    ensures crash { IfOk result (λ provider. EnduresOpening S.Store (world_of_unit B.meaning unit)
+        history.now conn (provider.rows).store.conn) }
+    ensures counted { IfOk result (λ provider. OpensCounting S.Store
+        (world_of_unit B.meaning unit) history.now conn (provider.rows).store
         (length (schema_of unit.metamodel).tables)) }
     ensures unknown { known.names_are_known unit.registry unit.metamodel ≡ false
         → result ≡ Err (Cause.Mapping MappingFault.Function, conn) }
+    ensures thrown { known.names_are_known unit.registry unit.metamodel ≡ true
+        → defaults_pass (world_of_unit B.meaning unit) history.now ≡ false → (result
+        ≡ Err (Cause.Mapping MappingFault.Function, conn))
+        ⊎ (result ≡ Err (Cause.OutOfMemory, conn)) }
     ensures refused { IfErr result (λ e. known.names_are_known unit.registry unit.metamodel
-        ≡ true → IsOpenCause S.Store (world_of_unit B.meaning unit) e.1 e.0) }
+        ≡ true → defaults_pass (world_of_unit B.meaning unit) history.now ≡ true →
+        IsOpenCause S.Store (world_of_unit B.meaning unit) history.now e.1 e.0) }
     ensures cause { IfErr result (λ e. e.0 ≡ Cause.StoreFault → IsClean S.Store e.1 →
-        conn.in_transaction ≡ false → HoldsTable S.Store conn → HasFault S.Store conn e.1) }
-    ensures kept { IfErr result (λ e. KeepsOrMakes S.Store conn e.1) }
-    ensures crash_err { IfErr result (λ e. EnduresMaking S.Store conn e.1) }
+        conn.in_transaction ≡ false → HoldsTable S.Store conn →
+        AllowsDue S.Store (world_of_unit B.meaning unit) history.now conn →
+        HasFault S.Store conn e.1) }
+    ensures kept { IfErr result (λ e. KeepsOrMakes S.Store conn e.1
+        ⊎ ((e.0 ≡ Cause.OutOfMemory)
+        × Opened S.Store (world_of_unit B.meaning unit) history.now conn e.1)) }
+    ensures crash_err { IfErr result (λ e. EnduresOpening S.Store (world_of_unit B.meaning unit)
+        history.now conn e.1) }
     ensures again { IfErr result (λ e. IsOrderedIfFound S.Store e.1) }
 {
-    let (space, committed) = match open_rows(alloc, conn, &unit) {
+    let (space, committed) = match open_rows(alloc, conn, &unit, history) {
         Ok(opened) => opened,
         Err(refused) => return Err(refused),
     };

@@ -6,10 +6,12 @@ ghost use Rattle.jpa_cells_meaning.specs.Store.{IsOrderedIfFound};
 use jpa_behaviour::{Registry, ServedUnit};
 use jpa_cells::{CellRow, CellStore};
 use jpa_functions::ProgramFunctions;
+use jpa_history::History;
 use jpa_lines::RunFault;
 use jpa_program::{first_unit, open, run};
 use jpa_provider::Provider;
 use jpa_rowspace::RowSpace;
+use jpa_value::Seq;
 use sqlite::{Alter, Connection, MemStore};
 use std::alloc::{AllocError, Global};
 use std::io::{Read, Write};
@@ -58,7 +60,10 @@ fn opened(alloc: Global) -> Result<Provider<RowSpace<MemStore>, ProgramFunctions
         registry: Registry::new(alloc),
     };
     let conn = Connection::open_in_memory(alloc)?;
-    match open(alloc, conn, unit) {
+    let history = History {
+        classes: Seq::new(alloc),
+    };
+    match open(alloc, conn, unit, &history) {
         Ok(provider) => Ok(provider),
         Err((cause, _)) => Err(Fail::from(cause)),
     }

@@ -4,15 +4,19 @@ ghost use Rattle.jpa_value.specs.declared.refusal.Cause.{Cause};
 ghost use Rattle.jpa_key.specs.Keys.{key_bytes};
 ghost use Rattle.jpa_rows.specs.Rows.{Rows, AreRising, AreChanges, rows_after, table_of};
 ghost use Rattle.jpa_rows.specs.Statements.{statements_of};
+ghost use Rattle.sqlite.specs.Held.{state};
+ghost use Rattle.jpa_cells_meaning.specs.Content.{KeepsContent};
 ghost use Rattle.jpa_cells_meaning.specs.Tables.{AreRows, cells_at, tables_after};
-ghost use Rattle.jpa_cells_meaning.specs.Store.{up_to_greatest, Counts, Tells, faults_after, IsClean, IsOpen, tables_in, Keeps, Becomes, Endures, Allows, HasFault};
+ghost use Rattle.jpa_cells_meaning.specs.Store.{up_to_greatest, Counts, Tells, faults_after, IsClean, IsOpen, tables_in, Keeps, Becomes, Endures, Allows, HasFault, FaultHasCause, StaysOpen};
 ghost use Rattle.jpa_rowspace.specs.Stored as stored;
 ghost use Rattle.jpa_rowspace.specs.Reading.{IsFound, IsIllFormed, AreRead};
 ghost use Rattle.jpa_rowspace.specs.Space.{HoldsRows, IsStoreCause};
 
+use crate::read::rows_of;
 use crate::select::{row_under, rows_under};
-use crate::spell::cell_changes;
+use crate::spell::{cell_changes, known_table, number_of};
 use jpa_cells::CellStore;
+use jpa_cells_meaning::CellRow;
 use jpa_rows::{Row, RowChange, RowId, RowSource, Schema, is_key};
 use jpa_value::{Bytes, Cause, Seq};
 use sqlite::Alter;
@@ -146,6 +150,53 @@ impl<S: Alter> RowSpace<S> {
             Some(rule) => rows_under(self.alloc, &mut self.store, rule),
             None => Ok((Seq::new(self.alloc), None)),
         }
+    }
+
+    /// The rows of cells of one of the schema's tables, by one SELECT.
+    pub fn cells(&mut self, table: u64) -> Result<Seq<CellRow>, Cause>
+        requires { IsSome (table_of self.old.schema table) }
+        ensures rows { IsClean S.Store self.new.store.conn →
+            IfOk result (λ rows. rows ≡ tables_in S.Store self.old.store.conn (pos table)) }
+        ensures rise { IsClean S.Store self.new.store.conn → IfOk result AreRows }
+        ensures open { StaysOpen S.Store result self.old.store.conn self.new.store.conn }
+        ensures kept { Keeps S.Store self.old.store.conn self.new.store.conn }
+        ensures kept_content { KeepsContent (state S.Store self.old.store.conn)
+            (state S.Store self.new.store.conn) }
+        ensures counted { self.new.store.table_selects
+            ≡ up_to_greatest (self.old.store.table_selects + 1) }
+        ensures told { Tells result self.old.store.faults self.new.store.faults }
+        ensures cause { FaultHasCause S.Store result self.old.store.conn self.new.store.conn }
+        ensures others { self.new
+            ≡ record self.old {
+              store = record self.old.store {
+                conn = self.new.store.conn;
+                table_selects = self.new.store.table_selects;
+                faults = self.new.store.faults;
+              };
+            } }
+        ensures crash { Endures S.Store self.old.store.conn self.new.store.conn (λ _. ⊥) }
+    {
+        let number = number_of(known_table(&self.schema, table));
+        self.store.table(number)
+    }
+
+    /// The rows that cells of one of the schema's tables spell, up to the first that is damaged, and the bytes of that one.
+    /// No statement is run.
+    pub fn entries(
+        &self,
+        table: u64,
+        stored: Vec<CellRow>,
+    ) -> Result<(Seq<(RowId, Row)>, Option<Bytes>), Cause>
+        requires { IsSome (table_of self.now.schema table) }
+        ensures read { IfOk result (λ read. IfSome (table_of self.now.schema table)
+            (λ rule. AreRead rule stored.items read.0 read.1)) }
+        ensures rising { AreRows stored.items → IfOk result (λ read. AreRising read.0) }
+        ensures err { IfErr result (λ cause. cause ≡ Cause.OutOfMemory) }
+    {
+        let Some(rule) = self.schema.table(table) else {
+            return Ok((Seq::new(self.alloc), None));
+        };
+        rows_of(self.alloc, rule, stored)
     }
 
     /// The rows of a table in the order of their ids, by one SELECT; none, and without a SELECT, where the table is none of

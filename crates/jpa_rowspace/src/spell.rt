@@ -52,7 +52,7 @@ pub(crate) fn number_of(rule: &TableRule) -> i64
 }
 
 #[tactic(auto, using(crate::proofs::Ids::numbered))]
-fn known_table(schema: &Schema, table: u64) -> &TableRule
+pub(crate) fn known_table(schema: &Schema, table: u64) -> &TableRule
     requires { IsSome (table_of schema.now table) }
     ensures { result.now.table ≡ table }
 {

@@ -1,5 +1,4 @@
 pub mod Asked
-pub mod Begun
 pub mod Told
 pub mod Found
 pub mod Keyed

@@ -9,3 +9,4 @@ pub mod ByValue
 pub mod Lookups
 pub mod Refused
 pub mod Grown
+pub mod Indexes
