@@ -71,7 +71,10 @@ def _change(manager: karzhoul.EntityManager, given: argparse.Namespace) -> str:
 
 def _ship(manager: karzhoul.EntityManager, given: argparse.Namespace) -> str:
     invoice = orders.ship_order(manager, given.order, given.day)
-    return f"order {given.order} is shipped, with invoice {invoice.number}: {reports.money(invoice.total)}"
+    return (
+        f"order {given.order} is shipped, with invoice {invoice.number}: "
+        f"{reports.money(invoice.total)}"
+    )
 
 
 def _cancel(manager: karzhoul.EntityManager, given: argparse.Namespace) -> str:
@@ -113,9 +116,13 @@ COMMANDS: Dict[str, Command] = {
 
 
 def _parser() -> argparse.ArgumentParser:
-    parser = argparse.ArgumentParser(prog="desk.py", description="An order desk over a database file.")
+    parser = argparse.ArgumentParser(
+        prog="desk.py", description="An order desk over a database file."
+    )
     parser.add_argument("--db", default="desk.db", help="the database file (desk.db)")
-    parser.add_argument("--events", action="store_true", help="tell the events of objects on standard error")
+    parser.add_argument(
+        "--events", action="store_true", help="tell the events of objects on standard error"
+    )
     commands = parser.add_subparsers(dest="command", required=True, metavar="COMMAND")
     _add_data_commands(commands)
     _add_order_commands(commands)
@@ -130,7 +137,9 @@ def _add_data_commands(commands: "argparse._SubParsersAction[argparse.ArgumentPa
     made = commands.add_parser("import", help="import a CSV file")
     made.add_argument("kind", choices=sorted(IMPORTS))
     made.add_argument("file", type=Path)
-    made.add_argument("--size", type=_positive, default=500, help="how many rows a transaction takes (500)")
+    made.add_argument(
+        "--size", type=_positive, default=500, help="how many rows a transaction takes (500)"
+    )
     made = commands.add_parser("report", help="print a report")
     made.add_argument("name", choices=sorted(reports.REPORTS))
     made = commands.add_parser("show", help="print an order, a customer or a product")
@@ -143,7 +152,9 @@ def _add_order_commands(commands: "argparse._SubParsersAction[argparse.ArgumentP
     made.add_argument("customer", type=int)
     made.add_argument("wanted", type=_wanted, nargs="+", metavar="SKU=QUANTITY")
     _add_day(made)
-    made = commands.add_parser("change", help="set how much an order takes of products; 0 takes a line out")
+    made = commands.add_parser(
+        "change", help="set how much an order takes of products; 0 takes a line out"
+    )
     made.add_argument("order", type=int)
     made.add_argument("wanted", type=_wanted, nargs="+", metavar="SKU=QUANTITY")
     for name, words in (
@@ -158,7 +169,9 @@ def _add_order_commands(commands: "argparse._SubParsersAction[argparse.ArgumentP
 
 
 def _add_day(parser: argparse.ArgumentParser) -> None:
-    parser.add_argument("--day", type=_day, default=datetime.date.today().isoformat(), help="YYYY-MM-DD (today)")
+    parser.add_argument(
+        "--day", type=_day, default=datetime.date.today().isoformat(), help="YYYY-MM-DD (today)"
+    )
 
 
 def _day(word: str) -> str:

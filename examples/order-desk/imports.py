@@ -1,4 +1,5 @@
-"""Products and customers from CSV files: all rows are checked first, and then stored, many to a transaction."""
+"""Products and customers from CSV files: all rows are checked first, and then stored, many to a
+transaction."""
 
 from __future__ import annotations
 
@@ -8,7 +9,9 @@ import sys
 import time
 from contextlib import AbstractContextManager
 from pathlib import Path
-from typing import Any, Callable, Dict, Iterator, List, NamedTuple, Sequence, Set, TextIO, Tuple, TypeVar
+from typing import (
+    Any, Callable, Dict, Iterator, List, NamedTuple, Sequence, Set, TextIO, Tuple, TypeVar,
+)
 
 import karzhoul
 from karzhoul import EntityManager, EntityManagerFactory
@@ -78,7 +81,9 @@ def _cells(path: Path, columns: Sequence[str]) -> Iterator[Tuple[int, Dict[str, 
                 raise DeskError(f"{path}:1: the columns are to be {','.join(columns)}")
             for cells in reader:
                 if None in cells or None in cells.values():
-                    raise DeskError(f"{path}:{reader.line_num}: {len(columns)} cells are to stand here")
+                    raise DeskError(
+                        f"{path}:{reader.line_num}: {len(columns)} cells are to stand here"
+                    )
                 yield reader.line_num, cells
     except OSError as fault:
         raise DeskError(f"{path}: {fault.strerror}") from fault
@@ -94,7 +99,9 @@ def _customer(cells: Dict[str, str]) -> CustomerRow:
 def _product(cells: Dict[str, str]) -> ProductRow:
     price, stock = _cents("price", cells["price"]), _whole("stock", cells["stock"])
     categories = tuple(dict.fromkeys(filter(None, cells["categories"].split(";"))))
-    return ProductRow(_text("sku", cells["sku"]), _text("name", cells["name"]), price, stock, categories)
+    return ProductRow(
+        _text("sku", cells["sku"]), _text("name", cells["name"]), price, stock, categories
+    )
 
 
 def _text(column: str, cell: str) -> str:
@@ -205,16 +212,22 @@ def _categories(manager: EntityManager, codes: Set[str]) -> Dict[str, Any]:
     ordered = sorted(codes)
     Category = manager.factory.entity("Category")
     found = zip(ordered, manager.find_many(Category, ordered))
-    return {code: it if it is not None else Category(code=code, title=code.capitalize()) for code, it in found}
+    return {
+        code: it if it is not None else Category(code=code, title=code.capitalize())
+        for code, it in found
+    }
 
 
 # ---- telling
 
 
 class Progress(AbstractContextManager["Progress"]):
-    """How far an import is, in one line of a terminal: rows, rows a second, and the time left. Elsewhere nothing is told."""
+    """How far an import is, in one line of a terminal: rows, rows a second, and the time left.
+    Elsewhere nothing is told."""
 
-    def __init__(self, total: int, stream: TextIO = sys.stderr, clock: Callable[[], float] = time.monotonic) -> None:
+    def __init__(
+        self, total: int, stream: TextIO = sys.stderr, clock: Callable[[], float] = time.monotonic
+    ) -> None:
         self._total, self._stream, self._clock = total, stream, clock
         self._start = clock()
 

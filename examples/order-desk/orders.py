@@ -1,4 +1,5 @@
-"""What the desk does with orders. Each function is one transaction of the manager that it is handed."""
+"""What the desk does with orders. Each function is one transaction of the manager that it is
+handed."""
 
 from __future__ import annotations
 
@@ -27,7 +28,8 @@ def place_order(manager: EntityManager, customer: int, wanted: Wanted, day: str)
     entity = manager.factory.entity
     with manager.transaction():
         order = entity("Order")(customer=found(manager, "Customer", customer), day=day)
-        # Its id is generated now. The lines, whose keys have it, are persisted along with the order.
+        # Its id is generated now. The lines, whose keys have it, are persisted along with the
+        # order.
         manager.persist(order)
         for sku, quantity in wanted:
             _set_quantity(manager, order, sku, quantity)

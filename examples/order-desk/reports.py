@@ -9,7 +9,7 @@ from orders import DeskError, found, total_of
 
 
 class Report(NamedTuple):
-    """A query with the headings of its columns; the last column is a sum of money where `is_money`."""
+    """A query with the headings of its columns; the last one is a sum of money where `is_money`."""
 
     headings: Sequence[str]
     text: str
@@ -37,12 +37,14 @@ REPORTS: Dict[str, Report] = {
     ),
     "statuses": Report(
         ("status", "orders"),
-        "SELECT o.status, COUNT(o) AS orders FROM Order o GROUP BY o.status ORDER BY orders DESC, o.status",
+        "SELECT o.status, COUNT(o) AS orders FROM Order o GROUP BY o.status ORDER BY orders DESC, "
+        "o.status",
         is_money=False,
     ),
     "companies": Report(
         ("number", "name", "vat"),
-        "SELECT c.number, c.name, c.vat FROM Company c WHERE EXISTS (SELECT o FROM c.orders o) ORDER BY c.number",
+        "SELECT c.number, c.name, c.vat FROM Company c WHERE EXISTS (SELECT o FROM c.orders o) "
+        "ORDER BY c.number",
         is_money=False,
     ),
 }
@@ -99,7 +101,10 @@ def _customer(manager: EntityManager, customer: Any) -> Iterable[str]:
 
 
 def _product(_: EntityManager, product: Any) -> Iterable[str]:
-    yield f"product {product.sku}: {product.name} at {money(product.price)}, {product.stock} in stock"
+    yield (
+        f"product {product.sku}: {product.name} at {money(product.price)}, {product.stock} in "
+        f"stock"
+    )
     yield f"  in {', '.join(category.title for category in product.categories) or 'no category'}"
 
 

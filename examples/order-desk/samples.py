@@ -21,7 +21,9 @@ def write_samples(folder: Path, products: int, customers: int) -> None:
     try:
         folder.mkdir(parents=True, exist_ok=True)
         _write(folder / "products.csv", ProductRow._fields, map(_product, range(1, products + 1)))
-        _write(folder / "customers.csv", CustomerRow._fields, map(_customer, range(1, customers + 1)))
+        _write(
+            folder / "customers.csv", CustomerRow._fields, map(_customer, range(1, customers + 1))
+        )
     except OSError as fault:
         raise DeskError(f"{fault.filename}: {fault.strerror}") from fault
 
