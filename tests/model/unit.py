@@ -189,7 +189,8 @@ def assigned(function: dict[str, str], values: Values) -> Values:
     if make == "copy":
         return {function["to"]: values.get(function["from"])}
     if make == "count":
-        value = values.get(function["attribute"])
+        # (null counts as 0; what isn't there is no whole number)
+        value = values.get(function["attribute"], "")
         value = 0 if value is None else value
         if not isinstance(value, int) or value == GREATEST:
             raise Refused("Listener", "count")
