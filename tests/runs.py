@@ -20,6 +20,7 @@ yet too. Exit status 0 where all that ran agree.
 from __future__ import annotations
 
 import json, os, sqlite3, subprocess, sys, tempfile
+from contextlib import closing
 from typing import Any
 
 sys.dont_write_bytecode = True
@@ -66,7 +67,7 @@ def cells(path: str) -> str:
     """The cells of a store's file; none where there is no file, or no table in it."""
     if not os.path.exists(path):
         return ""
-    with sqlite3.connect(path) as store:
+    with closing(sqlite3.connect(path)) as store:
         if not store.execute("SELECT 1 FROM sqlite_schema WHERE name = 'cell'").fetchone():
             return ""
         rows = store.execute("SELECT t, hex(r), c, hex(v) FROM cell ORDER BY t, r, c")
