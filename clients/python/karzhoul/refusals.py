@@ -105,7 +105,7 @@ class OutOfMemory(Refused, number=1):
 
 
 class StoreFault(Refused, number=2):
-    """The store refused a statement, or can't be opened; nothing was done."""
+    """The store can't be opened, or a commit could not be written; its transaction stays open."""
 
 
 class BadLine(Refused, number=3):
