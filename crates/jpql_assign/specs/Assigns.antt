@@ -7,16 +7,19 @@ use Rattle.jpql_assign.specs.Causes.{cause_of}
 use Rattle.jpql_assign.specs.declared.refused.Refused.{Refused}
 use Rattle.jpql_eval.specs.declared.datum.Datum.{Datum}
 
+-- what a refusal says of the wanted result: Memory nothing, others that it is theirs
 abbrev pub Refuses : {A : Type 0} → Refused → Result A Cause → Type 0
 Refuses Refused.Memory wanted = Unit {0}
 Refuses Refused.Limit wanted = wanted ≡ Err (cause_of Refused.Limit)
 Refuses Refused.Converter wanted = wanted ≡ Err (cause_of Refused.Converter)
 Refuses Refused.Null wanted = wanted ≡ Err (cause_of Refused.Null)
 
+-- a result is the wanted one, as `view` sees it; a refusal says of it what `Refuses` says
 abbrev pub Assigns : {A B : Type 0} → (A → B) → Result A Refused → Result B Cause → Type 0
 Assigns view (Ok a) wanted = wanted ≡ Ok (view a)
 Assigns view (Err e) wanted = Refuses e wanted
 
+-- a thing as it is
 abbrev pub same : {A : Type 0} → A → A
 same a = a
 

@@ -3,6 +3,7 @@ use Rattle.jpa_value.specs.declared.refusal.Cause.{Cause}
 use Rattle.jpa_value.specs.declared.refusal.Persist.{Persist}
 use Rattle.jpql_assign.specs.declared.refused.Refused.{Refused}
 
+-- the cause that a refusal is told by
 abbrev pub cause_of : Refused → Cause
 cause_of Refused.Memory = Cause.OutOfMemory
 cause_of Refused.Limit = Cause.Limit

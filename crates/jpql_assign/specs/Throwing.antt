@@ -5,6 +5,7 @@ use Rattle.jpa_behaviour.specs.Registered.{Meaning, Registered, column_in}
 use Rattle.jpql_plan.specs.Bulk.{Throws}
 
 module _ {L C : Type 0} (f : Meaning L C) (r : Registered L C) where
+  -- a converter throws for a value where it makes nothing of it; without one nothing throws
   abbrev pub throws_by : Option (List ℕ) → Value → Bool
   throws_by None v = false
   throws_by (Some name) v = is_none (column_in f r name v)

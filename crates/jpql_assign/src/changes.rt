@@ -35,9 +35,9 @@ fn all_assigned<'a, B: Behaviour>(
 
 /// The objects of an UPDATE with their members set, in rising order, under their identities.
 ///
-/// `Limit` where a value is longer than a text or a byte value may be, `Converter` where an attribute's converter
-/// throws for its value, and `Null` where a version is set to null: whichever comes first, object by object and
-/// assignment by assignment. `Memory` where a growth was refused.
+/// `Limit` where a value is longer than a text or a byte value may be, `Converter` where an
+/// attribute's converter throws for its value, and `Null` where a version is set to null: whichever
+/// comes first, object by object and assignment by assignment. `Memory` where a growth was refused.
 pub fn assign<'a, B: Behaviour>(
     alloc: Global,
     unit: &ServedUnit<B>,

@@ -1,7 +1,7 @@
-//! What an UPDATE assigns to the objects that it concerns (Jakarta Persistence 3.1, chapter 4.10).
+//! What an UPDATE assigns to the objects that it concerns (Jakarta Persistence 3.1, chapter 4.11).
 //!
-//! `assign` makes new objects of what `jpql_bulk` found, in rising order, assignment by assignment as they are
-//! written, or refuses the first that can't be made.
+//! `assign` makes new objects of what `jpql_bulk` found, in rising order, assignment by assignment
+//! as they are written, or refuses the first that can't be made.
 #![tactic(auto)]
 
 mod changes;

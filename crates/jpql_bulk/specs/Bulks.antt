@@ -13,6 +13,7 @@ use Rattle.jpql_plan.specs.Paths.{Entry, Tuple}
 use Rattle.jpql_run.specs.Runs.{any_condition, objects}
 use Rattle.jpql_run.specs.declared.run.Run.{Run}
 
+-- the tuple of an object, which has no variable where a DELETE leaves it out
 abbrev pub tuple_of : Run → Bool → Entry → Tuple
 tuple_of run is_named e = bulk.tuple_of run.metamodel.now (now run.set.now) run.parameters.now is_named e
 
@@ -29,6 +30,7 @@ there run is_named all where_ es =
 abbrev pub kept_of : Run → Bool → Option TypedCondition → List Entry → Answer (List Entry)
 kept_of run is_named where_ es = kept (λ e. truth_of_any (any_condition run where_) (alone (tuple_of run is_named e))) es
 
+-- the objects that an UPDATE or a DELETE concerns
 abbrev pub concerned : Run → ℕ → Bool → List TypedAssignment → Option TypedCondition → Answer (List Entry)
 concerned run class is_named all where_ =
     bulk.concerned run.metamodel.now (now run.set.now) run.parameters.now class is_named (set_drops run all) where_
@@ -38,8 +40,10 @@ abbrev pub LeavesAll : Run → ℕ → Bool → Option TypedCondition → List E
 LeavesAll run class is_named where_ es =
     (drops : Entry → Bool) → kept_of run is_named where_ (filter (λ e. not (drops e)) (objects run class)) ≡ kept_of run is_named where_ (filter (λ e. not (drops e)) es)
 
+-- what an assignment gives for an object
 abbrev pub assignment_datum : Run → Entry → TypedAssignment → Answer (Member × Datum)
 assignment_datum run e a = bulk.assignment_datum run.metamodel.now (now run.set.now) run.parameters.now e a
 
+-- an object with what each assignment gives for it
 abbrev pub assignments_for : Run → List TypedAssignment → Entry → Answer (Entry × List (Member × Datum))
 assignments_for run all e = bulk.assignments_for run.metamodel.now (now run.set.now) run.parameters.now all e

@@ -16,12 +16,15 @@ use Rattle.jpql_plan.specs.Paths.{Entry}
 use Rattle.jpql_run.specs.Objects.{entry}
 use Rattle.jpql_bulk.specs.declared.update.Change.{Change}
 
+-- a member with what it is set to
 abbrev pub member_in : Member × Seen → Member × Datum
 member_in a = (a.0, seen a.1)
 
+-- members with what they are set to
 abbrev pub members_in : List (Member × Seen) → List (Member × Datum)
 members_in all = map member_in all
 
+-- an object with what its members are set to
 abbrev pub change_in : Change → Entry × List (Member × Datum)
 change_in c = (entry c.object, members_in c.members.items)
 

@@ -8,7 +8,7 @@ use Rattle.jpql_eval.specs.declared.datum.Datum.{Datum}
 use Rattle.jpql_plan.specs.Bulk.{Throws, ◌and_then◌, each_assigned, or_refuse, updated, deleted}
 use Rattle.jpql_bulk.specs.Changes.{found_by_update, found_by_delete}
 
--- UPDATE and DELETE (chapter 4.10), over a set, with parameters.
+-- UPDATE and DELETE (chapter 4.11), over a set, with parameters.
 pub record BulkLaws (m : PersistenceUnit) (s : StoredSet) (ps : List Datum) : Type 0 where
   -- all is computed by the old set, then each object is assigned, in rising order, and put
   pub update : (throws : Throws) (class : ℕ) (all : List TypedAssignment) (where_ : Option TypedCondition)

@@ -1,4 +1,4 @@
-//! DELETE (chapter 4.10).
+//! DELETE (chapter 4.11).
 ghost use Rattle.std.specs.Prelude.{◌≡◌, true, map, T, IfOk};
 ghost use Rattle.jpa_open.specs.Opened as opened;
 ghost use Rattle.jpql_bulk.specs.Changes as changes;

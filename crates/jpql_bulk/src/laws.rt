@@ -5,8 +5,8 @@ ghost use Rattle.jpa_stored.specs.Sets.{StoredSet};
 ghost use Rattle.jpql_bulk.specs.Laws.{BulkLaws};
 ghost use Rattle.jpql_eval.specs.declared.datum.Datum.{Datum};
 
-/// The laws of UPDATE and DELETE (chapter 4.10); it does nothing. The meaning of the statements goes on from what
-/// they find in the old set.
+/// The laws of UPDATE and DELETE (chapter 4.11); it does nothing. The meaning of the statements
+/// goes on from what they find in the old set.
 pub fn bulk_laws()
     ensures { (m : PersistenceUnit) (s : StoredSet) (ps : List Datum) → BulkLaws m s ps }
 {}

@@ -1,4 +1,4 @@
-//! UPDATE (chapter 4.10).
+//! UPDATE (chapter 4.11).
 ghost use Rattle.std.specs.Prelude.{◌≡◌, true, map, T};
 ghost use Rattle.jpa_open.specs.Opened as opened;
 ghost use Rattle.jpql_bulk.specs.Bulks as bulks;
@@ -23,7 +23,8 @@ use jpql_run::{Object, Run, Tuple, value};
 use jpql_types::{TypedAssignment, TypedCondition, TypedValue};
 use std::alloc::Global;
 
-/// An object that an UPDATE concerns, with what its members are set to, in the order of the assignments.
+/// An object that an UPDATE concerns, with what its members are set to, in the order of the
+/// assignments.
 #[derive(Drop)]
 pub struct Change<'a> {
     /// The object.
@@ -113,8 +114,8 @@ fn each_change<'a>(
     Ok(found)
 }
 
-/// The objects that an UPDATE of a class concerns, in rising order, each with what its members are set to.
-/// All are computed by the old set, before any is assigned.
+/// The objects that an UPDATE of a class concerns, in rising order, each with what its members are
+/// set to. All are computed by the old set, before any is assigned.
 ///
 /// `Overflow` where some part is an integer outside 64 bits; `Memory` where a growth was refused.
 pub fn found_by_update<'a>(

@@ -258,7 +258,8 @@ fn exists(alloc: Global, depth: usize, tokens: &[Token]) -> Result<(Condition, &
     Ok((Condition::Exists(Boxed::new(alloc, block)?), rest))
 }
 
-// Here and in the loops below a condition is dropped by a call: one that goes out of scope takes minutes to prove.
+// Here and in the loops below a condition is dropped by a call: one that goes out of scope takes
+// minutes to prove.
 #[cycle(cond)]
 #[tactic(auto, unfolding(jpql_tree::specs::Values::closed))]
 fn nested(alloc: Global, depth: usize, tokens: &[Token]) -> Result<(Condition, &[Token]), ReadError>

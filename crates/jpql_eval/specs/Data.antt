@@ -11,9 +11,11 @@ use Rattle.jpql_eval.specs.declared.datum.Datum.{Datum}
 use Rattle.jpql_eval.specs.declared.datum.Truth.{Truth}
 use Rattle.jpql_eval.specs.Truths.{truth_of, and3, any3}
 
+-- null, as an expression gives it
 abbrev pub null : Datum
 null = Datum.Plain Value.Null
 
+-- whether a datum is null
 abbrev pub is_nothing : Datum → Bool
 is_nothing (Datum.Plain v) = is_null v
 is_nothing (Datum.Entity id) = false
@@ -24,29 +26,34 @@ same_datum (Datum.Plain x) (Datum.Plain y) = same_value x y
 same_datum (Datum.Entity x) (Datum.Entity y) = same_identity x y
 same_datum _ _ = false
 
+-- whether two lists have the same data in turn
 abbrev pub same_data : List Datum → List Datum → Bool
 same_data [] [] = true
 same_data (x ∷ xs) (y ∷ ys) = same_datum x y && same_data xs ys
 same_data _ _ = false
 
--- Nulls come first, then the other values. An entity has no order in a query; here it stands behind all values, so that
--- the order is total.
+-- Nulls come first, then the other values. An entity has no order in a query; here it stands behind
+-- all values, so that the order is total.
 abbrev pub is_entity : Datum → ℕ
 is_entity (Datum.Plain x) = 0
 is_entity (Datum.Entity id) = 1
 
+-- the value that a datum is; null for an entity
 abbrev pub value_in : Datum → Value
 value_in (Datum.Plain x) = x
 value_in (Datum.Entity id) = Value.Null
 
+-- the identity of an entity; a blank one for a value
 abbrev pub identity_in : Datum → Identity
 identity_in (Datum.Plain x) = record { table = 0; key = [] }
 identity_in (Datum.Entity id) = id
 
+-- the order of data: values before entities, values by theirs, entities by their identities
 abbrev pub datum_cmp : Datum → Datum → Ordering
 datum_cmp a b =
     ordering_then (nat_cmp (is_entity a) (is_entity b)) (ordering_then (value_cmp (value_in a) (value_in b)) (identity_cmp (identity_in a) (identity_in b)))
 
+-- whether a comparison holds, by whether both are the same and by their order
 abbrev pub holds : Comparison → Bool → Ordering → Bool
 holds Comparison.Equal same o = same
 holds Comparison.Different same o = not same
@@ -67,5 +74,6 @@ compared op a b = if is_nothing a || is_nothing b then Truth.Unknown else truth_
 abbrev pub among : Datum → List Datum → Truth
 among x all = any3 (map (compared Comparison.Equal x) all)
 
+-- BETWEEN: at least the one and at most the other (chapter 4.6.8)
 abbrev pub between : Datum → Datum → Datum → Truth
 between x low high = and3 (compared Comparison.AtLeast x low) (compared Comparison.AtMost x high)

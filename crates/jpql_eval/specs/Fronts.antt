@@ -4,8 +4,8 @@ use Rattle.jpql_eval.specs.declared.patterns.Mark.{Mark}
 use Rattle.jpql_eval.specs.declared.patterns.Front.{Front}
 use Rattle.jpql_eval.specs.Texts.{is_matched, any_rest}
 
--- then the marks after the % and the characters after what was matched decide, of the text and of what is left after any
--- front of it
+-- then the marks after the % and the characters after what was matched decide, of the text and of
+-- what is left after any front of it
 pub record IsOpen (ms : List Mark) (cs : List ℕ) (others : List Mark) (rest : List ℕ) : Type 0 where
   pub marks : length others < length ms
   pub text : length rest ≤ length cs
@@ -17,6 +17,7 @@ pub record IsEither (ms : List Mark) (cs : List ℕ) (answer : Bool) : Type 0 wh
   pub here : is_matched ms cs ≡ answer
   pub later : any_rest (is_matched ms) cs ≡ answer
 
+-- what a way to stand says of whether marks match the characters
 abbrev pub IsFront : List Mark → List ℕ → Front → Type 0
 IsFront ms cs Front.Differs = is_matched ms cs ≡ false
 IsFront ms cs Front.Short = IsEither ms cs false

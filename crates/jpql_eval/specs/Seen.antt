@@ -5,6 +5,7 @@ use Rattle.jpql_eval.specs.Data.{null}
 use Rattle.jpql_eval.specs.Numbers.{number}
 use Rattle.jpql_eval.specs.declared.seen.Seen.{Seen}
 
+-- the datum that something stands for
 abbrev pub seen : Seen → Datum
 seen Seen.Null = null
 seen (Seen.Int n) = number n

@@ -1,4 +1,4 @@
-//! Aggregates (chapter 4.8.5): nulls are left out, and with DISTINCT what came before.
+//! Aggregates (chapter 4.9.5): nulls are left out, and with DISTINCT what came before.
 ghost use Rattle.std.specs.Prelude.{◌≡◌, ◌^◌, ◌≤ℤ◌, pos, neg_ℤ, map, not, unwrap_or, IfOk};
 ghost use Rattle.std.specs.List.{filter};
 ghost use Rattle.jpql_eval.specs.Aggregates as aggregates;
@@ -106,9 +106,11 @@ fn best<'a>(alloc: Global, comparison: Comparison, all: &[Seen<'a>]) -> Result<S
     best.again(alloc)
 }
 
-/// An aggregate of what an expression gives for each tuple of a group. COUNT of nothing is 0, the others are null.
+/// An aggregate of what an expression gives for each tuple of a group. COUNT of nothing is 0, the
+/// others are null.
 ///
-/// `Overflow` where the exact total of a SUM is outside 64 bits; `Memory` where a growth was refused.
+/// `Overflow` where the exact total of a SUM is outside 64 bits; `Memory` where a growth was
+/// refused.
 pub fn aggregated<'a>(
     alloc: Global,
     aggregate: Aggregate,

@@ -200,7 +200,8 @@ pub fn applied<'a>(alloc: Global, function: Function, all: &[Seen<'a>]) -> Resul
     }
 }
 
-/// LIKE: unknown where an operand is null. `Memory` where a growth was refused, and no other refusal.
+/// LIKE: unknown where an operand is null. `Memory` where a growth was refused, and no other
+/// refusal.
 pub fn like<'a>(
     alloc: Global,
     escape: &Option<Text>,

@@ -13,7 +13,8 @@ use jpa_value::{Text, order_identities};
 use jpql_tree::Comparison;
 use std::cmp::Ordering;
 
-/// The place of two in one total order: nulls first, then integers, texts, byte strings and entities.
+/// The place of two in one total order: nulls first, then integers, texts, byte strings and
+/// entities.
 #[tactic(auto, using(crate::proofs::Orders::then_equal))]
 pub fn order<'a>(left: &Seen<'a>, right: &Seen<'a>) -> Ordering
     ensures { result ≡ data_.datum_cmp (seen left.now) (seen right.now) }
@@ -47,7 +48,8 @@ fn order_text<'a>(text: &Text, other: &Seen<'a>) -> Ordering
     }
 }
 
-/// Whether two are one: entities by their identity, and null as null, which groups and DISTINCT go by.
+/// Whether two are one: entities by their identity, and null as null, which groups and DISTINCT go
+/// by.
 #[tactic(auto, using(crate::proofs::Orders::same_by_order))]
 pub fn is_same<'a>(left: &Seen<'a>, right: &Seen<'a>) -> bool
     ensures { result ≡ data_.same_datum (seen left.now) (seen right.now) }

@@ -8,7 +8,7 @@ pub enum Datum {
     Entity(Identity),
 }
 
-/// What a condition gives (chapter 4.11).
+/// What a condition gives (chapter 4.12).
 #[derive(Clone, Copy)]
 pub enum Truth {
     Yes,

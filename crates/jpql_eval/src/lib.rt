@@ -1,7 +1,8 @@
-//! Operators, functions, LIKE and aggregates of queries, on values (Jakarta Persistence 3.1, chapters 4.6 to 4.8).
+//! Operators, functions, LIKE and aggregates of queries, on values (Jakarta Persistence 3.1,
+//! chapters 4.6, 4.7 and 4.9.5).
 //!
-//! What each gives stands in `specs/`. Values are seen where they stand: in an object, in the query or among its
-//! parameters.
+//! What each gives stands in `specs/`. Values are seen where they stand: in an object, in the query
+//! or among its parameters.
 #![tactic(auto)]
 
 mod aggregates;

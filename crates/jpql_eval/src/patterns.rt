@@ -1,7 +1,7 @@
 //! LIKE (chapter 4.6.10), in at most quadratic time.
 //!
-//! What stands before the first `%` has one place. Between two of them the leftmost place serves: what comes after may
-//! then begin anywhere that it could begin after a later one.
+//! What stands before the first `%` has one place. Between two of them the leftmost place serves:
+//! what comes after may then begin anywhere that it could begin after a later one.
 ghost use Rattle.std.specs.Prelude.{◌≡◌, ◌∷◌, length, ◌≤◌, IfOk};
 ghost use Rattle.jpql_eval.specs.Texts as texts;
 ghost use Rattle.jpql_eval.specs.Fronts.{IsFront};

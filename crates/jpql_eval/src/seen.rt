@@ -10,7 +10,8 @@ use crate::datum::Datum;
 use jpa_value::{Bytes, Identity, Text, Value};
 use std::alloc::{AllocError, Global};
 
-/// What an expression gives: borrowed from an object, the query or its parameters, or a text that was made.
+/// What an expression gives: borrowed from an object, the query or its parameters, or a text that
+/// was made.
 #[derive(Drop)]
 pub enum Seen<'a> {
     Null,

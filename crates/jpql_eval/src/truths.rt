@@ -1,4 +1,4 @@
-//! Three-valued logic (chapters 4.6.1 and 4.11).
+//! Three-valued logic (chapters 4.6.5 and 4.12).
 ghost use Rattle.std.specs.Prelude.{◌≡◌};
 ghost use Rattle.jpql_eval.specs.Truths as truths;
 

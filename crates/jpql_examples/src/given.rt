@@ -21,7 +21,8 @@ fn add_escaped(part: &str, out: &mut Writer) -> Result<(), Stop> {
     Ok(())
 }
 
-/// Adds the text of a line, in which a backslash and two hexadecimal digits stand for the character of that number.
+/// Adds the text of a line, in which a backslash and two hexadecimal digits stand for the character
+/// of that number.
 pub(crate) fn add_text(line: &str, out: &mut Writer) -> Result<(), Stop> {
     let mut is_escaped = false;
     for part in line.split('\\') {

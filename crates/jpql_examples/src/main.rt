@@ -1,8 +1,8 @@
 //! Worked examples of queries (the docs of `examples` tell the form of their files).
 //!
-//! The kinds `query` and `repeated` (src/queries.rt) answer trees of texts, and `typed` (src/typed.rt) what the mapping says of
-//! them. Each answers a line for each that is given; in a given line a backslash and two hexadecimal digits stand for a
-//! character (src/given.rt).
+//! The kinds `query` and `repeated` (src/queries.rt) answer trees of texts, and `typed`
+//! (src/typed.rt) what the mapping says of them. Each answers a line for each that is given; in a
+//! given line a backslash and two hexadecimal digits stand for a character (src/given.rt).
 #![tactic(auto)]
 
 mod given;

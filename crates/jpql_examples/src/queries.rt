@@ -76,7 +76,8 @@ fn repeated(alloc: Global, count: usize, given: &str) -> Result<String, Stop> {
     Ok(out.finish()?)
 }
 
-/// Adds the tree of a text that is given by three lines and how often the middle one stands in it, or why it is refused.
+/// Adds the tree of a text that is given by three lines and how often the middle one stands in it,
+/// or why it is refused.
 pub(crate) fn repeated_answer(
     alloc: Global,
     rows: &str,

@@ -2,7 +2,8 @@
 use std::alloc::{AllocError, Global};
 use std::fmt::Display;
 
-/// A text that grows by pieces. It remembers that memory was refused for one, so that only its end has to be asked.
+/// A text that grows by pieces. It remembers that memory was refused for one, so that only its end
+/// has to be asked.
 #[derive(Drop)]
 pub(crate) struct Writer {
     text: String,

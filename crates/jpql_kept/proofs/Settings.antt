@@ -1,4 +1,4 @@
--- What a well-typed assignment gives, its member takes (chapter 4.10).
+-- What a well-typed assignment gives, its member takes (chapter 4.11).
 use Rattle.std.proofs.Common.{◌≡◌, ◌∙◌, refl, ap, sym, subst, ℕ, Bool, true, false, List, [], ◌∷◌, map}
 use Rattle.std.specs.Prelude.{◌&&◌, ◌||◌, if◌then◌else◌, Option, Some, None, is_some, option_map, slice_get, unwrap_or}
 use Rattle.std.specs.List.{list_all, flat_map, position_from}

@@ -1,4 +1,5 @@
--- What the data of a sort are, and what a member of a class can be set to (chapters 4.6.4 and 4.10).
+-- What the data of a sort are, and what a member of a class can be set to (chapters 4.6.4 and
+-- 4.11).
 use Rattle.std.specs.Prelude.{◌≡◌, ℕ, Bool, true, false, nat_lt, ◌&&◌, ◌||◌, List, length, slice_get, Option, Some, None, is_some, is_none}
 use Rattle.jpa_value.specs.declared.value.Value.{Value}
 use Rattle.jpa_value.specs.declared.value.Kind.{Kind}
@@ -26,6 +27,7 @@ is_kind Kind.Text (Value.Text bytes) = true
 is_kind Kind.Bytes (Value.Bytes bytes) = true
 is_kind k v = false
 
+-- a datum is of a sort's kind: null, a value of its kind, or an entity
 abbrev pub is_of_sort : Sort → Datum → Bool
 is_of_sort Sort.Null (Datum.Plain v) = is_null v
 is_of_sort Sort.Null (Datum.Entity id) = false
@@ -41,6 +43,7 @@ is_named_in m (Sort.Entity root) (Datum.Plain v) = true
 is_named_in m (Sort.Basic k) d = true
 is_named_in m Sort.Null d = true
 
+-- a datum is of a sort; an entity is named by an identity of its hierarchy
 abbrev pub is_of : PersistenceUnit → Sort → Datum → Bool
 is_of m s d = is_of_sort s d && is_named_in m s d
 
@@ -50,17 +53,19 @@ are_of m = each_fits (λ p d. is_of m p.1 d)
 
 -- ---- what a member can be set to
 
+-- an entity that a link takes is of its target's hierarchy; a plain value is not asked
 abbrev pub takes_link : PersistenceUnit → ℕ → ℕ → Datum → Bool
 takes_link m class r (Datum.Plain v) = true
 takes_link m class r (Datum.Entity id) =
     is_some_that (λ (relation : Relation). is_some (column_of relation.side) && is_identity_of (root_of m relation.target) id) (slice_get (relations_of m class) r)
 
+-- a value that an attribute takes is null or of its kind; an entity is not asked
 abbrev pub takes_value : PersistenceUnit → ℕ → ℕ → Datum → Bool
 takes_value m class i (Datum.Plain v) = is_null v || is_some_that (λ (a : Attribute). is_kind a.kind v) (slice_get (attributes_of m class) i)
 takes_value m class i (Datum.Entity id) = true
 
--- a version is there to be set; an attribute takes null and its kind; an owned relation to one takes null and identities of
--- its target's hierarchy
+-- a version is there to be set; an attribute takes null and its kind; an owned relation to one
+-- takes null and identities of its target's hierarchy
 abbrev pub takes : PersistenceUnit → ℕ → Member → Datum → Bool
 takes m class (Member.KeyPart i) d = true
 takes m class Member.Version d = is_some (root_of m class).version
@@ -69,6 +74,7 @@ takes m class (Member.Relation r) d = takes_link m class r d
 
 -- ---- converters of a world
 
+-- a converter throws for a value where it makes nothing of it; without one nothing throws
 abbrev pub throws_by : World → Option (List ℕ) → Value → Bool
 throws_by world None v = false
 throws_by world (Some name) v = is_none (world.column name v)

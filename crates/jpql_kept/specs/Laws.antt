@@ -1,4 +1,5 @@
--- What an UPDATE and a DELETE (chapter 4.10) keep: the set that they make is one that a store can hold, where it is sound.
+-- What an UPDATE and a DELETE (chapter 4.11) keep: the set that they make is one that a store can
+-- hold, where it is sound.
 use Rattle.std.specs.Prelude.{◌≡◌, ℕ, Bool, true, List, Option, Ok}
 use Rattle.jpa_behaviour.specs.Behaviour.{World, AnswersConvertible}
 use Rattle.jpa_stored.specs.Sets.{StoredSet, IsSound}
@@ -14,8 +15,8 @@ use Rattle.jpql_eval.specs.declared.datum.Datum.{Datum}
 use Rattle.jpql_plan.specs.Bulk.{updated, deleted}
 use Rattle.jpql_kept.specs.Fits.{are_of, throws_in, AreInherited}
 
--- A statement that was checked for parameters of these sorts, the data that were handed for them, and a set that a store can
--- hold, of a unit whose classes inherit; what a converter answers can stand in a column.
+-- A statement that was checked for parameters of these sorts, with data of these sorts. A store can
+-- hold the set. The unit's classes inherit, and what a converter answers can stand in a column.
 pub record IsReady (world : World) (s : StoredSet) (numbers : List ℕ) (q : Query) (sorts : List (Text × Sort)) (data_ : List Datum) (typed : Typed) : Type 0 where
   pub convertible : AnswersConvertible world
   pub inherited : AreInherited world.model
@@ -23,11 +24,12 @@ pub record IsReady (world : World) (s : StoredSet) (numbers : List ℕ) (q : Que
   pub given : are_of world.model sorts data_ ≡ true
   pub checked : checked world.model q sorts ≡ Ok typed
 
--- UPDATE and DELETE over a set. That values are the program's the types of the code say: a number that it computes has 64
--- bits, a text that it makes is UTF-8.
+-- UPDATE and DELETE over a set. That values are the program's the types of the code say: a number
+-- that it computes has 64 bits, a text that it makes is UTF-8.
 pub record KeepLaws (world : World) (s : StoredSet) (numbers : List ℕ) : Type 0 where
-  -- values of the right kind stand in the attributes, short ones, for which no converter throws; a version is a number,
-  -- a link an identity of its hierarchy; identities, classes and generated keys are what they were
+  -- values of the right kind stand in the attributes, short ones, for which no converter throws; a
+  -- version is a number, a link an identity of its hierarchy; identities, classes and generated
+  -- keys are what they were
   pub update : (q : Query) (sorts : List (Text × Sort)) (data_ : List Datum) (class : ℕ) (all : List TypedAssignment) (where_ : Option TypedCondition)
       → IsReady world s numbers q sorts data_ (Typed.Update class all where_)
       → (after : StoredSet) (n : ℕ) → updated world.model s data_ (throws_in world) class all where_ ≡ Ok (after, n)

@@ -7,14 +7,15 @@ ghost use Rattle.jpa_stored.specs.Sets.{StoredSet};
 ghost use Rattle.jpql_kept.specs.Fits.{AreInherited};
 ghost use Rattle.jpql_kept.specs.Laws.{KeepLaws};
 
-/// The laws of what UPDATE and DELETE keep (chapter 4.10); it does nothing. What a well-typed statement makes of a set
-/// that a store can hold a store can hold, where it is sound and its values are the program's.
+/// The laws of what UPDATE and DELETE keep (chapter 4.11); it does nothing. What a well-typed
+/// statement makes of a set that a store can hold a store can hold, where it is sound and its
+/// values are the program's.
 pub fn keep_laws()
     ensures { (world : World) (s : StoredSet) (numbers : List ℕ) → KeepLaws world s numbers }
 {}
 
-/// The law of inheritance (chapter 2.12); it does nothing. Of a unit that a description gives what a class has, each
-/// class below it has in the same place.
+/// The law of inheritance (chapter 2.12); it does nothing. Of a unit that a description gives what
+/// a class has, each class below it has in the same place.
 pub fn inheritance_law()
     ensures { (m : PersistenceUnit) → IsDescribed m → AreInherited m }
 {}

@@ -1,7 +1,9 @@
-//! What an UPDATE and a DELETE (Jakarta Persistence 3.1, chapter 4.10) keep of the set that they change.
+//! What an UPDATE and a DELETE (Jakarta Persistence 3.1, chapter 4.11) keep of the set that they
+//! change.
 //!
-//! `keep_laws` carries the law: a set that a store can hold is made one that a store can hold, where it is sound still.
-//! `specs/Fits` says what data of a sort are, and what a member of a class can be set to.
+//! `keep_laws` carries the law: a set that a store can hold is made one that a store can hold,
+//! where it is sound still. `specs/Fits` says what data of a sort are, and what a member of a class
+//! can be set to.
 #![tactic(auto)]
 
 mod laws;

@@ -8,6 +8,7 @@ use Rattle.jpql_tree.specs.Text.{is_in_word, Piece, piece_tokens}
 use Rattle.jpql_lexer.specs.declared.cut.Class.{Class}
 use Rattle.jpql_lexer.specs.declared.cut.Class.TheVariants as class
 
+-- whether a byte is of a class
 abbrev pub is_in : Class → ℕ → Bool
 is_in class.Word b = is_in_word b
 is_in class.Digit b = is_ascii_digit b
@@ -17,6 +18,7 @@ is_in class.Unquoted b = not (b == 39)
 abbrev pub as_tokens : Option (Piece × Text) → Option (List Token × Text)
 as_tokens cut = cut >>= λ x. Some (piece_tokens x.0, x.1)
 
+-- a token as a list, or the empty list
 abbrev pub one_if_any : Option Token → List Token
 one_if_any None = []
 one_if_any (Some t) = t ∷ []

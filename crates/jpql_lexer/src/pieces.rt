@@ -289,9 +289,10 @@ fn cut(alloc: Global, text: &str) -> Result<Vec<Token>, ReadError>
     Ok(found)
 }
 
-/// The tokens of a text. `Memory` where a growth was refused; `Syntax` exactly where the text has no tokens: at a byte
-/// that begins none, an integer above 9223372036854775807, a text whose quote doesn't close, or a parameter without a
-/// name (Jakarta Persistence 3.1, chapters 4.4.1, 4.6.1 and 4.6.4).
+/// The tokens of a text. `Memory` where a growth was refused; `Syntax` exactly where the text has
+/// no tokens: at a byte that begins none, an integer above 9223372036854775807, a text whose quote
+/// doesn't close, or a parameter without a name (Jakarta Persistence 3.1, chapters 4.4.1, 4.6.1 and
+/// 4.6.4).
 pub fn tokens(alloc: Global, text: &str) -> Result<Vec<Token>, ReadError>
     ensures found { IfOk result (λ found. IsText text.now found.items) }
     ensures only { (tokens : List Token) → IsText text.now tokens →

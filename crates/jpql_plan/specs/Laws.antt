@@ -26,9 +26,11 @@ use Rattle.jpql_plan.specs.Selection.{Row, put_tuples, precedes, in_order}
 abbrev pub range_of : ℕ → TypedSource
 range_of class = roll-TypedSource (record { origin = TypedOrigin.Entity class; joins = [] })
 
+-- a join from a variable along a step, with or without LEFT and ON
 abbrev pub join_along : Bool → ℕ → Step → Option TypedCondition → TypedJoin
 join_along is_left of step on = roll-TypedJoin (record { is_left = is_left; of = of; step = step; on = on })
 
+-- a nested SELECT with this item, FROM and WHERE
 abbrev pub block_of : TypedValue → List TypedSource → TypedCondition → TypedBlock
 block_of item sources filtered = roll-TypedBlock (record { item = item; sources = sources; filter = Some filtered })
 
@@ -67,7 +69,7 @@ pub record WhereLaws (test : Tuple → Answer Truth) (drops : Tuple → Bool) (t
   -- tuples may be tested one by one
   pub one_by_one : kept test (filter (λ t. not (drops t)) ts) ≡ each (λ t. if drops t then gives [] else kept test (t ∷ [])) ts
 
--- ORDER BY (chapter 4.9): the stable sort by the keys.
+-- ORDER BY (chapter 4.10): the stable sort by the keys.
 pub record OrderLaws (keys : List TypedKey) (rows : List Row) : Type 0 where
   pub sorted : IsSortedBy (precedes keys) (in_order keys rows)
   pub stable : IsStableBy (precedes keys) rows (in_order keys rows)
@@ -78,7 +80,7 @@ pub record OrderLaws (keys : List TypedKey) (rows : List Row) : Type 0 where
 abbrev pub is_same_row : Row → Row → Bool
 is_same_row a b = same_data a.items b.items
 
--- DISTINCT (chapter 4.8.1): one more row is kept exactly where no row before it is the same.
+-- DISTINCT (chapter 4.9): one more row is kept exactly where no row before it is the same.
 pub record DistinctLaws (rows : List Row) (row : Row) : Type 0 where
   pub one_more : once is_same_row (rows ++ row ∷ [])
       ≡ (if list_any (λ (before : Row). is_same_row before row) rows then once is_same_row rows else once is_same_row rows ++ row ∷ [])
@@ -87,10 +89,11 @@ pub record DistinctLaws (rows : List Row) (row : Row) : Type 0 where
 abbrev pub grouped_with : (Tuple → List Datum) → Tuple → List Tuple → List Tuple
 grouped_with key t ts = filter (λ u. same_data (key t) (key u)) ts
 
+-- the tuples that are not grouped by the same as one
 abbrev pub grouped_apart : (Tuple → List Datum) → Tuple → List Tuple → List Tuple
 grouped_apart key t ts = filter (λ u. not (same_data (key t) (key u))) ts
 
--- GROUP BY (chapter 4.8) parts the tuples: the first group has the first tuple and all that are grouped by the same, in their
--- order, and the others are the groups of those that are left.
+-- GROUP BY (chapter 4.8) parts the tuples. The first group has the first tuple and all that are
+-- grouped by the same, in their order. The others are the groups of those that are left.
 pub record GroupLaws (key : Tuple → List Datum) (t : Tuple) (ts : List Tuple) : Type 0 where
   pub first_group : put_tuples key [] (t ∷ ts) ≡ (t ∷ grouped_with key t ts) ∷ put_tuples key [] (grouped_apart key t ts)

@@ -10,33 +10,34 @@ ghost use Rattle.jpql_plan.specs.Paths.{Tuple};
 ghost use Rattle.jpql_plan.specs.Selection.{Row};
 ghost use Rattle.jpql_plan.specs.Laws.{FromLaws, WhereLaws, GroupLaws, OrderLaws, DistinctLaws};
 
-/// The laws of FROM and EXISTS (chapters 4.4 and 4.6.16); it does nothing. A range is the objects of its class in rising
-/// order, an inner join a filter of related objects; a LEFT JOIN loses no tuple; elements of FROM may be parted anywhere;
-/// EXISTS is whether the nested block has a tuple.
+/// The laws of FROM and EXISTS (chapters 4.4 and 4.6.16); it does nothing. A range is the objects
+/// of its class in rising order, an inner join a filter of related objects; a LEFT JOIN loses no
+/// tuple; elements of FROM may be parted anywhere; EXISTS is whether the nested block has a tuple.
 pub fn from_laws()
     ensures { (m : PersistenceUnit) (s : StoredSet) (ps : List Datum) → FromLaws m s ps }
 {}
 
-/// The laws of WHERE (chapter 4.5); it does nothing. Where nothing overflows, WHERE is the filter of what is true, and tuples
-/// may be tested one by one.
+/// The laws of WHERE (chapter 4.5); it does nothing. Where nothing overflows, WHERE is the filter
+/// of what is true, and tuples may be tested one by one.
 pub fn where_laws()
     ensures { (test : Tuple → Answer Truth) (drops : Tuple → Bool) (ts : List Tuple) →
         WhereLaws test drops ts }
 {}
 
-/// The law of GROUP BY (chapter 4.8); it does nothing. The first group has the first tuple and all that are grouped by the
-/// same, in their order, and the others are the groups of those that are left: so each tuple stands in one group, and no
-/// two groups are of one key.
+/// The law of GROUP BY (chapter 4.8); it does nothing. The first group has the first tuple and all
+/// that are grouped by the same, in their order, and the others are the groups of those that are
+/// left: so each tuple stands in one group, and no two groups are of one key.
 pub fn group_laws()
     ensures { (key : Tuple → List Datum) (t : Tuple) (ts : List Tuple) → GroupLaws key t ts }
 {}
 
-/// The laws of ORDER BY (chapter 4.9); it does nothing. It is the one stable sort by the keys.
+/// The laws of ORDER BY (chapter 4.10); it does nothing. It is the one stable sort by the keys.
 pub fn order_laws()
     ensures { (keys : List TypedKey) (rows : List Row) → OrderLaws keys rows }
 {}
 
-/// The law of DISTINCT (chapter 4.8.1); it does nothing. One more row is kept exactly where no row before it is the same.
+/// The law of DISTINCT (chapter 4.9); it does nothing. One more row is kept exactly where no row
+/// before it is the same.
 pub fn distinct_laws()
     ensures { (rows : List Row) (row : Row) → DistinctLaws rows row }
 {}

@@ -6,8 +6,10 @@ use Rattle.jpql_eval.specs.declared.seen.Seen.{Seen}
 use Rattle.jpql_eval.specs.Seen.{seen}
 use Rattle.jpql_plan.specs.Selection.{Row}
 
+-- the rows of a table, as data
 abbrev pub rows_in : Vec (Vec Seen) → List (List Datum)
 rows_in table = map (λ (row : Vec Seen). map seen row.items) table.items
 
+-- the items of rows
 abbrev pub items_in : List Row → List (List Datum)
 items_in rows = map (λ (r : Row). r.items) rows

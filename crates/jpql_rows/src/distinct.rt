@@ -1,4 +1,4 @@
-//! DISTINCT (chapter 4.8.1): of the rows that are the same the first is kept.
+//! DISTINCT (chapter 4.9): of the rows that are the same the first is kept.
 ghost use Rattle.std.specs.Prelude.{◌≡◌, IfOk};
 ghost use Rattle.jpql_eval.specs.Aggregates as aggregates;
 ghost use Rattle.jpql_plan.specs.Laws.{is_same_row};

@@ -1,4 +1,5 @@
-//! ORDER BY (chapter 4.9): nulls come first, DESC turns a key round, and rows that tie stay in their order.
+//! ORDER BY (chapter 4.10): nulls come first, DESC turns a key round, and rows that tie stay in
+//! their order.
 ghost use Rattle.std.specs.Prelude.{◌≡◌, map, IfOk};
 ghost use Rattle.jpql_eval.specs.Seen.{seen};
 ghost use Rattle.jpql_plan.specs.Selection as selection;

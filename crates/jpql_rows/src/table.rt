@@ -24,8 +24,9 @@ fn table_of<'a>(alloc: Global, rows: Vec<Row<'a>>) -> Result<Table<'a>, AllocErr
     Ok(table)
 }
 
-/// Rows in the order of their keys (chapter 4.9), without those of an earlier row where DISTINCT is written (chapter 4.8.1):
-/// the first of the rows that are the same is kept, null as null, nulls come first, and rows that tie stay in their order.
+/// Rows in the order of their keys (chapter 4.10), without those of an earlier row where DISTINCT
+/// is written (chapter 4.9): the first of the rows that are the same is kept, null as null, nulls
+/// come first, and rows that tie stay in their order.
 ///
 /// Fails for want of memory alone.
 pub fn ordered<'a>(

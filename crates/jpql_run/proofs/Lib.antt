@@ -14,7 +14,11 @@ pub mod CalmValues
 pub mod CalmConditions
 pub mod Onward
 pub mod Lookups
+pub mod Owned
 pub mod Refused
 pub mod CalmParts
 pub mod Growing
 pub mod Parted
+pub mod Among
+pub mod ByKey
+pub mod Left

@@ -7,6 +7,7 @@ pub mod Calm
 pub mod ByReference
 pub mod ByValue
 pub mod Lookups
+pub mod Members
 pub mod Refused
 pub mod Grown
 pub mod Indexes

@@ -1,5 +1,6 @@
-//! What can't overflow: no `+`, `-`, `*`, sign, ABS, MOD or aggregate stands in it, nor in its nested blocks. Then an object
-//! that a condition refuses decides nothing (chapter 4.6).
+//! What can't overflow: no `+`, `-`, `*`, ABS, MOD or aggregate stands in it, nor in its nested
+//! blocks, and no sign but that of an integer. Then an object that a condition refuses decides
+//! nothing (chapter 4.6).
 ghost use Rattle.std.specs.Prelude.{◌≡◌, option_map};
 ghost use Rattle.std.specs.List.{list_all};
 ghost use Rattle.jpql_run.specs.Calm as calm;
@@ -12,6 +13,30 @@ fn is_calm_function(function: Function) -> bool
     ensures { result ≡ calm.is_calm_function function }
 {
     !matches!(function, Function::Abs | Function::Mod)
+}
+
+/// Whether a number is one of 64 bits with either sign.
+fn is_small(number: i64) -> bool
+    ensures { result ≡ calm.is_small number }
+{
+    number.checked_neg().is_some()
+}
+
+/// Whether a value is an integer that can't overflow with a sign.
+fn is_small_integer(value: &TypedValue) -> bool
+    ensures { result ≡ (calm.calmness value.now).small }
+{
+    match value {
+        TypedValue::Integer(number) => is_small(*number),
+        TypedValue::Text(_)
+        | TypedValue::Parameter(_)
+        | TypedValue::Path(_)
+        | TypedValue::Size(_)
+        | TypedValue::Call(_, _)
+        | TypedValue::Signed(_, _)
+        | TypedValue::Arithmetic(_, _, _)
+        | TypedValue::Aggregate(_, _, _) => false,
+    }
 }
 
 /// Whether a value can't overflow.
@@ -28,9 +53,8 @@ pub(crate) fn is_calm_value(value: &TypedValue) -> bool
         TypedValue::Call(function, all) => {
             is_calm_function(*function) && are_calm_values(all.as_slice())
         }
-        TypedValue::Signed(_, _)
-        | TypedValue::Arithmetic(_, _, _)
-        | TypedValue::Aggregate(_, _, _) => false,
+        TypedValue::Signed(_, operand) => is_small_integer(operand.get()),
+        TypedValue::Arithmetic(_, _, _) | TypedValue::Aggregate(_, _, _) => false,
     }
 }
 

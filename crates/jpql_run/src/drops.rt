@@ -1,4 +1,5 @@
-//! Whether a tuple has a null step in a path, outside nested blocks: such a tuple is dropped (chapter 4.4.4).
+//! Whether a tuple has a null step in a path, outside nested blocks: such a tuple is dropped
+//! (chapter 4.4.4).
 ghost use Rattle.std.specs.Prelude.{◌≡◌};
 ghost use Rattle.std.specs.List.{list_any};
 ghost use Rattle.jpql_plan.specs.Meaning as meaning;

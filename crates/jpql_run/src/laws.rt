@@ -13,14 +13,14 @@ ghost use Rattle.jpql_run.specs.Calm.{CalmLaws};
 ghost use Rattle.jpql_run.specs.Lookups.{KeyLaws, LookupLaws, KnownLaws};
 ghost use Rattle.jpql_run.specs.Refused.{AreJoinsTold, LeavingOut, JoinLeavingOut, RefusalLaws};
 
-/// The laws of what can't overflow; it does nothing. Where no `+`, `-`, `*`, ABS, MOD or aggregate stands, nested blocks and
-/// their items included, Overflow can't come from it.
+/// The laws of what can't overflow; it does nothing. Where no `+`, `-`, `*`, ABS, MOD or aggregate
+/// stands, nested blocks and their items included, Overflow can't come from it.
 pub fn calm_laws()
     ensures { CalmLaws }
 {}
 
-/// The law of what may be left out; it does nothing. Where WHERE and ON can't overflow, candidates that WHERE or the ON of an
-/// inner join refuses decide nothing.
+/// The law of what may be left out; it does nothing. Where WHERE and ON can't overflow, candidates
+/// that WHERE or the ON of an inner join refuses decide nothing.
 pub fn leaving_out_laws()
     ensures { (m : PersistenceUnit) (s : StoredSet) (ps : List Datum) (x : TypedSource)
         (more : List TypedSource) (c : Option TypedCondition) → AreJoinsTold x →
@@ -39,8 +39,8 @@ pub fn refusal_laws()
         (t : Tuple) → RefusalLaws m s ps a b t }
 {}
 
-/// The laws of look-ups; it does nothing. What an index by value, an identity or the index of references leaves out, an
-/// equation with what is known before refuses.
+/// The laws of look-ups; it does nothing. What an index by value, an identity or the index of
+/// references leaves out, an equation with what is known before refuses.
 pub fn lookup_laws()
     ensures { (m : PersistenceUnit) (s : StoredSet) (ps : List Datum) (cs : List TypedCondition)
         (t : Tuple) (w : TypedValue) (y : Datum) (all : List Entry) →

@@ -1,11 +1,13 @@
 //! Statements run over the set that a transaction sees (Jakarta Persistence 3.1, chapter 4).
 //!
-//! Objects are borrowed from the set, and none is copied while tuples are joined. What is found is what the
-//! definitions of jpql_plan say: the same tuples in the same order, or the same Overflow.
+//! Objects are borrowed from the set, and none is copied while tuples are joined. What is found is
+//! what the definitions of jpql_plan say: the same tuples in the same order, or the same Overflow.
 #![tactic(auto)]
 
 mod asking;
 mod block;
+mod by_key;
+mod by_on;
 mod by_reference;
 mod by_value;
 mod calm;
@@ -23,7 +25,9 @@ mod known;
 mod laws;
 mod links;
 mod looked_up;
+mod members;
 mod object;
+mod passing;
 mod paths;
 mod prints;
 mod run;
@@ -35,7 +39,8 @@ mod values;
 
 pub use block::{objects_for, tuples_for};
 pub use drops::{any_drops, filter_drops, value_drops};
-pub use holding::{kept, truth};
+pub use gathering::{Indexes, indexes_for};
+pub use holding::{kept, truth, truth_by};
 pub use laws::{
     calm_laws, join_laws, key_laws, known_laws, leaving_out_laws, lookup_laws, refusal_laws,
 };

@@ -5,6 +5,7 @@ use Rattle.jpql_eval.specs.declared.datum.Datum.{Datum}
 use Rattle.jpql_eval.specs.Data.{same_data}
 use Rattle.jpql_plan.specs.Paths.{Tuple}
 
+-- the groups, as lists
 abbrev pub groups_in : {T : Type 0} → List (Vec T) → List (List T)
 groups_in groups = map (λ g. g.items) groups
 
@@ -14,6 +15,7 @@ add_at [] place t = []
 add_at (g ∷ gs) zero t = (g ++ t ∷ []) ∷ gs
 add_at (g ∷ gs) (suc place) t = g ∷ add_at gs place t
 
+-- whether a group's first tuple has this key
 abbrev pub begins_with : (Tuple → List Datum) → List Datum → List Tuple → Bool
 begins_with key k [] = false
 begins_with key k (one ∷ more) = same_data (key one) k

@@ -1,5 +1,5 @@
-//! What items, HAVING and ORDER BY are computed for: a tuple, or a group of tuples (chapters 4.7 and
-//! 4.8).
+//! What items, HAVING and ORDER BY are computed for: a tuple, or a group of tuples (chapters 4.8
+//! and 4.9).
 ghost use Rattle.std.specs.Prelude.{◌≡◌, ◌∷◌, [], map, IfOk};
 ghost use Rattle.std.specs.List.{list_any};
 ghost use Rattle.jpql_plan.specs.Meaning as meaning;

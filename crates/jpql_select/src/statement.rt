@@ -16,13 +16,14 @@ use jpql_run::Run;
 use jpql_types::TypedSelect;
 use std::alloc::Global;
 
-/// The table of a statement over what the manager at work sees (chapter 4.2.1), with what stands for its
-/// parameters, by place.
+/// The table of a statement over what the manager at work sees (chapter 4.2.1), with what stands
+/// for its parameters, by place.
 ///
-/// It has a row of each tuple, or of each group where there is GROUP BY, HAVING or an aggregate; with
-/// DISTINCT the first of the rows that are the same; in the order of ORDER BY, in which rows that tie
-/// stay in the order of their tuples. Every part is computed, but where WHERE has `key = value` of the first variable,
-/// with a literal or a parameter, and nothing that could overflow: then its object is looked up, and others decide nothing.
+/// It has a row of each tuple, or of each group where there is GROUP BY, HAVING or an aggregate;
+/// with DISTINCT the first of the rows that are the same; in the order of ORDER BY, in which rows
+/// that tie stay in the order of their tuples. Every part is computed, but where nothing in WHERE
+/// or an ON could overflow: then objects may be looked up by what these ask of them, and others
+/// decide nothing.
 ///
 /// The set's objects have the shape of their classes, and stand in rising order.
 ///

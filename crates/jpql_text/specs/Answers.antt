@@ -10,14 +10,17 @@ use Rattle.jpql_tree.specs.Limits.{nests_over}
 use Rattle.jpql_tree.specs.Variables.{declared_variables}
 use Rattle.jpql_tree.specs.Queries.{IsQuery}
 
--- The text is within the limits: at most 16,384 bytes, and at most 32 parentheses open at one place.
+-- The text is within the limits: at most 16,384 bytes, and at most 32 parentheses open at one
+-- place.
 abbrev pub IsWithin : Text → Type 0
 IsWithin text = (length text ≤ most_query_bytes) × (nests_over most_open_parentheses false 0 text ≡ false)
 
--- The text is one of the grammar, within the limits, with at most 8 variables, and this is its tree.
+-- The text is one of the grammar, within the limits, with at most 8 variables, and this is its
+-- tree.
 abbrev pub IsRead : Text → Query → Type 0
 IsRead text query = IsQuery text query × IsWithin text × (declared_variables query ≤ most_query_variables)
 
+-- a text is too long, nests too deep, or is a query with too many variables
 abbrev pub IsOverLimit : Text → Type 0
 IsOverLimit text = (most_query_bytes < length text) ⊎ ((nests_over most_open_parentheses false 0 text ≡ true) ⊎ ((query : Query) × IsQuery text query × (most_query_variables < declared_variables query)))
 

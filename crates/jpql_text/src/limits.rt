@@ -4,8 +4,8 @@ ghost use Rattle.jpql_tree.specs.Limits as spec;
 
 use jpa_value::MOST_OPEN_PARENTHESES;
 
-/// Whether the bytes after this one are inside quotes, and how many parentheses are open before them; none where too
-/// many are.
+/// Whether the bytes after this one are inside quotes, and how many parentheses are open before
+/// them; none where too many are.
 fn after_byte(is_quoted: bool, opened: usize, byte: u8) -> Option<(bool, usize)>
     requires { opened ≤ 32 }
     ensures value { result ≡ spec.nest_step 32 is_quoted opened byte }

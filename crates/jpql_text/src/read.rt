@@ -26,12 +26,14 @@ fn whole(alloc: Global, text: &str) -> Result<Query, ReadError>
     statement(alloc, MOST_OPEN_PARENTHESES + 2, tokens.as_slice())
 }
 
-/// The tree of a query's text. The text is one of the grammar of Jakarta Persistence 3.1, chapter 4, in the profile of
-/// `jpql_tree`'s `specs/Grammar`; keywords ignore ASCII case, and parentheses leave no node.
+/// The tree of a query's text. The text is one of the grammar of Jakarta Persistence 3.1, chapter
+/// 4, in the profile of `jpql_tree`'s `specs/Grammar`; keywords ignore ASCII case, and parentheses
+/// leave no node.
 ///
-/// `Limit` for a text over 16,384 bytes, for one in which more than 32 parentheses are open at some place outside
-/// quotes, and for a text of the grammar that declares more than 8 variables; `IllegalArgument(Syntax)` for each other
-/// text outside the grammar; `OutOfMemory` where a growth was refused.
+/// `Limit` for a text over 16,384 bytes, for one in which more than 32 parentheses are open at some
+/// place outside quotes, and for a text of the grammar that declares more than 8 variables;
+/// `IllegalArgument(Syntax)` for each other text outside the grammar; `OutOfMemory` where a growth
+/// was refused.
 pub fn read_query(alloc: Global, text: &str) -> Result<Query, Cause>
     ensures read { IfOk result (IsRead text.now) }
     ensures refused { IfErr result (IsRefused text.now) }

@@ -1,4 +1,5 @@
--- How conditions and nested SELECTs are read from tokens, from the left: each function gives the tree and the tokens after it.
+-- How conditions and nested SELECTs are read from tokens, from the left: each function gives the
+-- tree and the tokens after it.
 use Rattle.std.specs.Prelude.{ℕ, zero, suc, Bool, true, false, ◌&&◌, ◌||◌, List, [], ◌∷◌, ◌++◌, drop, length, Option, Some, None, if◌then◌else◌}
 use Rattle.jpql_tree.specs.declared.token.Keyword.{Keyword}
 use Rattle.jpql_tree.specs.declared.token.Keyword.TheVariants as k
@@ -35,6 +36,7 @@ is_test_word k.Exists = true
 is_test_word k.Type = true
 is_test_word _ = false
 
+-- the comparison that a mark is, if it is one (chapter 4.6.7)
 abbrev pub comparison_of : Mark → Option Comparison
 comparison_of m.Equal = Some c.Equal
 comparison_of m.Different = Some c.Different
@@ -44,6 +46,7 @@ comparison_of m.Greater = Some c.Greater
 comparison_of m.AtLeast = Some c.AtLeast
 comparison_of _ = None
 
+-- whether a mark is a comparison
 abbrev pub is_comparison : Mark → Bool
 is_comparison m.Equal = true
 is_comparison m.Different = true
@@ -63,7 +66,8 @@ tells dotted (t.Number n) = false
 tells dotted (t.Quoted w) = false
 tells dotted (t.Parameter w) = false
 
--- Whether a test stands before the parenthesis that is open is closed. The number counts those opened inside it.
+-- Whether a test stands before the parenthesis that is open is closed. The number counts those
+-- opened inside it.
 unfoldable pub has_test : ℕ → Bool → List Token → Bool
 has_test depth dotted [] = false
 has_test zero dotted (x ∷ rest) =
@@ -79,16 +83,19 @@ opens_condition ts = sees m.Open ts && has_test 0 false (drop 1 ts)
 
 -- ---- tests of values
 
+-- a comparison
 unfoldable pub comparison_at : Read Comparison
 comparison_at [] = None
 comparison_at (t.Mark x ∷ rest) = comparison_of x >>= λ op. Some (op, rest)
 comparison_at (_ ∷ rest) = None
 
+-- whether a comparison comes next
 abbrev pub sees_comparison : List Token → Bool
 sees_comparison [] = false
 sees_comparison (t.Mark x ∷ rest) = is_comparison x
 sees_comparison (_ ∷ rest) = false
 
+-- whether a variable comes next
 abbrev pub begins_variable : List Token → Bool
 begins_variable [] = false
 begins_variable (t.Word w ∷ rest) = true
@@ -123,23 +130,29 @@ module _ (a : Value) where
       if is_word k.Null no.1 then Some (negated_if no.0 (is.IsNull a), drop 1 no.1)
       else after_word k.Empty no.1 >>= λ rest. bare_path bare a >>= λ p. Some (negated_if no.0 (is.IsEmpty p), rest)
 
+  -- [OF] path, after MEMBER (chapter 4.6.13)
   unfoldable pub member_at : Read Condition
   member_at ts = path_at (optional_word k.Of ts).1 >>= λ p. Some (is.Member a p.0, p.1)
 
 -- `n` is how deep values may nest, and `a` the value that the test begins with
 module _ (n : ℕ) (a : Value) where
+  -- op value (chapter 4.6.7)
   unfoldable pub compared_at : Read Condition
   compared_at ts = comparison_at ts >>= λ op. value_at n op.1 >>= λ b. Some (is.Compare op.0 a b.0, b.1)
 
+  -- value AND value, after BETWEEN (chapter 4.6.8)
   unfoldable pub between_at : Read Condition
   between_at ts = value_at n ts >>= λ b. after_word k.And b.1 >>= λ more. value_at n more >>= λ d. Some (is.Between a b.0 d.0, d.1)
 
+  -- "(" value {"," value} ")", after IN (chapter 4.6.9)
   unfoldable pub among_at : Read Condition
   among_at ts = after m.Open ts >>= λ more. closed (list_at (value_at n) more) >>= λ all. Some (is.In a all.0, all.1)
 
+  -- value [ESCAPE text], after LIKE (chapter 4.6.10)
   unfoldable pub like_at : Read Condition
   like_at ts = value_at n ts >>= λ b. escape_at b.1 >>= λ e. Some (is.Like a b.0 e.0, e.1)
 
+  -- a test that begins with BETWEEN, IN, LIKE or MEMBER
   unfoldable pub worded_at : Read Condition
   worded_at ts =
       if is_word k.Between ts then between_at (drop 1 ts)
@@ -155,25 +168,30 @@ module _ (n : ℕ) (a : Value) where
       else if is_word k.Is ts then is_at a bare (drop 1 ts)
       else (let no = optional_word k.Not ts in worded_at no.1 >>= λ x. Some (negated_if no.0 x.0, x.1))
 
+-- a value, and the test of it
 unfoldable pub valued_at : ℕ → Read Condition
 valued_at n ts = value_at n ts >>= λ a. tested_at n a.0 (begins_variable ts) a.1
 
 -- ---- TYPE, after the word
 
+-- [NOT] IN "(" Entity {"," Entity} ")" (chapter 4.7.5)
 unfoldable pub entities_at : Text → Read Condition
 entities_at x ts =
     let no = optional_word k.Not ts in
     after_word k.In no.1 >>= λ a. after m.Open a >>= λ b. closed (list_at name_at b) >>= λ all. Some (negated_if no.0 (is.Type x all.0), all.1)
 
+-- an entity, after "=" or "<>" (chapter 4.7.5)
 unfoldable pub type_is_at : Bool → Text → Read Condition
 type_is_at negated x ts = name_at ts >>= λ e. Some (negated_if negated (is.Type x (e.0 ∷ [])), e.1)
 
+-- what follows TYPE "(" var ")": a comparison with an entity, or a list
 unfoldable pub entity_at : Text → Read Condition
 entity_at x ts =
     if sees m.Equal ts then type_is_at false x (drop 1 ts)
     else if sees m.Different ts then type_is_at true x (drop 1 ts)
     else entities_at x ts
 
+-- "(" var ")" and what follows, after TYPE (chapter 4.7.5)
 unfoldable pub typed_at : Read Condition
 typed_at ts = after m.Open ts >>= λ a. variable_at a >>= λ x. after m.Close x.1 >>= λ b. entity_at x.0 b
 
@@ -191,6 +209,7 @@ named_at ts = variable_at (optional_word k.As ts).1
 unfoldable pub optional_name_at : Read (Option Text)
 optional_name_at ts = if is_word k.As ts || begins_variable ts then (named_at ts >>= λ w. Some (Some w.0, w.1)) else Some (None, ts)
 
+-- value [[AS] name] (chapter 4.9)
 unfoldable pub item_at : ℕ → Read Item
 item_at n ts = value_at n ts >>= λ a. optional_name_at a.1 >>= λ w. Some (record { value = a.0; name = w.0 }, w.1)
 
@@ -226,14 +245,17 @@ module _ (inner : Read Condition) where
   unfoldable pub clause_at : Keyword → Read (Option Condition)
   clause_at word ts = if is_word word ts then (inner (drop 1 ts) >>= λ a. Some (Some a.0, a.1)) else Some (None, ts)
 
+  -- [INNER | LEFT [OUTER]] JOIN var "." name [AS] var [ON cond] (chapter 4.4.5)
   unfoldable pub join_at : Read Join
   join_at ts = side_at ts >>= λ left. related_at left.1 >>= λ r. named_at r.1 >>= λ w. clause_at k.On w.1 >>= λ on.
       Some (roll-Join (record { is_left = left.0; of = r.0.0; relation = r.0.1; variable = w.0; on = on.0 }), on.1)
 
+  -- {join}, at most so many, after those that were found
   unfoldable pub joins_at : ℕ → List Join → Read (List Join)
   joins_at zero found ts = Some (found, ts)
   joins_at (suc j) found ts = if begins_join ts then (join_at ts >>= λ a. joins_at j (found ++ a.0 ∷ []) a.1) else Some (found, ts)
 
+  -- a range and its joins (chapter 4.4.3)
   unfoldable pub source_at : Bool → Read Source
   source_at nested ts = origin_at nested ts >>= λ o. named_at o.1 >>= λ w. joins_at (length w.1) [] w.1 >>= λ js.
       Some (roll-Source (record { origin = o.0; variable = w.0; joins = js.0 }), js.1)
@@ -251,26 +273,32 @@ module _ (n : ℕ) (inner : Read Condition) where
   unfoldable pub exists_at : Read Condition
   exists_at ts = after m.Open ts >>= λ a. after_word k.Select a >>= λ b. closed (block_at b) >>= λ x. Some (is.Exists x.0, x.1)
 
+  -- "(" cond ")", EXISTS, or a test without a condition inside
   unfoldable pub test_at : Read Condition
   test_at ts =
       if opens_condition ts then closed (inner (drop 1 ts))
       else if is_word k.Exists ts then exists_at (drop 1 ts)
       else simple_at n ts
 
+  -- [NOT] test (chapter 4.6.5)
   unfoldable pub not_at : Read Condition
   not_at ts = if is_word k.Not ts then (test_at (drop 1 ts) >>= λ a. Some (is.Not a.0, a.1)) else test_at ts
 
+  -- {AND not}, at most so many, after what stands before
   unfoldable pub ands_at : ℕ → Condition → Read Condition
   ands_at zero before ts = Some (before, ts)
   ands_at (suc j) before ts = if is_word k.And ts then (not_at (drop 1 ts) >>= λ a. ands_at j (is.And before a.0) a.1) else Some (before, ts)
 
+  -- not {AND not} (chapter 4.6.5)
   unfoldable pub and_at : Read Condition
   and_at ts = not_at ts >>= λ a. ands_at (length a.1) a.0 a.1
 
+  -- {OR and}, at most so many, after what stands before
   unfoldable pub ors_at : ℕ → Condition → Read Condition
   ors_at zero before ts = Some (before, ts)
   ors_at (suc j) before ts = if is_word k.Or ts then (and_at (drop 1 ts) >>= λ a. ors_at j (is.Or before a.0) a.1) else Some (before, ts)
 
+  -- and {OR and} (chapter 4.6.5)
   unfoldable pub cond_level_at : Read Condition
   cond_level_at ts = and_at ts >>= λ a. ors_at (length a.1) a.0 a.1
 

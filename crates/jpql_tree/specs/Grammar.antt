@@ -1,5 +1,6 @@
--- The grammar. A derivation says which case of which line was taken, its `write` is the tokens that it stands for,
--- in front of those that follow, and its `tree` is the statement. Parentheses leave no node.
+-- The grammar. A derivation says which case of which line was taken. Its `write` is the tokens that
+-- it stands for, in front of those that follow. Its `tree` is the statement. Parentheses leave no
+-- node.
 use Rattle.std.specs.Prelude.{◌≡◌, ℕ, Bool, true, false, List, [], ◌∷◌, map, ℤ, Option, Some, None}
 use Rattle.jpql_tree.specs.declared.token.Keyword.{Keyword}
 use Rattle.jpql_tree.specs.declared.token.Keyword.TheVariants as k
@@ -31,6 +32,7 @@ use Rattle.jpql_tree.specs.declared.Assignment.{Assignment}
 use Rattle.jpql_tree.specs.declared.Query.{Query}
 use Rattle.jpql_tree.specs.declared.Query.TheVariants as q
 
+-- a text, as its bytes
 abbrev pub Text : Type 0
 Text = List ℕ
 
@@ -39,10 +41,12 @@ pub data Name : Type 0 where
   plain : Text → Name
   word : Keyword → Text → Name
 
+-- the token of a name
 abbrev pub name_token : Name → Token
 name_token (plain w) = t.Word w
 name_token (word k w) = t.Key k w
 
+-- a name as it is written
 abbrev pub name_text : Name → Text
 name_text (plain w) = w
 name_text (word k w) = w
@@ -52,13 +56,16 @@ pub record Steps : Type 0 where
   pub variable : Text
   pub names : List Name
 
+-- {"." name}
 abbrev pub write_names : List Name → List Token → List Token
 write_names [] rest = rest
 write_names (n ∷ ns) rest = t.Mark m.Dot ∷ name_token n ∷ write_names ns rest
 
+-- var {"." name} (chapter 4.4.4)
 abbrev pub write_path : Steps → List Token → List Token
 write_path p rest = t.Word p.variable ∷ write_names p.names rest
 
+-- a path: its variable and its names
 abbrev pub path_tree : Steps → Path
 path_tree p = record { variable = p.variable; names = map name_text p.names }
 
@@ -75,6 +82,7 @@ mutual
   pub data Value° : Type 0 where
     sum : Product° → Sums° → Value°
 
+  -- {("+" | "-") product}
   pub data Sums° : Type 0 where
     no_sums : Sums°
     plus : Product° → Sums° → Sums°
@@ -84,6 +92,7 @@ mutual
   pub data Product° : Type 0 where
     product : Unary° → Times° → Product°
 
+  -- {"*" unary}
   pub data Times° : Type 0 where
     no_times : Times°
     times : Unary° → Times° → Times°
@@ -103,6 +112,7 @@ mutual
     call : Call° → Atom°
     group : Value° → Atom°
 
+  -- a call of a function or an aggregate (chapters 4.7.2, 4.7.4 and 4.9.5)
   pub data Call° : Type 0 where
     -- LENGTH(v)
     length_of : Text → Value° → Call°
@@ -134,26 +144,32 @@ mutual
     more : Value° → More° → More°
 
 abbrev mutual
+  -- the tokens of a value
   pub write_value : Value° → List Token → List Token
   write_value (sum p ps) rest = write_product p (write_sums ps rest)
 
+  -- the tokens of what is added and subtracted
   pub write_sums : Sums° → List Token → List Token
   write_sums no_sums rest = rest
   write_sums (plus p ps) rest = t.Mark m.Plus ∷ write_product p (write_sums ps rest)
   write_sums (minus p ps) rest = t.Mark m.Minus ∷ write_product p (write_sums ps rest)
 
+  -- the tokens of a product
   pub write_product : Product° → List Token → List Token
   write_product (product u us) rest = write_unary u (write_times us rest)
 
+  -- the tokens of the factors behind the first
   pub write_times : Times° → List Token → List Token
   write_times no_times rest = rest
   write_times (times u us) rest = t.Mark m.Star ∷ write_unary u (write_times us rest)
 
+  -- the tokens of an atom with its sign
   pub write_unary : Unary° → List Token → List Token
   write_unary (unsigned a) rest = write_atom a rest
   write_unary (positive a) rest = t.Mark m.Plus ∷ write_atom a rest
   write_unary (negative a) rest = t.Mark m.Minus ∷ write_atom a rest
 
+  -- the tokens of an atom
   pub write_atom : Atom° → List Token → List Token
   write_atom (integer n) rest = t.Number n ∷ rest
   write_atom (text w) rest = t.Quoted w ∷ rest
@@ -162,6 +178,7 @@ abbrev mutual
   write_atom (call c) rest = write_call c rest
   write_atom (group a) rest = t.Mark m.Open ∷ write_value a (t.Mark m.Close ∷ rest)
 
+  -- the tokens of a call
   pub write_call : Call° → List Token → List Token
   write_call (length_of w a) rest = t.Key k.Length w ∷ t.Mark m.Open ∷ write_value a (t.Mark m.Close ∷ rest)
   write_call (concat w a b all) rest = t.Key k.Concat w ∷ t.Mark m.Open ∷ write_value a (t.Mark m.Comma ∷ write_value b (write_more all (t.Mark m.Close ∷ rest)))
@@ -177,11 +194,13 @@ abbrev mutual
   write_call (aggregate f w a) rest = t.Key (aggregate_word f) w ∷ t.Mark m.Open ∷ write_value a (t.Mark m.Close ∷ rest)
   write_call (aggregate_distinct f w d a) rest = t.Key (aggregate_word f) w ∷ t.Mark m.Open ∷ t.Key k.Distinct d ∷ write_value a (t.Mark m.Close ∷ rest)
 
+  -- the tokens of the arguments that are left
   pub write_more : More° → List Token → List Token
   write_more no_more rest = rest
   write_more (more a all) rest = t.Mark m.Comma ∷ write_value a (write_more all rest)
 
 abbrev mutual
+  -- the tree of a value; sums go from the left
   pub value_tree : Value° → Value
   value_tree (sum p ps) = sums_tree (product_tree p) ps
 
@@ -191,18 +210,22 @@ abbrev mutual
   sums_tree left (plus p ps) = sums_tree (v.Arithmetic o.Plus left (product_tree p)) ps
   sums_tree left (minus p ps) = sums_tree (v.Arithmetic o.Minus left (product_tree p)) ps
 
+  -- the tree of a product; factors go from the left
   pub product_tree : Product° → Value
   product_tree (product u us) = times_tree (unary_tree u) us
 
+  -- what stands before, and the factors after it, from the left
   pub times_tree : Value → Times° → Value
   times_tree left no_times = left
   times_tree left (times u us) = times_tree (v.Arithmetic o.Times left (unary_tree u)) us
 
+  -- the tree of an atom with its sign
   pub unary_tree : Unary° → Value
   unary_tree (unsigned a) = atom_tree a
   unary_tree (positive a) = v.Signed s.Plus (atom_tree a)
   unary_tree (negative a) = v.Signed s.Minus (atom_tree a)
 
+  -- the tree of an atom; parentheses leave no node
   pub atom_tree : Atom° → Value
   atom_tree (integer n) = v.Integer n
   atom_tree (text w) = v.Text w
@@ -211,6 +234,7 @@ abbrev mutual
   atom_tree (call c) = call_tree c
   atom_tree (group a) = value_tree a
 
+  -- the tree of a call
   pub call_tree : Call° → Value
   call_tree (length_of w a) = v.Call f.Length (value_tree a ∷ [])
   call_tree (concat w a b all) = v.Call f.Concat (value_tree a ∷ value_tree b ∷ more_trees all)
@@ -226,6 +250,7 @@ abbrev mutual
   call_tree (aggregate h w a) = v.Aggregate h false (value_tree a)
   call_tree (aggregate_distinct h w d a) = v.Aggregate h true (value_tree a)
 
+  -- the trees of the arguments that are left
   pub more_trees : More° → List Value
   more_trees no_more = []
   more_trees (more a all) = value_tree a ∷ more_trees all
@@ -236,10 +261,12 @@ abbrev mutual
 abbrev pub Written : Type 0
 Written = Option Text
 
+-- a word that may be left out
 abbrev pub write_word : Keyword → Written → List Token → List Token
 write_word k None rest = rest
 write_word k (Some w) rest = t.Key k w ∷ rest
 
+-- whether the word is written
 abbrev pub is_written : Written → Bool
 is_written None = false
 is_written (Some w) = true
@@ -249,6 +276,7 @@ pub record Named : Type 0 where
   pub as_word : Written
   pub name : Text
 
+-- [AS] name
 abbrev pub write_named : Named → List Token → List Token
 write_named n rest = write_word k.As n.as_word (t.Word n.name ∷ rest)
 
@@ -257,17 +285,21 @@ pub record Item° : Type 0 where
   pub value : Value°
   pub name : Option Named
 
+-- [[AS] name]
 abbrev pub write_optional_name : Option Named → List Token → List Token
 write_optional_name None rest = rest
 write_optional_name (Some n) rest = write_named n rest
 
+-- the name, where one is written
 abbrev pub optional_name : Option Named → Option Text
 optional_name None = None
 optional_name (Some n) = Some n.name
 
+-- value [[AS] name]
 abbrev pub write_item : Item° → List Token → List Token
 write_item i rest = write_value i.value (write_optional_name i.name rest)
 
+-- an item: its value, and its name if it has one
 abbrev pub item_tree : Item° → Item
 item_tree i = record { value = value_tree i.value; name = optional_name i.name }
 
@@ -295,6 +327,7 @@ abbrev pub write_escape : Option (Text × Text) → List Token → List Token
 write_escape None rest = rest
 write_escape (Some e) rest = t.Key k.Escape e.0 ∷ t.Quoted e.1 ∷ rest
 
+-- the text behind ESCAPE, where it is written
 abbrev pub escape_text : Option (Text × Text) → Option Text
 escape_text None = None
 escape_text (Some e) = Some e.1
@@ -304,10 +337,12 @@ pub data Side : Type 0 where
   inner : Written → Side
   left : Text → Written → Side
 
+-- the tokens of a join's side
 abbrev pub write_side : Side → List Token → List Token
 write_side (inner w) rest = write_word k.Inner w rest
 write_side (left w outer) rest = t.Key k.Left w ∷ write_word k.Outer outer rest
 
+-- whether a join is LEFT
 abbrev pub is_left : Side → Bool
 is_left (inner w) = false
 is_left (left w outer) = true
@@ -317,14 +352,17 @@ pub data Range : Type 0 where
   entity : Name → Named → Range
   related : Text → Name → Named → Range
 
+-- the tokens of a range
 abbrev pub write_range : Range → List Token → List Token
 write_range (entity e n) rest = name_token e ∷ write_named n rest
 write_range (related w r n) rest = t.Word w ∷ t.Mark m.Dot ∷ name_token r ∷ write_named n rest
 
+-- what a range ranges over: an entity, or a relation of a variable
 abbrev pub range_origin : Range → Origin
 range_origin (entity e n) = from.Entity (name_text e)
 range_origin (related w r n) = from.Related w (name_text r)
 
+-- the variable that a range declares
 abbrev pub range_variable : Range → Text
 range_variable (entity e n) = n.name
 range_variable (related w r n) = n.name
@@ -334,6 +372,7 @@ mutual
   pub data Cond° : Type 0 where
     cond : And° → Ors° → Cond°
 
+  -- {OR and}
   pub data Ors° : Type 0 where
     no_ors : Ors°
     or : Text → And° → Ors° → Ors°
@@ -342,6 +381,7 @@ mutual
   pub data And° : Type 0 where
     conj : Not° → Ands° → And°
 
+  -- {AND not}
   pub data Ands° : Type 0 where
     no_ands : Ands°
     and : Text → Not° → Ands° → Ands°
@@ -350,6 +390,7 @@ mutual
   pub data Not° : Type 0 where
     maybe_not : Written → Test° → Not°
 
+  -- a test: one of these lines, or a condition in parentheses (chapter 4.6)
   pub data Test° : Type 0 where
     -- "(" cond ")"
     inside : Cond° → Test°
@@ -379,13 +420,16 @@ mutual
   pub data Sub° : Type 0 where
     sub : Text → Written → Item° → Text → Source° → Sources° → Where° → Sub°
 
+  -- range {join}
   pub data Source° : Type 0 where
     source : Range → Joins° → Source°
 
+  -- {"," range {join}}
   pub data Sources° : Type 0 where
     no_sources : Sources°
     sources : Source° → Sources° → Sources°
 
+  -- {join}
   pub data Joins° : Type 0 where
     no_joins : Joins°
     joins : Join° → Joins° → Joins°
@@ -394,32 +438,40 @@ mutual
   pub data Join° : Type 0 where
     join : Side → Text → Text → Name → Named → On° → Join°
 
+  -- [ON cond]
   pub data On° : Type 0 where
     no_on : On°
     on : Text → Cond° → On°
 
+  -- [WHERE cond]
   pub data Where° : Type 0 where
     no_where : Where°
     filter : Text → Cond° → Where°
 
 abbrev mutual
+  -- the tokens of a condition
   pub write_cond : Cond° → List Token → List Token
   write_cond (cond a os) rest = write_and a (write_ors os rest)
 
+  -- the tokens of what is joined by OR
   pub write_ors : Ors° → List Token → List Token
   write_ors no_ors rest = rest
   write_ors (or w a os) rest = t.Key k.Or w ∷ write_and a (write_ors os rest)
 
+  -- the tokens of a conjunction
   pub write_and : And° → List Token → List Token
   write_and (conj n ns) rest = write_not n (write_ands ns rest)
 
+  -- the tokens of what is joined by AND
   pub write_ands : Ands° → List Token → List Token
   write_ands no_ands rest = rest
   write_ands (and w n ns) rest = t.Key k.And w ∷ write_not n (write_ands ns rest)
 
+  -- the tokens of a test with its NOT
   pub write_not : Not° → List Token → List Token
   write_not (maybe_not n x) rest = write_word k.Not n (write_test x rest)
 
+  -- the tokens of a test
   pub write_test : Test° → List Token → List Token
   write_test (inside x) rest = t.Mark m.Open ∷ write_cond x (t.Mark m.Close ∷ rest)
   write_test (compare op a b) rest = write_value a (t.Mark (comparison_mark op) ∷ write_value b rest)
@@ -434,49 +486,62 @@ abbrev mutual
   write_test (type_is_not w x e) rest = t.Key k.Type w ∷ t.Mark m.Open ∷ t.Word x ∷ t.Mark m.Close ∷ t.Mark m.Different ∷ name_token e ∷ rest
   write_test (type_among w x n u e es) rest = t.Key k.Type w ∷ t.Mark m.Open ∷ t.Word x ∷ t.Mark m.Close ∷ write_word k.Not n (t.Key k.In u ∷ t.Mark m.Open ∷ name_token e ∷ write_others (λ e rest. name_token e ∷ rest) es (t.Mark m.Close ∷ rest))
 
+  -- the tokens of a nested SELECT
   pub write_sub : Sub° → List Token → List Token
   write_sub (sub w d i u x xs f) rest = t.Key k.Select w ∷ write_word k.Distinct d (write_item i (t.Key k.From u ∷ write_source x (write_sources xs (write_where f rest))))
 
+  -- the tokens of a range and its joins
   pub write_source : Source° → List Token → List Token
   write_source (source r js) rest = write_range r (write_joins js rest)
 
+  -- the tokens of the ranges that are left
   pub write_sources : Sources° → List Token → List Token
   write_sources no_sources rest = rest
   write_sources (sources x xs) rest = t.Mark m.Comma ∷ write_source x (write_sources xs rest)
 
+  -- the tokens of joins
   pub write_joins : Joins° → List Token → List Token
   write_joins no_joins rest = rest
   write_joins (joins j js) rest = write_join j (write_joins js rest)
 
+  -- the tokens of a join
   pub write_join : Join° → List Token → List Token
   write_join (join l w x r n o) rest = write_side l (t.Key k.Join w ∷ t.Word x ∷ t.Mark m.Dot ∷ name_token r ∷ write_named n (write_on o rest))
 
+  -- the tokens of ON
   pub write_on : On° → List Token → List Token
   write_on no_on rest = rest
   write_on (on w x) rest = t.Key k.On w ∷ write_cond x rest
 
+  -- the tokens of WHERE
   pub write_where : Where° → List Token → List Token
   write_where no_where rest = rest
   write_where (filter w x) rest = t.Key k.Where w ∷ write_cond x rest
 
 abbrev mutual
+  -- the tree of a condition; OR goes from the left
   pub cond_tree : Cond° → Condition
   cond_tree (cond a os) = ors_tree (and_tree a) os
 
+  -- what stands before, and what OR joins to it, from the left
   pub ors_tree : Condition → Ors° → Condition
   ors_tree before no_ors = before
   ors_tree before (or w a os) = ors_tree (is.Or before (and_tree a)) os
 
+  -- the tree of a conjunction; AND goes from the left
   pub and_tree : And° → Condition
   and_tree (conj n ns) = ands_tree (not_tree n) ns
 
+  -- what stands before, and what AND joins to it, from the left
   pub ands_tree : Condition → Ands° → Condition
   ands_tree before no_ands = before
   ands_tree before (and w n ns) = ands_tree (is.And before (not_tree n)) ns
 
+  -- the tree of a test with its NOT
   pub not_tree : Not° → Condition
   not_tree (maybe_not n x) = negated n (test_tree x)
 
+  -- the tree of a test
   pub test_tree : Test° → Condition
   test_tree (inside x) = cond_tree x
   test_tree (compare op a b) = is.Compare op (value_tree a) (value_tree b)
@@ -491,27 +556,34 @@ abbrev mutual
   test_tree (type_is_not w x e) = is.Not (is.Type x (name_text e ∷ []))
   test_tree (type_among w x n u e es) = negated n (is.Type x (name_text e ∷ map name_text es))
 
+  -- the tree of a nested SELECT
   pub sub_tree : Sub° → Block
   sub_tree (sub w d i u x xs f) = roll-Block (record { is_distinct = is_written d; item = item_tree i; sources = source_tree x ∷ sources_trees xs; filter = where_tree f })
 
+  -- the tree of a range and its joins
   pub source_tree : Source° → Source
   source_tree (source r js) = roll-Source (record { origin = range_origin r; variable = range_variable r; joins = joins_trees js })
 
+  -- the trees of the ranges that are left
   pub sources_trees : Sources° → List Source
   sources_trees no_sources = []
   sources_trees (sources x xs) = source_tree x ∷ sources_trees xs
 
+  -- the trees of joins
   pub joins_trees : Joins° → List Join
   joins_trees no_joins = []
   joins_trees (joins j js) = join_tree j ∷ joins_trees js
 
+  -- the tree of a join
   pub join_tree : Join° → Join
   join_tree (join l w x r n o) = roll-Join (record { is_left = is_left l; of = x; relation = name_text r; variable = n.name; on = on_tree o })
 
+  -- the condition behind ON, where it is written
   pub on_tree : On° → Option Condition
   on_tree no_on = None
   on_tree (on w x) = Some (cond_tree x)
 
+  -- the condition behind WHERE, where it is written
   pub where_tree : Where° → Option Condition
   where_tree no_where = None
   where_tree (filter w x) = Some (cond_tree x)
@@ -524,25 +596,30 @@ pub data Direction : Type 0 where
   ascending : Text → Direction
   descending : Text → Direction
 
+-- the tokens of a direction
 abbrev pub write_direction : Direction → List Token → List Token
 write_direction unwritten rest = rest
 write_direction (ascending w) rest = t.Key k.Asc w ∷ rest
 write_direction (descending w) rest = t.Key k.Desc w ∷ rest
 
+-- whether DESC is written
 abbrev pub is_descending : Direction → Bool
 is_descending unwritten = false
 is_descending (ascending w) = false
 is_descending (descending w) = true
 
+-- (path | name) [ASC | DESC] (chapter 4.10)
 pub data Key° : Type 0 where
   -- a key of one name is a name
   by_name : Text → Direction → Key°
   by_path : Text → Name → List Name → Direction → Key°
 
+-- the tokens of a key
 abbrev pub write_key : Key° → List Token → List Token
 write_key (by_name w d) rest = t.Word w ∷ write_direction d rest
 write_key (by_path x n ns d) rest = t.Word x ∷ write_names (n ∷ ns) (write_direction d rest)
 
+-- a key: what it goes by, and whether it descends
 abbrev pub key_tree : Key° → SortKey
 key_tree (by_name w d) = record { by = by.Name w; is_descending = is_descending d }
 key_tree (by_path x n ns d) = record { by = by.Path (record { variable = x; names = map name_text (n ∷ ns) }); is_descending = is_descending d }
@@ -552,22 +629,27 @@ pub data Clause (A : Type 0) : Type 0 where
   no_clause : Clause A
   clause : Text → Text → A → List A → Clause A
 
+-- the tokens of a clause with BY, where it is written
 abbrev pub write_clause : {A : Type 0} → Keyword → (A → List Token → List Token) → Clause A → List Token → List Token
 write_clause kind write no_clause rest = rest
 write_clause kind write (clause w u a all) rest = t.Key kind w ∷ t.Key k.By u ∷ write a (write_others write all rest)
 
+-- the trees of a clause with BY; none where it isn't written
 abbrev pub clause_trees : {A B : Type 0} → (A → B) → Clause A → List B
 clause_trees tree no_clause = []
 clause_trees tree (clause w u a all) = tree a ∷ map tree all
 
+-- [HAVING cond] (chapter 4.8)
 pub data Having° : Type 0 where
   no_having : Having°
   having : Text → Cond° → Having°
 
+-- the tokens of HAVING
 abbrev pub write_having : Having° → List Token → List Token
 write_having no_having rest = rest
 write_having (having w x) rest = t.Key k.Having w ∷ write_cond x rest
 
+-- the condition behind HAVING, where it is written
 abbrev pub having_tree : Having° → Option Condition
 having_tree no_having = None
 having_tree (having w x) = Some (cond_tree x)
@@ -577,10 +659,12 @@ pub data Set° : Type 0 where
   to_value : Text → Name → Value° → Set°
   to_null : Text → Name → Text → Set°
 
+-- the tokens of an assignment
 abbrev pub write_set : Set° → List Token → List Token
 write_set (to_value x n a) rest = t.Word x ∷ t.Mark m.Dot ∷ name_token n ∷ t.Mark m.Equal ∷ write_value a rest
 write_set (to_null x n w) rest = t.Word x ∷ t.Mark m.Dot ∷ name_token n ∷ t.Mark m.Equal ∷ t.Key k.Null w ∷ rest
 
+-- an assignment: variable, name, and the value if it isn't NULL
 abbrev pub set_tree : Set° → Assignment
 set_tree (to_value x n a) = record { variable = x; name = name_text n; value = Some (value_tree a) }
 set_tree (to_null x n w) = record { variable = x; name = name_text n; value = None }
@@ -589,20 +673,25 @@ set_tree (to_null x n w) = record { variable = x; name = name_text n; value = No
 pub data From° : Type 0 where
   from_entity : Name → Named → Joins° → From°
 
+-- the tokens of a range of an entity and its joins
 abbrev pub write_from : From° → List Token → List Token
 write_from (from_entity e n js) rest = name_token e ∷ write_named n (write_joins js rest)
 
+-- the tree of a range of an entity and its joins
 abbrev pub from_tree : From° → Source
 from_tree (from_entity e n js) = roll-Source (record { origin = from.Entity (name_text e); variable = n.name; joins = joins_trees js })
 
+-- a statement: SELECT, UPDATE or DELETE (chapter 4.2)
 pub data Statement° : Type 0 where
-  -- SELECT [DISTINCT] item {"," item} FROM from [WHERE cond] [GROUP BY ..] [HAVING cond] [ORDER BY ..]
+  -- SELECT [DISTINCT] item {"," item} FROM from [WHERE cond] [GROUP BY ..] [HAVING cond] [ORDER BY
+  -- ..]
   select : Text → Written → Item° → List Item° → Text → From° → List From° → Where° → Clause Steps → Having° → Clause Key° → Statement°
   -- UPDATE Entity [AS] var SET var "." name "=" (value | NULL) {..} [WHERE cond]
   update : Text → Name → Named → Text → Set° → List Set° → Where° → Statement°
   -- DELETE FROM Entity [[AS] var] [WHERE cond]
   delete : Text → Text → Name → Option Named → Where° → Statement°
 
+-- the tokens of a statement
 abbrev pub write_statement : Statement° → List Token
 write_statement (select w d i is u x xs f gs h ks) =
     t.Key k.Select w ∷ write_word k.Distinct d (write_item i (write_others write_item is (t.Key k.From u ∷ write_from x (write_others write_from xs
@@ -610,6 +699,7 @@ write_statement (select w d i is u x xs f gs h ks) =
 write_statement (update w e n u a all f) = t.Key k.Update w ∷ name_token e ∷ write_named n (t.Key k.Set u ∷ write_set a (write_others write_set all (write_where f [])))
 write_statement (delete w u e n f) = t.Key k.Delete w ∷ t.Key k.From u ∷ name_token e ∷ write_optional_name n (write_where f [])
 
+-- the tree of a statement
 abbrev pub statement_tree : Statement° → Query
 statement_tree (select w d i is u x xs f gs h ks) =
     q.Select (record {

@@ -1,4 +1,5 @@
--- How a text is cut into pieces, from the left: each function gives the piece and the text after it.
+-- How a text is cut into pieces, from the left: each function gives the piece and the text after
+-- it.
 use Rattle.std.specs.Prelude.{ℕ, zero, suc, ◌==◌, Bool, true, false, not, ◌&&◌, nat_le, List, [], ◌∷◌, ◌++◌, drop, ℤ, Option, Some, None, if◌then◌else◌}
 use Rattle.std.specs.Char.{is_ascii_digit}
 use lib.IntN.{pos}
@@ -18,17 +19,19 @@ run p (b ∷ bs) = if p b then (b ∷ (run p bs).0, (run p bs).1) else ([], b �
 abbrev pub with_front : Text → Option (Text × Text) → Option (Text × Text)
 with_front front read = read >>= λ q. Some (front ++ q.0, q.1)
 
--- The text up to the quote that closes, and the text after that. The flag says that a quote was just met, which closes
--- where no second one follows.
+-- The text up to the quote that closes, and the text after that. The flag says that a quote was
+-- just met, which closes where no second one follows.
 unfoldable pub quoted_at : Bool → Text → Option (Text × Text)
 quoted_at false [] = None
 quoted_at true [] = Some ([], [])
 quoted_at false (b ∷ bs) = if b == 39 then quoted_at true bs else with_front (b ∷ []) (quoted_at false bs)
 quoted_at true (b ∷ bs) = if b == 39 then with_front (39 ∷ []) (quoted_at false bs) else Some ([], b ∷ bs)
 
+-- the mark that "<" begins, by the byte after it
 abbrev pub less_of : ℕ → Mark
 less_of next = if next == 61 then m.AtMost else if next == 62 then m.Different else m.Less
 
+-- the mark that ">" begins, by the byte after it
 abbrev pub greater_of : ℕ → Mark
 greater_of next = if next == 61 then m.AtLeast else m.Greater
 
@@ -41,12 +44,14 @@ mark_of b next =
     else if b == 62 then Some (greater_of next)
     else None
 
+-- how many bytes a mark has
 abbrev pub mark_length : Mark → ℕ
 mark_length m.AtMost = 2
 mark_length m.Different = 2
 mark_length m.AtLeast = 2
 mark_length _ = 1
 
+-- the first byte of a text; 0 where there is none
 abbrev pub first : Text → ℕ
 first [] = 0
 first (b ∷ bs) = b
@@ -55,6 +60,7 @@ first (b ∷ bs) = b
 abbrev pub Cut : Type 0
 Cut = Text → Option (Piece × Text)
 
+-- a word: as many letters, digits and `_` as there are
 unfoldable pub word_at : Cut
 word_at text = Some (bare (run is_in_word text).0, (run is_in_word text).1)
 
@@ -62,22 +68,28 @@ word_at text = Some (bare (run is_in_word text).0, (run is_in_word text).1)
 abbrev pub number_of : Text → Option ℤ
 number_of w = if nat_le (digits_value 0 w) greatest_integer then Some (pos (digits_value 0 w)) else None
 
+-- digits, where they are an integer of 64 bits
 unfoldable pub digits_at : Cut
 digits_at text = let r = run is_ascii_digit text in if nat_le (digits_value 0 r.0) greatest_integer then Some (digits r.0, r.1) else None
 
+-- a text in quotes, after the first of these
 unfoldable pub quotes_at : Cut
 quotes_at text = quoted_at false text >>= λ q. Some (quoted q.0, q.1)
 
+-- the name of a parameter, after ":"
 unfoldable pub named_at : Cut
 named_at text = if begins begins_word text then Some (named (run is_in_word text).0, (run is_in_word text).1) else None
 
+-- the number of a parameter, after "?"; it begins with no 0
 unfoldable pub numbered_at : Cut
 numbered_at text =
     if begins is_ascii_digit text && not (begins (λ b. b == 48) text) then Some (numbered (run is_ascii_digit text).0, (run is_ascii_digit text).1) else None
 
+-- a mark, as long as it can be
 unfoldable pub mark_at : Cut
 mark_at text = mark_of (first text) (first (drop 1 text)) >>= λ x. Some (mark x, drop (mark_length x) text)
 
+-- the piece that a text begins with
 unfoldable pub piece_at : Cut
 piece_at [] = None
 piece_at (b ∷ bs) =

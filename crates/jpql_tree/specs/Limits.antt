@@ -7,8 +7,8 @@ abbrev pub one_closed : ℕ → ℕ
 one_closed zero = zero
 one_closed (suc n) = n
 
--- Whether more than `most` parentheses are open at some place outside quotes, where n are open before the text, which
--- begins inside quotes or not.
+-- Whether more than `most` parentheses are open at some place outside quotes, where n are open
+-- before the text, which begins inside quotes or not.
 unfoldable pub nests_over : ℕ → Bool → ℕ → Text → Bool
 nests_over most inside n [] = false
 nests_over most inside n (b ∷ bs) =
@@ -18,7 +18,8 @@ nests_over most inside n (b ∷ bs) =
     else if b == 41 then nests_over most inside (one_closed n) bs
     else nests_over most inside n bs
 
--- what one byte does: whether those after it begin inside quotes, and how many are open before them; none where too many are
+-- what one byte does: whether those after it begin inside quotes, and how many are open before
+-- them; none where too many are
 abbrev pub nest_step : ℕ → Bool → ℕ → ℕ → Option (Bool × ℕ)
 nest_step most inside n b =
     if b == 39 then Some (not inside, n)

@@ -4,7 +4,8 @@ use Rattle.jpql_tree.specs.declared.token.Mark.TheVariants as m
 use Rattle.jpql_tree.specs.declared.token.Token.{Token}
 use Rattle.jpql_tree.specs.declared.token.Token.TheVariants as t
 
--- Whether more than `most` parentheses are open somewhere, after this many. One that closes where none is open counts nothing.
+-- Whether more than `most` parentheses are open somewhere, after this many. One that closes where
+-- none is open counts nothing.
 unfoldable pub too_deep : ℕ → ℕ → List Token → Bool
 too_deep most n [] = false
 too_deep most n (t.Mark m.Open ∷ rest) = nat_le most n || too_deep most (suc n) rest

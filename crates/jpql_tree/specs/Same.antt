@@ -6,8 +6,10 @@ use Rattle.jpql_tree.specs.contracts.token.Keyword as keyword
 use Rattle.jpql_tree.specs.declared.token.Mark.{Mark}
 use Rattle.jpql_tree.specs.declared.token.Keyword.{Keyword}
 
+-- whether two marks are one
 abbrev pub same_mark : Mark → Mark → Bool
 same_mark = sameb mark.the_type
 
+-- whether two words of the grammar are one
 abbrev pub same_keyword : Keyword → Keyword → Bool
 same_keyword = sameb keyword.the_type

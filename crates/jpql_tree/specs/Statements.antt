@@ -28,6 +28,7 @@ sorted_by p = of_names p.names
     of_names [] = by.Name p.variable
     of_names (n ∷ ns) = by.Path p
 
+-- (path | name) [ASC | DESC] (chapter 4.10)
 unfoldable pub key_at : Read SortKey
 key_at ts = path_at ts >>= λ p. let d = direction_at p.1 in Some (record { by = sorted_by p.0; is_descending = d.0 }, d.1)
 
@@ -42,9 +43,11 @@ where_ended q (_ ∷ _) = None
 
 -- `n` is how deep conditions and values may nest
 module _ (n : ℕ) where
+  -- a clause with a condition, where its word comes next
   abbrev pub filter_at : Keyword → Read (Option Condition)
   filter_at = clause_at (cond_at n)
 
+  -- what follows the word SELECT (chapter 4.2.1)
   unfoldable pub select_at : Read Query
   select_at ts =
       let d = optional_word k.Distinct ts in
@@ -56,18 +59,22 @@ module _ (n : ℕ) where
   unfoldable pub new_value_at : Read (Option Value)
   new_value_at ts = if is_word k.Null ts then Some (None, drop 1 ts) else value_at n ts >>= λ a. Some (Some a.0, a.1)
 
+  -- var "." name "=" (value | NULL) (chapter 4.11)
   unfoldable pub assignment_at : Read Assignment
   assignment_at ts = related_at ts >>= λ r. after m.Equal r.1 >>= λ more. new_value_at more >>= λ a.
       Some (record { variable = r.0.0; name = r.0.1; value = a.0 }, a.1)
 
+  -- what follows the word UPDATE (chapter 4.11)
   unfoldable pub update_at : Read Query
   update_at ts = name_at ts >>= λ e. named_at e.1 >>= λ w. after_word k.Set w.1 >>= λ more. list_at assignment_at more >>= λ all. filter_at k.Where all.1 >>= λ f.
       Some (q.Update e.0 w.0 all.0 f.0, f.1)
 
+  -- what follows the word DELETE (chapter 4.11)
   unfoldable pub delete_at : Read Query
   delete_at ts = after_word k.From ts >>= λ more. name_at more >>= λ e. optional_name_at e.1 >>= λ w. filter_at k.Where w.1 >>= λ f.
       Some (q.Delete e.0 w.0 f.0, f.1)
 
+  -- a statement (chapter 4.2)
   unfoldable pub statement_at : Read Query
   statement_at ts =
       if is_word k.Select ts then select_at (drop 1 ts)

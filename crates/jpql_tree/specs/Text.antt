@@ -1,5 +1,6 @@
--- Text as tokens. A text is pieces, one after the other; `write_piece` is a piece's bytes in front of those that
--- follow, and `Spelled` says how it is spelled and what may follow it: each piece goes as far as it can.
+-- Text as tokens. A text is pieces, one after the other; `write_piece` is a piece's bytes in front
+-- of those that follow, and `Spelled` says how it is spelled and what may follow it: each piece
+-- goes as far as it can.
 use Rattle.std.specs.Prelude.{◌≡◌, ℕ, ◌+◌, ◌-◌, ◌*◌, ◌==◌, Bool, true, false, ◌||◌, nat_le, List, [], ◌∷◌, ◌++◌, codes, Option, Some, None, if◌then◌else◌}
 use Rattle.std.specs.List.{list_all}
 use Rattle.std.specs.Char.{is_ascii_digit, is_ascii_alphabetic, is_ascii_alphanumeric}
@@ -15,12 +16,15 @@ use Rattle.jpql_tree.specs.Grammar.{Text}
 
 -- ---- characters; all that matter are ASCII
 
+-- space, tab, CR or LF
 abbrev pub is_blank : ℕ → Bool
 is_blank b = b == 32 || b == 9 || b == 13 || b == 10
 
+-- a letter of ASCII, or `_`
 abbrev pub begins_word : ℕ → Bool
 begins_word b = is_ascii_alphabetic b || b == 95
 
+-- a letter or a digit of ASCII, or `_`
 abbrev pub is_in_word : ℕ → Bool
 is_in_word b = is_ascii_alphanumeric b || b == 95
 
@@ -31,6 +35,7 @@ begins p (b ∷ rest) = p b
 
 -- ---- words
 
+-- a word of the grammar, in capitals
 abbrev pub spelling : Keyword → Text
 spelling k.Select = codes "SELECT"
 spelling k.Distinct = codes "DISTINCT"
@@ -79,12 +84,14 @@ spelling k.Sum = codes "SUM"
 spelling k.Min = codes "MIN"
 spelling k.Max = codes "MAX"
 
+-- the words of the grammar (chapter 4.4.1)
 abbrev pub keywords : List Keyword
 keywords =
     k.Select ∷ k.Distinct ∷ k.From ∷ k.Where ∷ k.Group ∷ k.By ∷ k.Having ∷ k.Order ∷ k.As ∷ k.Inner ∷ k.Left ∷ k.Outer ∷ k.Join ∷ k.On ∷ k.Asc ∷ k.Desc
     ∷ k.Update ∷ k.Set ∷ k.Null ∷ k.Delete ∷ k.Or ∷ k.And ∷ k.Not ∷ k.Between ∷ k.In ∷ k.Like ∷ k.Escape ∷ k.Is ∷ k.Empty ∷ k.Member ∷ k.Of ∷ k.Exists ∷ k.Type
     ∷ k.Length ∷ k.Concat ∷ k.Substring ∷ k.Locate ∷ k.Abs ∷ k.Mod ∷ k.Size ∷ k.Coalesce ∷ k.NullIf ∷ k.Count ∷ k.Sum ∷ k.Min ∷ k.Max ∷ []
 
+-- the first of these words that a text is, whatever its case
 abbrev pub first_keyword : List Keyword → Text → Option Keyword
 first_keyword [] w = None
 first_keyword (j ∷ js) w = if str_eq_ignore_ascii_case (spelling j) w then Some j else first_keyword js w
@@ -93,6 +100,7 @@ first_keyword (j ∷ js) w = if str_eq_ignore_ascii_case (spelling j) w then Som
 unfoldable pub keyword_of : Text → Option Keyword
 keyword_of = first_keyword keywords
 
+-- the token of a word: one of the grammar, or a name
 abbrev pub word_of : Option Keyword → Text → Token
 word_of None w = t.Word w
 word_of (Some j) w = t.Key j w
@@ -104,6 +112,7 @@ abbrev pub digits_value : ℕ → Text → ℕ
 digits_value n [] = n
 digits_value n (b ∷ bs) = digits_value (10 * n + (b - 48)) bs
 
+-- the greatest integer, 2^63 - 1
 abbrev pub greatest_integer : ℕ
 greatest_integer = 9223372036854775807
 
@@ -112,6 +121,7 @@ abbrev pub doubled : Text → Text
 doubled [] = []
 doubled (b ∷ bs) = if b == 39 then 39 ∷ 39 ∷ doubled bs else b ∷ doubled bs
 
+-- a mark, as it is written
 abbrev pub mark_text : Mark → Text
 mark_text m.Comma = codes ","
 mark_text m.Dot = codes "."
@@ -135,6 +145,7 @@ lengthens _ b = false
 
 -- ---- pieces
 
+-- a piece of a text: a blank, a word, digits, a quoted text, a parameter or a mark
 pub data Piece : Type 0 where
   -- space, tab, CR or LF
   blank : ℕ → Piece
@@ -147,6 +158,7 @@ pub data Piece : Type 0 where
   numbered : Text → Piece
   mark : Mark → Piece
 
+-- a piece's bytes, in front of those that follow
 abbrev pub write_piece : Piece → Text → Text
 write_piece (blank b) rest = b ∷ rest
 write_piece (bare w) rest = w ++ rest
@@ -156,12 +168,15 @@ write_piece (named w) rest = 58 ∷ w ++ rest
 write_piece (numbered w) rest = 63 ∷ w ++ rest
 write_piece (mark x) rest = mark_text x ++ rest
 
+-- a word begins with a letter or `_`, and has letters, digits and `_` alone
 abbrev pub IsWord : Text → Type 0
 IsWord w = (begins begins_word w ≡ true) × (list_all is_in_word w ≡ true)
 
+-- there are digits, and nothing else
 abbrev pub IsDigits : Text → Type 0
 IsDigits w = (begins is_ascii_digit w ≡ true) × (list_all is_ascii_digit w ≡ true)
 
+-- how a piece is spelled, and what may follow it
 abbrev pub Spelled : Piece → Text → Type 0
 Spelled (blank b) rest = is_blank b ≡ true
 Spelled (bare w) rest = IsWord w × (begins is_in_word rest ≡ false)
@@ -171,6 +186,7 @@ Spelled (named w) rest = IsWord w × (begins is_in_word rest ≡ false)
 Spelled (numbered w) rest = IsDigits w × (begins (λ b. b == 48) w ≡ false) × (begins is_ascii_digit rest ≡ false)
 Spelled (mark x) rest = begins (lengthens x) rest ≡ false
 
+-- the token of a piece; a blank has none
 abbrev pub piece_tokens : Piece → List Token
 piece_tokens (blank b) = []
 piece_tokens (bare w) = word_of (keyword_of w) w ∷ []
@@ -180,14 +196,17 @@ piece_tokens (named w) = t.Parameter w ∷ []
 piece_tokens (numbered w) = t.Parameter w ∷ []
 piece_tokens (mark x) = t.Mark x ∷ []
 
+-- the bytes of pieces, one after the other
 abbrev pub write_pieces : List Piece → Text
 write_pieces [] = []
 write_pieces (p ∷ ps) = write_piece p (write_pieces ps)
 
+-- each piece is spelled well before those that follow
 abbrev pub AllSpelled : List Piece → Type 0
 AllSpelled [] = Unit {0}
 AllSpelled (p ∷ ps) = Spelled p (write_pieces ps) × AllSpelled ps
 
+-- the tokens of pieces
 abbrev pub tokens_of : List Piece → List Token
 tokens_of [] = []
 tokens_of (p ∷ ps) = piece_tokens p ++ tokens_of ps

@@ -1,4 +1,5 @@
--- How values are read from tokens, from the left: each function gives the tree and the tokens after it.
+-- How values are read from tokens, from the left: each function gives the tree and the tokens after
+-- it.
 use Rattle.std.specs.Prelude.{ℕ, zero, suc, Bool, true, false, nat_eq, nat_le, ◌||◌, List, [], ◌∷◌, ◌++◌, drop, length, Option, Some, None, if◌then◌else◌}
 use Rattle.std.specs.Option.{option_and_then}
 use Rattle.jpql_tree.specs.declared.token.Keyword.{Keyword}
@@ -20,15 +21,18 @@ use Rattle.jpql_tree.specs.Grammar.{Text}
 use Rattle.jpql_tree.specs.declared.token.Callee.{Callee}
 use Rattle.jpql_tree.specs.declared.token.Callee.TheVariants as calls
 
+-- what reads an A off the front of tokens: it and the tokens after it, or nothing
 abbrev pub Read : Type 0 → Type 0
 Read A = List Token → Option (A × List Token)
 
 infixl 10 ◌>>=◌
+-- goes on with what was read, if anything was
 abbrev pub ◌>>=◌ : {A B : Type 0} → Option A → (A → Option B) → Option B
 o >>= f = option_and_then f o
 
 -- ---- marks and words
 
+-- whether a token is this mark
 abbrev pub is_mark : Mark → Token → Bool
 is_mark m (t.Mark n) = same_mark m n
 is_mark m _ = false
@@ -42,6 +46,7 @@ sees m (x ∷ rest) = is_mark m x
 abbrev pub after : Mark → List Token → Option (List Token)
 after m ts = if sees m ts then Some (drop 1 ts) else None
 
+-- whether a token is this word of the grammar
 abbrev pub is_key : Keyword → Token → Bool
 is_key k (t.Key j w) = same_keyword k j
 is_key k _ = false
@@ -61,27 +66,33 @@ optional_word k ts = if is_word k ts then (true, drop 1 ts) else (false, ts)
 
 -- ---- names, paths, lists
 
+-- the name that a token can be: any word
 abbrev pub name_of : Token → Option Text
 name_of (t.Word w) = Some w
 name_of (t.Key k w) = Some w
 name_of _ = None
 
+-- the variable that a token can be: a word that isn't the grammar's
 abbrev pub variable_of : Token → Option Text
 variable_of (t.Word w) = Some w
 variable_of _ = None
 
+-- a name
 unfoldable pub name_at : Read Text
 name_at [] = None
 name_at (x ∷ rest) = name_of x >>= λ w. Some (w, rest)
 
+-- a variable (chapter 4.4.2)
 unfoldable pub variable_at : Read Text
 variable_at [] = None
 variable_at (x ∷ rest) = variable_of x >>= λ w. Some (w, rest)
 
+-- {"." name}, at most so many, after those that were found
 unfoldable pub names_at : ℕ → List Text → Read (List Text)
 names_at zero found ts = Some (found, ts)
 names_at (suc n) found ts = if sees m.Dot ts then (name_at (drop 1 ts) >>= λ r. names_at n (found ++ r.0 ∷ []) r.1) else Some (found, ts)
 
+-- var {"." name} (chapter 4.4.4)
 unfoldable pub path_at : Read Path
 path_at ts = variable_at ts >>= λ x. names_at (length x.1) [] x.1 >>= λ r. Some (record { variable = x.0; names = r.0 }, r.1)
 
@@ -100,6 +111,7 @@ closed read = read >>= λ a. after m.Close a.1 >>= λ rest. Some (a.0, rest)
 
 -- ---- values
 
+-- what a word calls, before a parenthesis
 abbrev pub callee_of : Keyword → Callee
 callee_of k.Length = calls.Function f.Length
 callee_of k.Concat = calls.Function f.Concat
@@ -129,6 +141,7 @@ takes f.NullIf n = nat_eq n 2
 
 -- `inner` reads a value inside parentheses
 module _ (inner : Read Value) where
+  -- the arguments of a call and the parenthesis that closes (chapter 4.7)
   unfoldable pub call_at : Callee → Read Value
   call_at (calls.Function h) ts = closed (list_at inner ts) >>= λ all. if takes h (length all.0) then Some (v.Call h all.0, all.1) else None
   call_at calls.Size ts = closed (path_at ts) >>= λ p. Some (v.Size p.0, p.1)
@@ -136,6 +149,7 @@ module _ (inner : Read Value) where
       let d = optional_word k.Distinct ts in closed (inner d.1) >>= λ a. Some (v.Aggregate h d.0 a.0, a.1)
   call_at calls.Other ts = None
 
+  -- what begins with a token: a literal, a parameter, a path, a call or a value in parentheses
   unfoldable pub word_at : Token → Read Value
   word_at (t.Number n) rest = Some (v.Integer n, rest)
   word_at (t.Quoted w) rest = Some (v.Text w, rest)
@@ -144,23 +158,28 @@ module _ (inner : Read Value) where
   word_at (t.Key k w) rest = after m.Open rest >>= λ ts. call_at (callee_of k) ts
   word_at (t.Mark x) rest = if same_mark m.Open x then closed (inner rest) else None
 
+  -- an atom: a value without sign and operator outside parentheses
   unfoldable pub atom_at : Read Value
   atom_at [] = None
   atom_at (x ∷ rest) = word_at x rest
 
+  -- ["+" | "-"] atom (chapter 4.7.1)
   unfoldable pub unary_at : Read Value
   unary_at ts =
       if sees m.Plus ts then (atom_at (drop 1 ts) >>= λ a. Some (v.Signed s.Plus a.0, a.1))
       else if sees m.Minus ts then (atom_at (drop 1 ts) >>= λ a. Some (v.Signed s.Minus a.0, a.1))
       else atom_at ts
 
+  -- {"*" unary}, at most so many, after what stands before
   unfoldable pub times_at : ℕ → Value → Read Value
   times_at zero before ts = Some (before, ts)
   times_at (suc n) before ts = if sees m.Star ts then (unary_at (drop 1 ts) >>= λ a. times_at n (v.Arithmetic o.Times before a.0) a.1) else Some (before, ts)
 
+  -- unary {"*" unary} (chapter 4.7.1)
   unfoldable pub product_at : Read Value
   product_at ts = unary_at ts >>= λ a. times_at (length a.1) a.0 a.1
 
+  -- {("+" | "-") product}, at most so many, after what stands before
   unfoldable pub sums_at : ℕ → Value → Read Value
   sums_at zero before ts = Some (before, ts)
   sums_at (suc n) before ts =
@@ -168,6 +187,7 @@ module _ (inner : Read Value) where
       else if sees m.Minus ts then (product_at (drop 1 ts) >>= λ a. sums_at n (v.Arithmetic o.Minus before a.0) a.1)
       else Some (before, ts)
 
+  -- product {("+" | "-") product} (chapter 4.7.1)
   unfoldable pub level_at : Read Value
   level_at ts = product_at ts >>= λ a. sums_at (length a.1) a.0 a.1
 

@@ -1,13 +1,15 @@
-//! Queries of the Jakarta Persistence Query Language as they are written (Jakarta Persistence 3.1, chapter 4): their
-//! trees, their tokens, and the grammar that joins them.
+//! Queries of the Jakarta Persistence Query Language as they are written (Jakarta Persistence 3.1,
+//! chapter 4): their trees, their tokens, and the grammar that joins them.
 //!
-//! A tree has a node for each line of the grammar that joins others; parentheses leave none. Contracts see it as plain
-//! data: a `Boxed` as what it holds, a `Seq` as a list, a `Text` as its bytes.
+//! A tree has a node for each line of the grammar that joins others; parentheses leave none.
+//! Contracts see it as plain data: a `Boxed` as what it holds, a `Seq` as a list, a `Text` as its
+//! bytes.
 //!
-//! The grammar stands in `specs/` apart from any reader. `Grammar` has derivations: what each writes, and its tree.
-//! `Text` says which tokens a text has, `Queries` which text is which query, `Limits` and `Variables` what is counted.
-//! `Values`, `Conditions`, `Statements` and `Lexing` are reading as functions on lists, and `proofs/` has the laws that
-//! these are the grammar, both ways, and that a text has at most one tree. The crate stands on `jpa_value`.
+//! The grammar stands in `specs/` apart from any reader. `Grammar` has derivations: what each
+//! writes, and its tree. `Text` says which tokens a text has, `Queries` which text is which query,
+//! `Limits` and `Variables` what is counted. `Values`, `Conditions`, `Statements` and `Lexing` are
+//! reading as functions on lists, and `proofs/` has the laws that these are the grammar, both ways,
+//! and that a text has at most one tree. The crate stands on `jpa_value`.
 #![tactic(auto)]
 
 #[cfg(test)]
@@ -41,7 +43,7 @@ pub enum Function {
     NullIf,
 }
 
-/// An aggregate: a function over the tuples of a group (chapter 4.8.5).
+/// An aggregate: a function over the tuples of a group (chapter 4.9.5).
 #[derive(Clone, Copy)]
 pub enum Aggregate {
     Count,
@@ -87,7 +89,7 @@ pub enum Value {
     Aggregate(Aggregate, bool, Boxed<Value>),
 }
 
-/// A SELECT item, with its result variable if it has one (chapter 4.8).
+/// A SELECT item, with its result variable if it has one (chapter 4.9).
 #[derive(Drop)]
 pub struct Item {
     pub value: Value,
@@ -156,7 +158,7 @@ pub enum Sorted {
     Path(Path),
 }
 
-/// A key of ORDER BY (chapter 4.9).
+/// A key of ORDER BY (chapter 4.10).
 #[derive(Drop)]
 pub struct SortKey {
     pub by: Sorted,
@@ -175,7 +177,7 @@ pub struct Select {
     pub order: Seq<SortKey>,
 }
 
-/// What an UPDATE sets: a name of the variable, to a value or to null (chapter 4.10).
+/// What an UPDATE sets: a name of the variable, to a value or to null (chapter 4.11).
 #[derive(Drop)]
 pub struct Assignment {
     pub variable: Text,

@@ -14,14 +14,17 @@ use Rattle.jpql_types.specs.Scope.{same_path}
 
 -- ---- names
 
+-- whether there is a name, and it is this one
 abbrev pub has_name : Text → Option Text → Bool
 has_name q = is_some_that (λ name. same_name name q)
 
 -- ---- paths
 
+-- whether there is a path, and it is the same as this one
 abbrev pub is_path : Path → Option Path → Bool
 is_path q = is_some_that (same_path q)
 
+-- the path that a value is, if it is one
 abbrev pub path_in : Value → Option Path
 path_in (Value.Path p) = Some p
 path_in _ = None
@@ -30,17 +33,22 @@ path_in _ = None
 abbrev pub Words : Type 0
 Words = List Text
 
+-- a path's variable in lower case, then its names
 abbrev pub words_of : Path → Words
 words_of p = str_to_ascii_lowercase p.variable ∷ p.names
 
+-- the order of words: by their texts one after the other, each by its bytes
 abbrev pub words_cmp : Words → Words → Ordering
 words_cmp = slice_cmp (slice_cmp nat_cmp)
 
+-- whether words are equal in that order
 abbrev pub same_words : Words → Words → Bool
 same_words a b = is_eq (words_cmp a b)
 
+-- whether there is a path, and it has these words
 abbrev pub has_words : Words → Option Path → Bool
 has_words q = is_some_that (λ p. same_words (words_of p) q)
 
+-- the order of words is total
 pub words_total : IsTotalOrder words_cmp
 words_total = lists_total nat_list_cmp_total

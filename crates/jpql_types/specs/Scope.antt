@@ -22,15 +22,19 @@ when false a = None
 
 -- ---- variables, those of outer blocks first
 
+-- the identification variables that may be named, with their classes (chapter 4.4.2)
 abbrev pub Scope : Type 0
 Scope = List Variable
 
+-- whether two variables are one: the case of ASCII letters is ignored (chapter 4.4.2)
 abbrev pub same_variable : Text → Text → Bool
 same_variable = str_eq_ignore_ascii_case
 
+-- the place of the first variable of a name
 abbrev pub place_of : Scope → Text → Option ℕ
 place_of scope x = position_from (λ v. same_variable v.name x) 0 scope
 
+-- the class of the variable at a place
 abbrev pub class_at : Scope → ℕ → Option ℕ
 class_at scope place = option_map (λ v. v.class) (slice_get scope place)
 
@@ -50,12 +54,15 @@ relation_of m s = along s.member
 abbrev pub target : PersistenceUnit → Step → Option ℕ
 target m s = relation_of m s >>= λ r. Some r.target
 
+-- the class that a step leads to along a relation to one object
 abbrev pub target_of_one : PersistenceUnit → Step → Option ℕ
 target_of_one m s = relation_of m s >>= λ r. when (is_to_one r.side) r.target
 
+-- the class that a step leads to along a relation to many objects
 abbrev pub target_of_many : PersistenceUnit → Step → Option ℕ
 target_of_many m s = relation_of m s >>= λ r. when (not (is_to_one r.side)) r.target
 
+-- the step to the member of a name, where the class has one
 abbrev pub step_at : PersistenceUnit → ℕ → Text → Option Step
 step_at m class name = member_of m class name >>= λ member. Some (record { class = class; member = member })
 
@@ -71,6 +78,7 @@ is_embedded m class name = is (root_of m class).embedded
     is None = false
     is (Some id) = same_name id name
 
+-- the step to the key part of a name, where the class has one
 abbrev pub part_at : PersistenceUnit → ℕ → Text → Option Step
 part_at m class name = position_from (λ part. same_name part.name name) 0 (root_of m class).key >>= λ i. Some (record { class = class; member = Member.KeyPart i })
 
@@ -79,6 +87,7 @@ abbrev pub is_last : PersistenceUnit → ℕ → Text → List Text → Bool
 is_last m class name [] = true
 is_last m class name (part ∷ names) = is_embedded m class name
 
+-- the last step of a path: to a member, or to a part of an embedded id (chapter 4.4.4)
 abbrev pub last_step : PersistenceUnit → ℕ → Text → List Text → Option Step
 last_step m class name [] = step_at m class name
 last_step m class name (part ∷ []) = part_at m class part
@@ -99,6 +108,7 @@ path_of m scope p =
     place_of scope p.variable >>= λ place. class_at scope place >>= λ class. steps_of m class p.names >>= λ steps.
     Some (record { variable = place; class = class; steps = steps })
 
+-- whether two paths are written with the same variable and the same names
 abbrev pub same_path : Path → Path → Bool
 same_path p q = same_variable p.variable q.variable && pointwise same_name p.names q.names
 

@@ -1,4 +1,4 @@
--- What values are of, and which go together (chapters 4.6 to 4.8).
+-- What values are of, and which go together (chapters 4.6, 4.7 and 4.9.5).
 use Rattle.std.specs.Prelude.{ℕ, ◌-◌, ◌==◌, length, Bool, true, false, ◌&&◌, List, [], ◌∷◌, slice_get, Option, Some, None, option_map, if◌then◌else◌}
 use Rattle.std.specs.List.{list_all}
 use Rattle.jpa_value.specs.declared.value.Kind.{Kind}
@@ -14,18 +14,22 @@ use Rattle.jpql_types.specs.declared.scope.TypedPath.{TypedPath}
 use Rattle.jpql_types.specs.declared.sort.Sort.{Sort}
 use Rattle.jpql_types.specs.Scope.{when, target_of_one, target_of_many}
 
+-- the sort of whole numbers
 abbrev pub integer : Sort
 integer = Sort.Basic Kind.Int
 
+-- the sort of texts
 abbrev pub text : Sort
 text = Sort.Basic Kind.Text
 
+-- whether two kinds of basic values are the same
 abbrev pub same_kind : Kind → Kind → Bool
 same_kind Kind.Int Kind.Int = true
 same_kind Kind.Text Kind.Text = true
 same_kind Kind.Bytes Kind.Bytes = true
 same_kind _ _ = false
 
+-- whether two sorts are one: null goes with all, the others with their own
 abbrev pub goes_with : Sort → Sort → Bool
 goes_with Sort.Null b = true
 goes_with a Sort.Null = true
@@ -48,6 +52,7 @@ abbrev pub joined_with : Sort → List Sort → Option Sort
 joined_with s [] = Some s
 joined_with s (b ∷ all) = if goes_with s b then joined_with (known_of s b) all else None
 
+-- the one sort of all of these, if there is one; of none it is that of null
 abbrev pub joined : List Sort → Option Sort
 joined = joined_with Sort.Null
 
@@ -76,6 +81,7 @@ given_sort Function.NullIf all = joined_basic all
 abbrev pub call_sort : Function → List Sort → Option Sort
 call_sort function all = if takes function (length all) then given_sort function all else None
 
+-- what an aggregate gives of values of a sort, where it takes them (chapter 4.9.5)
 abbrev pub aggregate_sort : Aggregate → Sort → Option Sort
 aggregate_sort Aggregate.Count s = Some integer
 aggregate_sort Aggregate.Sum s = when (goes_with integer s) integer
@@ -102,9 +108,11 @@ step_sort m s = of s.member
     of (Member.Attribute i) = option_map (λ a. Sort.Basic a.kind) (slice_get (attributes_of m s.class) i)
     of (Member.Relation r) = option_map (λ c. Sort.Entity (root_class m c)) (target_of_one m s)
 
+-- the last of the steps, if there is one
 abbrev pub last : List Step → Option Step
 last steps = slice_get steps (length steps - 1)
 
+-- the sort of what a path leads to; without steps that is its variable's object
 abbrev pub path_sort : PersistenceUnit → TypedPath → Option Sort
 path_sort m p = at_end (last p.steps)
   where

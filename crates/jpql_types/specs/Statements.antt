@@ -1,4 +1,4 @@
--- Which statements are well typed, and what a check answers (chapters 4.2 and 4.8 to 4.10).
+-- Which statements are well typed, and what a check answers (chapters 4.2 and 4.8 to 4.11).
 use Rattle.std.specs.Prelude.{ℕ, ◌==◌, Bool, true, false, not, ◌&&◌, ◌||◌, List, [], ◌∷◌, map, length, find, is_some, Option, if◌then◌else◌, Result, Ok, Err}
 use Rattle.std.specs.List.{list_any, list_all}
 use Rattle.jpa_value.specs.declared.refusal.Argument.{Argument}
@@ -32,10 +32,13 @@ use Rattle.jpql_types.specs.Trees.{is_named, typed_statement}
 
 -- ---- names: no variable is declared twice, no item named twice or as a variable
 
+-- whether no two names of a list are the same
 abbrev pub are_distinct : (Text → Text → Bool) → List Text → Bool
 are_distinct same [] = true
 are_distinct same (x ∷ xs) = not (list_any (same x) xs) && are_distinct same xs
 
+-- no variable and no item's name stands twice, and no item has a variable's name (chapters 4.4.2
+-- and 4.9)
 abbrev pub has_distinct_names : Query → Bool
 has_distinct_names q =
     let variables = names_in Names.Variables q in
@@ -44,6 +47,7 @@ has_distinct_names q =
 
 -- ---- groups
 
+-- whether an aggregate stands in a value, from whether one stands in its parts
 abbrev pub has_aggregate_step : Value-F Bool → Bool
 has_aggregate_step (part.Integer n) = false
 has_aggregate_step (part.Text t) = false
@@ -55,13 +59,16 @@ has_aggregate_step (part.Call f all) = list_any (λ a. a) all
 has_aggregate_step (part.Size p) = false
 has_aggregate_step (part.Aggregate g distinct a) = true
 
+-- whether an aggregate stands in a value (chapter 4.9.5)
 abbrev pub has_aggregate : Value → Bool
 has_aggregate = fold-Value Bool has_aggregate_step
 
+-- whether a list has an element
 abbrev pub is_any : {A : Type 0} → List A → Bool
 is_any [] = false
 is_any (x ∷ xs) = true
 
+-- whether a SELECT makes groups: by GROUP BY, HAVING or an aggregate in an item (chapter 4.8)
 abbrev pub is_grouping : Select → Bool
 is_grouping q = is_any q.groups || is_some q.having || list_any (λ i. has_aggregate i.value) q.items
 
@@ -69,7 +76,7 @@ is_grouping q = is_any q.groups || is_some q.having || list_any (λ i. has_aggre
 abbrev pub select_clause : Select → Clause
 select_clause q = if is_grouping q then Clause.Grouped else Clause.Select
 
--- ---- ORDER BY (chapter 4.9)
+-- ---- ORDER BY (chapter 4.10)
 
 -- what the item of a name is of
 abbrev pub sort_named : (Item → Option Sort) → List Item → Text → Option Sort
@@ -84,7 +91,7 @@ abbrev pub is_kept_by : Path → ℕ → Value → Bool
 is_kept_by p steps (Value.Path x) = same_path x p || is_from x p && steps == 1
 is_kept_by p steps _ = false
 
--- ---- what SET may set (chapter 4.10)
+-- ---- what SET may set (chapter 4.11)
 
 -- attributes, the version and owned relations to one object
 abbrev pub is_settable : PersistenceUnit → Step → Bool
@@ -96,6 +103,7 @@ is_settable m s = may_set s.member
     may_set (Member.Attribute i) = true
     may_set (Member.Relation r) = is_some_that (λ relation. is_some (column_of relation.side)) (relation_of m s)
 
+-- whether a value is an input parameter
 abbrev pub is_parameter : Value → Bool
 is_parameter (Value.Parameter name) = true
 is_parameter _ = false
@@ -109,9 +117,11 @@ allows_value _ value = true
 module _ (m : PersistenceUnit) (parameters : List (Text × Sort)) where
   -- ---- SELECT
 
+  -- the sort of an item of SELECT, where that is well typed
   abbrev pub item_sort : Select → Scope → Item → Option Sort
   item_sort q scope i = value_sort m parameters q.groups scope (select_clause q) i.value
 
+  -- the sort of what ORDER BY names: an item's, or a path's
   abbrev pub sorted_sort : Select → Scope → Sorted → Option Sort
   sorted_sort q scope (Sorted.Name name) = sort_named (item_sort q scope) q.items name
   sorted_sort q scope (Sorted.Path p) = sort_of_path m q.groups scope (select_clause q) p
@@ -121,26 +131,32 @@ module _ (m : PersistenceUnit) (parameters : List (Text × Sort)) where
   is_kept q scope (Sorted.Name name) = true
   is_kept q scope (Sorted.Path p) = is_some_that (λ path. list_any (λ i. is_kept_by p (length path.steps) i.value) q.items) (path_of m scope p)
 
+  -- a key of ORDER BY is of a basic sort, and under DISTINCT it is kept (chapter 4.10)
   abbrev pub is_key_typed : Select → Scope → SortKey → Bool
   is_key_typed q scope key = is_some_that is_basic (sorted_sort q scope key.by) && (not q.is_distinct || is_kept q scope key.by)
 
+  -- a path of GROUP BY has a sort, by the rules of WHERE (chapter 4.8)
   abbrev pub is_group_typed : Select → Scope → Path → Bool
   is_group_typed q scope p = is_some (sort_of_path m q.groups scope Clause.Where p)
 
+  -- where there is a condition, it is well typed in its clause
   abbrev pub is_filter_typed : List Path → Scope → Clause → Option Condition → Bool
   is_filter_typed groups scope clause filter = if_some (is_condition_typed m parameters groups scope clause) filter
 
+  -- all clauses of a SELECT are well typed in the scope that its FROM makes (chapter 4.2.1)
   abbrev pub is_select_typed_in : Select → Scope → Bool
   is_select_typed_in q scope =
       list_all (λ i. is_some (item_sort q scope i)) q.items && is_filter_typed q.groups scope Clause.Where q.filter
       && list_all (is_group_typed q scope) q.groups && is_filter_typed q.groups scope Clause.Having q.having
       && list_all (is_key_typed q scope) q.order
 
+  -- the FROM of a SELECT is well typed, and its other clauses are in the scope behind it
   abbrev pub is_select_typed : Select → Bool
   is_select_typed q = is_some_that (is_select_typed_in q) (in_turn (map (source_scope m parameters q.groups) q.sources) [])
 
   -- ---- SET
 
+  -- a value has a sort, which goes with the wanted one
   abbrev pub is_value_of : Scope → Option Sort → Value → Bool
   is_value_of scope sort value = pass_both goes_with sort (value_sort m parameters [] scope Clause.Where value)
 
@@ -148,9 +164,11 @@ module _ (m : PersistenceUnit) (parameters : List (Text × Sort)) where
   abbrev pub is_set_typed : Scope → Option Value → Step → Bool
   is_set_typed scope value s = is_settable m s && allows_value s.member value && if_some (is_value_of scope (step_sort m s)) value
 
+  -- an assignment names a member, and sets it as its sort allows (chapter 4.11)
   abbrev pub is_assignment_typed : Scope → Assignment → Bool
   is_assignment_typed scope a = is_some_that (λ s. is_set_typed scope a.value s.1) (step_from m scope a.variable a.name)
 
+  -- an UPDATE's assignments and condition are well typed, and no name is set twice (chapter 4.11)
   abbrev pub is_update_typed : List Assignment → Option Condition → Scope → Bool
   is_update_typed assignments filter scope =
       list_all (is_assignment_typed scope) assignments && are_distinct same_name (map (λ a. a.name) assignments)
@@ -158,11 +176,13 @@ module _ (m : PersistenceUnit) (parameters : List (Text × Sort)) where
 
   -- ---- statements
 
+  -- the clauses of a statement are well typed, over an entity that there is (chapter 4.2)
   abbrev pub is_statement_typed : Query → Bool
   is_statement_typed (Query.Select q) = is_select_typed q
   is_statement_typed (Query.Update entity x assignments filter) = is_some_that (λ class. is_update_typed assignments filter (with_variable [] x class)) (class_of m entity)
   is_statement_typed (Query.Delete entity x filter) = is_some_that (λ class. is_filter_typed [] (scope_of x class) Clause.Where filter) (class_of m entity)
 
+  -- a statement is well typed: its names are distinct, and its clauses well typed (chapter 4.2)
   abbrev pub is_typed : Query → Bool
   is_typed q = has_distinct_names q && is_statement_typed q
 

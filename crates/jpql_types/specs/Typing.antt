@@ -1,4 +1,5 @@
--- Which values, conditions and nested SELECTs are well typed: by folds over their trees (chapters 4.4 to 4.8).
+-- Which values, conditions and nested SELECTs are well typed: by folds over their trees (chapters
+-- 4.4 to 4.7, 4.9.5).
 use Rattle.std.specs.Prelude.{ℕ, ◌==◌, Bool, true, false, not, ◌&&◌, List, [], ◌∷◌, ◌++◌, map, length, filter, find, is_some, Option, Some, None, if◌then◌else◌, nat_le, nat_lt}
 use Rattle.std.specs.List.{list_all}
 use Rattle.jpa_model.specs.Chains.{same_name, class_of, root_class}
@@ -22,11 +23,13 @@ use Rattle.jpql_types.specs.declared.sort.Sort.{Sort}
 use Rattle.jpql_types.specs.Scope.{Scope, when, step_from, target, resolved}
 use Rattle.jpql_types.specs.Sorts.{integer, text, goes_with, joined, joined_basic, call_sort, aggregate_sort, arithmetic_sort, are_comparable, path_sort, collection_class}
 
+-- the elements of a list, where none is missing
 abbrev pub all_some : {A : Type 0} → List (Option A) → Option (List A)
 all_some [] = Some []
 all_some (None ∷ all) = None
 all_some (Some a ∷ all) = all_some all >>= λ more. Some (a ∷ more)
 
+-- whether two elements are there and pass a test together
 abbrev pub pass_both : {A B : Type 0} → (A → B → Bool) → Option A → Option B → Bool
 pass_both test a b = is_some_that (λ x. is_some_that (test x) b) a
 
@@ -43,6 +46,7 @@ parameter_sort parameters name = of (find (λ p. same_name p.0 name) parameters)
 -- ---- paths in a clause
 
 module _ (m : PersistenceUnit) (groups : List Path) (scope : Scope) (clause : Clause) where
+  -- the sort of a path, where the clause allows the path
   abbrev pub sort_of_path : Path → Option Sort
   sort_of_path p = resolved m groups scope clause p >>= λ path. path_sort m path
 
@@ -52,11 +56,13 @@ module _ (m : PersistenceUnit) (groups : List Path) (scope : Scope) (clause : Cl
 
 -- ---- what a clause allows
 
+-- no aggregate may stand in ON and in WHERE
 abbrev pub allows_aggregates : Clause → Bool
 allows_aggregates Clause.On = false
 allows_aggregates Clause.Where = false
 allows_aggregates _ = true
 
+-- no EXISTS may stand in HAVING
 abbrev pub allows_exists : Clause → Bool
 allows_exists Clause.Having = false
 allows_exists _ = true
@@ -67,17 +73,21 @@ allows_exists _ = true
 abbrev pub continues : ℕ → Bool
 continues b = nat_le 128 b && nat_lt b 192
 
+-- whether a text is one character, as ESCAPE takes it (chapter 4.6.10)
 abbrev pub is_one_character : Text → Bool
 is_one_character t = length (filter (λ b. not (continues b)) t) == 1
 
+-- whether a name is that of an entity of the class's hierarchy
 abbrev pub is_of_hierarchy : PersistenceUnit → ℕ → Text → Bool
 is_of_hierarchy m class name = is_some_that (λ c. root_class m c == root_class m class) (class_of m name)
 
+-- the path that is a variable alone
 abbrev pub variable_path : Text → Path
 variable_path x = record { variable = x; names = [] }
 
 -- ---- FROM
 
+-- a scope with one more variable, at its end
 abbrev pub with_variable : Scope → Text → ℕ → Scope
 with_variable scope x class = scope ++ record { name = x; class = class } ∷ []
 
@@ -95,6 +105,7 @@ in_turn (adds ∷ more) scope = adds scope >>= λ wider. in_turn more wider
 abbrev pub related_class : PersistenceUnit → Scope → Text → Text → Option ℕ
 related_class m scope x name = step_from m scope x name >>= λ s. target m s.1
 
+-- the class that a range ranges over: an entity's, or the target of a relation
 abbrev pub origin_class : PersistenceUnit → Scope → Origin → Option ℕ
 origin_class m scope (Origin.Entity name) = class_of m name
 origin_class m scope (Origin.Related x name) = related_class m scope x name
@@ -102,6 +113,7 @@ origin_class m scope (Origin.Related x name) = related_class m scope x name
 -- ---- well typed, in a persistence unit, with parameters of these sorts and these grouping paths
 
 module _ (m : PersistenceUnit) (parameters : List (Text × Sort)) (groups : List Path) where
+  -- the sort of a value in a clause, from those of its parts
   abbrev pub sort_step : Scope → Value-F (Clause → Option Sort) → Clause → Option Sort
   sort_step scope (part.Integer n) clause = Some integer
   sort_step scope (part.Text t) clause = Some text
@@ -117,6 +129,7 @@ module _ (m : PersistenceUnit) (parameters : List (Text × Sort)) (groups : List
   abbrev pub value_sort : Scope → Clause → Value → Option Sort
   value_sort scope clause value = fold-Value (Clause → Option Sort) (sort_step scope) value clause
 
+  -- the sorts of values, where each is well typed
   abbrev pub sorts_of : Scope → Clause → List Value → Option (List Sort)
   sorts_of scope clause values = all_some (map (value_sort scope clause) values)
 
@@ -124,12 +137,15 @@ module _ (m : PersistenceUnit) (parameters : List (Text × Sort)) (groups : List
   abbrev pub is_member_typed : Option ℕ → Option Sort → Bool
   is_member_typed = pass_both (λ class s. goes_with (Sort.Entity (root_class m class)) s)
 
+  -- whether a condition is well typed, by its scope and its clause
   abbrev pub Judges : Type 0
   Judges = Scope → Clause → Bool
 
+  -- the scope behind an element of FROM, by the one before it, where the element is well typed
   abbrev pub Adds : Type 0
   Adds = Scope → Option Scope
 
+  -- whether a condition is well typed, from whether its parts are (chapter 4.6)
   abbrev pub condition_step : Condition-F Judges (Scope → Bool) Adds Adds → Judges
   condition_step (test.Or a b) scope clause = a scope clause && b scope clause
   condition_step (test.And a b) scope clause = a scope clause && b scope clause
@@ -148,20 +164,26 @@ module _ (m : PersistenceUnit) (parameters : List (Text × Sort)) (groups : List
   abbrev pub block_step : Block-F Judges (Scope → Bool) Adds Adds → Scope → Bool
   block_step b outer = is_some_that (λ scope. is_some (value_sort scope Clause.Where (b.item).value) && if_some (λ c. c scope Clause.Where) b.filter) (in_turn b.sources outer)
 
+  -- the scope behind a join, whose ON is well typed with the join's own variable (chapter 4.4.5)
   abbrev pub join_step : Join-F Judges (Scope → Bool) Adds Adds → Adds
   join_step j scope = related_class m scope j.of j.relation >>= λ class. let wider = with_variable scope j.variable class in when (if_some (λ c. c wider Clause.On) j.on) wider
 
+  -- the scope behind a range and its joins, where each is well typed (chapter 4.4.3)
   abbrev pub source_step : Source-F Judges (Scope → Bool) Adds Adds → Adds
   source_step s scope = origin_class m scope s.origin >>= λ class. in_turn s.joins (with_variable scope s.variable class)
 
+  -- whether a condition is well typed in a scope and a clause (chapter 4.6)
   abbrev pub is_condition_typed : Scope → Clause → Condition → Bool
   is_condition_typed scope clause c = fold-Condition Judges (Scope → Bool) Adds Adds condition_step block_step join_step source_step c scope clause
 
+  -- the scope behind a range, where that is well typed
   abbrev pub source_scope : Source → Scope → Option Scope
   source_scope = fold-Source Judges (Scope → Bool) Adds Adds condition_step block_step join_step source_step
 
+  -- whether a nested SELECT is well typed in the scope around it (chapter 4.6.16)
   abbrev pub is_block_typed : Block → Scope → Bool
   is_block_typed = fold-Block Judges (Scope → Bool) Adds Adds condition_step block_step join_step source_step
 
+  -- the scope behind a join, where that is well typed
   abbrev pub join_scope : Join → Scope → Option Scope
   join_scope = fold-Join Judges (Scope → Bool) Adds Adds condition_step block_step join_step source_step

@@ -47,7 +47,7 @@ fn scope_of_any(
     }
 }
 
-/// An UPDATE of a class (chapter 4.10).
+/// An UPDATE of a class (chapter 4.11).
 fn update_of(
     alloc: Global,
     context: &Context<'_>,
@@ -222,11 +222,11 @@ fn checked_query(
     }
 }
 
-/// The typed tree of a statement, whose parameters are of these sorts (chapters 4.2 to 4.10).
+/// The typed tree of a statement, whose parameters are of these sorts (chapters 4.2 to 4.11).
 ///
-/// `IllegalArgument(Typing)` where the statement isn't well typed, a parameter that isn't given being of all sorts;
-/// else `IllegalArgument(Parameter)` where one of its parameters isn't given, or one that is given isn't in it;
-/// `OutOfMemory` where a growth was refused.
+/// `IllegalArgument(Typing)` where the statement isn't well typed, a parameter that isn't given
+/// being of all sorts; else `IllegalArgument(Parameter)` where one of its parameters isn't given,
+/// or one that is given isn't in it; `OutOfMemory` where a growth was refused.
 pub fn check_query(
     alloc: Global,
     metamodel: &Metamodel,

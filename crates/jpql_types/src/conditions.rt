@@ -1,4 +1,5 @@
-//! Which conditions and nested SELECTs are well typed, the variables that FROM brings into scope, and their trees.
+//! Which conditions and nested SELECTs are well typed, the variables that FROM brings into scope,
+//! and their trees.
 ghost use Rattle.std.specs.Prelude.{◌≡◌, ◌&&◌, map, IfOk};
 ghost use Rattle.jpa_model.specs.WellFormed.{if_some};
 ghost use Rattle.jpql_types.specs.Gives.{Gives, IsJudged};
@@ -189,7 +190,8 @@ fn typed_block(
     })
 }
 
-/// The scope with the variable of a join, and its tree, where it is well typed after what is in scope.
+/// The scope with the variable of a join, and its tree, where it is well typed after what is in
+/// scope.
 #[cycle(typed_condition)]
 fn typed_join(
     alloc: Global,
@@ -263,7 +265,8 @@ fn typed_joins(
     Ok((scope, found))
 }
 
-/// The scope with the variables of a source, and its tree, where it is well typed after what is in scope.
+/// The scope with the variables of a source, and its tree, where it is well typed after what is in
+/// scope.
 #[cycle(typed_condition)]
 pub(crate) fn typed_source(
     alloc: Global,

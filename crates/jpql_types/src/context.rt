@@ -11,7 +11,8 @@ pub(crate) type Parameters<'a> = NameIndex<'a, (Text, Sort)>;
 /// The grouping paths of a statement.
 pub(crate) type Groups<'a> = PathIndex<'a, Path>;
 
-/// What a statement is typed by: the metamodel, the parameters that are given, and its grouping paths.
+/// What a statement is typed by: the metamodel, the parameters that are given, and its grouping
+/// paths.
 #[derive(Clone, Copy)]
 pub(crate) struct Context<'a> {
     pub(crate) metamodel: &'a Metamodel,

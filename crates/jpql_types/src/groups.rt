@@ -57,7 +57,7 @@ fn is_grouping(select: &Select) -> bool
         || have_items_aggregate(select.items.as_slice())
 }
 
-/// The clause of the items, and of ORDER BY (chapters 4.7 and 4.8).
+/// The clause of the items, and of ORDER BY (chapters 4.9 and 4.10).
 pub(crate) fn select_clause(select: &Select) -> Clause
     ensures { result ≡ spec.select_clause select.now }
 {

@@ -1,12 +1,15 @@
-//! Well-typed queries of the Jakarta Persistence Query Language (Jakarta Persistence 3.1, chapter 4).
+//! Well-typed queries of the Jakarta Persistence Query Language (Jakarta Persistence 3.1, chapter
+//! 4).
 //!
-//! `check_query` takes a statement to its typed tree, in which places stand for names, or refuses it.
+//! `check_query` takes a statement to its typed tree, in which places stand for names, or refuses
+//! it.
 //!
-//! The rules stand in `specs/`: in `Scope` what paths mean from the variables in scope, in `Sorts` what values are of
-//! and which go together, in `Typing` which values, conditions and nested SELECTs are well typed, in `Statements` which
-//! statements are, and what a check of one answers; in `Names` the names that a statement has, in `Trees` its typed tree;
-//! in `Indexes` what its names and paths are found by.
-//! The crate stands on those of values, of the metamodel and of the trees that are written.
+//! The rules stand in `specs/`: in `Scope` what paths mean from the variables in scope, in `Sorts`
+//! what values are of and which go together, in `Typing` which values, conditions and nested
+//! SELECTs are well typed, in `Statements` which statements are, and what a check of one answers;
+//! in `Names` the names that a statement has, in `Trees` its typed tree; in `Indexes` what its
+//! names and paths are found by. The crate stands on those of values, of the metamodel and of the
+//! trees that are written.
 #![tactic(auto)]
 
 mod check;

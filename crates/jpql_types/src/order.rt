@@ -1,4 +1,4 @@
-//! Keys of ORDER BY (chapter 4.9).
+//! Keys of ORDER BY (chapter 4.10).
 ghost use Rattle.std.specs.Prelude.{◌≡◌, ◌&&◌, ◌||◌, not, map, Option, Some, option_map, IfSome, IfOk};
 ghost use Rattle.std.specs.List.{list_any, list_all, position_from};
 ghost use Rattle.jpa_model.specs.WellFormed.{is_some_that};
@@ -43,7 +43,8 @@ fn place_of_name(items: &NameIndex<'_, Item>, name: &Text) -> Option<usize>
     items.place(name)
 }
 
-/// Whether DISTINCT keeps a path of so many steps: it is an item, or one step from a variable that is one.
+/// Whether DISTINCT keeps a path of so many steps: it is an item, or one step from a variable that
+/// is one.
 fn is_kept(
     alloc: Global,
     items: &PathIndex<'_, Item>,

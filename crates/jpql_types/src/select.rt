@@ -1,4 +1,4 @@
-//! SELECT statements (chapters 4.2.1 and 4.8).
+//! SELECT statements (chapters 4.2.1 and 4.8 to 4.10).
 ghost use Rattle.std.specs.Prelude.{◌≡◌, map, is_some, Some, IfOk};
 ghost use Rattle.std.specs.List.{list_all};
 ghost use Rattle.jpql_types.specs.Gives.{Gives, IsJudged};

@@ -1,4 +1,4 @@
-//! What SET sets members to (chapter 4.10).
+//! What SET sets members to (chapter 4.11).
 ghost use Rattle.std.specs.Prelude.{◌≡◌, [], map, option_map, IfOk};
 ghost use Rattle.std.specs.List.{list_all};
 ghost use Rattle.jpa_model.specs.WellFormed.{is_some_that};

@@ -139,7 +139,8 @@ fn given_sort(function: Function, all: &[Sort]) -> Option<Sort>
     }
 }
 
-/// What a function gives of arguments of these sorts (chapter 4.7); nothing where it takes more or fewer.
+/// What a function gives of arguments of these sorts (chapter 4.7); nothing where it takes more or
+/// fewer.
 pub(crate) fn call_sort(function: Function, all: &[Sort]) -> Option<Sort>
     ensures { result ≡ sorts.call_sort function all.now }
 {
@@ -150,7 +151,7 @@ pub(crate) fn call_sort(function: Function, all: &[Sort]) -> Option<Sort>
     }
 }
 
-/// What an aggregate gives of values of this sort (chapter 4.8.5).
+/// What an aggregate gives of values of this sort (chapter 4.9.5).
 pub(crate) fn aggregate_sort(aggregate: Aggregate, sort: Sort) -> Option<Sort>
     ensures { result ≡ sorts.aggregate_sort aggregate sort }
 {

@@ -1,7 +1,7 @@
 //! Well-typed statements, with places for names.
 //!
-//! They are the trees of jpql_tree again, since a list of resolved paths beside those would have to be walked along
-//! with them wherever a query is given a meaning.
+//! They are the trees of jpql_tree again, since a list of resolved paths beside those would have to
+//! be walked along with them wherever a query is given a meaning.
 use crate::scope::{Step, TypedPath};
 use jpa_model::Member;
 use jpa_value::{Boxed, Seq, Text};
@@ -85,7 +85,7 @@ pub enum TypedSorted {
     Path(TypedPath),
 }
 
-/// A key of ORDER BY (chapter 4.9).
+/// A key of ORDER BY (chapter 4.10).
 #[derive(Drop)]
 pub struct TypedKey {
     pub by: TypedSorted,
@@ -104,7 +104,7 @@ pub struct TypedSelect {
     pub order: Seq<TypedKey>,
 }
 
-/// What an UPDATE sets a member to: a value, or null (chapter 4.10).
+/// What an UPDATE sets a member to: a value, or null (chapter 4.11).
 #[derive(Drop)]
 pub struct TypedAssignment {
     pub member: Member,

@@ -146,8 +146,8 @@ fn size_value(
     Ok((TypedValue::Size(path), INTEGER))
 }
 
-// A chain of `+` may be as long as a text, and the stack then holds this function once for each operand. So its frame is
-// kept small: what other values need stands in functions of their own.
+// A chain of `+` may be as long as a text, and the stack then holds this function once for each
+// operand. So its frame is kept small: what other values need stands in functions of their own.
 /// A value, and what it is of, where it is well typed in a clause.
 #[cycle(typed_value)]
 pub(crate) fn typed_value(

@@ -9,7 +9,8 @@ use std::alloc::{AllocError, Global};
 use std::cmp::Ordering;
 use std::marker::Model;
 
-/// What a path is found by: its variable in lower case, for the case of that is ignored, and its names.
+/// What a path is found by: its variable in lower case, for the case of that is ignored, and its
+/// names.
 #[derive(Drop)]
 pub(crate) struct PathKey {
     words: Vec<String>,

@@ -1,0 +1,176 @@
+-- A statement that asks one object by its key gives over a set what it gives over that object alone, or over none.
+use Rattle.std.proofs.Common.{rules, ◌≡◌, ◌∙◌, refl, ap, sym, subst, Bool, true, false, cond, List, [], ◌∷◌, map, Option, Some, None, option_map, inl, inr}
+use Rattle.std.specs.Prelude.{◌&&◌, ◌⊎◌, T, is_some, not}
+use Rattle.std.specs.Cmp.{tied_itself}
+use Rattle.std.specs.FinMap.Entries.{is_sorted}
+use Rattle.std.specs.List.{AllByRecursion, filter}
+use Rattle.std.specs.Option.{option_to_list, unwrap_or}
+use Rattle.std.specs.Ordering.{is_eq}
+use Rattle.std.proofs.lemmas.Bool.{and_parts, false≢true}
+use Rattle.jpa_value.specs.declared.value.Identity.{Identity}
+use Rattle.jpa_value.specs.declared.value.Value.{Value}
+use Rattle.jpa_value.specs.Value.{identity_cmp, same_identity}
+use Rattle.jpa_value.proofs.Orders.{identity_total}
+use Rattle.jpa_model.specs.declared.unit.PersistenceUnit.{PersistenceUnit}
+use Rattle.jpa_model.specs.Chains.{is_kind_of}
+use Rattle.jpa_stored.specs.declared.stored.Stored.{Stored}
+use Rattle.jpa_stored.specs.Sets.{StoredSet, all_shaped, is_shaped, stored_at}
+use Rattle.jpql_tree.specs.declared.Comparison.{Comparison}
+use Rattle.jpql_types.specs.declared.scope.TypedPath.{TypedPath}
+use Rattle.jpql_types.specs.declared.typed.TypedCondition.{TypedCondition}
+use Rattle.jpql_types.specs.declared.typed.TypedCondition.TheViews.{out-TypedJoin, out-TypedSource}
+use Rattle.jpql_types.specs.declared.typed.TypedJoin.{TypedJoin}
+use Rattle.jpql_types.specs.declared.typed.TypedSelect.{TypedSelect}
+use Rattle.jpql_types.specs.declared.typed.TypedSource.{TypedSource}
+use Rattle.jpql_types.specs.declared.typed.TypedValue.TheFolds as values
+use Rattle.jpql_types.specs.declared.typed.TypedValue.TheVariants as v
+use Rattle.jpql_eval.specs.declared.datum.Datum.{Datum}
+use Rattle.jpql_eval.specs.Answers.{Answer, gives, ◌>>=◌, under, each}
+use Rattle.jpql_eval.specs.declared.datum.Truth.{Truth}
+use Rattle.jpql_plan.specs.Paths.{Entry, Tuple, objects, path_datum}
+use Rattle.jpql_plan.specs.Meaning.{alone, condition, in_turn, join, kept, origin_objects, truth_of_any, value}
+use Rattle.jpql_plan.specs.Selection.{Row, cases_of, distinct, in_order, rows_of, select_drops, selected, selected_tuples}
+use Rattle.jpql_run.specs.Keys.{CanBeLookedUp, IsAlwaysTold, IsAnyTold, NeverOverflows, has_identity, is_given}
+use Rattle.jpql_run.specs.Lookups.{AsksPart}
+use Rattle.jpql_run.specs.Refused.{Candidates, asked, joined_from, left_behind, left_from, ranged, with_each}
+use Rattle.jpql_run.proofs.CalmValues.{calm_value}
+use Rattle.jpql_run.proofs.Found.{found_of_kind, same_is, with_it}
+use Rattle.jpql_run.proofs.Lookups.{by_key}
+use Rattle.jpql_run.proofs.Refused.{leaving_out}
+use Rattle.jpql_run.proofs.Told.{told_compare}
+use Rattle.jpql_by_key.specs.ByKey.{identity_with, only}
+use Rattle.jpql_by_key.specs.Laws.{LawsOfKeys}
+use Rattle.jpql_by_key.proofs.Asked.{Asks, AsksKey, asks_key, keyed_as, part_of, unpaired}
+use Rattle.jpql_by_key.proofs.Conditions.{same_if_any}
+use Rattle.jpql_by_key.proofs.Selected.{drops_same, made_same, own_parts}
+
+-- ---- the set of what stands under an identity
+
+found_shaped : (m : PersistenceUnit) (id : Identity) (x : Stored) (e : Identity × Stored) (o : Option Stored) (b : Bool) → same_identity id e.0 ≡ b → (o ≡ Some x → is_shaped m id x ≡ true)
+    → is_shaped m e.0 e.1 ≡ true → cond b (Some e.1) o ≡ Some x → is_shaped m id x ≡ true
+found_shaped m id x e o true t k h g =
+    subst (λ i. is_shaped m i x ≡ true) (sym (same_is id e.0 t)) (subst (λ y. is_shaped m e.0 y ≡ true) (ap (λ p. unwrap_or p x) g) h)
+found_shaped m id x e o false t k h g = k g
+
+shaped_there : (m : PersistenceUnit) (s : StoredSet) (id : Identity) (x : Stored) → all_shaped m s ≡ true → stored_at s id ≡ Some x → is_shaped m id x ≡ true
+shaped_there m [] id x h e = absurd (false≢true (ap is_some e))
+shaped_there m (y ∷ ys) id x h e =
+    let parts = and_parts (is_shaped m y.0 y.1) (all_shaped m ys) h in
+    found_shaped m id x y (stored_at ys id) (same_identity id y.0) refl (shaped_there m ys id x parts.1) parts.0 e
+
+only_rises : (id : Identity) (o : Option Stored) → T (is_sorted identity_cmp (only id o))
+only_rises id None = tt
+only_rises id (Some x) = tt
+
+only_shaped : (m : PersistenceUnit) (id : Identity) (o : Option Stored) → ((x : Stored) → o ≡ Some x → is_shaped m id x ≡ true) → all_shaped m (only id o) ≡ true
+only_shaped m id None k = refl
+only_shaped m id (Some x) k = ap (λ b. b && true) (k x refl)
+
+only_there : (id : Identity) (o : Option Stored) → stored_at (only id o) id ≡ o
+only_there id None = refl
+only_there id (Some x) = ap (λ b. cond b (Some x) None) (ap is_eq (tied_itself identity_total id))
+
+-- ---- tuples
+
+never_path : (p : TypedPath) → NeverOverflows (v.Path p)
+never_path p m s ps at = ap is_given by
+  where
+    by : value m s ps (v.Path p) at ≡ gives (path_datum m s at.tuple p)
+    by = search (rules, values.the_lemmas)
+
+-- a condition that asks a key can't overflow
+always_told : (ps : List Datum) (c : TypedCondition) (x : Value) → AsksKey ps c x → IsAnyTold (Some c)
+always_told ps c x h m s qs at = subst (λ d. IsAlwaysTold d) (sym h.is_equation) (told_compare Comparison.Equal h.left h.right (by h.sides)) m s qs at
+  where
+    key : NeverOverflows h.key
+    key = subst NeverOverflows (sym (h.named).written) (never_path (h.named).path)
+
+    other : NeverOverflows h.other
+    other = calm_value h.other h.calm
+
+    by : ((h.left ≡ h.key) × (h.right ≡ h.other)) ⊎ ((h.left ≡ h.other) × (h.right ≡ h.key)) → NeverOverflows h.left × NeverOverflows h.right
+    by (inl e) = (subst NeverOverflows (sym e.0) key, subst NeverOverflows (sym e.1) other)
+    by (inr e) = (subst NeverOverflows (sym e.0) other, subst NeverOverflows (sym e.1) key)
+
+module _ (m : PersistenceUnit) (ps : List Datum) (q : TypedSelect) (id : Identity) (h : Asks m ps q id) where
+  abbrev x : TypedSource
+  x = (h.range).source
+
+  abbrev conditions : List TypedCondition
+  conditions = asked x [] (Some h.condition)
+
+  abbrev those : StoredSet → List Entry
+  those s = filter (has_identity id) (objects m s h.class)
+
+  no_joins : (P : List TypedJoin → Type 0) → P [] → P (out-TypedSource x).joins
+  no_joins P p = subst P (sym (h.range).joins) p
+
+  module _ (s : StoredSet) (there : CanBeLookedUp m s) where
+    asks_part : AsksPart m s ps conditions [] 0 h.part
+    asks_part =
+        let key = (h.asked).named in
+        record {
+          path = key.path;
+          step = key.step;
+          other = (h.asked).other;
+          here = key.here;
+          single = key.single;
+          is_place = key.is_place;
+          known = λ rest. (h.asked).gives_it m s (alone rest) ∙ sym ((h.asked).gives_it m s (alone []));
+          given = (h.asked).gives_it m s (alone []);
+          asked = λ t never. inl (part_of ps h.condition h.part h.asked m s ps t never);
+        }
+
+    are_candidates : Candidates m s ps conditions [] (ranged m s ps x []) (those s)
+    are_candidates =
+        subst (λ o. Candidates m s ps conditions [] (origin_objects m s ps o []) (those s)) (sym (h.range).origin)
+        (subst (λ i. Candidates m s ps conditions [] (objects m s h.class) (filter (has_identity i) (objects m s h.class))) (sym h.identity)
+        (by_key m s ps conditions [] h.class (identity_with h.table h.part) (keyed_as m h.class h.table h.keyed h.part) there.shaped (asks_part, tt)))
+
+    abbrev test : Tuple → Answer Truth
+    test t = truth_of_any (option_map (condition m s ps) q.filter) (alone t)
+
+    -- WHERE is asked of the tuple of the one object
+    pub tuples_there : selected_tuples m s ps q ≡ (each (in_turn []) (with_each [] (those s)) >>= λ ts. each (in_turn []) ts >>= λ all. kept test (filter (λ t. not (select_drops m s ps q t)) all))
+    tuples_there =
+        ap (λ xs. left_from m s ps [] xs q.filter (select_drops m s ps q)) (h.range).only
+        ∙ ap (λ c. left_from m s ps [] (x ∷ []) c (select_drops m s ps q)) h.filter
+        ∙ (leaving_out m s ps x [] (Some h.condition) (no_joins (AllByRecursion (λ j. IsAnyTold (out-TypedJoin j).on)) tt) tt (always_told ps h.condition h.part h.asked)).first [] (those s) (select_drops m s ps q) are_candidates
+        ∙ ap (λ c. left_behind m s ps [] c (select_drops m s ps q) (joined_from m s ps x [] (those s))) (sym h.filter)
+        ∙ ap (λ js. left_behind m s ps [] q.filter (select_drops m s ps q) (each (in_turn (map (join m s ps) js)) (with_each [] (those s)))) (h.range).joins
+
+  module _ (s : StoredSet) (there : CanBeLookedUp m s) where
+    abbrev one : StoredSet
+    one = only id (stored_at s id)
+
+    one_there : CanBeLookedUp m one
+    one_there = record { rising = only_rises id (stored_at s id); shaped = only_shaped m id (stored_at s id) (λ y e. shaped_there m s id y there.shaped e) }
+
+    -- the object itself
+    same_those : those s ≡ those one
+    same_those =
+        let kind = λ (e : Entry). is_kind_of m (e.1).class h.class in
+        found_of_kind id kind s there.rising
+        ∙ ap (λ o. filter kind (option_to_list (option_map (with_it id) o))) (sym (only_there id (stored_at s id)))
+        ∙ sym (found_of_kind id kind one one_there.rising)
+
+    same_tuples : selected_tuples m s ps q ≡ selected_tuples m one ps q
+    same_tuples =
+        let own = own_parts m q h.own in
+        tuples_there s there
+        ∙ (λ i. each (in_turn []) (with_each [] (same_those i)) >>= λ ts. each (in_turn []) ts >>= λ all. kept (λ t. truth_of_any (same_if_any m s one ps q.filter own.filter i) (alone t)) (filter (λ t. not (drops_same m s one ps q own t i)) all))
+        ∙ sym (tuples_there one one_there)
+
+    pub alone_gives : selected m s ps q ≡ selected m one ps q
+    alone_gives =
+        ap (λ ts. ts >>= λ all. under (λ rows. map (λ (r : Row). r.items) (in_order q.order (distinct m s ps q.is_distinct rows))) (rows_of m s ps q (cases_of m s ps q all))) same_tuples
+        ∙ (λ i. selected_tuples m one ps q >>= λ all. made_same m s one ps q (own_parts m q h.own) all i)
+
+pub laws_of_keys : LawsOfKeys
+laws_of_keys m ps q id e =
+    let h = asks_key m ps q id e in
+    record {
+      alone = λ s there. alone_gives m ps q id h s there;
+      rooted = (h.class, h.within, h.of_root ∙ ap (λ i. i.table) (sym h.identity));
+      unpaired = λ x shaped. unpaired m h.class h.table h.keyed h.part x (subst (λ i. is_shaped m i x ≡ true) h.identity shaped);
+    }

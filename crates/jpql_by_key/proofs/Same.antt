@@ -1,0 +1,82 @@
+-- What a value means that one object tells by itself is the same over every set: by induction over the typed tree.
+use Rattle.std.proofs.Common.{◌≡◌, ◌∙◌, refl, ap, sym, subst, Bool, true, List, [], ◌∷◌, map}
+use Rattle.std.specs.Prelude.{◌||◌}
+use Rattle.std.specs.List.{AllByRecursion, list_all}
+use Rattle.std.proofs.lemmas.Bool.{and_parts, false≢true}
+use Rattle.jpa_model.specs.declared.unit.PersistenceUnit.{PersistenceUnit}
+use Rattle.jpa_stored.specs.Sets.{StoredSet}
+use Rattle.jpql_tree.specs.declared.Function.{Function}
+use Rattle.jpql_types.specs.declared.typed.TypedValue.{TypedValue, TypedValue-F}
+use Rattle.jpql_types.specs.declared.typed.TypedValue.TheViews.{roll-TypedValue}
+use Rattle.jpql_types.specs.declared.typed.TypedValue.TheOpen as part
+use Rattle.jpql_types.specs.declared.typed.TypedValue.TheVariants as v
+use Rattle.jpql_types.specs.declared.typed.TypedValue.TheFolds as values
+use Rattle.jpql_eval.specs.declared.datum.Datum.{Datum}
+use Rattle.jpql_eval.specs.Answers.{Answer, gives}
+use Rattle.jpql_plan.specs.Paths.{Tuple}
+use Rattle.jpql_plan.specs.Meaning.{Case, value, value_drops, value_step, drops_step}
+use Rattle.jpql_run.proofs.CalmValues.{all_made, each_passes}
+use Rattle.jpql_run.proofs.Told.{all_weaker}
+use Rattle.jpql_by_key.specs.Own as own
+use Rattle.jpql_by_key.specs.Own.{is_own_value}
+use Rattle.jpql_by_key.proofs.Members.{path_same, broken_same}
+
+pub map_same : {A B : Type 0} (f g : A → B) (xs : List A) → AllByRecursion (λ x. f x ≡ g x) xs → map f xs ≡ map g xs
+map_same f g [] h = refl
+map_same f g (x ∷ xs) h = λ i. h.0 i ∷ map_same f g xs h.1 i
+
+pub own_layer : (m : PersistenceUnit) (w : TypedValue-F TypedValue) → is_own_value m (roll-TypedValue w) ≡ own.value_step m (values.map-TypedValue TypedValue Bool (is_own_value m) w)
+own_layer m w = values.fold-roll-TypedValue Bool (own.value_step m) w
+
+pub own_of_call : (m : PersistenceUnit) (f : Function) (all : List TypedValue) → is_own_value m (v.Call f all) ≡ list_all (is_own_value m) all
+own_of_call m f all = ap (is_own_value m) (sym (v.rolls-Call f all)) ∙ own_layer m (part.Call f all) ∙ all_made (is_own_value m) all
+
+module _ (m : PersistenceUnit) (s : StoredSet) (ps : List Datum) where
+  pub value_layer : (w : TypedValue-F TypedValue) → value m s ps (roll-TypedValue w) ≡ value_step m s ps (values.map-TypedValue TypedValue (Case → Answer Datum) (value m s ps) w)
+  value_layer w = values.fold-roll-TypedValue (Case → Answer Datum) (value_step m s ps) w
+
+  pub drops_layer : (w : TypedValue-F TypedValue) → value_drops m s ps (roll-TypedValue w) ≡ drops_step m s ps (values.map-TypedValue TypedValue (Tuple → Bool) (value_drops m s ps) w)
+  drops_layer w = values.fold-roll-TypedValue (Tuple → Bool) (drops_step m s ps) w
+
+module _ (m : PersistenceUnit) (s s' : StoredSet) (ps : List Datum) where
+  -- the same over both sets, and so is what drops a tuple
+  abbrev pub IsSame : TypedValue → Type 0
+  IsSame v = (value m s ps v ≡ value m s' ps v) × (value_drops m s ps v ≡ value_drops m s' ps v)
+
+  abbrev Same : TypedValue → Type 0
+  Same v = is_own_value m v ≡ true → IsSame v
+
+  -- where the layer is the same, made of what is the same
+  by_layer : (w : TypedValue-F TypedValue)
+      → value_step m s ps (values.map-TypedValue TypedValue (Case → Answer Datum) (value m s ps) w) ≡ value_step m s' ps (values.map-TypedValue TypedValue (Case → Answer Datum) (value m s' ps) w)
+      → drops_step m s ps (values.map-TypedValue TypedValue (Tuple → Bool) (value_drops m s ps) w) ≡ drops_step m s' ps (values.map-TypedValue TypedValue (Tuple → Bool) (value_drops m s' ps) w)
+      → IsSame (roll-TypedValue w)
+  by_layer w e f = (value_layer m s ps w ∙ e ∙ sym (value_layer m s' ps w), drops_layer m s ps w ∙ f ∙ sym (drops_layer m s' ps w))
+
+  layer : (y : TypedValue-F ((a : TypedValue) × Same a)) → Same (roll-TypedValue (values.map-TypedValue ((a : TypedValue) × Same a) TypedValue (λ z. z.0) y))
+  layer (part.Integer n) h = by_layer (part.Integer n) refl refl
+  layer (part.Text t) h = by_layer (part.Text t) refl refl
+  layer (part.Parameter place) h = by_layer (part.Parameter place) refl refl
+  layer (part.Path p) h =
+      let k = sym (own_layer m (part.Path p)) ∙ h in
+      by_layer (part.Path p) (λ i at. gives (path_same m s s' p k at.tuple i)) (λ i t. broken_same m s s' p k t i)
+  layer (part.Size p) h = absurd (false≢true (sym (own_layer m (part.Size p)) ∙ h))
+  layer (part.Signed sign a) h =
+      let k = a.1 (sym (own_layer m (part.Signed sign a.0)) ∙ h) in
+      by_layer (part.Signed sign a.0) (ap (λ f. value_step m s ps (part.Signed sign f)) k.0) k.1
+  layer (part.Aggregate g distinct a) h =
+      let k = a.1 (sym (own_layer m (part.Aggregate g distinct a.0)) ∙ h) in
+      by_layer (part.Aggregate g distinct a.0) (ap (λ f. value_step m s ps (part.Aggregate g distinct f)) k.0) k.1
+  layer (part.Arithmetic op a b) h =
+      let parts = and_parts (is_own_value m a.0) (is_own_value m b.0) (sym (own_layer m (part.Arithmetic op a.0 b.0)) ∙ h) in
+      let k = a.1 parts.0 in
+      let l = b.1 parts.1 in
+      by_layer (part.Arithmetic op a.0 b.0) (λ i. value_step m s ps (part.Arithmetic op (k.0 i) (l.0 i))) (λ i t. k.1 i t || l.1 i t)
+  layer (part.Call f all) h =
+      let ks = each_passes (is_own_value m) IsSame all (sym (own_layer m (part.Call f (map (λ z. z.0) all))) ∙ h) in
+      let vs = map_same (value m s ps) (value m s' ps) (map (λ z. z.0) all) (all_weaker IsSame (λ v. value m s ps v ≡ value m s' ps v) (λ v k. k.0) (map (λ z. z.0) all) ks) in
+      let ds = map_same (value_drops m s ps) (value_drops m s' ps) (map (λ z. z.0) all) (all_weaker IsSame (λ v. value_drops m s ps v ≡ value_drops m s' ps v) (λ v k. k.1) (map (λ z. z.0) all) ks) in
+      by_layer (part.Call f (map (λ z. z.0) all)) (ap (λ fs. value_step m s ps (part.Call f fs)) vs) (ap (λ fs. drops_step m s ps (part.Call f fs)) ds)
+
+  pub same_value : (a : TypedValue) → is_own_value m a ≡ true → IsSame a
+  same_value = values.ind-TypedValue Same (λ w y is. subst (λ z. Same (roll-TypedValue z)) is (layer y))

@@ -1,0 +1,103 @@
+-- What a SELECT gives of its tuples, where its one object tells it, is the same over every set.
+use Rattle.std.proofs.Common.{◌≡◌, ◌∙◌, refl, ap, true, List, [], ◌∷◌, map}
+use Rattle.std.specs.Prelude.{◌&&◌, ◌||◌, if◌then◌else◌}
+use Rattle.std.specs.List.{AllByRecursion, list_all}
+use Rattle.std.proofs.lemmas.Bool.{and_parts}
+use Rattle.jpa_model.specs.declared.unit.PersistenceUnit.{PersistenceUnit}
+use Rattle.jpa_stored.specs.Sets.{StoredSet}
+use Rattle.jpql_types.specs.declared.scope.TypedPath.{TypedPath}
+use Rattle.jpql_types.specs.declared.typed.TypedKey.{TypedKey}
+use Rattle.jpql_types.specs.declared.typed.TypedSelect.{TypedSelect}
+use Rattle.jpql_types.specs.declared.typed.TypedSorted.{TypedSorted}
+use Rattle.jpql_eval.specs.declared.datum.Datum.{Datum}
+use Rattle.jpql_eval.specs.Answers.{◌>>=◌, under, every}
+use Rattle.jpql_plan.specs.Paths.{Tuple, is_broken, path_datum}
+use Rattle.jpql_plan.specs.Meaning.{Case, alone, drops_any, kept, truth_of_any, value}
+use Rattle.jpql_plan.specs.Selection.{Row, case_of, cases_of, distinct, group_key, groups_of, in_order, is_grouping, key_breaks, key_datum, put_tuples, row_of, rows_of, select_drops}
+use Rattle.jpql_run.proofs.CalmValues.{each_tested}
+use Rattle.jpql_run.proofs.Told.{all_weaker}
+use Rattle.jpql_by_key.specs.Own.{is_any_own, is_own_key, is_own_path, is_own_select, is_own_sorted, is_own_value}
+use Rattle.jpql_by_key.proofs.Members.{broken_same, path_same}
+use Rattle.jpql_by_key.proofs.Same.{IsSame, map_same, same_value}
+use Rattle.jpql_by_key.proofs.Conditions.{any_same, dropped_same, same_if_any}
+
+-- the parts of a statement that its object tells
+pub record AreOwn (m : PersistenceUnit) (q : TypedSelect) : Type 0 where
+  pub items : list_all (is_own_value m) q.items ≡ true
+  pub filter : is_any_own m q.filter ≡ true
+  pub groups : list_all (is_own_path m) q.groups ≡ true
+  pub having : is_any_own m q.having ≡ true
+  pub order : list_all (is_own_key m) q.order ≡ true
+
+pub own_parts : (m : PersistenceUnit) (q : TypedSelect) → is_own_select m q ≡ true → AreOwn m q
+own_parts m q h =
+    let items = list_all (is_own_value m) q.items in
+    let groups = list_all (is_own_path m) q.groups in
+    let order = list_all (is_own_key m) q.order in
+    let a = and_parts items (is_any_own m q.filter && (groups && (is_any_own m q.having && order))) h in
+    let b = and_parts (is_any_own m q.filter) (groups && (is_any_own m q.having && order)) a.1 in
+    let c = and_parts groups (is_any_own m q.having && order) b.1 in
+    let d = and_parts (is_any_own m q.having) order c.1 in
+    record { items = a.0; filter = b.0; groups = c.0; having = d.0; order = d.1 }
+
+module _ (m : PersistenceUnit) (s s' : StoredSet) (ps : List Datum) where
+  breaks_same : (key : TypedKey) → is_own_key m key ≡ true → (t : Tuple) → key_breaks m s ps t key ≡ key_breaks m s' ps t key
+  breaks_same key h t = of key.by h
+    where
+      of : (by : TypedSorted) → is_own_sorted m by ≡ true → key_breaks m s ps t (record key { by = by }) ≡ key_breaks m s' ps t (record key { by = by })
+      of (TypedSorted.Item n) h = refl
+      of (TypedSorted.Path p) h = broken_same m s s' p h t
+
+  datum_same : (items : List Datum) (at : Case) (key : TypedKey) → is_own_key m key ≡ true → key_datum m s ps items at key ≡ key_datum m s' ps items at key
+  datum_same items at key h = of key.by h
+    where
+      of : (by : TypedSorted) → is_own_sorted m by ≡ true → key_datum m s ps items at (record key { by = by }) ≡ key_datum m s' ps items at (record key { by = by })
+      of (TypedSorted.Item n) h = refl
+      of (TypedSorted.Path p) h = path_same m s s' p h at.tuple
+
+  group_same : (paths : List TypedPath) → list_all (is_own_path m) paths ≡ true → group_key m s ps paths ≡ group_key m s' ps paths
+  group_same paths h = λ i t.
+      map_same (path_datum m s t) (path_datum m s' t) paths (each_tested (is_own_path m) (λ p. path_datum m s t p ≡ path_datum m s' t p) (λ p k. path_same m s s' p k t) paths h) i
+
+  groups_same : (paths : List TypedPath) → list_all (is_own_path m) paths ≡ true → (all : List Tuple) → groups_of m s ps paths all ≡ groups_of m s' ps paths all
+  groups_same [] h all = refl
+  groups_same (p ∷ paths) h all = λ i. map case_of (put_tuples (group_same (p ∷ paths) h i) [] all)
+
+  module _ (q : TypedSelect) (own : AreOwn m q) where
+    items_there : AllByRecursion (IsSame m s s' ps) q.items
+    items_there = each_tested (is_own_value m) (IsSame m s s' ps) (same_value m s s' ps) q.items own.items
+
+    pub drops_same : (t : Tuple) → select_drops m s ps q t ≡ select_drops m s' ps q t
+    drops_same t = λ i.
+        dropped_same m s s' ps q.items items_there t i
+        || drops_any (same_if_any m s s' ps q.filter own.filter i) t
+        || any_same (is_broken m s t) (is_broken m s' t) q.groups (each_tested (is_own_path m) (λ p. is_broken m s t p ≡ is_broken m s' t p) (λ p k. broken_same m s s' p k t) q.groups own.groups) i
+        || drops_any (same_if_any m s s' ps q.having own.having i) t
+        || any_same (key_breaks m s ps t) (key_breaks m s' ps t) q.order (each_tested (is_own_key m) (λ k. key_breaks m s ps t k ≡ key_breaks m s' ps t k) (λ k h. breaks_same k h t) q.order own.order) i
+
+    cases_same : (all : List Tuple) → cases_of m s ps q all ≡ cases_of m s' ps q all
+    cases_same all = λ i. if is_grouping q then groups_same q.groups own.groups all i else map alone all
+
+    items_same : (at : Case) → map (λ v. value m s ps v at) q.items ≡ map (λ v. value m s' ps v at) q.items
+    items_same at =
+        map_same (λ v. value m s ps v at) (λ v. value m s' ps v at) q.items
+        (all_weaker (IsSame m s s' ps) (λ v. value m s ps v at ≡ value m s' ps v at) (λ v k i. k.0 i at) q.items items_there)
+
+    keys_same : (items : List Datum) (at : Case) → map (key_datum m s ps items at) q.order ≡ map (key_datum m s' ps items at) q.order
+    keys_same items at =
+        map_same (key_datum m s ps items at) (key_datum m s' ps items at) q.order
+        (each_tested (is_own_key m) (λ k. key_datum m s ps items at k ≡ key_datum m s' ps items at k) (λ k h. datum_same items at k h) q.order own.order)
+
+    row_same : (at : Case) → row_of m s ps q at ≡ row_of m s' ps q at
+    row_same at = λ i. under (λ items. record { items = items; keys = keys_same items at i }) (every (items_same at i))
+
+    rows_same : (cases : List Case) → rows_of m s ps q cases ≡ rows_of m s' ps q cases
+    rows_same cases = λ i. kept (truth_of_any (same_if_any m s s' ps q.having own.having i)) cases >>= λ left. every (map (λ at. row_same at i) left)
+
+    -- what is made of tuples
+    pub made_same : (all : List Tuple)
+        → under (λ rows. map (λ (r : Row). r.items) (in_order q.order (distinct m s ps q.is_distinct rows))) (rows_of m s ps q (cases_of m s ps q all))
+        ≡ under (λ rows. map (λ (r : Row). r.items) (in_order q.order (distinct m s ps q.is_distinct rows))) (rows_of m s' ps q (cases_of m s' ps q all))
+    made_same all =
+        ap (λ cases. under (λ rows. map (λ (r : Row). r.items) (in_order q.order (distinct m s ps q.is_distinct rows))) (rows_of m s ps q cases)) (cases_same all)
+        ∙ ap (under (λ rows. map (λ (r : Row). r.items) (in_order q.order (distinct m s ps q.is_distinct rows)))) (rows_same (cases_of m s' ps q all))

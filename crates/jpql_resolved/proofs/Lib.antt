@@ -1,0 +1,5 @@
+pub mod Options
+pub mod Values
+pub mod Turns
+pub mod Conditions
+pub mod Statements
