@@ -13,7 +13,8 @@ pub struct Unit<'a> {
 
 /// What a program answers to examples.
 pub trait Answers {
-    /// What an example of this kind answers, each line with its line feed; `Form` where it is of no such kind.
+    /// What an example of this kind answers, each line with its line feed; `Form` where it is of no
+    /// such kind.
     fn answer(
         &self,
         alloc: Global,
@@ -130,7 +131,8 @@ fn print_told(rt: &HostRuntime, told: &Result<String, Stop>) -> io::Result<()> {
     }
 }
 
-/// Prints what is told of each file that the command line names. It fails where that can't be told or printed.
+/// Prints what is told of each file that the command line names. It fails where that can't be told
+/// or printed.
 pub fn tell<A: Answers>(rt: &HostRuntime, answers: &A) -> ExitCode {
     let told = told(rt, answers);
     match print_told(rt, &told) {

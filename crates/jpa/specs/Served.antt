@@ -26,19 +26,21 @@ use Rattle.jpa_program.specs.Persons.{persons}
 abbrev pub ProgramUnit : Type 0
 ProgramUnit = ServedUnit ProgramFunctions Listener Converter
 
--- the unit that the bytes of a mapping describe, with what has changed of it since revision 1, or the first that is wrong: with its
--- entities, then with its functions
+-- the unit that the bytes of a mapping describe, with what has changed of it since revision 1, or
+-- the first that is wrong: with its entities, then with its functions
 abbrev pub unit_in : List ℕ → Result (ProgramUnit × History) Cause
 unit_in bytes =
     and_then (mapping_of bytes) (λ mapping.
     and_then (functions_in bytes) (λ functions.
     and_then (registered functions) (λ registry. Ok (record { metamodel = mapping.metamodel; registry = registry }, mapping.history))))
 
--- the unit that is served without a mapping: the program's own persons with their orders, and no function
+-- the unit that is served without a mapping: the program's own persons with their orders, and no
+-- function
 abbrev pub own_unit : ProgramUnit
 own_unit = record { metamodel = persons; registry = record { listeners = []; converters = [] } }
 
--- the unit of a mapping's bytes, or the first that is wrong with them, and of no bytes the program's own
+-- the unit of a mapping's bytes, or the first that is wrong with them, and of no bytes the
+-- program's own
 abbrev pub unit_from : Option (List ℕ) → Result (ProgramUnit × History) Cause
 unit_from (Some bytes) = unit_in bytes
 unit_from None = Ok (own_unit, unchanged)
@@ -55,6 +57,7 @@ IsMappingCause cause = (cause ≡ Cause.OutOfMemory) ⊎ ((fault : MappingFault)
 abbrev pub is_servable : ProgramUnit → History → Bool
 is_servable unit history = names_are_known unit.registry unit.metamodel && defaults_pass (world_of_unit meaning unit) history
 
+-- the unit can be served
 abbrev pub IsServable : ProgramUnit → History → Type 0
 IsServable unit history = is_servable unit history ≡ true
 
@@ -63,6 +66,7 @@ abbrev pub GivesServable : Option (List ℕ) → Type 0
 GivesServable mapping = (unit : ProgramUnit) × (history : History) × (unit_from mapping ≡ Ok (unit, history)) × IsServable unit history
 
 module _ {S : Type 0} (g : Ghosts S) where
-  -- the cells of the unit's tables are those of a set of its objects and of next numbers, and no others
+  -- the cells of the unit's tables are those of a set of its objects and of next numbers, and no
+  -- others
   abbrev pub HoldsUnit : ProgramUnit → Held S → Type 0
   HoldsUnit unit conn = (set : StoredSet) × (numbers : List ℕ) × HoldsCells g (world_of_unit meaning unit) conn set numbers

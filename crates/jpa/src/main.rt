@@ -1,12 +1,11 @@
-//! The program: it serves the entities of a mapping over a store in memory or in a file, by the calls on standard input,
-//! and writes the replies to standard output.
+//! The program: it serves the entities of a mapping over a store in memory or in a file, by the
+//! calls on standard input, and writes the replies to standard output.
 #![tactic(auto)]
 
 ghost use Rattle.std.specs.Prelude.{◌≡◌, ◌⊎◌, true, false, None, Ok, Err, option_copied, IsSome, IfOk, IfErr, IsErrAnd, OnOk};
 ghost use Rattle.jpa_value.specs.declared.refusal.Cause.{Cause};
 ghost use Rattle.jpa_value.specs.declared.refusal.MappingFault.{MappingFault};
 ghost use Rattle.jpa_model.specs.Described.{IsUnlessMemory};
-ghost use Rattle.jpa_history.specs.Condition.{IsHistoryOf};
 ghost use Rattle.jpa_cells_meaning.specs.Store.{IsOrderedIfFound};
 ghost use Rattle.jpa_functions.specs.Known as known;
 ghost use Rattle.jpa.specs.Served as spec;
@@ -76,11 +75,10 @@ fn mapping_bytes(rt: &HostRuntime, settings: &Settings) -> Result<Option<Vec<u8>
     }
 }
 
-/// The unit that a mapping's bytes describe, with what has changed of it since revision 1: its entities are read before its
-/// functions.
+/// The unit that a mapping's bytes describe, with what has changed of it since revision 1: its
+/// entities are read before its functions.
 fn described(alloc: Global, bytes: &[u8]) -> Result<(ServedUnit<ProgramFunctions>, History), Cause>
     ensures unit { IsUnlessMemory result (spec.unit_in bytes.now) }
-    ensures history { IfOk result (λ given. IsHistoryOf (given.0).metamodel given.1) }
     ensures refused { IfErr result spec.IsMappingCause }
 {
     let Mapping { metamodel, history } = read_mapping(alloc, bytes)?;
@@ -95,7 +93,8 @@ fn described(alloc: Global, bytes: &[u8]) -> Result<(ServedUnit<ProgramFunctions
     ))
 }
 
-/// The unit that is served without a mapping: the program's own persons with their orders, and no function.
+/// The unit that is served without a mapping: the program's own persons with their orders, and no
+/// function.
 fn own_unit(alloc: Global) -> Result<ServedUnit<ProgramFunctions>, Cause>
     ensures unit { IsUnlessMemory result (Ok spec.own_unit) }
     ensures refused { IfErr result spec.IsMappingCause }
@@ -106,13 +105,13 @@ fn own_unit(alloc: Global) -> Result<ServedUnit<ProgramFunctions>, Cause>
     })
 }
 
-/// The unit of a mapping's bytes: the one that they describe, and of no bytes the program's own, of which nothing has changed.
+/// The unit of a mapping's bytes: the one that they describe, and of no bytes the program's own, of
+/// which nothing has changed.
 fn unit_from(
     alloc: Global,
     mapping: Option<&[u8]>,
 ) -> Result<(ServedUnit<ProgramFunctions>, History), Cause>
     ensures unit { IsUnlessMemory result (spec.unit_from (option_copied mapping.entry)) }
-    ensures history { IfOk result (λ given. IsHistoryOf (given.0).metamodel given.1) }
     ensures refused { IfErr result spec.IsMappingCause }
 {
     match mapping {
@@ -125,15 +124,15 @@ fn unit_from(
     }
 }
 
-/// Answers the calls on standard input until it ends, over the cells of a connection, which is handed back.
+/// Answers the calls on standard input until it ends, over the cells of a connection, which is
+/// handed back.
 fn serve<S: Alter + Drop>(
     rt: &HostRuntime,
     conn: Connection<S>,
     unit: ServedUnit<ProgramFunctions>,
     history: &History,
 ) -> Result<(Stop, Connection<S>), Cause>
-    requires ordered { IsOrderedIfFound S.Store conn }
-    requires history { IsHistoryOf unit.metamodel history.now }
+    requires { IsOrderedIfFound S.Store conn }
     ensures unknown { known.names_are_known unit.registry unit.metamodel ≡ false
         → IsErrAnd result (λ cause. cause ≡ Cause.Mapping MappingFault.Function) }
     ensures unservable { spec.is_servable unit history.now ≡ false
@@ -163,7 +162,6 @@ fn serve_in_memory(
     unit: ServedUnit<ProgramFunctions>,
     history: &History,
 ) -> Result<Stop, Cause>
-    requires { IsHistoryOf unit.metamodel history.now }
     ensures { OnOk result (spec.IsServable unit history.now) }
 {
     let conn = Connection::open_in_memory(rt.alloc())?;
@@ -179,15 +177,14 @@ fn cause_of(error: Error) -> Cause {
     }
 }
 
-/// Serves over a store's file, which is made where there is none. What was committed stands in the file and in the log beside
-/// it; where the closing can't bring the log into the file, both stay.
+/// Serves over a store's file, which is made where there is none. What was committed stands in the
+/// file and in the log beside it; where the closing can't bring the log into the file, both stay.
 fn serve_file(
     rt: &HostRuntime,
     path: &Text,
     unit: ServedUnit<ProgramFunctions>,
     history: &History,
 ) -> Result<Stop, Cause>
-    requires { IsHistoryOf unit.metamodel history.now }
     ensures { OnOk result (spec.IsServable unit history.now) }
 {
     let conn = match Connection::open_from(rt, path.as_str(), false, Unknown) {
@@ -199,7 +196,8 @@ fn serve_file(
     Ok(stop)
 }
 
-/// Serves the unit of a mapping's bytes over the store's file that is named, or without one over a store in memory.
+/// Serves the unit of a mapping's bytes over the store's file that is named, or without one over a
+/// store in memory.
 fn serve_mapping(rt: &HostRuntime, mapping: Option<&[u8]>, db: Option<&Text>) -> Result<Stop, Cause>
     ensures served { OnOk result (spec.GivesServable (option_copied mapping.entry)) }
     ensures refused { spec.RefusesUnit (option_copied mapping.entry) result }

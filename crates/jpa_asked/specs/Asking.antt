@@ -1,5 +1,6 @@
--- What a call asks, judged before anything is done: the text, what is bound to its parameters, and the sort of the statement
--- (Jakarta Persistence 3.1, chapters 3.10.1 queries, 3.10.12 parameters, 4.6.4 input parameters).
+-- What a call asks, judged before anything is done: the text, what is bound to its parameters, and
+-- the sort of the statement (Jakarta Persistence 3.1, chapters 3.10.1 queries, 3.10.12 parameters,
+-- 4.6.4 input parameters).
 use Rattle.std.specs.Prelude.{List, [], ◌∷◌, map, Option, Some, None, Result, Ok, Err}
 use Rattle.jpa_value.specs.declared.value.Kind.{Kind}
 use Rattle.jpa_value.specs.declared.value.Value.{Value}
@@ -22,15 +23,18 @@ use Rattle.jpa_asked.specs.declared.asked.Binding.{Binding}
 use Rattle.jpa_asked.specs.declared.asked.Statement.{Statement}
 use Rattle.jpa_asked.specs.Reading.{query_of, is_within, declares_few}
 
+-- what is there is given, else the call is refused
 abbrev pub give_or : {A : Type 0} → Cause → Option A → Op A
 give_or r (Some x) = give x
 give_or r None = refuse r
 
+-- a result is given, or its refusal
 abbrev pub given : {A : Type 0} → Result A Cause → Op A
 given (Ok x) = give x
 given (Err r) = refuse r
 
--- the tree of a text; none where it is outside the grammar, which is told later. Limit is told at once
+-- the tree of a text; none where it is outside the grammar, which is told later. Limit is told at
+-- once
 abbrev pub read_of : Text → Op (Option Query)
 read_of text = do
   require (is_within text) Cause.Limit
@@ -39,6 +43,7 @@ read_of text = do
 
 -- ---- what is bound to a parameter
 
+-- the sort of a value that is bound to a parameter
 abbrev pub sort_of_value : Value → Sort
 sort_of_value Value.Null = Sort.Null
 sort_of_value (Value.Int n) = Sort.Basic Kind.Int
@@ -55,10 +60,12 @@ abbrev pub datum_of_identity : Option Identity → Option Datum
 datum_of_identity None = None
 datum_of_identity (Some id) = Some (Datum.Entity id)
 
+-- what stands for a parameter: a value, or an object's identity
 abbrev pub datum_of : PersistenceUnit → Work → Handed → Option Datum
 datum_of m w (Handed.Plain v) = Some (Datum.Plain v)
 datum_of m w (Handed.Object n) = datum_of_identity (identity_at m w n)
 
+-- the sorts of what is bound to parameters
 abbrev pub sorts_of : PersistenceUnit → List Binding → Work → List (Text × Sort)
 sorts_of m bindings w = map (λ (b : Binding). (b.name, sort_of m w b.value)) bindings
 
@@ -75,7 +82,8 @@ arguments_of m (b ∷ bs) w = onto (datum_of m w b.value) (arguments_of m bs w)
 
 -- ---- the statement
 
--- a statement, typed, with what stands for its parameters by place: objects stand for what they are before a flush
+-- a statement, typed, with what stands for its parameters by place: objects stand for what they are
+-- before a flush
 abbrev pub statement_of : PersistenceUnit → Option Query → List Binding → Op Statement
 statement_of m tree bindings = do
   query ← give_or (Cause.IllegalArgument Argument.Syntax) tree
@@ -85,6 +93,7 @@ statement_of m tree bindings = do
   arguments ← give_or (Cause.IllegalArgument Argument.Parameter) found
   give (record { typed = typed; arguments = arguments })
 
+-- the SELECT that a statement is, if it is one
 abbrev pub select_in : Typed → Option TypedSelect
 select_in (Typed.Select q) = Some q
 select_in (Typed.Update class assignments filter) = None

@@ -1,5 +1,5 @@
--- Reading the text of a query, as a function: the tree of a text of the grammar, and the limits of a text (Jakarta Persistence
--- 3.1, chapter 4).
+-- Reading the text of a query, as a function: the tree of a text of the grammar, and the limits of
+-- a text (Jakarta Persistence 3.1, chapter 4).
 use Rattle.jpa_value.specs.Limits.{most_query_bytes, most_open_parentheses, most_query_variables}
 use Rattle.std.specs.Prelude.{Bool, true, false, not, nat_le, ◌&&◌, [], length, Option, Some, None}
 use Rattle.jpql_tree.specs.declared.Query.{Query}

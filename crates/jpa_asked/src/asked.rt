@@ -4,16 +4,16 @@ use jpa_value::{Seq, Text};
 use jpql_eval::Datum;
 use jpql_types::Typed;
 
-/// What is bound to a parameter (Jakarta Persistence 3.1, chapter 3.10.12), by its name: `x` for `:x`,
-/// `1` for `?1`.
+/// What is bound to a parameter (Jakarta Persistence 3.1, chapter 3.10.12), by its name: `x` for
+/// `:x`, `1` for `?1`.
 #[derive(Drop)]
 pub struct Binding {
     pub name: Text,
     pub value: Handed,
 }
 
-/// What query and querySingle are asked (chapters 3.10.1 and 3.10.3): the statement's text, what is bound
-/// to its parameters, how many rows are skipped, and how many are kept at most.
+/// What query and querySingle are asked (chapters 3.10.1 and 3.10.3): the statement's text, what is
+/// bound to its parameters, how many rows are skipped, and how many are kept at most.
 #[derive(Drop)]
 pub struct Asked {
     pub text: Text,

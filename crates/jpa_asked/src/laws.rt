@@ -7,8 +7,8 @@ ghost use Rattle.jpql_text.specs.Answers.{IsRead};
 ghost use Rattle.jpql_tree.specs.declared.Query.{Query};
 ghost use Rattle.jpql_tree.specs.Grammar.{Text};
 
-/// A text is read as a tree exactly where it is one of the grammar within the limits, and this is its tree
-/// (Jakarta Persistence 3.1, chapter 4); it does nothing.
+/// A text is read as a tree exactly where it is one of the grammar within the limits, and this is
+/// its tree (Jakarta Persistence 3.1, chapter 4); it does nothing.
 pub fn read_laws()
     ensures found { (text : Text) (query : Query) (w : Work)
         → read_of text w ≡ Done (Some query) w → IsRead text query }

@@ -1,8 +1,9 @@
-//! What a call asks of a manager: the text of a statement, and what is bound to its parameters, judged before anything is done
-//! (Jakarta Persistence 3.1, chapters 3.10 and 4).
+//! What a call asks of a manager: the text of a statement, and what is bound to its parameters,
+//! judged before anything is done (Jakarta Persistence 3.1, chapters 3.10 and 4).
 //!
-//! The definitions stand in `specs/`: `Reading` is the tree of a text, `Asking` the typed statement with what stands for its
-//! parameters. The crate stands on live objects and on the reader and typer of the query language.
+//! The definitions stand in `specs/`: `Reading` is the tree of a text, `Asking` the typed statement
+//! with what stands for its parameters. The crate stands on live objects and on the reader and
+//! typer of the query language.
 #![tactic(auto)]
 
 mod asked;

@@ -64,8 +64,9 @@ pub(crate) fn sorts_of(
     Ok(sorts)
 }
 
-/// What stands for a parameter to which this is bound: a value for itself, an object for its identity. None for
-/// an object whose key isn't whole. Fails for want of memory alone, with `OutOfMemory`.
+/// What stands for a parameter to which this is bound: a value for itself, an object for its
+/// identity. None for an object whose key isn't whole. Fails for want of memory alone, with
+/// `OutOfMemory`.
 fn datum_of(
     metamodel: &Metamodel,
     work: &UnitOfWork,
@@ -86,8 +87,8 @@ fn datum_of(
     }
 }
 
-/// What stands for the parameters, by place; none where an object is bound whose key isn't whole. Fails for want
-/// of memory alone, with `OutOfMemory`.
+/// What stands for the parameters, by place; none where an object is bound whose key isn't whole.
+/// Fails for want of memory alone, with `OutOfMemory`.
 pub(crate) fn arguments_of(
     alloc: Global,
     metamodel: &Metamodel,

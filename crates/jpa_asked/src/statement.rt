@@ -32,10 +32,11 @@ fn unread(cause: Cause) -> Result<Option<Query>, Cause>
     }
 }
 
-/// The tree of a statement's text (Jakarta Persistence 3.1, chapter 4); none for a text outside the grammar.
+/// The tree of a statement's text (Jakarta Persistence 3.1, chapter 4); none for a text outside the
+/// grammar.
 ///
-/// `Limit` for a text that is too long, nests too deep or declares too many variables; `OutOfMemory` where a
-/// growth was refused.
+/// `Limit` for a text that is too long, nests too deep or declares too many variables;
+/// `OutOfMemory` where a growth was refused.
 pub fn read_of(alloc: Global, text: &str) -> Result<Option<Query>, Cause>
     ensures meets { (w : Work) → Meets result w (asking.read_of text.now w) }
 {
@@ -53,11 +54,12 @@ fn all_named(arguments: Option<Seq<Datum>>) -> Result<Seq<Datum>, Cause>
     arguments.ok_or(Cause::IllegalArgument(Argument::Parameter))
 }
 
-/// A statement by its tree, typed, with what is bound to its parameters (chapters 3.10.12 and 4.6.4).
+/// A statement by its tree, typed, with what is bound to its parameters (chapters 3.10.12 and
+/// 4.6.4).
 ///
-/// `IllegalArgument` with `Syntax` where there is no tree, `Typing` where it is ill-typed, and `Parameter`
-/// where one of its parameters isn't bound, one is bound that isn't in it, or an object is bound whose key
-/// isn't whole; `OutOfMemory` where a growth was refused.
+/// `IllegalArgument` with `Syntax` where there is no tree, `Typing` where it is ill-typed, and
+/// `Parameter` where one of its parameters isn't bound, one is bound that isn't in it, or an object
+/// is bound whose key isn't whole; `OutOfMemory` where a growth was refused.
 pub fn statement_of(
     alloc: Global,
     metamodel: &Metamodel,

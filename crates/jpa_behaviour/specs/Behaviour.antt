@@ -1,5 +1,5 @@
--- What the entities and their stored functions mean, for every definition above (Jakarta Persistence 3.1, chapters
--- 3.5 listeners and callbacks, 3.8 converters).
+-- What the entities and their stored functions mean, for every definition above (Jakarta
+-- Persistence 3.1, chapters 3.5 listeners and callbacks, 3.8 converters).
 use Rattle.std.specs.Prelude.{◌≡◌, ◌↔◌, ℕ, Bool, true, not, nat_le, length, ◌&&◌, List, [], Option, Some, None}
 use Rattle.std.specs.List.{list_all}
 use Rattle.jpa_value.specs.declared.value.Value.{Value}
@@ -10,8 +10,9 @@ use Rattle.jpa_behaviour.specs.declared.Image.{Image}
 use Rattle.jpa_behaviour.specs.declared.Named.{Named}
 use Rattle.jpa_behaviour.specs.declared.Heard.{Heard}
 
--- heard: what the listener or callback of a name answers to an image. column: what the converter of a name makes of an
--- attribute's value for its column, attribute: what it makes of a column's value; each is nothing where it throws
+-- heard: what the listener or callback of a name answers to an image. column: what the converter of
+-- a name makes of an attribute's value for its column, attribute: what it makes of a column's
+-- value; each is nothing where it throws
 pub record World : Type 0 where
   pub model : PersistenceUnit
   pub heard : List ℕ → Image → Heard
@@ -27,7 +28,8 @@ is_short (Value.Int n) = true
 is_short (Value.Text bytes) = nat_le (length bytes) most_bytes
 is_short (Value.Bytes bytes) = nat_le (length bytes) most_bytes
 
--- what passes through a converter, in either direction: a value of the program that is not null and not too long
+-- what passes through a converter, in either direction: a value of the program that is not null and
+-- not too long
 abbrev pub is_convertible : Value → Bool
 is_convertible v = not (is_null v) && (is_short v && is_representable v)
 
@@ -45,16 +47,20 @@ AreInverse world =
 
 -- ---- listeners answer values of the program when they see such
 
+-- whether a name stands with a value of the program
 abbrev pub names_representable : Named → Bool
 names_representable n = is_representable n.value
 
+-- whether a listener sees values of the program alone
 abbrev pub sees_representable : Image → Bool
 sees_representable image = list_all names_representable image.values
 
+-- whether a listener assigns values of the program alone
 abbrev pub answers_representable : Heard → Bool
 answers_representable (Heard.Assign assignments) = list_all names_representable assignments
 answers_representable (Heard.Throw text) = true
 
+-- a listener that sees values of the program alone assigns such alone
 abbrev pub HearsRepresentable : World → Type 0
 HearsRepresentable world = (name : List ℕ) (image : Image) → sees_representable image ≡ true → answers_representable (world.heard name image) ≡ true
 

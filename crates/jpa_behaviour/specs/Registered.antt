@@ -1,5 +1,5 @@
--- What is registered under names, and the world that it makes (Jakarta Persistence 3.1, chapters 3.5 listeners and
--- callbacks, 3.8 converters).
+-- What is registered under names, and the world that it makes (Jakarta Persistence 3.1, chapters
+-- 3.5 listeners and callbacks, 3.8 converters).
 use Rattle.std.specs.Prelude.{◌≡◌, ◌↔◌, ⊤, ℕ, Bool, true, List, [], ◌∷◌, ◌++◌, find, is_some, if◌then◌else◌, Option, Some, None, option_map, Result, Ok, Err}
 use Rattle.jpa_value.specs.declared.value.Value.{Value}
 use Rattle.jpa_value.specs.declared.refusal.Argument.{Argument}
@@ -19,6 +19,7 @@ pub record Known (T : Type 0) : Type 0 where
   pub name : List ℕ
   pub what : T
 
+-- whether something stands under this name
 abbrev pub has_name : {T : Type 0} → List ℕ → Known T → Bool
 has_name name k = same_name k.name name
 
@@ -32,8 +33,8 @@ added name what known =
     if is_some (known_as name known) then Err (Cause.IllegalArgument Argument.Second)
     else Ok (known ++ (record { name = name; what = what }) ∷ [])
 
--- an addition that was answered so left this list: what it was to leave, or, where it was refused, what was there;
--- a name that is not refused is not added for want of memory alone
+-- an addition that was answered so left this list: what it was to leave, or, where it was refused,
+-- what was there; a name that is not refused is not added for want of memory alone
 abbrev pub Adds : {T : Type 0} → Result ⊤ Cause → List T → List T → Result (List T) Cause → Type 0
 Adds (Ok done) old new wanted = Ok new ≡ wanted
 Adds (Err cause) old new (Ok more) = (new ≡ old) × (cause ≡ Cause.OutOfMemory)
@@ -41,7 +42,8 @@ Adds (Err cause) old new (Err why) = (new ≡ old) × (cause ≡ why)
 
 -- ---- what is registered
 
--- listeners (callbacks are among them) and converters are two sorts of name; each list is in the order of adding
+-- listeners (callbacks are among them) and converters are two sorts of name; each list is in the
+-- order of adding
 pub record Registered (L C : Type 0) : Type 0 where
   pub listeners : List (Known L)
   pub converters : List (Known C)
@@ -52,8 +54,9 @@ AreNamedOnce r = (are_distinct_by (λ k. k.name) r.listeners ≡ true) × (are_d
 
 -- ---- what listeners and converters mean
 
--- heard: what a listener answers to an image. column: what a converter makes of an attribute's value for its column,
--- attribute: what it makes of a column's value; each is nothing where it throws
+-- heard: what a listener answers to an image. column: what a converter makes of an attribute's
+-- value for its column, attribute: what it makes of a column's value; each is nothing where it
+-- throws
 pub record Meaning (L C : Type 0) : Type 0 where
   pub heard : L → Image → Heard
   pub column : C → Value → Option Value
@@ -82,20 +85,25 @@ module _ {L C : Type 0} (f : Meaning L C) where
   heard_by None image = Heard.Assign []
   heard_by (Some l) image = f.heard l image
 
+  -- what a converter makes of an attribute's value; without one it throws
   abbrev pub column_by : Option C → Value → Option Value
   column_by None v = None
   column_by (Some c) v = counted (f.column c v)
 
+  -- what a converter makes of a column's value; without one it throws
   abbrev pub attribute_by : Option C → Value → Option Value
   attribute_by None v = None
   attribute_by (Some c) v = counted (f.attribute c v)
 
+  -- what the listener of a name answers
   abbrev pub heard_in : Registered L C → List ℕ → Image → Heard
   heard_in r name = heard_by (known_as name r.listeners)
 
+  -- what the converter of a name makes of an attribute's value
   abbrev pub column_in : Registered L C → List ℕ → Value → Option Value
   column_in r name = column_by (known_as name r.converters)
 
+  -- what the converter of a name makes of a column's value
   abbrev pub attribute_in : Registered L C → List ℕ → Value → Option Value
   attribute_in r name = attribute_by (known_as name r.converters)
 
@@ -105,10 +113,12 @@ module _ {L C : Type 0} (f : Meaning L C) where
 
 -- ---- the answers of a registry
 
+-- an answer where the name is known, else IllegalArgument(name)
 abbrev pub if_known : {T A : Type 0} → Option T → Result A Cause → Result A Cause
 if_known None answer = Err (Cause.IllegalArgument Argument.Name)
 if_known (Some what) answer = answer
 
+-- a converter's value, or Persistence(converter) where it threw
 abbrev pub or_thrown : Option Value → Result Value Cause
 or_thrown None = Err (Cause.Persistence Persist.Converter)
 or_thrown (Some v) = Ok v

@@ -7,8 +7,9 @@ use crate::{Heard, Image};
 use jpa_value::{Cause, Value};
 use std::alloc::Global;
 
-/// The stored functions of a program: listeners and callbacks (Jakarta Persistence 3.1, chapter 3.5) and converters
-/// (chapter 3.8). What each of them means is stated once, and what it does is proved to be that.
+/// The stored functions of a program: listeners and callbacks (Jakarta Persistence 3.1, chapter
+/// 3.5) and converters (chapter 3.8). What each of them means is stated once, and what it does is
+/// proved to be that.
 pub trait Behaviour {
     /// A listener or callback.
     type Listener: Drop;
@@ -23,8 +24,8 @@ pub trait Behaviour {
         ensures heard { IfOk result (λ heard. heard ≡ meaning.heard listener.now image.now) }
         ensures refused { IfErr result (λ cause. cause ≡ Cause.OutOfMemory) };
 
-    /// What a converter makes of an attribute's value for its column, nothing where it throws; `OutOfMemory` where
-    /// a growth was refused.
+    /// What a converter makes of an attribute's value for its column, nothing where it throws;
+    /// `OutOfMemory` where a growth was refused.
     fn to_column(
         alloc: Global,
         converter: &Self::Converter,
@@ -34,8 +35,8 @@ pub trait Behaviour {
             ≡ meaning.column converter.now value.now) }
         ensures refused { IfErr result (λ cause. cause ≡ Cause.OutOfMemory) };
 
-    /// What a converter makes of a column's value for its attribute, nothing where it throws; `OutOfMemory` where
-    /// a growth was refused.
+    /// What a converter makes of a column's value for its attribute, nothing where it throws;
+    /// `OutOfMemory` where a growth was refused.
     fn to_attribute(
         alloc: Global,
         converter: &Self::Converter,

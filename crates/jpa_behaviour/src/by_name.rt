@@ -73,8 +73,8 @@ impl<W: Drop> ByName<W> {
         Ok(())
     }
 
-    /// Adds it under a name; a name that is there is `IllegalArgument(second)`. What is refused is dropped, and
-    /// nothing has changed.
+    /// Adds it under a name; a name that is there is `IllegalArgument(second)`. What is refused is
+    /// dropped, and nothing has changed.
     pub(crate) fn add(&mut self, alloc: Global, name: &str, what: W) -> Result<(), Cause>
         ensures { Adds result self.old self.new (added name.now what self.old) }
     {

@@ -14,7 +14,8 @@ use jpa_value::{Argument, Cause, Value};
 use std::alloc::Global;
 use std::marker::Model;
 
-/// Stored functions by name. Listeners, with the callbacks among them, and converters are two sorts of name.
+/// Stored functions by name. Listeners, with the callbacks among them, and converters are two sorts
+/// of name.
 #[derive(Drop)]
 pub struct Registry<B: Behaviour> {
     alloc: Global,
@@ -57,8 +58,9 @@ impl<B: Behaviour> Registry<B> {
         self.converters.has(name)
     }
 
-    /// Adds a listener or callback. A listener's name that is there already is `IllegalArgument(second)`; after a
-    /// refusal the registry is unchanged and the listener is dropped.
+    /// Adds a listener or callback. A listener's name that is there already is
+    /// `IllegalArgument(second)`; after a refusal the registry is unchanged and the listener is
+    /// dropped.
     pub fn add_listener(&mut self, name: &str, what: B::Listener) -> Result<(), Cause>
         ensures added { spec.Adds result self.old.listeners self.new.listeners
             (spec.added name.now what self.old.listeners) }
@@ -67,8 +69,8 @@ impl<B: Behaviour> Registry<B> {
         self.listeners.add(self.alloc, name, what)
     }
 
-    /// Adds a converter. A converter's name that is there already is `IllegalArgument(second)`; after a refusal the
-    /// registry is unchanged and the converter is dropped.
+    /// Adds a converter. A converter's name that is there already is `IllegalArgument(second)`;
+    /// after a refusal the registry is unchanged and the converter is dropped.
     pub fn add_converter(&mut self, name: &str, what: B::Converter) -> Result<(), Cause>
         ensures added { spec.Adds result self.old.converters self.new.converters
             (spec.added name.now what self.old.converters) }
@@ -77,7 +79,8 @@ impl<B: Behaviour> Registry<B> {
         self.converters.add(self.alloc, name, what)
     }
 
-    /// What the listener or callback of this name answers to an image; an unknown name is `IllegalArgument(name)`.
+    /// What the listener or callback of this name answers to an image; an unknown name is
+    /// `IllegalArgument(name)`.
     pub fn hear(&self, name: &str, image: &Image) -> Result<Heard, Cause>
         ensures unknown { spec.known_as name.now self.now.listeners ≡ None → result
             ≡ Err (Cause.IllegalArgument Argument.Name) }
@@ -91,9 +94,9 @@ impl<B: Behaviour> Registry<B> {
         B::hear(self.alloc, listener, image)
     }
 
-    /// What the converter of this name makes of an attribute's value for its column; an unknown name is
-    /// `IllegalArgument(name)`. Where it throws, or answers null or a value of over 65,535 bytes, that is
-    /// `Persistence(converter)`.
+    /// What the converter of this name makes of an attribute's value for its column; an unknown
+    /// name is `IllegalArgument(name)`. Where it throws, or answers null or a value of over 65,535
+    /// bytes, that is `Persistence(converter)`.
     pub fn to_column(&self, name: &str, value: &Value) -> Result<Value, Cause>
         ensures unknown { spec.known_as name.now self.now.converters ≡ None → result
             ≡ Err (Cause.IllegalArgument Argument.Name) }
@@ -107,7 +110,8 @@ impl<B: Behaviour> Registry<B> {
         or_thrown(B::to_column(self.alloc, converter, value)?)
     }
 
-    /// What the converter of this name makes of a column's value for its attribute; it is refused as `to_column` is.
+    /// What the converter of this name makes of a column's value for its attribute; it is refused
+    /// as `to_column` is.
     pub fn to_attribute(&self, name: &str, value: &Value) -> Result<Value, Cause>
         ensures unknown { spec.known_as name.now self.now.converters ≡ None → result
             ≡ Err (Cause.IllegalArgument Argument.Name) }
@@ -121,8 +125,8 @@ impl<B: Behaviour> Registry<B> {
         or_thrown(B::to_attribute(self.alloc, converter, value)?)
     }
 
-    /// The laws of registries, for contracts to cite; it does nothing. No name of a sort stands twice, and with any
-    /// entities the registry makes a regular world.
+    /// The laws of registries, for contracts to cite; it does nothing. No name of a sort stands
+    /// twice, and with any entities the registry makes a regular world.
     pub fn laws(&self)
         ensures names { spec.AreNamedOnce self.now }
         ensures regular { (m : _) → IsRegular (spec.world_of B.meaning m self.now) }

@@ -13,6 +13,7 @@ use Rattle.jpa_value.proofs.Orders.{identity_total, then_equal}
 use Rattle.jpa_cascade.specs.declared.Node.{Node}
 use Rattle.jpa_cascade.specs.Waves.{same_node}
 
+-- the order of nodes: objects by their places, then identities
 abbrev pub node_cmp : Node → Node → Ordering
 node_cmp (Node.Live a) (Node.Live b) = nat_cmp a b
 node_cmp (Node.Live a) (Node.Bare y) = Less
@@ -51,5 +52,6 @@ same_order (Node.Live a) (Node.Bare y) = refl
 same_order (Node.Bare x) (Node.Live b) = refl
 same_order (Node.Bare x) (Node.Bare y) = refl
 
+-- this order of nodes is total
 pub node_total : IsTotalOrder node_cmp
 node_total = subst (λ (cmp : Node → Node → Ordering). IsTotalOrder cmp) (λ i a b. same_order a b i) parts_total

@@ -1,5 +1,6 @@
--- What a cascade is: the nodes that an operation comes to from its start along relations, each once, those nearer the start
--- first (Jakarta Persistence 3.1, chapter 3.2: an operation is cascaded to the entities that relations lead to).
+-- What a cascade is: the nodes that an operation comes to from its start along relations, each
+-- once, those nearer the start first (Jakarta Persistence 3.1, chapter 3.2: an operation is
+-- cascaded to the entities that relations lead to).
 use Rattle.std.specs.Prelude.{◌≡◌, ◌≢◌, ◌↔◌, ◌≤◌, ℕ, zero, suc, true, List, [], ◌∷◌, length, slice_get, Contains, Some}
 use Rattle.std.specs.List.{AllPairs}
 use Rattle.jpa_model.specs.declared.unit.PersistenceUnit.{PersistenceUnit}
@@ -20,6 +21,7 @@ abbrev pub IsReachedIn : (Node → Node → Type 0) → Node → ℕ → Node �
 IsReachedIn LeadsTo start zero x = x ≡ start
 IsReachedIn LeadsTo start (suc steps) x = (y : Node) × IsReachedIn LeadsTo start steps y × LeadsTo y x
 
+-- a node is reached from the start in some number of steps
 abbrev pub IsReached : (Node → Node → Type 0) → Node → Node → Type 0
 IsReached LeadsTo start x = (steps : ℕ) × IsReachedIn LeadsTo start steps x
 
@@ -35,6 +37,7 @@ pub record AreReached (LeadsTo : Node → Node → Type 0) (start : Node) (nodes
 
 -- ---- by lists of targets
 
+-- a node has another among its targets
 abbrev pub HasTarget : (Node → List Node) → Node → Node → Type 0
 HasTarget next x y = Contains (next x) y
 
@@ -54,7 +57,8 @@ WavesReach =
 abbrev pub GoesAlong : PersistenceUnit → Operation → ℕ → ℕ → Type 0
 GoesAlong m op class r = (relation : Relation) × (slice_get (relations_of m class) r ≡ Some relation) × (goes_along op relation ≡ true)
 
--- an object that the operation goes on from leads to what it holds in such a relation, a row to its members in the view
+-- an object that the operation goes on from leads to what it holds in such a relation, a row to its
+-- members in the view
 abbrev pub CascadesTo : PersistenceUnit → Operation → Work → Node → Node → Type 0
 CascadesTo m op w (Node.Live n) y =
     (r : ℕ) × (goes_from op (state_of w n) ≡ true) × GoesAlong m op (object w n).class r ×

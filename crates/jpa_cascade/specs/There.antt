@@ -1,4 +1,5 @@
--- Where the nodes of a cascade are: objects in the heap, and identities with a row in the set that the manager sees.
+-- Where the nodes of a cascade are: objects in the heap, and identities with a row in the set that
+-- the manager sees.
 use Rattle.std.specs.Prelude.{◌<◌, ℕ, List, All, length, IsSome}
 use Rattle.jpa_model.specs.declared.unit.PersistenceUnit.{PersistenceUnit}
 use Rattle.jpa_heap.specs.declared.Link.{Link}
@@ -22,11 +23,13 @@ HoldsWithin count (Held.Many (Collection.Fetched ks)) = All (λ k. k < count) ks
 abbrev pub AreLinked : List LiveObject → Type 0
 AreLinked objects = All (λ x. All (HoldsWithin (length objects)) x.relations) objects
 
+-- an object stands in the heap, and an identity has a row in the view
 abbrev pub IsThere : Work → Node → Type 0
 IsThere w (Node.Live n) = n < length w.objects
 IsThere w (Node.Bare id) = IsSome (row w id)
 
--- so are the waves of an operation on an object, where the entries of the context name objects of the heap too
+-- so are the waves of an operation on an object, where the entries of the context name objects of
+-- the heap too
 abbrev pub WavesAreThere : Type 0
 WavesAreThere =
     (m : PersistenceUnit) (op : Operation) (w : Work) (start : ℕ) → AreLinked w.objects → All (λ e. e.object < length w.objects) w.context → start < length w.objects →

@@ -1,5 +1,5 @@
--- The targets of a node and the waves of a cascade (Jakarta Persistence 3.1, chapter 3.2; the order of the waves is this
--- provider's own).
+-- The targets of a node and the waves of a cascade (Jakarta Persistence 3.1, chapter 3.2; the order
+-- of the waves is this provider's own).
 use Rattle.std.specs.Prelude.{ℕ, zero, suc, ◌+◌, Bool, true, false, ◌||◌, ◌==◌, List, [], ◌∷◌, ◌++◌, map, length, Option, Some, None, if◌then◌else◌}
 use Rattle.std.specs.List.{flat_map, list_any, enumerate_from}
 use Rattle.jpa_value.specs.declared.value.Identity.{Identity}
@@ -44,12 +44,15 @@ node_from (Some n) x id = Node.Live n ∷ []
 node_from None (Some x) id = Node.Bare id ∷ []
 node_from None None id = []
 
+-- what an identity means: its instance in the context, else its row, else nothing
 abbrev pub node_of : PersistenceUnit → Work → Identity → List Node
 node_of m w id = node_from (instance m w id) (row w id) id
 
+-- what identities mean, in turn
 abbrev pub nodes_of : PersistenceUnit → Work → List Identity → List Node
 nodes_of m w ids = flat_map (node_of m w) ids
 
+-- what the view holds in a relation under an identity; without an identity nothing
 abbrev pub members_under : PersistenceUnit → Work → ℕ → Option Identity → ℕ → List Identity
 members_under m w class None r = []
 members_under m w class (Some id) r = members_of m w.view class id (row w id) r
@@ -72,9 +75,11 @@ nodes_held m w false n r (Held.Many Collection.Unfetched) = []
 abbrev pub live_targets_along : PersistenceUnit → Operation → Work → ℕ → ℕ × Relation → List Node
 live_targets_along m op w n p = if goes_along op p.1 then nodes_held m w (reaches_unread op) n p.0 (held_at (object w n) p.0) else []
 
+-- where a row leads along a relation, if the operation goes along it
 abbrev pub bare_targets_along : PersistenceUnit → Operation → Work → Identity → Stored → ℕ × Relation → List Node
 bare_targets_along m op w id x p = if goes_along op p.1 then nodes_of m w (members m w.view id x p.0) else []
 
+-- where a row leads, along its relations in declared order
 abbrev pub bare_targets : PersistenceUnit → Operation → Work → Identity → Option Stored → List Node
 bare_targets m op w id None = []
 bare_targets m op w id (Some x) = flat_map (bare_targets_along m op w id x) (enumerate_from 0 (relations_of m x.class))
@@ -85,6 +90,7 @@ targets m op w (Node.Live n) =
     if goes_from op (state_of w n) then flat_map (live_targets_along m op w n) (enumerate_from 0 (relations_of m (object w n).class)) else []
 targets m op w (Node.Bare id) = bare_targets m op w id (row w id)
 
+-- whether two nodes are the same object or the same identity
 abbrev pub same_node : Node → Node → Bool
 same_node (Node.Live a) (Node.Live b) = a == b
 same_node (Node.Live a) (Node.Bare y) = false
@@ -96,8 +102,9 @@ abbrev pub unseen : List Node → List Node → List Node
 unseen seen [] = []
 unseen seen (x ∷ xs) = if list_any (same_node x) seen then unseen seen xs else x ∷ unseen (seen ++ x ∷ []) xs
 
--- the nodes so far, then this wave, then the later ones: the targets of a wave that were not seen are the next. A bound of
--- the number of nodes that lead on cuts none off: `cascade_laws` proves it, and that each node that is reached stands here once
+-- the nodes so far, then this wave, then the later ones: the targets of a wave that were not seen
+-- are the next. A bound of the number of nodes that lead on cuts none off: `cascade_laws` proves
+-- it, and that each node that is reached stands here once
 abbrev pub waves_by : (Node → List Node) → ℕ → List Node → List Node → List Node
 waves_by next zero before wave = before ++ wave
 waves_by next (suc bound) before [] = before
@@ -108,6 +115,7 @@ waves_by next (suc bound) before (x ∷ xs) =
 abbrev pub most_nodes : Work → ℕ
 most_nodes w = length w.objects + length w.view
 
+-- the nodes of a cascade from an object, wave by wave (chapter 3.2)
 abbrev pub waves : PersistenceUnit → Operation → Work → ℕ → List Node
 waves m op w start = waves_by (targets m op w) (most_nodes w) [] (Node.Live start ∷ [])
 

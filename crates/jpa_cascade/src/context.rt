@@ -24,8 +24,8 @@ fn is_named(metamodel: &Metamodel, object: &LiveObject, id: &Identity) -> bool
         && order_keys(key, id.key.as_slice()) == Ordering::Equal
 }
 
-/// The places of the objects that entered the context under a key, and perhaps of some others, in the order in which they
-/// entered. Takes no memory, and looks at no entry.
+/// The places of the objects that entered the context under a key, and perhaps of some others, in
+/// the order in which they entered. Takes no memory, and looks at no entry.
 fn near<'a>(_metamodel: &Metamodel, work: &'a UnitOfWork, key: &[Value]) -> &'a [usize]
     requires placed { IsPlaced _metamodel.now (now work.now) }
     ensures near { result.now ≡ places_near key.now work.now.context.now }

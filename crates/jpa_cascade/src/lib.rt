@@ -1,8 +1,8 @@
 //! Cascades: which objects an operation reaches along relations, in which order.
 //!
-//! The definitions stand in `specs/Waves.antt`: the targets of a node, and the waves of a cascade, breadth first.
-//! `specs/Reached.antt` says what a cascade is, and `cascade_laws` that the waves are one; `waves` computes them over a manager at
-//! work. The crate stands on persistence contexts.
+//! The definitions stand in `specs/Waves.antt`: the targets of a node, and the waves of a cascade,
+//! breadth first. `specs/Reached.antt` says what a cascade is, and `cascade_laws` that the waves
+//! are one; `waves` computes them over a manager at work. The crate stands on persistence contexts.
 #![tactic(auto)]
 
 mod context;
@@ -29,7 +29,8 @@ pub enum Operation {
     Detach,
 }
 
-/// A node of a cascade: an object by its place in the heap, or an identity of the view without an instance in the context.
+/// A node of a cascade: an object by its place in the heap, or an identity of the view without an
+/// instance in the context.
 #[derive(Drop)]
 pub enum Node {
     Live(usize),

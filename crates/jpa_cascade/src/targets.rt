@@ -237,8 +237,9 @@ fn live_nodes(alloc: Global, nodes: &[Node]) -> Result<Seq<usize>, Cause>
     Ok(objects)
 }
 
-/// The objects among the targets of an object: where an operation goes on from it, in the order of its relations (Jakarta
-/// Persistence 3.1, chapter 3.2). Fails for want of memory alone, with `OutOfMemory`.
+/// The objects among the targets of an object: where an operation goes on from it, in the order of
+/// its relations (Jakarta Persistence 3.1, chapter 3.2). Fails for want of memory alone, with
+/// `OutOfMemory`.
 pub fn live_targets(
     alloc: Global,
     metamodel: &Metamodel,

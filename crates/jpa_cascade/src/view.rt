@@ -26,8 +26,9 @@ fn owned(view: &OpenSet, object: &Stored, relation: usize) -> Result<Seq<Identit
     }
 }
 
-/// The identities that an object of the view holds in a relation of its chain: what it owns there or, for an inverse side, its
-/// owners in rising order (Jakarta Persistence 3.1, chapter 2.9). Fails for want of memory alone, with `OutOfMemory`.
+/// The identities that an object of the view holds in a relation of its chain: what it owns there
+/// or, for an inverse side, its owners in rising order (Jakarta Persistence 3.1, chapter 2.9).
+/// Fails for want of memory alone, with `OutOfMemory`.
 pub fn members(
     metamodel: &Metamodel,
     view: &OpenSet,
@@ -49,8 +50,9 @@ pub fn members(
     }
 }
 
-/// The identities that the view has in a relation of a live object: none where no row stands under its identity, or one of a class
-/// without that relation. Fails for want of memory alone, with `OutOfMemory`.
+/// The identities that the view has in a relation of a live object: none where no row stands under
+/// its identity, or one of a class without that relation. Fails for want of memory alone, with
+/// `OutOfMemory`.
 pub fn members_now(
     metamodel: &Metamodel,
     work: &UnitOfWork,

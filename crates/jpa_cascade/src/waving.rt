@@ -54,11 +54,12 @@ fn targets_of(
     Ok(found)
 }
 
-/// The nodes that an operation comes to from an object along relations that cascade it, each once: the object, then wave after
-/// wave, so that those nearer it stand first (Jakarta Persistence 3.1, chapter 3.2). `cascade_laws` has what the waves are.
+/// The nodes that an operation comes to from an object along relations that cascade it, each once:
+/// the object, then wave after wave, so that those nearer it stand first (Jakarta Persistence 3.1,
+/// chapter 3.2). `cascade_laws` has what the waves are.
 ///
-/// With n nodes and k links between them it takes O(k log n) comparisons, and a look at the relations of each. Fails for want of
-/// memory alone, with `OutOfMemory`.
+/// With n nodes and k links between them it takes O(k log n) comparisons, and a look at the
+/// relations of each. Fails for want of memory alone, with `OutOfMemory`.
 pub fn waves(
     alloc: Global,
     metamodel: &Metamodel,

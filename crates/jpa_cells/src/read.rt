@@ -100,7 +100,8 @@ fn add_entry(
     }
 }
 
-/// The rows of shown cells. Each is dropped once it is read, so that what is made of the next finds its room.
+/// The rows of shown cells. Each is dropped once it is read, so that what is made of the next finds
+/// its room.
 fn rows_of(alloc: Global, shown: Vec<Row>) -> Result<Seq<CellRow>, Error>
     ensures rows { IfOk result (λ rows. rows ≡ grouped (map shown_entry shown.items)) }
     ensures whole { All IsShownEntry shown.items →

@@ -1,17 +1,19 @@
 //! The store of cells.
 
-ghost use Rattle.std.specs.Prelude.{◌≡◌, ◌≢◌, ◌⊎◌, ◌+◌, ◌<◌, false, [], length, sum_by, IfOk, IfErr, OnOk, OnErr};
+ghost use Rattle.std.specs.Prelude.{◌≡◌, ◌≢◌, ◌⊎◌, ◌+◌, ◌<◌, List, false, [], length, sum_by, IsErr, IfOk, IfErr, OnOk, OnErr};
 ghost use Rattle.std.specs.Result.{IsOk};
 ghost use Rattle.sqlite.specs.Held.{state};
 ghost use Rattle.jpa_cells_meaning.specs.Content.{KeepsContent};
 ghost use Rattle.jpa_cells_meaning.specs.Schema.{no_schema};
-ghost use Rattle.jpa_cells_meaning.specs.Tables.{cells_at, tables_after, statements_of, AreRows, NameColumnsOnce, HandsOn, HandsSome};
+ghost use Rattle.jpa_row_laws.specs.Handing.{Hands};
+ghost use Rattle.jpa_cells_meaning.specs.declared.CellRow.{CellRow};
+ghost use Rattle.jpa_cells_meaning.specs.Tables.{cells_at, tables_after, statements_of, AreRows, NameColumnsOnce};
 ghost use Rattle.jpa_cells_meaning.specs.Store.{up_to_greatest, Counts, Tells, TellsOf, faults_after, new_store, IsClean, IsOpen, tables_in, HoldsTable, IsOrderedIfFound, IsReady, Keeps, Becomes, Opens, Endures, Allows, HasFault, FaultHasCause, StaysOpen};
 
 use crate::found;
 use crate::make::create;
 use crate::read::{read_row, read_table};
-use crate::sink::{RowSink, hand_on};
+use crate::sink::{CellSink, hand_on};
 use crate::write::apply_all;
 use jpa_cells_meaning::{Cell, CellChange, CellRow};
 use jpa_value::{Cause, Seq};
@@ -19,8 +21,9 @@ use sqlite::{Alter, Connection, Error, ErrorCode};
 use std::alloc::Global;
 use std::marker::Model;
 
-/// Tables of rows of cells in a database of its own, which counts the statements that it runs and the refusals that it
-/// meets. Its calls refuse with `OutOfMemory` and `StoreFault` alone, and a refused call leaves the tables as they were.
+/// Tables of rows of cells in a database of its own, which counts the statements that it runs and
+/// the refusals that it meets. Its calls refuse with `OutOfMemory` and `StoreFault` alone, and a
+/// refused call leaves the tables as they were.
 #[derive(Drop)]
 pub struct CellStore<S: Alter> {
     conn: Connection<S>,
@@ -68,11 +71,12 @@ fn refusal_of(error: Error, faults: &mut u64) -> Cause
 }
 
 impl<S: Alter + Drop> CellStore<S> {
-    /// Takes the table `cell` where it stands in the database, and makes it where the database is empty. Refused, it
-    /// hands the connection back, in a transaction only where it was in one, and its database is as it was, unless a
-    /// fault shut it or the disk returned something else than was written: `StoreFault` where the database holds anything
-    /// else, where the connection is in a transaction, and where the store refuses the statement for another cause than
-    /// memory; `OutOfMemory` only where it set out to make the table.
+    /// Takes the table `cell` where it stands in the database, and makes it where the database is
+    /// empty. Refused, it hands the connection back, in a transaction only where it was in one, and
+    /// its database is as it was, unless a fault shut it or the disk returned something else than
+    /// was written: `StoreFault` where the database holds anything else, where the connection is in
+    /// a transaction, and where the store refuses the statement for another cause than memory;
+    /// `OutOfMemory` only where it set out to make the table.
     pub fn open(
         alloc: Global,
         mut conn: Connection<S>,
@@ -135,15 +139,16 @@ impl<S: Alter> CellStore<S> {
         self.row_selects.saturating_add(self.table_selects)
     }
 
-    /// How many DELETEs and INSERTs were run since the opening, up to the greatest u64. Takes no memory.
+    /// How many DELETEs and INSERTs were run since the opening, up to the greatest u64. Takes no
+    /// memory.
     pub fn writes(&self) -> u64
         ensures { result ≡ self.now.writes }
     {
         self.writes
     }
 
-    /// How many statements were run since the opening, with the opening's CREATE, up to the greatest u64. Takes no
-    /// memory.
+    /// How many statements were run since the opening, with the opening's CREATE, up to the
+    /// greatest u64. Takes no memory.
     pub fn statements(&self) -> u64
         ensures { result
             ≡ up_to_greatest (self.now.row_selects + self.now.table_selects + self.now.writes +
@@ -155,8 +160,9 @@ impl<S: Alter> CellStore<S> {
             .saturating_add(self.creates)
     }
 
-    /// The connection, in no transaction, whose database is as the store left it: the table `cell` and nothing else, unless
-    /// a fault shut it or the disk returned something else than was written. Takes no memory.
+    /// The connection, in no transaction, whose database is as the store left it: the table `cell`
+    /// and nothing else, unless a fault shut it or the disk returned something else than was
+    /// written. Takes no memory.
     pub fn into_connection(self) -> Connection<S>
         ensures same { result ≡ self.conn }
         ensures idle { result.in_transaction ≡ false }
@@ -175,7 +181,8 @@ impl<S: Alter> CellStore<S> {
         conn
     }
 
-    /// The cells of a row, in rising order of their columns, by one SELECT; none where there is no such row.
+    /// The cells of a row, in rising order of their columns, by one SELECT; none where there is no
+    /// such row.
     pub fn row(&mut self, table: i64, row: &[u8]) -> Result<Seq<Cell>, Cause>
         ensures cells { IsClean S.Store self.new.conn →
             IfOk result (λ cells. cells ≡ cells_at row.now
@@ -200,8 +207,8 @@ impl<S: Alter> CellStore<S> {
         }
     }
 
-    /// The rows of a table, in rising order of their bytes, each with its cells in rising order of their columns, by one
-    /// SELECT.
+    /// The rows of a table, in rising order of their bytes, each with its cells in rising order of
+    /// their columns, by one SELECT.
     pub fn table(&mut self, table: i64) -> Result<Seq<CellRow>, Cause>
         ensures rows { IsClean S.Store self.new.conn →
             IfOk result (λ rows. rows ≡ tables_in S.Store self.old.conn table) }
@@ -228,20 +235,22 @@ impl<S: Alter> CellStore<S> {
         }
     }
 
-    /// Hands the rows of a table on, in rising order, by one SELECT: up to the first after which the sink wants no more,
-    /// or else all of them. A refusal of the sink is the answer; the rows before it were taken.
-    pub fn each<K: RowSink>(&mut self, table: i64, sink: &mut K) -> Result<(), Cause>
-        ensures taken { IsClean S.Store self.new.conn →
-            OnOk result (HandsOn (K.stops sink.old) (tables_in S.Store self.old.conn table)
-            (K.taken sink.old) (K.taken sink.new)) }
-        ensures refused { IsClean S.Store self.new.conn →
-            OnErr result (HandsSome (K.stops sink.old) (tables_in S.Store self.old.conn table)
-            (K.taken sink.old) (K.taken sink.new)) }
-        ensures own { IfErr result (λ cause. (cause ≡ Cause.OutOfMemory)
-            ⊎ (cause ≡ Cause.StoreFault) ⊎ K.refuses cause) }
-        ensures steady { K.stops sink.new ≡ K.stops sink.old }
+    /// Hands the rows of a table on, in rising order of their bytes, each with its cells in rising
+    /// order of their columns, by one SELECT: `true` once all were taken and more are wanted,
+    /// `false` after the first with which no more are wanted. A refusal of the sink is the answer;
+    /// at any refusal the rows before it were taken.
+    pub fn each<K: CellSink>(&mut self, table: i64, sink: &mut K) -> Result<bool, Cause>
+        ensures handed { (rows : List CellRow) × (IsClean S.Store self.new.conn →
+            (IsOpen S.Store self.old.conn × (rows ≡ tables_in S.Store self.old.conn table))
+            ⊎ (IsErr result × (rows ≡ []))) × Hands K.takes
+            (λ cause. (cause ≡ Cause.OutOfMemory) ⊎ (cause ≡ Cause.StoreFault)) sink.old rows result
+            sink.new }
+        ensures rise { IsClean S.Store self.new.conn →
+            OnOk result (AreRows (tables_in S.Store self.old.conn table)) }
         ensures open { StaysOpen S.Store result self.old.conn self.new.conn }
         ensures kept { Keeps S.Store self.old.conn self.new.conn }
+        ensures kept_content { KeepsContent (state S.Store self.old.conn)
+            (state S.Store self.new.conn) }
         ensures counted { self.new.table_selects ≡ up_to_greatest (self.old.table_selects + 1) }
         ensures told { self.new.faults ≡ faults_after result self.old.faults }
         ensures cause { FaultHasCause S.Store result self.old.conn self.new.conn }
@@ -257,10 +266,11 @@ impl<S: Alter> CellStore<S> {
         hand_on(rows.into_vec(), sink)
     }
 
-    /// Makes the changes in turn, all in one transaction or none: a row's cells are replaced by one DELETE and by one
-    /// INSERT for each new cell, and without cells the row is dropped. An empty list runs no statement. Over a disk that
-    /// returns what was written, a list in which a change names a column twice is refused, and where none does, where the
-    /// database takes the bytes of each cell and where rowids are left for all of them, a `StoreFault` has a fault as its
+    /// Makes the changes in turn, all in one transaction or none: a row's cells are replaced by one
+    /// DELETE and by one INSERT for each new cell, and without cells the row is dropped. An empty
+    /// list runs no statement. Over a disk that returns what was written, a list in which a change
+    /// names a column twice is refused, and where none does, where the database takes the bytes of
+    /// each cell and where rowids are left for all of them, a `StoreFault` has a fault as its
     /// cause.
     pub fn apply(&mut self, changes: &[CellChange]) -> Result<(), Cause>
         ensures applied { 0 < length changes.now → OnOk result

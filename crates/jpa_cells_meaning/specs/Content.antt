@@ -1,4 +1,5 @@
--- How the rows of the one table of the database stand for tables of rows of cells, and what a connection over it keeps.
+-- How the rows of the one table of the database stand for tables of rows of cells, and what a
+-- connection over it keeps.
 use Rattle.std.specs.Prelude.{◌≡◌, ◌⊎◌, ◌&&◌, ℕ, ◌+◌, ◌≤◌, ℤ, pos, ◌+ℤ◌, Bool, true, false, IsTrue, IsSome, List, [], ◌∷◌, ◌++◌, length, sum_by, map, filter, if◌then◌else◌}
 use Rattle.std.specs.List.{All, AllByRecursion}
 use Rattle.std.specs.declared.cmp.Ordering.{Ordering}
@@ -36,6 +37,7 @@ int_in (Blob b) = pos 0
 abbrev pub is_of : ℤ → List ℕ → Row → Bool
 is_of table key row = is_eq (value_cmp (column row 1) (Int table)) && is_eq (value_cmp (column row 2) (Blob key))
 
+-- the cell that a row of the database is
 abbrev pub cell_in : Row → Cell
 cell_in row = record { column = int_in (column row 3); value = bytes (column row 4) }
 
@@ -43,9 +45,11 @@ cell_in row = record { column = int_in (column row 3); value = bytes (column row
 abbrev pub loose_cells : ℤ → List ℕ → List Row → List Cell
 loose_cells table key rows = map cell_in (filter (is_of table key) rows)
 
+-- the cells of a row of a table, in rising columns
 abbrev pub cells_of : ℤ → List ℕ → List Row → List Cell
 cells_of table key rows = sort_by cell_cmp (loose_cells table key rows)
 
+-- a row of the database is a cell: rowid, table, row, column and bytes
 pub record IsCellRow (row : Row) : Type 0 where
   pub id : ℤ
   pub table : ℤ
@@ -78,9 +82,11 @@ Entry = List ℕ × Cell
 abbrev pub entry_cmp : Entry → Entry → Ordering
 entry_cmp = then_cmp (on (λ e. e.0) (slice_cmp nat_cmp)) (on (λ e. e.1) cell_cmp)
 
+-- whether a row of the database belongs to a table
 abbrev pub is_in : ℤ → Row → Bool
 is_in table row = is_eq (value_cmp (column row 1) (Int table))
 
+-- the row and the cell that a row of the database is
 abbrev pub entry_in : Row → Entry
 entry_in row = (bytes (column row 2), cell_in row)
 
@@ -88,6 +94,7 @@ entry_in row = (bytes (column row 2), cell_in row)
 abbrev pub entries_of : ℤ → List Row → List Entry
 entries_of table rows = sort_by entry_cmp (map entry_in (filter (is_in table) rows))
 
+-- one more entry before rows: in the first, where that has its key, else in a row of its own
 abbrev pub joined : Entry → List CellRow → List CellRow
 joined e [] = row_of e.0 (e.1 ∷ []) ∷ []
 joined e (r ∷ rs) = if is_eq (slice_cmp nat_cmp e.0 r.row) then row_of e.0 (e.1 ∷ r.cells) ∷ rs else row_of e.0 (e.1 ∷ []) ∷ r ∷ rs
@@ -113,6 +120,7 @@ tables_of db table = grouped (entries_of table (db.trees 0))
 abbrev pub Contents : Type 0
 Contents = ℤ → List ℕ → List Cell
 
+-- the cells of a row of a table, as a database holds them
 abbrev pub content : Database → Contents
 content db table key = cells_of table key (db.trees 0)
 
@@ -120,28 +128,35 @@ content db table key = cells_of table key (db.trees 0)
 abbrev pub is_same : ℤ → List ℕ → ℤ → List ℕ → Bool
 is_same table key t k = is_eq (int_cmp table t) && is_eq (slice_cmp nat_cmp key k)
 
+-- the contents with one more cell in a row
 abbrev pub with_cell : ℤ → List ℕ → Cell → Contents → Contents
 with_cell table key cell all t k = if is_same table key t k then insert_sorted cell_cmp cell (all t k) else all t k
 
+-- the contents without the cells of a row
 abbrev pub without_cells : ℤ → List ℕ → Contents → Contents
 without_cells table key all t k = if is_same table key t k then [] else all t k
 
+-- the contents with more cells in a row
 abbrev pub with_cells : ℤ → List ℕ → List Cell → Contents → Contents
 with_cells table key [] all = all
 with_cells table key (cell ∷ cells) all = with_cells table key cells (with_cell table key cell all)
 
+-- the contents with a row's cells replaced
 abbrev pub replaced : CellChange → Contents → Contents
 replaced change all t k = if is_same change.table change.row t k then placed change.cells else all t k
 
+-- the contents after changes, in turn
 abbrev pub contents_after : List CellChange → Contents → Contents
 contents_after [] all = all
 contents_after (change ∷ changes) all = contents_after changes (replaced change all)
 
 -- ---- the rows of an answer
 
+-- the cell that an answer's row shows: column and bytes
 abbrev pub shown_cell : Row → Cell
 shown_cell row = record { column = int_in (column row 0); value = bytes (column row 1) }
 
+-- the row and the cell that an answer's row shows
 abbrev pub shown_entry : Row → Entry
 shown_entry row = (bytes (column row 0), record { column = int_in (column row 1); value = bytes (column row 2) })
 
@@ -172,6 +187,7 @@ KeepsContent old new = HasCleanDisk new → IsTrue new.is_open → IsTrue old.is
 abbrev pub ShowsCells : State → State → ℤ → List ℕ → List Row → Type 0
 ShowsCells old new table key rows = (IsTrue old.is_open × IsTrue new.is_open × (new.now ≡ old.now)) × (map shown_cell rows ≡ cells_at key (tables_of old.now table)) × All IsShownCell rows
 
+-- the open connection shows the table's cells, and is as it was
 abbrev pub ShowsTable : State → State → ℤ → List Row → Type 0
 ShowsTable old new table rows = (IsTrue old.is_open × IsTrue new.is_open × (new.now ≡ old.now)) × (grouped (map shown_entry rows) ≡ tables_of old.now table) × AreRows (tables_of old.now table) × All IsShownEntry rows
 
@@ -222,6 +238,7 @@ pub record Makes (old new : State) : Type 0 where
   pub holds : HoldsCells new.now
   pub empty : tables_of new.now ≡ (λ t. [])
 
+-- the table was made and committed, and is empty
 pub record Made (old new : State) : Type 0 where
   pub was_open : IsTrue old.is_open
   pub is_open : IsTrue new.is_open
@@ -235,6 +252,7 @@ pub record Made (old new : State) : Type 0 where
 abbrev pub IsFault : State → State → Type 0
 IsFault old new = MoreFaults old.faults new.faults ⊎ ((old.is_open ≡ false) ⊎ IsSome old.step_limit)
 
+-- why a call fails: want of memory, or a fault
 abbrev pub IsExcused : State → State → Error → Type 0
 IsExcused old new e = (e ≡ SqliteFailure code.OutOfMemory) ⊎ IsFault old new
 
@@ -258,10 +276,12 @@ pub record CanAdd (s : State) (table : ℤ) (key : List ℕ) (cells : List Cell)
   pub short : AreShort key cells
   pub rowids : HasRowids (length cells) (s.now.trees 0)
 
+-- how many cells changes have
 abbrev pub cells_in_all : List CellChange → ℕ
 cells_in_all = sum_by (λ (c : CellChange). length c.cells)
 
--- no change names a column twice, the database takes their bytes, and each of their cells finds a rowid
+-- no change names a column twice, the database takes their bytes, and each of their cells finds a
+-- rowid
 pub record CanTake (db : Database) (changes : List CellChange) : Type 0 where
   pub differ : NameColumnsOnce changes
   pub short : AllByRecursion (λ (c : CellChange). AreShort c.row c.cells) changes

@@ -1,4 +1,5 @@
--- A store of cells, in the words of the layers above it: which tables a connection stands for, and what a call leaves of them.
+-- A store of cells, in the words of the layers above it: which tables a connection stands for, and
+-- what a call leaves of them.
 use Rattle.std.specs.Prelude.{◌≡◌, ◌⊎◌, ◌+◌, ◌-◌, ◌^◌, ◌≤◌, min, ℕ, List, [], IsTrue, Result, Ok, Err, OnOk, refl}
 use Rattle.std.specs.Coded.{Coded, code_by, coded×, coded_ℕ}
 use Rattle.sqlite_trees.specs.declared.store.Store.{Ghosts}
@@ -22,6 +23,7 @@ pub record Stored (S : Type 0) : Type 0 where
   -- the refusals for another cause than memory
   pub faults : ℕ
 
+-- a store of cells has a code where its connection has one
 abbrev pub stored_code : {S : Type 0} → Coded S → Coded (Stored S)
 stored_code {S} store =
     code_by (Held S × (ℕ × (ℕ × (ℕ × (ℕ × ℕ)))))
@@ -44,6 +46,7 @@ TellsOf cause.OutOfMemory old new = new ≡ old
 TellsOf cause.StoreFault old new = new ≡ up_to_greatest (old + 1)
 TellsOf _ old new = ⊥
 
+-- no fault is counted, or the refusal tells of it
 abbrev pub Tells : {T : Type 0} → Result T Cause → ℕ → ℕ → Type 0
 Tells (Ok _) old new = new ≡ old
 Tells (Err e) old new = TellsOf e old new
@@ -96,7 +99,8 @@ module _ {S : Type 0} (g : Ghosts S) where
       ((store ≡ new_store old 0) × ((state g old).now.schema ≡ cell_schema))
       ⊎ ((store ≡ new_store store.conn 1) × ((state g old).now.schema ≡ no_schema) × (IsClean store.conn → IsOpen old × IsOpen store.conn × (tables_in store.conn ≡ (λ t. []))))
 
-  -- No fault is forgotten, only a fault shuts the connection, and a crash leaves what it left before or such tables.
+  -- No fault is forgotten, only a fault shuts the connection, and a crash leaves what it left
+  -- before or such tables.
   abbrev pub Endures : Held S → Held S → (Tables → Type 0) → Type 0
   Endures old new Commits = Survives (state g old) (state g new) (Leaves Commits)
 

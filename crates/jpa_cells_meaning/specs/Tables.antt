@@ -11,8 +11,9 @@ use Rattle.jpa_cells_meaning.specs.declared.Cell.{Cell}
 use Rattle.jpa_cells_meaning.specs.declared.CellRow.{CellRow}
 use Rattle.jpa_cells_meaning.specs.declared.CellChange.{CellChange}
 
--- The rows of each table, by its number: in rising order of their bytes, none without a cell, and each with its cells in rising order of
--- their columns. A table that nothing was written to has none.
+-- The rows of each table, by its number: in rising order of their bytes, none without a cell, and
+-- each with its cells in rising order of their columns. A table that nothing was written to has
+-- none.
 abbrev pub Tables : Type 0
 Tables = ℤ → List CellRow
 
@@ -20,6 +21,7 @@ Tables = ℤ → List CellRow
 abbrev pub key_cmp : List ℕ → List ℕ → Ordering
 key_cmp = slice_cmp nat_cmp
 
+-- the order of cells: by their columns
 abbrev pub cell_cmp : Cell → Cell → Ordering
 cell_cmp = on (λ c. c.column) int_cmp
 
@@ -59,6 +61,7 @@ abbrev pub with_row : CellRow → List CellRow → List CellRow
 with_row new [] = new ∷ []
 with_row new (row ∷ rows) = match_ordering (key_cmp row.row new.row) (row ∷ with_row new rows) (new ∷ rows) (new ∷ row ∷ rows)
 
+-- the rows without the one with these bytes
 abbrev pub without_row : List ℕ → List CellRow → List CellRow
 without_row key = filter (λ row. not (is_eq (key_cmp key row.row)))
 
@@ -67,6 +70,7 @@ abbrev pub rows_after : List ℕ → List Cell → List CellRow → List CellRow
 rows_after key [] rows = without_row key rows
 rows_after key (cell ∷ cells) rows = with_row (row_of key (placed (cell ∷ cells))) rows
 
+-- the tables after one change
 abbrev pub changed : CellChange → Tables → Tables
 changed change tables t = if is_eq (int_cmp change.table t) then rows_after change.row change.cells (tables t) else tables t
 
@@ -75,7 +79,8 @@ abbrev pub tables_after : List CellChange → Tables → Tables
 tables_after [] tables = tables
 tables_after (change ∷ changes) tables = tables_after changes (changed change tables)
 
--- the rows up to the first after which no more are wanted, with that one, where these were taken before
+-- the rows up to the first after which no more are wanted, with that one, where these were taken
+-- before
 abbrev pub wanted : (List CellRow → Bool) → List CellRow → List CellRow → List CellRow
 wanted stops taken [] = []
 wanted stops taken (row ∷ rows) = row ∷ (if stops (taken ++ row ∷ []) then [] else wanted stops (taken ++ row ∷ []) rows)

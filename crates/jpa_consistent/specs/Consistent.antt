@@ -1,5 +1,6 @@
--- What holds of the work of a manager: the objects have the shape of their classes, the context and the states of objects
--- agree, each identity has one instance in a context, and the set that is seen is one that a store can hold.
+-- What holds of the work of a manager. The objects have the shape of their classes. The context and
+-- the states of objects agree. Each identity has one instance in a context. A store can hold the
+-- set that is seen.
 use Rattle.jpa_value.specs.Limits.{most_objects}
 use Rattle.std.specs.Prelude.{◌≡◌, ◌≢◌, ◌<◌, ◌≤◌, ℕ, ℤ, Bool, true, false, not, nat_lt, nat_le, ◌&&◌, ◌==◌, List, length, Option, Some, None, if◌then◌else◌}
 use Rattle.std.specs.List.{All, list_any, list_all}
@@ -29,11 +30,13 @@ abbrev pub leads_to : PersistenceUnit → List LiveObject → ℕ → ℕ → Bo
 leads_to m objects target k =
     nat_lt k (length objects) && ((root_of m (object_at objects k).class).table == (root_of m target).table)
 
+-- a link leads nowhere, to an object of the target's table, or to an identity of its hierarchy
 abbrev pub link_fits : PersistenceUnit → List LiveObject → ℕ → Link → Bool
 link_fits m objects target Link.None = true
 link_fits m objects target (Link.Object k) = leads_to m objects target k
 link_fits m objects target (Link.Key id) = is_identity_of (root_of m target) id
 
+-- a collection was not read, or has objects of the target's table alone
 abbrev pub collection_fits : PersistenceUnit → List LiveObject → ℕ → Collection → Bool
 collection_fits m objects target Collection.Unfetched = true
 collection_fits m objects target (Collection.Fetched ks) = list_all (leads_to m objects target) ks
@@ -70,6 +73,7 @@ pub record IsLive (m : PersistenceUnit) (objects : List LiveObject) (x : LiveObj
 
 -- ---- entries of a context
 
+-- whether an object is managed or removed for a manager
 abbrev pub is_held_by : ℕ → Life → Bool
 is_held_by manager Life.New = false
 is_held_by manager (Life.Managed k) = k == manager
@@ -94,8 +98,8 @@ base_fits m x (Some b) =
     && (holds_representable b.stored
     && each_fits known_fits (relations_of m x.class) b.members))
 
--- an entry names an object that the manager holds, with the key under which it entered, a whole key of its hierarchy; a
--- generated key was given
+-- an entry names an object that the manager holds, with the key under which it entered, a whole key
+-- of its hierarchy; a generated key was given
 pub record IsEntry (m : PersistenceUnit) (objects : List LiveObject) (numbers : List ℕ) (manager : ℕ) (e : Entry) : Type 0 where
   pub within : e.object < length objects
   pub keyed : (object_at objects e.object).key ≡ e.key
@@ -104,6 +108,7 @@ pub record IsEntry (m : PersistenceUnit) (objects : List LiveObject) (numbers : 
   pub given : key_given_by numbers (root_class m (object_at objects e.object).class) (root_of m (object_at objects e.object).class).generated (object_at objects e.object).key ≡ true
   pub base : base_fits m (object_at objects e.object) e.base ≡ true
 
+-- whether the objects of two entries have one identity
 abbrev pub are_one : PersistenceUnit → List LiveObject → Entry → Entry → Bool
 are_one m objects a b = same_identity (name_of m (object_at objects a.object)) (name_of m (object_at objects b.object))
 
@@ -133,6 +138,7 @@ pub record Others : Type 0 where
 abbrev pub contexts : Others → ℕ → Work → ℕ → List Entry
 contexts M m w k = if k == m then w.context else M.context k
 
+-- what holds of a manager at work, beside the others
 pub record IsConsistent (world : World) (M : Others) (m : ℕ) (w : Work) : Type 0 where
   pub manager : w.manager ≡ m
   pub objects : All (IsLive world.model w.objects) w.objects

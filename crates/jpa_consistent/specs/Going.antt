@@ -7,6 +7,7 @@ abbrev pub HoldsAfter : {A : Type 0} → (A → Work → Type 0) → Outcome A �
 HoldsAfter P (Done a w) = P a w
 HoldsAfter P (Refused r events) = Unit {0}
 
--- from each work of which P holds it goes to one of which P holds, which G relates to the first, with an answer of which Q holds
+-- from each work of which P holds it goes to one of which P holds; G relates both, and Q holds of
+-- the answer
 abbrev pub Goes : (Work → Type 0) → (Work → Work → Type 0) → {A : Type 0} → (A → Work → Type 0) → Op A → Type 0
 Goes P G Q op = (w : Work) → P w → HoldsAfter (λ a v. P v × G w v × Q a v) (op w)

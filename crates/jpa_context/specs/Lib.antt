@@ -5,3 +5,4 @@ pub mod Near
 pub mod Places
 pub mod Indexed
 pub mod Undo
+pub mod Carries

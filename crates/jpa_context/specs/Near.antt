@@ -1,5 +1,6 @@
--- Which entries of a context are near a key: those that entered under a key with its fingerprint. Equal keys have one
--- fingerprint, so that who looks for a key's entries finds each of them there, and perhaps some others.
+-- Which entries of a context are near a key: those that entered under a key with its fingerprint.
+-- Equal keys have one fingerprint, so that who looks for a key's entries finds each of them there,
+-- and perhaps some others.
 use Rattle.std.specs.Prelude.{◌≡◌, ℕ, ◌+◌, ◌*◌, ◌%◌, ◌^◌, Bool, true, ◌==◌, List, All, map, filter, fold}
 use Rattle.std.specs.Int.{w64, cast_unsigned}
 use Rattle.jpa_value.specs.declared.value.Value.{Value}
@@ -16,9 +17,11 @@ with_value print (Value.Int n) = mixed print (cast_unsigned w64 n)
 with_value print (Value.Text bytes) = fold mixed print bytes
 with_value print (Value.Bytes bytes) = fold mixed print bytes
 
+-- the fingerprint of a key: its values mixed in turn
 unfoldable pub fingerprint : List Value → ℕ
 fingerprint key = fold with_value 1 key
 
+-- whether two keys have one fingerprint
 abbrev pub is_near : List Value → List Value → Bool
 is_near key other = fingerprint key == fingerprint other
 

@@ -19,8 +19,8 @@ now u = record { manager = u.manager; objects = u.objects.now; context = u.conte
 abbrev pub now_kept : Bool → UnitOfWork → Work
 now_kept is_begun u = if is_begun then now u else record (now u) { view = opened.since u.view }
 
--- what undoing gives, who is at work, and the marks, which no operation changes: also what is committed, what was at the
--- transaction's begin, and the set that it saw before this call
+-- what undoing gives, who is at work, and the marks, which no operation changes: also what is
+-- committed, what was at the transaction's begin, and the set that it saw before this call
 pub record Since : Type 0 where
   pub manager : ℕ
   pub objects : List LiveObject
@@ -31,6 +31,7 @@ pub record Since : Type 0 where
   pub begun : StoredSet
   pub committed : StoredSet
 
+-- what undoing gives of a unit of work
 abbrev pub since : UnitOfWork → Since
 since u =
     record {
@@ -64,8 +65,8 @@ pub record IsKeyed (objects : List LiveObject) (e : Entry) : Type 0 where
   pub same : (object_at objects e.object).key ≡ e.key
   pub whole : is_whole e.key ≡ true
 
--- what code that goes by places stands on: objects have the shape of their classes, entries name objects and know their keys,
--- there is a next number for each class, and the set has the shape of its classes
+-- what code that goes by places stands on: objects and the set have the shape of their classes;
+-- entries name objects and know their keys; there is a next number for each class
 pub record IsPlaced (m : PersistenceUnit) (w : Work) : Type 0 where
   pub objects : All (HasShape m) w.objects
   pub entries : All (λ e. e.object < length w.objects) w.context

@@ -16,7 +16,8 @@ fn known_copied(known: &Option<Seq<Identity>>) -> Result<Option<Seq<Identity>>, 
     }
 }
 
-/// A copy of what a base knows of each relation. Fails for want of memory alone, with `OutOfMemory`.
+/// A copy of what a base knows of each relation. Fails for want of memory alone, with
+/// `OutOfMemory`.
 fn members_copied(members: &Seq<Option<Seq<Identity>>>) -> Result<Seq<Option<Seq<Identity>>>, Cause>
     ensures ok { IfOk result (λ copies. copies ≡ members.now) }
     ensures err { IfErr result (λ cause. cause ≡ Cause.OutOfMemory) }

@@ -22,8 +22,8 @@ use std::alloc::{AllocError, Global};
 use std::marker::Model;
 use std::mem;
 
-/// The entries of a context in the order in which they entered, with an index by key and one by object. Changes can be undone;
-/// entries that leave, leave for good.
+/// The entries of a context in the order in which they entered, with an index by key and one by
+/// object. Changes can be undone; entries that leave, leave for good.
 ///
 /// Contracts see it as they see an `UndoList`: `now`, the entries, and `since`, what undoing gives.
 #[derive(Drop)]
@@ -51,7 +51,8 @@ impl Model for PersistenceContext {
     ghost invariant = { λ c. IsIndexed c.list c.kept c.index c.at };
 }
 
-/// Takes the entries behind the first `kept` out of the indexes. Takes no memory, and time for these alone.
+/// Takes the entries behind the first `kept` out of the indexes. Takes no memory, and time for
+/// these alone.
 fn forget(index: &mut PlaceIndex, at: &mut ObjectPlaces, entries: &[Entry], kept: usize)
     requires within { kept ≤ length entries.now }
     requires all { indexed.IsOf entries.now index.old }
@@ -115,7 +116,8 @@ impl PersistenceContext {
         mem::replace(&mut self.marks, Marks::all(alloc))
     }
 
-    /// What was overwritten since the changes were last kept, each entry with its place. Takes no memory.
+    /// What was overwritten since the changes were last kept, each entry with its place. Takes no
+    /// memory.
     pub fn overwritten(&self) -> &[(usize, Entry)]
         ensures back { self.now.since
             ≡ take (length self.now.since) (put_back self.now.now result.now) }
@@ -145,15 +147,16 @@ impl PersistenceContext {
         self.list.len()
     }
 
-    /// The places of the objects that entered under a key, and perhaps of some under others, in the order in which they
-    /// entered. Takes no memory, and looks at no entry.
+    /// The places of the objects that entered under a key, and perhaps of some under others, in the
+    /// order in which they entered. Takes no memory, and looks at no entry.
     pub fn near(&self, key: &[Value]) -> &[usize]
         ensures { result.now ≡ places_near key.now self.now.now }
     {
         self.index.under(fingerprint(key))
     }
 
-    /// The place of an object's entry, counted from 0: of the first, where it has several. Takes no memory, and looks at no entry.
+    /// The place of an object's entry, counted from 0: of the first, where it has several. Takes no
+    /// memory, and looks at no entry.
     pub fn place_of(&self, object: usize) -> Option<usize>
         ensures { result ≡ entry_place object self.now.now }
     {
@@ -183,7 +186,8 @@ impl PersistenceContext {
         Ok(())
     }
 
-    /// Another entry of the same object under the same key at a place, counted from 0. For want of memory nothing changes.
+    /// Another entry of the same object under the same key at a place, counted from 0. For want of
+    /// memory nothing changes.
     pub fn set(&mut self, at: usize, entry: Entry) -> Result<(), AllocError>
         requires at { at < length self.old.now }
         requires same { StaysAt self.old.now at entry }
@@ -205,7 +209,8 @@ impl PersistenceContext {
         self.kept = self.list.len();
     }
 
-    /// Undoes every change since they were last kept. Takes no memory, and time for what was changed alone.
+    /// Undoes every change since they were last kept. Takes no memory, and time for what was
+    /// changed alone.
     pub fn undo(&mut self)
         ensures now { self.new.now ≡ self.old.since }
         ensures since { self.new.since ≡ self.old.since }
@@ -216,8 +221,9 @@ impl PersistenceContext {
         self.list.undo();
     }
 
-    /// The entries of these objects leave for good: neither that nor a change before it can be undone. The others stand in their
-    /// order, and all are marked. Takes no memory, and time for each entry.
+    /// The entries of these objects leave for good: neither that nor a change before it can be
+    /// undone. The others stand in their order, and all are marked. Takes no memory, and time for
+    /// each entry.
     pub fn leave(&mut self, alloc: Global, objects: &[usize])
         ensures now { self.new.now ≡ without_objects objects.now self.old.now }
         ensures since { self.new.since ≡ self.new.now }
@@ -228,8 +234,9 @@ impl PersistenceContext {
         self.kept = drop_unplaced(&mut self.list, &mut self.index, &mut self.at);
     }
 
-    /// The entries of the objects that are removed for a manager leave for good, as at the end of a commit: neither that nor a change
-    /// before it can be undone. The others stand in their order. Takes no memory, and time for each entry.
+    /// The entries of the objects that are removed for a manager leave for good, as at the end of a
+    /// commit: neither that nor a change before it can be undone. The others stand in their order.
+    /// Takes no memory, and time for each entry.
     pub fn leave_removed(&mut self, objects: &[LiveObject], manager: usize)
         ensures now { self.new.now ≡ without_removed objects.now manager self.old.now }
         ensures since { self.new.since ≡ self.new.now }
@@ -244,8 +251,8 @@ impl PersistenceContext {
         self.kept = drop_unplaced(&mut self.list, &mut self.index, &mut self.at);
     }
 
-    /// The lock of the entry at a place ends, as at the end of a commit, for good: neither that nor a change before it can be undone.
-    /// Takes no memory, and looks at no other entry.
+    /// The lock of the entry at a place ends, as at the end of a commit, for good: neither that nor
+    /// a change before it can be undone. Takes no memory, and looks at no other entry.
     pub fn unlock_at(&mut self, alloc: Global, place: usize)
         requires { place < length self.old.now }
         ensures now { (e : Entry) → self.new.now

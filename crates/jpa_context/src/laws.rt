@@ -9,8 +9,9 @@ ghost use Rattle.jpa_context.specs.Places.{entry_at, entry_place, without_object
 ghost use Rattle.jpa_context.specs.Undo.{IsKeyed};
 ghost use Rattle.jpa_context.specs.Work as works;
 
-/// The laws of `PersistenceContext::near`; it does nothing. The places near a key are places of entries. Who looks for an
-/// entry of a key finds the same among those near it, and so the object of an identity is the first of them that has it.
+/// The laws of `PersistenceContext::near`; it does nothing. The places near a key are places of
+/// entries. Who looks for an entry of a key finds the same among those near it, and so the object
+/// of an identity is the first of them that has it.
 pub fn near_laws()
     ensures within { (n : ℕ) (key : List Value) (es : List Entry) →
         All (λ e. e.object < n) es → All (λ k. k < n) (places_near key es) }
@@ -23,8 +24,8 @@ pub fn near_laws()
         ≡ works.instance m w id }
 {}
 
-/// The laws of `PersistenceContext::place_of` and `leave`; it does nothing. The entry of an object is the one at its place, and
-/// objects leave together as they leave one after another.
+/// The laws of `PersistenceContext::place_of` and `leave`; it does nothing. The entry of an object
+/// is the one at its place, and objects leave together as they leave one after another.
 pub fn place_laws()
     ensures entry { (w : works.Work) (n : ℕ) → works.entry_of w n
         ≡ entry_at w.context (entry_place n w.context) }

@@ -1,5 +1,5 @@
-//! How entries leave a context for good, without memory: the objects that leave lose their places first, then the entries without a
-//! place go, and the others get new places.
+//! How entries leave a context for good, without memory: the objects that leave lose their places
+//! first, then the entries without a place go, and the others get new places.
 ghost use Rattle.std.specs.Prelude.{◌≡◌, length};
 ghost use Rattle.std.specs.List.{list_any};
 ghost use Rattle.jpa_context.specs.Indexed as indexed;
@@ -71,7 +71,8 @@ fn thin(index: &mut PlaceIndex, entries: &[Entry], at: &ObjectPlaces)
     }
 }
 
-/// Gives each object that has a place the place of its first entry among these, if it has one there.
+/// Gives each object that has a place the place of its first entry among these, if it has one
+/// there.
 fn renumber(at: &mut ObjectPlaces, entries: &[Entry])
     ensures { indexed.Renumbers entries.now at.old at.new }
 {
@@ -88,8 +89,8 @@ fn retain_placed(list: &mut UndoList<Entry>, at: &ObjectPlaces)
     list.retain(|entry| at.has(entry.object));
 }
 
-/// Takes the entries whose objects have no place out of a list and an index of them, for good, and gives the others' objects their
-/// new places. Answers how many there are then.
+/// Takes the entries whose objects have no place out of a list and an index of them, for good, and
+/// gives the others' objects their new places. Answers how many there are then.
 pub(crate) fn drop_unplaced(
     list: &mut UndoList<Entry>,
     index: &mut PlaceIndex,

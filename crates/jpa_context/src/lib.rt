@@ -1,8 +1,10 @@
-//! Persistence contexts: which objects a manager holds, in which state, and what they were when last loaded or written.
+//! Persistence contexts: which objects a manager holds, in which state, and what they were when
+//! last loaded or written.
 //!
-//! The model of one manager at work is the record `Work` of `specs/Work.antt`: the live objects, the manager's context in
-//! order of entry, the next numbers, the set of stored objects that the manager sees, and the events told so far.
-//! `specs/Steps.antt` says what an operation on a work is. The crate stands on live objects and stored sets.
+//! The model of one manager at work is the record `Work` of `specs/Work.antt`: the live objects,
+//! the manager's context in order of entry, the next numbers, the set of stored objects that the
+//! manager sees, and the events told so far. `specs/Steps.antt` says what an operation on a work
+//! is. The crate stands on live objects and stored sets.
 #![tactic(auto)]
 
 mod copy;
@@ -31,16 +33,17 @@ pub enum Lock {
     Write,
 }
 
-/// What an object was when it was last loaded or written, and for each relation of the chain the identities in it
-/// when it was last read off the view or written; none for a collection that was not read.
+/// What an object was when it was last loaded or written, and for each relation of the chain the
+/// identities in it when it was last read off the view or written; none for a collection that was
+/// not read.
 #[derive(Drop)]
 pub struct Base {
     pub stored: Stored,
     pub members: Seq<Option<Seq<Identity>>>,
 }
 
-/// An entry of a context: an object by its place in the heap, and the primary key under which it entered. An object that was
-/// not written yet has no base.
+/// An entry of a context: an object by its place in the heap, and the primary key under which it
+/// entered. An object that was not written yet has no base.
 #[derive(Drop)]
 pub struct Entry {
     pub object: usize,
@@ -49,7 +52,8 @@ pub struct Entry {
     pub base: Option<Base>,
 }
 
-/// Where an object stands for one manager (chapter 3.2): an object that another manager holds is detached.
+/// Where an object stands for one manager (chapter 3.2): an object that another manager holds is
+/// detached.
 #[derive(Clone, Copy)]
 pub enum EntityState {
     New,

@@ -22,7 +22,8 @@ pub struct UnitOfWork {
     pub objects: UndoList<LiveObject>,
     /// The manager's persistence context, in the order in which objects entered it (chapter 3.3).
     pub context: PersistenceContext,
-    /// The next number of each class that is a root with generated keys (chapter 2.4); 1 for any other.
+    /// The next number of each class that is a root with generated keys (chapter 2.4); 1 for any
+    /// other.
     pub numbers: UndoList<u64>,
     /// The stored objects that the manager sees.
     pub view: OpenSet,

@@ -1,7 +1,8 @@
-//! Worked examples of mappings and of stores at their opening (the docs of `examples` tell the form of their files). Whole runs
-//! are folders of `tests/runs`.
+//! Worked examples of mappings and of stores at their opening (the docs of `examples` tell the form
+//! of their files). Whole runs are folders of `tests/runs`.
 //!
-//! The kinds are `store` (src/stores.rt), and `mapping`, `members`, `limit` and `functions` (src/mappings.rt).
+//! The kinds are `store` (src/stores.rt), and `mapping`, `members`, `limit` and `functions`
+//! (src/mappings.rt).
 #![tactic(auto)]
 
 mod mappings;

@@ -46,7 +46,8 @@ fn shape_word(alloc: Global, mapping: &str) -> Result<&'static str, Stop> {
     }
 }
 
-/// A line that says so of a mapping with each of some values in place of its `#`; of one without a `#` itself.
+/// A line that says so of a mapping with each of some values in place of its `#`; of one without a
+/// `#` itself.
 fn push_words(alloc: Global, mapping: &str, values: &str, out: &mut String) -> Result<(), Stop> {
     let values = if mapping.contains('#') { values } else { "" };
     let mut is_first = true;
@@ -62,8 +63,8 @@ fn push_words(alloc: Global, mapping: &str, values: &str, out: &mut String) -> R
     Ok(())
 }
 
-/// For each line that is given: whether its shape is taken where it stands in place of the `@` of the first row, with the values
-/// of the second.
+/// For each line that is given: whether its shape is taken where it stands in place of the `@` of
+/// the first row, with the values of the second.
 pub(crate) fn members_answer(alloc: Global, rows: &str, given: &str) -> Result<String, Stop> {
     let Some((mapping, values)) = rows.trim_end().split_once('\n') else {
         return Err(Stop::Form);

@@ -1,7 +1,8 @@
-//! Stores: rows, which answer how many objects they stand for, the next numbers, and the rows that these are written as.
+//! Stores: rows, which answer how many objects they stand for, the next numbers, and the rows that
+//! these are written as.
 //!
-//! A row is a line: its table, its bytes, and for each of its cells the column, a colon and the bytes, all bytes in
-//! hexadecimal digits.
+//! A row is a line: its table, its bytes, and for each of its cells the column, a colon and the
+//! bytes, all bytes in hexadecimal digits.
 ghost use Rattle.std.specs.Prelude.{◌≡◌, true, IfOk};
 ghost use Rattle.jpa_stored.specs.Sets.{is_shaped, all_shaped};
 ghost use Rattle.jpa_rows.specs.Tables.{schema_of};
@@ -188,7 +189,8 @@ fn told(alloc: Global, answered: Result<String, Cause>) -> Result<String, Stop> 
     }
 }
 
-/// How many objects rows stand for, the next numbers, and the rows that at most two objects are written as; or the refusal.
+/// How many objects rows stand for, the next numbers, and the rows that at most two objects are
+/// written as; or the refusal.
 pub(crate) fn store_answer(alloc: Global, unit: Unit<'_>, rows: &str) -> Result<String, Stop> {
     let mapping = read_mapping(alloc, unit.mapping.as_bytes())?;
     let metamodel = &mapping.metamodel;

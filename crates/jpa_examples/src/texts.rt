@@ -48,8 +48,9 @@ fn push_line(alloc: Global, line: &str, out: &mut String) -> Result<(), AllocErr
     Ok(())
 }
 
-/// The text that lines stand for, with nothing between them. A line `FIRST..LAST PIECE` stands for its piece once for each of
-/// the numbers from the first to the last, which stands in place of each `#`.
+/// The text that lines stand for, with nothing between them. A line `FIRST..LAST PIECE` stands for
+/// its piece once for each of the numbers from the first to the last, which stands in place of each
+/// `#`.
 pub(crate) fn long_text(alloc: Global, lines: &str) -> Result<String, AllocError> {
     let mut out = String::new(alloc);
     for line in lines.lines() {

@@ -1,4 +1,5 @@
--- What operations on a work stand on, and how a work goes on by them: objects are added, and each keeps its class.
+-- What operations on a work stand on, and how a work goes on by them: objects are added, and each
+-- keeps its class.
 use Rattle.std.specs.Prelude.{◌≡◌, ◌<◌, ◌≤◌, ◌==◌, ℕ, true, All, List, [], ◌∷◌, length}
 use Rattle.jpa_model.specs.declared.unit.PersistenceUnit.{PersistenceUnit}
 use Rattle.jpa_stored.specs.Sets.{all_distinct}
@@ -26,6 +27,7 @@ objects_held (Held.Many Collection.Unfetched) = []
 abbrev pub IsLinked : List LiveObject → LiveObject → Type 0
 IsLinked objects x = All (λ held. All (λ k. k < length objects) (objects_held held)) x.relations
 
+-- what objects hold stands in the heap
 abbrev pub AreLinked : List LiveObject → Type 0
 AreLinked objects = All (IsLinked objects) objects
 
@@ -35,9 +37,15 @@ pub record IsReady (m : PersistenceUnit) (w : Work) : Type 0 where
   pub linked : AreLinked w.objects
   pub distinct : AreDistinct w.context
 
--- objects are added, and each keeps its class; what was linked, and entries of different objects, are so still
+-- objects are added, and each keeps its class; what was linked, and entries of different objects,
+-- are so still
 pub record HasGrown (w v : Work) : Type 0 where
   pub count : length w.objects ≤ length v.objects
   pub classes : (n : ℕ) → n < length w.objects → (object v n).class ≡ (object w n).class
   pub distinct : AreDistinct w.context → AreDistinct v.context
   pub linked : AreLinked w.objects → AreLinked v.objects
+
+-- an operation's work goes on from the one before: it is in order, and has grown
+pub record GoesOn (m : PersistenceUnit) (u w : Work) : Type 0 where
+  pub ready : IsReady m w
+  pub grown : HasGrown u w

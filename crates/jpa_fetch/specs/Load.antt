@@ -1,4 +1,5 @@
--- Loading an object, and finding one (Jakarta Persistence 3.1, chapters 3.1.1 find and 3.5 PostLoad).
+-- Loading an object, and finding one (Jakarta Persistence 3.1, chapters 3.1.1 find and 3.5
+-- PostLoad).
 use Rattle.jpa_value.specs.Limits.{most_objects}
 use Rattle.std.specs.Prelude.{ℕ, Bool, true, false, not, nat_lt, ◌&&◌, List, [], ◌∷◌, ◌++◌, map, length, Option, Some, None, if◌then◌else◌}
 use Rattle.std.specs.List.{enumerate_from}
@@ -26,6 +27,7 @@ abbrev pub unread_link : List Identity → Link
 unread_link [] = Link.None
 unread_link (id ∷ ids) = Link.Key id
 
+-- a relation as it is loaded: a to-one's link or none, or a collection that is not read
 abbrev pub unread : Bool → List Identity → Held
 unread true ids = Held.One (unread_link ids)
 unread false ids = Held.Many Collection.Unfetched
@@ -40,16 +42,20 @@ abbrev pub held_from : Option (List Identity) → Held
 held_from None = Held.Many Collection.Unfetched
 held_from (Some ids) = Held.One (unread_link ids)
 
+-- the relations of an object as it is loaded
 abbrev pub held_loaded : PersistenceUnit → StoredSet → Identity → Stored → List Held
 held_loaded m s id x = map (λ p. unread (is_to_one (p.1).side) (members m s id x p.0)) (enumerate_from 0 (relations_of m x.class))
 
+-- a row as an object that a manager manages
 abbrev pub object_loaded : PersistenceUnit → ℕ → StoredSet → Identity → Stored → LiveObject
 object_loaded m manager s id x =
     record { class = x.class; key = id.key; version = x.version; values = x.values; relations = held_loaded m s id x; life = Life.Managed manager }
 
+-- what the base knows of each relation at a load
 abbrev pub members_loaded : PersistenceUnit → StoredSet → Identity → Stored → List (Option (List Identity))
 members_loaded m s id x = map (λ p. known (is_to_one (p.1).side) (members m s id x p.0)) (enumerate_from 0 (relations_of m x.class))
 
+-- the base of an object that was loaded: its row, and what is known of its relations
 abbrev pub base_loaded : PersistenceUnit → StoredSet → Identity → Stored → Base
 base_loaded m s id x =
     record { stored = x; members = members_loaded m s id x }
@@ -73,26 +79,31 @@ reached world r id (Some n) x = give n
 reached world r id None (Some x) = load world id x
 reached world r id None None = refuse r
 
+-- the object of an identity: the context's instance, else its row loaded, else a refusal
 abbrev pub reach : World → Cause → Identity → Op ℕ
 reach world r id w = reached world r id (instance world.model w id) (row w id) w
 
 -- ---- find
 
+-- the context's instance, unless it is removed or of another class
 abbrev pub found_instance : PersistenceUnit → Work → ℕ → ℕ → Option ℕ
 found_instance m w class n = if not (is_removed (state_of w n)) && is_kind_of m (object w n).class class then Some n else None
 
+-- the row loaded as an object where its class is the one that is asked for, else nothing
 abbrev pub found_row : World → ℕ → Identity → Stored → Bool → Op (Option ℕ)
 found_row world class id x true = do
   n ← load world id x
   give (Some n)
 found_row world class id x false = give None
 
+-- what find answers: the context's instance, else the row loaded, else nothing
 abbrev pub found : World → ℕ → Identity → Option ℕ → Option Stored → Op (Option ℕ)
 found world class id (Some n) x = read (λ w. found_instance world.model w class n)
 found world class id None (Some x) = found_row world class id x (is_kind_of world.model x.class class)
 found world class id None None = give None
 
--- the context's instance, else the row loaded, else nothing; nothing for a removed one and for one of another class
+-- the context's instance, else the row loaded, else nothing; nothing for a removed one and for one
+-- of another class
 abbrev pub find : World → ℕ → List Value → Op (Option ℕ)
 find world class key w =
     let id : Identity = record { table = (root_of world.model class).table; key = key } in

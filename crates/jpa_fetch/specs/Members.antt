@@ -1,5 +1,6 @@
--- What get, set, add and take_out do (Jakarta Persistence 3.1, chapters 2.2: an object's state is read and changed through its
--- members, 2.2.2: its collections, and 3.2.7: what of a detached object was not read stays unread).
+-- What get, set, add and take_out do (Jakarta Persistence 3.1, chapters 2.2: an object's state is
+-- read and changed through its members, 2.2.2: its collections, and 3.2.7: what of a detached
+-- object was not read stays unread).
 use Rattle.std.specs.Prelude.{ℕ, ◌<◌, All, Bool, true, false, ◌==◌, List, [], ◌∷◌, ◌++◌, slice_index_or, slice_set, Option, Some, None, Result, Ok, Err, if◌then◌else◌}
 use Rattle.std.specs.List.{list_any}
 use Rattle.jpa_value.specs.declared.value.Value.{Value}
@@ -35,6 +36,7 @@ is_held EntityState.Managed = true
 is_held EntityState.Removed = true
 is_held EntityState.Detached = false
 
+-- a work in which an object holds this in a relation
 abbrev pub with_relation : ℕ → ℕ → Held → Work → Work
 with_relation n r h w = with_object n (with_held (object w n) r h) w
 
@@ -50,6 +52,7 @@ resolve_link world n r (Held.One (Link.Key id)) = do
   give (Some k)
 resolve_link world n r (Held.Many c) = give None
 
+-- the object that a to-one relation leads to, read where it was not read
 abbrev pub resolve : World → ℕ → ℕ → Op (Option ℕ)
 resolve world n r w = resolve_link world n r (held_at (object w n) r) w
 
@@ -58,6 +61,7 @@ abbrev pub collect : {A B : Type 0} → (A → Op B) → List A → Op (List B)
 collect f [] w = Done [] w
 collect f (x ∷ xs) w = after (f x w) (λ y v. after (collect f xs v) (λ ys u. Done (y ∷ ys) u))
 
+-- a base that remembers these members of a relation, where there is a base
 abbrev pub with_members : ℕ → List Identity → Option Base → Option Base
 with_members r ids None = None
 with_members r ids (Some b) = Some (record b { members = slice_set b.members r (Some ids) })
@@ -78,6 +82,7 @@ fetch_held world n r (Held.Many Collection.Unfetched) = do
   give ks
 fetch_held world n r (Held.One l) = give []
 
+-- the members of a collection, read where they were not read
 abbrev pub fetch : World → ℕ → ℕ → Op (List ℕ)
 fetch world n r w = fetch_held world n r (held_at (object w n) r) w
 
@@ -90,10 +95,12 @@ value_of x Member.Version = version_value x.version
 value_of x (Member.Attribute i) = slice_index_or x.values i Value.Null
 value_of x (Member.Relation r) = Value.Null
 
+-- what get answers of a to-one relation: an object or null
 abbrev pub got_link : Option ℕ → Got
 got_link None = Got.Scalar Value.Null
 got_link (Some k) = Got.One k
 
+-- what get answers of a relation, to one object or to many
 abbrev pub get_relation : World → ℕ → ℕ → Bool → Op Got
 get_relation world n r true = do
   k ← resolve world n r
@@ -102,6 +109,7 @@ get_relation world n r false = do
   ks ← fetch world n r
   give (Got.Many ks)
 
+-- what get answers of a member; without one the name is refused
 abbrev pub get_member : World → ℕ → Option Member → Op Got
 get_member world n None = refuse (Cause.IllegalArgument Argument.Name)
 get_member world n (Some (Member.KeyPart i)) = read (λ w. Got.Scalar (value_of (object w n) (Member.KeyPart i)))
@@ -111,6 +119,7 @@ get_member world n (Some (Member.Relation r)) = do
   to_one ← read (λ w. is_to_one (relation_at world.model (object w n).class r).side)
   get_relation world n r to_one
 
+-- the member of an object by its name
 abbrev pub member_named : World → ℕ → List ℕ → Op (Option Member)
 member_named world n name = read (λ w. member_of world.model (object w n).class name)
 
@@ -150,6 +159,7 @@ read_for world n k (Some r) = do
   ks ← fetch world n r
   give (r, ks)
 
+-- the collection of that name, read, with its place
 abbrev pub read_named : World → ℕ → List ℕ → ℕ → Op (ℕ × List ℕ)
 read_named world n name k = do
   r ← read (λ w. collection_in world.model (object w n).class (member_of world.model (object w n).class name))
@@ -161,6 +171,7 @@ add world n name k = do
   c ← read_named world n name k
   change (with_relation n c.0 (Held.Many (Collection.Fetched (c.1 ++ k ∷ []))))
 
+-- a list without the first place at which an object stands
 abbrev pub without_first : ℕ → List ℕ → List ℕ
 without_first k [] = []
 without_first k (x ∷ xs) = if x == k then xs else x ∷ without_first k xs

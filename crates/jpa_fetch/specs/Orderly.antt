@@ -1,5 +1,6 @@
--- What the laws ask of a unit: of its roots and keys, and of where its relations lead (Jakarta Persistence 3.1, chapters 2.9,
--- 2.12: a relation is of a class and of its subclasses, and leads to a class or its subclasses, whose keys are one root's).
+-- What the laws ask of a unit: of its roots and keys, and of where its relations lead (Jakarta
+-- Persistence 3.1, chapters 2.9, 2.12: a relation is of a class and of its subclasses, and leads to
+-- a class or its subclasses, whose keys are one root's).
 use Rattle.std.specs.Prelude.{◌≡◌, ℕ, pos, true, ◌==◌, nat_lt, [], ◌∷◌, length, Some, slice_get}
 use Rattle.jpa_value.specs.declared.value.Value.{Value}
 use Rattle.jpa_model.specs.declared.unit.PersistenceUnit.{PersistenceUnit}
@@ -7,6 +8,7 @@ use Rattle.jpa_model.specs.declared.unit.Relation.{Relation}
 use Rattle.jpa_model.specs.Chains.{relations_of, root_of, root_class, is_kind_of, is_held_by}
 use Rattle.jpa_stored.specs.Sets.{is_key_of}
 
+-- a unit whose roots, keys and relations are as the laws of operations ask
 pub record IsOrderly (m : PersistenceUnit) : Type 0 where
   -- a class's root is an entity
   pub rooted : (class : ℕ) → nat_lt class (length m.entities) ≡ true → nat_lt (root_class m class) (length m.entities) ≡ true

@@ -6,7 +6,7 @@ ghost use Rattle.jpa_heap.specs.declared.Collection.{Collection};
 ghost use Rattle.jpa_heap.specs.declared.Held.{Held};
 ghost use Rattle.jpa_heap.specs.Objects.{object_at};
 ghost use Rattle.jpa_context.specs.Undo.{now, since};
-ghost use Rattle.jpa_fetch.specs.Grown.{AreDistinct, HasGrown, IsReady};
+ghost use Rattle.jpa_fetch.specs.Grown.{AreDistinct, GoesOn, IsReady};
 ghost use Rattle.jpa_fetch.specs.Members as members;
 
 use jpa_context::{Base, Entry, UnitOfWork};
@@ -15,7 +15,8 @@ use jpa_model::Metamodel;
 use jpa_value::{Cause, Identity, Seq, TryCopy};
 use std::alloc::Global;
 
-/// An object holds something else in a relation. Fails for want of memory alone, with `OutOfMemory`.
+/// An object holds something else in a relation. Fails for want of memory alone, with
+/// `OutOfMemory`.
 pub fn set_relation(
     _metamodel: &Metamodel,
     work: &mut UnitOfWork,
@@ -50,7 +51,8 @@ fn known_copied(known: &Option<Seq<Identity>>) -> Result<Option<Seq<Identity>>, 
     }
 }
 
-/// A copy of what a base knows of each relation. Fails for want of memory alone, with `OutOfMemory`.
+/// A copy of what a base knows of each relation. Fails for want of memory alone, with
+/// `OutOfMemory`.
 fn members_copied(
     alloc: Global,
     members: &[Option<Seq<Identity>>],
@@ -65,7 +67,8 @@ fn members_copied(
     Ok(copies)
 }
 
-/// A base that knows these identities of a relation. Fails for want of memory alone, with `OutOfMemory`.
+/// A base that knows these identities of a relation. Fails for want of memory alone, with
+/// `OutOfMemory`.
 fn base_with_members(
     alloc: Global,
     base: &Base,
@@ -87,8 +90,8 @@ fn base_with_members(
     })
 }
 
-/// The entry of an object whose base knows these identities of a relation; one without a base stays without. Fails for want of
-/// memory alone, with `OutOfMemory`.
+/// The entry of an object whose base knows these identities of a relation; one without a base stays
+/// without. Fails for want of memory alone, with `OutOfMemory`.
 fn entry_with_members(
     alloc: Global,
     entry: &Entry,
@@ -111,8 +114,8 @@ fn entry_with_members(
     })
 }
 
-/// The base of an object takes these identities as what a relation held when it was last read. Fails for want of memory alone,
-/// with `OutOfMemory`.
+/// The base of an object takes these identities as what a relation held when it was last read.
+/// Fails for want of memory alone, with `OutOfMemory`.
 fn set_read(
     alloc: Global,
     work: &mut UnitOfWork,
@@ -136,8 +139,8 @@ fn set_read(
     Ok(())
 }
 
-/// A collection of an object holds these objects, which were read as these identities. Fails for want of memory alone, with
-/// `OutOfMemory`.
+/// A collection of an object holds these objects, which were read as these identities. Fails for
+/// want of memory alone, with `OutOfMemory`.
 pub fn set_fetched(
     alloc: Global,
     metamodel: &Metamodel,
@@ -156,8 +159,7 @@ pub fn set_fetched(
         (members.with_relation object relation (Held.Many (Collection.Fetched places.now))
         (now work.old))) }
     ensures err { IfErr result (λ cause. cause ≡ Cause.OutOfMemory) }
-    ensures ready { OnOk result (IsReady metamodel.now (now work.new)) }
-    ensures grown { OnOk result (HasGrown (now work.old) (now work.new)) }
+    ensures goes { OnOk result (GoesOn metamodel.now (now work.old) (now work.new)) }
     ensures view { work.new.view ≡ work.old.view }
     ensures since { since work.new ≡ since work.old }
 {

@@ -7,9 +7,9 @@ ghost use Rattle.jpa_heap.specs.declared.Handed.{Handed};
 ghost use Rattle.jpa_heap.specs.Assign.{fits_link};
 ghost use Rattle.jpa_heap.specs.Objects.{object_at};
 ghost use Rattle.jpa_heap.specs.Shape.{IsPlaced as IsMemberOf};
-ghost use Rattle.jpa_context.specs.Steps.{Meets};
-ghost use Rattle.jpa_context.specs.Undo.{now, since};
-ghost use Rattle.jpa_fetch.specs.Grown.{HasGrown, IsReady};
+ghost use Rattle.jpa_context.specs.Carries.{Carries};
+ghost use Rattle.jpa_context.specs.Undo.{now};
+ghost use Rattle.jpa_fetch.specs.Grown.{GoesOn, IsReady};
 ghost use Rattle.jpa_fetch.specs.Members as members;
 
 use crate::changing::set_relation;
@@ -63,7 +63,8 @@ fn fits(
     metamodel.is_kind_of(objects[member].class, along.target)
 }
 
-/// A collection of an object, once it is read, with what it holds; the other object is to be one of its kind. Refused as `add` is.
+/// A collection of an object, once it is read, with what it holds; the other object is to be one of
+/// its kind. Refused as `add` is.
 fn read_for<B: Behaviour>(
     alloc: Global,
     unit: &ServedUnit<B>,
@@ -77,17 +78,13 @@ fn read_for<B: Behaviour>(
     requires member { member < length work.old.objects.now }
     requires collection { IfSome collection (λ r. r
         < length (relations_of unit.now.metamodel (object_at work.old.objects.now object).class)) }
-    ensures meets { let world = world_of_unit B.meaning unit.now in
-        Meets result (now work.new)
-        (members.read_for world object member collection (now work.old)) }
+    ensures carries { let world = world_of_unit B.meaning unit.now in
+        Carries (members.read_for world object member collection) result work.old work.new }
     ensures relation { IfOk result (λ read. read.0
         < length (relations_of unit.now.metamodel (object_at work.new.objects.now object).class)) }
     ensures places { IfOk result
         (λ read. All (λ k. k < length work.new.objects.now) read.1) }
-    ensures ready { OnOk result (IsReady unit.now.metamodel (now work.new)) }
-    ensures grown { OnOk result (HasGrown (now work.old) (now work.new)) }
-    ensures view { work.new.view ≡ work.old.view }
-    ensures since { since work.new ≡ since work.old }
+    ensures goes { OnOk result (GoesOn unit.now.metamodel (now work.old) (now work.new)) }
 {
     let Some(relation) = collection else {
         return Err(Cause::IllegalArgument(Argument::Name));
@@ -111,17 +108,13 @@ fn read_named<B: Behaviour>(
     requires ready { IsReady unit.now.metamodel (now work.old) }
     requires object { object < length work.old.objects.now }
     requires member { member < length work.old.objects.now }
-    ensures meets { let world = world_of_unit B.meaning unit.now in
-        Meets result (now work.new)
-        (members.read_named world object name.now member (now work.old)) }
+    ensures carries { let world = world_of_unit B.meaning unit.now in
+        Carries (members.read_named world object name.now member) result work.old work.new }
     ensures relation { IfOk result (λ read. read.0
         < length (relations_of unit.now.metamodel (object_at work.new.objects.now object).class)) }
     ensures places { IfOk result
         (λ read. All (λ k. k < length work.new.objects.now) read.1) }
-    ensures ready { OnOk result (IsReady unit.now.metamodel (now work.new)) }
-    ensures grown { OnOk result (HasGrown (now work.old) (now work.new)) }
-    ensures view { work.new.view ≡ work.old.view }
-    ensures since { since work.new ≡ since work.old }
+    ensures goes { OnOk result (GoesOn unit.now.metamodel (now work.old) (now work.new)) }
 {
     let named = member_named(&unit.metamodel, work, object, name);
     let collection = collection_in(
@@ -139,7 +132,8 @@ fn first_place(places: &[usize], object: usize) -> Option<usize>
     places.iter().position(|place| *place == object)
 }
 
-/// The first place at which an object stands in a list goes; whether there was one. Takes no memory.
+/// The first place at which an object stands in a list goes; whether there was one. Takes no
+/// memory.
 fn drop_first(places: &mut Vec<usize>, object: usize) -> bool
     ensures rest { places.new.items ≡ members.without_first object places.old.items }
     ensures stood { result ≡ list_any (λ x. x == object) places.old.items }
@@ -153,11 +147,13 @@ fn drop_first(places: &mut Vec<usize>, object: usize) -> bool
     }
 }
 
-/// An object stands last in a collection of another, by the relation's name, which is read first (chapters 2.2 and 3.2.7).
+/// An object stands last in a collection of another, by the relation's name, which is read first
+/// (chapters 2.2 and 3.2.7).
 ///
-/// `IllegalArgument(name)` where the object's class has no collection of the name; `IllegalArgument(type)` where the member is
-/// not of the relation's target class or below it; what reading the collection refuses; `OutOfMemory`. What a refused call
-/// changed is undone by `UnitOfWork::undo`.
+/// `IllegalArgument(name)` where the object's class has no collection of the name;
+/// `IllegalArgument(type)` where the member is not of the relation's target class or below it; what
+/// reading the collection refuses; `OutOfMemory`. What a refused call changed is undone by
+/// `UnitOfWork::undo`.
 pub fn add<B: Behaviour>(
     alloc: Global,
     unit: &ServedUnit<B>,
@@ -169,10 +165,8 @@ pub fn add<B: Behaviour>(
     requires ready { IsReady unit.now.metamodel (now work.old) }
     requires object { object < length work.old.objects.now }
     requires member { member < length work.old.objects.now }
-    ensures meets { let world = world_of_unit B.meaning unit.now in
-        Meets result (now work.new) (members.add world object name.now member (now work.old)) }
-    ensures view { work.new.view ≡ work.old.view }
-    ensures since { since work.new ≡ since work.old }
+    ensures carries { let world = world_of_unit B.meaning unit.now in
+        Carries (members.add world object name.now member) result work.old work.new }
 {
     let (relation, mut places) = read_named(alloc, unit, work, object, name, member)?;
     places.push(member)?;
@@ -180,7 +174,8 @@ pub fn add<B: Behaviour>(
     set_relation(&unit.metamodel, work, object, relation, held)
 }
 
-/// The first place at which an object stands in a collection of another goes; whether there was one. Refused as `add` is.
+/// The first place at which an object stands in a collection of another goes; whether there was
+/// one. Refused as `add` is.
 pub fn take_out<B: Behaviour>(
     alloc: Global,
     unit: &ServedUnit<B>,
@@ -192,11 +187,8 @@ pub fn take_out<B: Behaviour>(
     requires ready { IsReady unit.now.metamodel (now work.old) }
     requires object { object < length work.old.objects.now }
     requires member { member < length work.old.objects.now }
-    ensures meets { let world = world_of_unit B.meaning unit.now in
-        Meets result (now work.new)
-        (members.take_out world object name.now member (now work.old)) }
-    ensures view { work.new.view ≡ work.old.view }
-    ensures since { since work.new ≡ since work.old }
+    ensures carries { let world = world_of_unit B.meaning unit.now in
+        Carries (members.take_out world object name.now member) result work.old work.new }
 {
     let (relation, places) = read_named(alloc, unit, work, object, name, member)?;
     let mut places = places.into_vec();

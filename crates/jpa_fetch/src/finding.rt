@@ -3,10 +3,10 @@ ghost use Rattle.std.specs.Prelude.{◌≡◌, ◌<◌, length, IfOk, IfErr, IfS
 ghost use Rattle.jpa_value.specs.declared.refusal.Cause.{Cause};
 ghost use Rattle.jpa_model.specs.Chains as chains;
 ghost use Rattle.jpa_behaviour.specs.Served.{world_of_unit};
-ghost use Rattle.jpa_context.specs.Steps.{Meets};
-ghost use Rattle.jpa_context.specs.Undo.{now, since, IsPlaced};
+ghost use Rattle.jpa_context.specs.Carries.{Carries};
+ghost use Rattle.jpa_context.specs.Undo.{now, IsPlaced};
 ghost use Rattle.jpa_context.specs.Work as works;
-ghost use Rattle.jpa_fetch.specs.Grown.{HasGrown, IsReady};
+ghost use Rattle.jpa_fetch.specs.Grown.{GoesOn, IsReady};
 ghost use Rattle.jpa_fetch.specs.Load as spec;
 
 use crate::loading::load;
@@ -29,8 +29,8 @@ fn row_of(work: &UnitOfWork, id: &Identity) -> Result<Option<Stored>, Cause>
     }
 }
 
-/// The object of an identity: the context's instance, else the row, loaded. `EntityNotFound` where there is neither, and what
-/// `load` refuses.
+/// The object of an identity: the context's instance, else the row, loaded. `EntityNotFound` where
+/// there is neither, and what `load` refuses.
 pub fn reach<B: Behaviour>(
     alloc: Global,
     unit: &ServedUnit<B>,
@@ -38,13 +38,10 @@ pub fn reach<B: Behaviour>(
     id: &Identity,
 ) -> Result<usize, Cause>
     requires ready { IsReady unit.now.metamodel (now work.old) }
-    ensures meets { let world = world_of_unit B.meaning unit.now in
-        Meets result (now work.new) (spec.reach world Cause.EntityNotFound id.now (now work.old)) }
+    ensures carries { let world = world_of_unit B.meaning unit.now in
+        Carries (spec.reach world Cause.EntityNotFound id.now) result work.old work.new }
     ensures within { IfOk result (λ n. n < length (now work.new).objects) }
-    ensures ready { OnOk result (IsReady unit.now.metamodel (now work.new)) }
-    ensures grown { OnOk result (HasGrown (now work.old) (now work.new)) }
-    ensures view { work.new.view ≡ work.old.view }
-    ensures since { since work.new ≡ since work.old }
+    ensures goes { OnOk result (GoesOn unit.now.metamodel (now work.old) (now work.new)) }
 {
     if let Some(place) = instance(&unit.metamodel, work, id) {
         return Ok(place);
@@ -89,15 +86,13 @@ fn found_row<B: Behaviour>(
     requires ready { IsReady unit.now.metamodel (now work.old) }
     requires class { class < length unit.now.metamodel.entities }
     requires row { works.row (now work.old) id.now ≡ Some row }
-    ensures meets { let world = world_of_unit B.meaning unit.now in
-        Meets result (now work.new) (spec.found_row world class id.now row
-        (chains.is_kind_of unit.now.metamodel row.class class) (now work.old)) }
+    ensures carries { let world = world_of_unit B.meaning unit.now in
+        Carries (spec.found_row world class id.now row
+        (chains.is_kind_of unit.now.metamodel row.class class))
+        result work.old work.new }
     ensures within { IfOk result
         (λ found. IfSome found (λ n. n < length (now work.new).objects)) }
-    ensures ready { OnOk result (IsReady unit.now.metamodel (now work.new)) }
-    ensures grown { OnOk result (HasGrown (now work.old) (now work.new)) }
-    ensures view { work.new.view ≡ work.old.view }
-    ensures since { since work.new ≡ since work.old }
+    ensures goes { OnOk result (GoesOn unit.now.metamodel (now work.old) (now work.new)) }
 {
     if !unit.metamodel.is_kind_of(row.class, class) {
         return Ok(None);
@@ -105,13 +100,14 @@ fn found_row<B: Behaviour>(
     Ok(Some(load(alloc, unit, work, id, row)?))
 }
 
-/// The place of the object under a key of an entity: the persistence context's instance, else the stored object, loaded into
-/// the context; none for a removed one, for one of another class, and where nothing stands under the key (Jakarta Persistence
-/// 3.1, chapters 3.1.1 and 3.5.2).
+/// The place of the object under a key of an entity: the persistence context's instance, else the
+/// stored object, loaded into the context; none for a removed one, for one of another class, and
+/// where nothing stands under the key (Jakarta Persistence 3.1, chapters 3.1.1 and 3.5.2).
 ///
-/// PostLoad happens to an object that is loaded: `Listener` with its text where a listener or callback throws then, and
-/// `Persistence(callback)` where one assigns what is not allowed. `Limit` where there are 1,000,000 live objects already;
-/// `OutOfMemory` where a growth was refused. What a refused call changed is undone by `UnitOfWork::undo`.
+/// PostLoad happens to an object that is loaded: `Listener` with its text where a listener or
+/// callback throws then, and `Persistence(callback)` where one assigns what is not allowed. `Limit`
+/// where there are 1,000,000 live objects already; `OutOfMemory` where a growth was refused. What a
+/// refused call changed is undone by `UnitOfWork::undo`.
 pub fn find<B: Behaviour>(
     alloc: Global,
     unit: &ServedUnit<B>,
@@ -121,14 +117,11 @@ pub fn find<B: Behaviour>(
 ) -> Result<Option<usize>, Cause>
     requires ready { IsReady unit.now.metamodel (now work.old) }
     requires class { class < length unit.now.metamodel.entities }
-    ensures meets { let world = world_of_unit B.meaning unit.now in
-        Meets result (now work.new) (spec.find world class key (now work.old)) }
+    ensures carries { let world = world_of_unit B.meaning unit.now in
+        Carries (spec.find world class key) result work.old work.new }
     ensures within { IfOk result
         (λ found. IfSome found (λ n. n < length (now work.new).objects)) }
-    ensures ready { OnOk result (IsReady unit.now.metamodel (now work.new)) }
-    ensures grown { OnOk result (HasGrown (now work.old) (now work.new)) }
-    ensures view { work.new.view ≡ work.old.view }
-    ensures since { since work.new ≡ since work.old }
+    ensures goes { OnOk result (GoesOn unit.now.metamodel (now work.old) (now work.new)) }
 {
     let id = Identity {
         table: unit.metamodel.root_of(class).table,

@@ -6,8 +6,8 @@ ghost use Rattle.jpa_model.specs.Chains.{member_of, relations_of};
 ghost use Rattle.jpa_behaviour.specs.Served.{world_of_unit};
 ghost use Rattle.jpa_heap.specs.Objects.{object_at};
 ghost use Rattle.jpa_heap.specs.Shape.{IsPlaced as IsMemberOf};
-ghost use Rattle.jpa_context.specs.Steps.{Meets};
-ghost use Rattle.jpa_context.specs.Undo.{now, since};
+ghost use Rattle.jpa_context.specs.Carries.{Carries};
+ghost use Rattle.jpa_context.specs.Undo.{now};
 ghost use Rattle.jpa_fetch.specs.Grown.{IsReady};
 ghost use Rattle.jpa_fetch.specs.Members as members;
 
@@ -22,7 +22,8 @@ use std::alloc::Global;
 /// What `get` answers: what an object holds in a member.
 #[derive(Drop)]
 pub enum Got {
-    /// The value of a key part, of the version or of an attribute; null also for a to-one relation to nothing.
+    /// The value of a key part, of the version or of an attribute; null also for a to-one relation
+    /// to nothing.
     Scalar(Value),
     /// The place of the object that a to-one relation leads to.
     One(usize),
@@ -30,7 +31,8 @@ pub enum Got {
     Many(Seq<usize>),
 }
 
-/// A copy of the value at a place; null past the end. Fails for want of memory alone, with `OutOfMemory`.
+/// A copy of the value at a place; null past the end. Fails for want of memory alone, with
+/// `OutOfMemory`.
 fn value_at(values: &[Value], place: usize) -> Result<Value, Cause>
     ensures ok { IfOk result (λ value. value ≡ slice_index_or values.now place Value.Null) }
     ensures err { IfErr result (λ cause. cause ≡ Cause.OutOfMemory) }
@@ -95,12 +97,9 @@ fn get_relation<B: Behaviour>(
     requires object { object < length work.old.objects.now }
     requires relation { relation
         < length (relations_of unit.now.metamodel (object_at work.old.objects.now object).class) }
-    ensures meets { let world = world_of_unit B.meaning unit.now in
-        Meets result (now work.new)
-        (members.get_relation world object relation to_one (now work.old)) }
+    ensures carries { let world = world_of_unit B.meaning unit.now in
+        Carries (members.get_relation world object relation to_one) result work.old work.new }
     ensures within { IfOk result (members.IsGotWithin (length (now work.new).objects)) }
-    ensures view { work.new.view ≡ work.old.view }
-    ensures since { since work.new ≡ since work.old }
 {
     if to_one {
         let link = resolve(alloc, unit, work, object, relation)?;
@@ -123,11 +122,9 @@ fn get_member<B: Behaviour>(
     requires object { object < length work.old.objects.now }
     requires member { IsMemberOf unit.now.metamodel
         (object_at work.old.objects.now object).class member }
-    ensures meets { let world = world_of_unit B.meaning unit.now in
-        Meets result (now work.new) (members.get_member world object member (now work.old)) }
+    ensures carries { let world = world_of_unit B.meaning unit.now in
+        Carries (members.get_member world object member) result work.old work.new }
     ensures within { IfOk result (members.IsGotWithin (length (now work.new).objects)) }
-    ensures view { work.new.view ≡ work.old.view }
-    ensures since { since work.new ≡ since work.old }
 {
     let live = &work.objects.as_slice()[object];
     match member {
@@ -144,13 +141,16 @@ fn get_member<B: Behaviour>(
     }
 }
 
-/// What an object holds in the member of this name: a part of its key, its version, an attribute, what a to-one relation leads
-/// to, or the members of a collection. What a relation of an object of a context holds, and was not read, is read of the set
-/// that the manager sees, and loaded (Jakarta Persistence 3.1, chapters 2.2 and 3.2.7).
+/// What an object holds in the member of this name: a part of its key, its version, an attribute,
+/// what a to-one relation leads to, or the members of a collection. What a relation of an object of
+/// a context holds, and was not read, is read of the set that the manager sees, and loaded (Jakarta
+/// Persistence 3.1, chapters 2.2 and 3.2.7).
 ///
-/// `IllegalArgument(name)` where the object's class has no member of the name; `IllegalState(unfetched)` where a relation was
-/// not read and the object is in no context; `EntityNotFound` where a to-one relation leads to what is not there; what loading
-/// refuses; `OutOfMemory` where a growth was refused. What a refused call changed is undone by `UnitOfWork::undo`.
+/// `IllegalArgument(name)` where the object's class has no member of the name;
+/// `IllegalState(unfetched)` where a relation was not read and the object is in no context;
+/// `EntityNotFound` where a to-one relation leads to what is not there; what loading refuses;
+/// `OutOfMemory` where a growth was refused. What a refused call changed is undone by
+/// `UnitOfWork::undo`.
 pub fn get<B: Behaviour>(
     alloc: Global,
     unit: &ServedUnit<B>,
@@ -160,11 +160,9 @@ pub fn get<B: Behaviour>(
 ) -> Result<Got, Cause>
     requires ready { IsReady unit.now.metamodel (now work.old) }
     requires object { object < length work.old.objects.now }
-    ensures meets { let world = world_of_unit B.meaning unit.now in
-        Meets result (now work.new) (members.get world object name.now (now work.old)) }
+    ensures carries { let world = world_of_unit B.meaning unit.now in
+        Carries (members.get world object name.now) result work.old work.new }
     ensures within { IfOk result (members.IsGotWithin (length (now work.new).objects)) }
-    ensures view { work.new.view ≡ work.old.view }
-    ensures since { since work.new ≡ since work.old }
 {
     let member = member_named(&unit.metamodel, work, object, name);
     get_member(alloc, unit, work, object, member)

@@ -1,8 +1,8 @@
-//! Loading of objects, and what they hold: a row becomes an object of the context, with what it leads to unread; what was not
-//! read is read when it is asked for.
+//! Loading of objects, and what they hold: a row becomes an object of the context, with what it
+//! leads to unread; what was not read is read when it is asked for.
 //!
-//! The definitions stand in `specs/`: `Load` loads and finds, `Members` gets and changes. The crate stands on cascades and on
-//! listeners.
+//! The definitions stand in `specs/`: `Load` loads and finds, `Members` gets and changes. The crate
+//! stands on cascades and on listeners.
 #![tactic(auto)]
 
 mod changing;

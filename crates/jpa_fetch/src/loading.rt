@@ -5,8 +5,8 @@ ghost use Rattle.jpa_model.specs.Chains.{is_to_one, relation_at, relations_of};
 ghost use Rattle.jpa_behaviour.specs.Served.{world_of_unit};
 ghost use Rattle.jpa_stored.specs.Sets as sets;
 ghost use Rattle.jpa_open.specs.Opened as opened;
-ghost use Rattle.jpa_context.specs.Steps.{Meets};
-ghost use Rattle.jpa_context.specs.Undo.{now, since, IsPlaced};
+ghost use Rattle.jpa_context.specs.Carries.{Carries};
+ghost use Rattle.jpa_context.specs.Undo.{now, IsPlaced};
 ghost use Rattle.jpa_context.specs.Work as works;
 ghost use Rattle.jpa_fetch.specs.Grown.{HasGrown};
 ghost use Rattle.jpa_fetch.specs.Load as spec;
@@ -22,7 +22,8 @@ use jpa_stored::Stored;
 use jpa_value::{Cause, Identity, LifecycleEvent, MOST_OBJECTS, Seq, TryCopy};
 use std::alloc::Global;
 
-/// What a base knows of a relation at a load: a to-one's identity, or that there is none; nothing of a collection.
+/// What a base knows of a relation at a load: a to-one's identity, or that there is none; nothing
+/// of a collection.
 fn known(
     metamodel: &Metamodel,
     view: &OpenSet,
@@ -90,8 +91,8 @@ fn held_loaded(alloc: Global, members: &[Option<Seq<Identity>>]) -> Result<Seq<H
     Ok(held)
 }
 
-/// A row as an object of a manager, and as the base of its entry: of a to-one relation it has the identity, of a collection nothing.
-/// Fails for want of memory alone, with `OutOfMemory`.
+/// A row as an object of a manager, and as the base of its entry: of a to-one relation it has the
+/// identity, of a collection nothing. Fails for want of memory alone, with `OutOfMemory`.
 pub fn object_of_row(
     alloc: Global,
     metamodel: &Metamodel,
@@ -123,8 +124,9 @@ pub fn object_of_row(
     Ok((object, base))
 }
 
-/// A row becomes an object of the context, and PostLoad happens to it (chapter 3.5.2); its place. `Limit` where there are
-/// 1,000,000 live objects already, what a listener or callback refuses, and `OutOfMemory`.
+/// A row becomes an object of the context, and PostLoad happens to it (chapter 3.5.2); its place.
+/// `Limit` where there are 1,000,000 live objects already, what a listener or callback refuses, and
+/// `OutOfMemory`.
 pub fn load<B: Behaviour>(
     alloc: Global,
     unit: &ServedUnit<B>,
@@ -134,13 +136,11 @@ pub fn load<B: Behaviour>(
 ) -> Result<usize, Cause>
     requires placed { IsPlaced unit.now.metamodel (now work.old) }
     requires row { works.row (now work.old) id.now ≡ Some row }
-    ensures meets { let world = world_of_unit B.meaning unit.now in
-        Meets result (now work.new) (spec.load world id.now row (now work.old)) }
+    ensures carries { let world = world_of_unit B.meaning unit.now in
+        Carries (spec.load world id.now row) result work.old work.new }
     ensures within { IfOk result (λ n. n < length (now work.new).objects) }
     ensures placed { OnOk result (IsPlaced unit.now.metamodel (now work.new)) }
     ensures grown { OnOk result (HasGrown (now work.old) (now work.new)) }
-    ensures view { work.new.view ≡ work.old.view }
-    ensures since { since work.new ≡ since work.old }
 {
     let place = work.objects.len();
     if place >= MOST_OBJECTS {

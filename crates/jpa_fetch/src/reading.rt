@@ -8,10 +8,10 @@ ghost use Rattle.jpa_heap.specs.declared.Held.{Held};
 ghost use Rattle.jpa_heap.specs.declared.Link.{Link};
 ghost use Rattle.jpa_heap.specs.Objects as objects;
 ghost use Rattle.jpa_heap.specs.Objects.{object_at};
-ghost use Rattle.jpa_context.specs.Steps.{Meets};
-ghost use Rattle.jpa_context.specs.Undo.{now, since};
+ghost use Rattle.jpa_context.specs.Carries.{Carries};
+ghost use Rattle.jpa_context.specs.Undo.{now};
 ghost use Rattle.jpa_context.specs.Work as works;
-ghost use Rattle.jpa_fetch.specs.Grown.{HasGrown, IsReady, objects_held};
+ghost use Rattle.jpa_fetch.specs.Grown.{GoesOn, IsReady, objects_held};
 ghost use Rattle.jpa_fetch.specs.Load as load;
 ghost use Rattle.jpa_fetch.specs.Members as members;
 
@@ -25,7 +25,8 @@ use jpa_model::Metamodel;
 use jpa_value::{Cause, Identity, Seq, State, TryCopy};
 use std::alloc::Global;
 
-/// Whether this manager holds an object: what it holds and was not read, can be read. Takes no memory.
+/// Whether this manager holds an object: what it holds and was not read, can be read. Takes no
+/// memory.
 pub fn is_held(work: &UnitOfWork, object: usize) -> bool
     requires { object < length work.now.objects.now }
     ensures { result ≡ members.is_held (works.state_of (now work.now) object) }
@@ -53,7 +54,8 @@ pub fn held_at<'a>(
     &work.objects.as_slice()[object].relations.as_slice()[relation]
 }
 
-/// The objects of these identities, in their order. Refused as `reach` is, at the first that is refused.
+/// The objects of these identities, in their order. Refused as `reach` is, at the first that is
+/// refused.
 fn reach_all<B: Behaviour>(
     alloc: Global,
     unit: &ServedUnit<B>,
@@ -61,14 +63,11 @@ fn reach_all<B: Behaviour>(
     ids: &[Identity],
 ) -> Result<Seq<usize>, Cause>
     requires ready { IsReady unit.now.metamodel (now work.old) }
-    ensures meets { let world = world_of_unit B.meaning unit.now in
-        Meets result (now work.new)
-        (members.collect (load.reach world Cause.EntityNotFound) ids.now (now work.old)) }
+    ensures carries { let world = world_of_unit B.meaning unit.now in
+        Carries (members.collect (load.reach world Cause.EntityNotFound) ids.now)
+        result work.old work.new }
     ensures within { IfOk result (λ places. All (λ k. k < length (now work.new).objects) places) }
-    ensures ready { OnOk result (IsReady unit.now.metamodel (now work.new)) }
-    ensures grown { OnOk result (HasGrown (now work.old) (now work.new)) }
-    ensures view { work.new.view ≡ work.old.view }
-    ensures since { since work.new ≡ since work.old }
+    ensures goes { OnOk result (GoesOn unit.now.metamodel (now work.old) (now work.new)) }
 {
     let mut places = Seq::new(alloc);
     for id in ids {
@@ -90,14 +89,11 @@ fn fetch_unread<B: Behaviour>(
     requires object { object < length work.old.objects.now }
     requires relation { relation
         < length (relations_of unit.now.metamodel (object_at work.old.objects.now object).class) }
-    ensures meets { let world = world_of_unit B.meaning unit.now in
-        Meets result (now work.new) (members.fetch_held world object relation
-        (Held.Many Collection.Unfetched) (now work.old)) }
+    ensures carries { let world = world_of_unit B.meaning unit.now in
+        Carries (members.fetch_held world object relation (Held.Many Collection.Unfetched))
+        result work.old work.new }
     ensures within { IfOk result (λ places. All (λ k. k < length (now work.new).objects) places) }
-    ensures ready { OnOk result (IsReady unit.now.metamodel (now work.new)) }
-    ensures grown { OnOk result (HasGrown (now work.old) (now work.new)) }
-    ensures view { work.new.view ≡ work.old.view }
-    ensures since { since work.new ≡ since work.old }
+    ensures goes { OnOk result (GoesOn unit.now.metamodel (now work.old) (now work.new)) }
 {
     if !is_held(work, object) {
         return Err(Cause::IllegalState(State::Unfetched));
@@ -116,11 +112,12 @@ fn fetch_unread<B: Behaviour>(
     Ok(places)
 }
 
-/// The places of the objects that a collection of an object holds, read of the set that the manager sees where it was not read
-/// yet (Jakarta Persistence 3.1, chapters 2.2 and 3.2.7). A to-one relation holds none.
+/// The places of the objects that a collection of an object holds, read of the set that the manager
+/// sees where it was not read yet (Jakarta Persistence 3.1, chapters 2.2 and 3.2.7). A to-one
+/// relation holds none.
 ///
-/// `IllegalState(unfetched)` where it was not read and the object is in no context of this manager; what `reach` refuses; and
-/// `OutOfMemory`.
+/// `IllegalState(unfetched)` where it was not read and the object is in no context of this manager;
+/// what `reach` refuses; and `OutOfMemory`.
 pub(crate) fn fetch<B: Behaviour>(
     alloc: Global,
     unit: &ServedUnit<B>,
@@ -132,13 +129,10 @@ pub(crate) fn fetch<B: Behaviour>(
     requires object { object < length work.old.objects.now }
     requires relation { relation
         < length (relations_of unit.now.metamodel (object_at work.old.objects.now object).class) }
-    ensures meets { let world = world_of_unit B.meaning unit.now in
-        Meets result (now work.new) (members.fetch world object relation (now work.old)) }
+    ensures carries { let world = world_of_unit B.meaning unit.now in
+        Carries (members.fetch world object relation) result work.old work.new }
     ensures within { IfOk result (λ places. All (λ k. k < length (now work.new).objects) places) }
-    ensures ready { OnOk result (IsReady unit.now.metamodel (now work.new)) }
-    ensures grown { OnOk result (HasGrown (now work.old) (now work.new)) }
-    ensures view { work.new.view ≡ work.old.view }
-    ensures since { since work.new ≡ since work.old }
+    ensures goes { OnOk result (GoesOn unit.now.metamodel (now work.old) (now work.new)) }
 {
     match held_at(&unit.metamodel, work, object, relation) {
         Held::Many(Collection::Fetched(places)) => {
@@ -149,7 +143,8 @@ pub(crate) fn fetch<B: Behaviour>(
     }
 }
 
-/// The object of an identity that a to-one relation of an object holds unresolved. Refused as `resolve` is.
+/// The object of an identity that a to-one relation of an object holds unresolved. Refused as
+/// `resolve` is.
 fn resolve_unread<B: Behaviour>(
     alloc: Global,
     unit: &ServedUnit<B>,
@@ -162,13 +157,11 @@ fn resolve_unread<B: Behaviour>(
     requires object { object < length work.old.objects.now }
     requires relation { relation
         < length (relations_of unit.now.metamodel (object_at work.old.objects.now object).class) }
-    ensures meets { let world = world_of_unit B.meaning unit.now in
-        Meets result (now work.new) (members.resolve_link world object relation
-        (Held.One (Link.Key id.now)) (now work.old)) }
+    ensures carries { let world = world_of_unit B.meaning unit.now in
+        Carries (members.resolve_link world object relation (Held.One (Link.Key id.now)))
+        result work.old work.new }
     ensures within { IfOk result
         (λ found. IfSome found (λ n. n < length (now work.new).objects)) }
-    ensures view { work.new.view ≡ work.old.view }
-    ensures since { since work.new ≡ since work.old }
 {
     if !is_held(work, object) {
         return Err(Cause::IllegalState(State::Unfetched));
@@ -179,7 +172,8 @@ fn resolve_unread<B: Behaviour>(
     Ok(Some(place))
 }
 
-/// The place of the object that a to-one relation of an object leads to, where it holds this. Refused as `resolve` is.
+/// The place of the object that a to-one relation of an object leads to, where it holds this.
+/// Refused as `resolve` is.
 fn resolve_link<B: Behaviour>(
     alloc: Global,
     unit: &ServedUnit<B>,
@@ -193,13 +187,11 @@ fn resolve_link<B: Behaviour>(
     requires relation { relation
         < length (relations_of unit.now.metamodel (object_at work.old.objects.now object).class) }
     requires link { All (λ k. k < length work.old.objects.now) (objects_held (Held.One link)) }
-    ensures meets { let world = world_of_unit B.meaning unit.now in
-        Meets result (now work.new)
-        (members.resolve_link world object relation (Held.One link) (now work.old)) }
+    ensures carries { let world = world_of_unit B.meaning unit.now in
+        Carries (members.resolve_link world object relation (Held.One link))
+        result work.old work.new }
     ensures within { IfOk result
         (λ found. IfSome found (λ n. n < length (now work.new).objects)) }
-    ensures view { work.new.view ≡ work.old.view }
-    ensures since { since work.new ≡ since work.old }
 {
     match link {
         Link::None => Ok(None),
@@ -208,11 +200,11 @@ fn resolve_link<B: Behaviour>(
     }
 }
 
-/// The place of the object that a to-one relation of an object leads to, loaded where it was not resolved yet (Jakarta
-/// Persistence 3.1, chapters 2.2 and 3.2.7). A collection leads to none.
+/// The place of the object that a to-one relation of an object leads to, loaded where it was not
+/// resolved yet (Jakarta Persistence 3.1, chapters 2.2 and 3.2.7). A collection leads to none.
 ///
-/// `IllegalState(unfetched)` where it was not resolved and the object is in no context of this manager; what `reach` refuses; and
-/// `OutOfMemory`.
+/// `IllegalState(unfetched)` where it was not resolved and the object is in no context of this
+/// manager; what `reach` refuses; and `OutOfMemory`.
 pub(crate) fn resolve<B: Behaviour>(
     alloc: Global,
     unit: &ServedUnit<B>,
@@ -224,12 +216,10 @@ pub(crate) fn resolve<B: Behaviour>(
     requires object { object < length work.old.objects.now }
     requires relation { relation
         < length (relations_of unit.now.metamodel (object_at work.old.objects.now object).class) }
-    ensures meets { let world = world_of_unit B.meaning unit.now in
-        Meets result (now work.new) (members.resolve world object relation (now work.old)) }
+    ensures carries { let world = world_of_unit B.meaning unit.now in
+        Carries (members.resolve world object relation) result work.old work.new }
     ensures within { IfOk result
         (λ found. IfSome found (λ n. n < length (now work.new).objects)) }
-    ensures view { work.new.view ≡ work.old.view }
-    ensures since { since work.new ≡ since work.old }
 {
     match held_at(&unit.metamodel, work, object, relation) {
         Held::One(link) => {

@@ -171,6 +171,16 @@ removes_loaded world id x y n w v new r none stored same done h =
     ∙ ap (λ z. after (load world id z w) (λ k. remove world k)) (sym same)
     ∙ ap (λ o. after o (λ k. remove world k)) done)) h
 
+-- or loading it is refused
+pub removes_refused : (world : World) (id : Identity) (x y : Stored) (w new : Work) (r : Cause) → instance world.model w id ≡ None → row w id ≡ Some y → x ≡ y →
+    IsRefusedAs r new.events (load world id x w) → IsRefusedAs r new.events (remove_orphan world id w)
+removes_refused world id x y w new r none stored same h =
+    subst (IsRefusedAs r new.events)
+    (sym (ap (λ o. remove_orphan_in world id o (row w id) w) none
+    ∙ ap (λ s. remove_orphan_in world id None s w) stored
+    ∙ ap (λ z. after (load world id z w) (λ k. remove world k)) (sym same)))
+    (refused_after r new.events (load world id x w) (λ k. remove world k) h)
+
 -- ---- one entry after another
 
 -- an object's orphans

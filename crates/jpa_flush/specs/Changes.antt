@@ -1,4 +1,5 @@
--- What a plan changes of a set: where it writes or takes out, and of which class what stood there was.
+-- What a plan changes of a set: where it writes or takes out, and of which class what stood there
+-- was.
 use Rattle.std.specs.Prelude.{◌≡◌, ℕ, T, true, All, List, [], ◌∷◌, map, Option, Some, None}
 use Rattle.std.specs.List.{flat_map}
 use Rattle.std.specs.FinMap.Entries.{is_sorted}
@@ -13,13 +14,16 @@ use Rattle.jpa_ops.specs.Names.{has_distinct_entries}
 use Rattle.jpa_flush.specs.declared.planning.Planned.{Planned}
 use Rattle.jpa_flush.specs.Plan.{class_there, write_each}
 
+-- an identity with the class of what stood there, where there is an identity
 abbrev pub place_in : Option Identity → Option ℕ → List (Identity × Option ℕ)
 place_in None class = []
 place_in (Some id) class = (id, class) ∷ []
 
+-- where a plan writes or takes out, each with the class of what stood there
 abbrev pub places_of : List Planned → List (Identity × Option ℕ)
 places_of plan = flat_map (λ (p : Planned). place_in p.id p.class_before) plan
 
+-- where a change is, with the class of what stood there
 abbrev pub place_of : Change → Identity × Option ℕ
 place_of c = (c.id.now, c.class_before)
 

@@ -1,5 +1,5 @@
--- A flush writes under different identities (Jakarta Persistence 3.1, chapter 3.1: a context has one instance of a persistent
--- identity).
+-- A flush writes under different identities (Jakarta Persistence 3.1, chapter 3.1: a context has
+-- one instance of a persistent identity).
 use Rattle.std.specs.Prelude.{Bool, List}
 use Rattle.std.specs.List.{flat_map}
 use Rattle.jpa_value.specs.declared.value.Identity.{Identity}
@@ -12,5 +12,6 @@ use Rattle.jpa_flush.specs.Flush.{listed}
 abbrev pub targets : List Planned → List Identity
 targets plan = flat_map (λ (p : Planned). listed p.id) plan
 
+-- no two objects of a plan are written under one identity
 abbrev pub are_apart : List Planned → Bool
 are_apart plan = all_distinct same_identity (targets plan)

@@ -1,4 +1,5 @@
--- The flush as a plan: what it does with each entry of the context, and what it writes or takes out under which identity.
+-- The flush as a plan: what it does with each entry of the context, and what it writes or takes out
+-- under which identity.
 use Rattle.std.specs.Prelude.{ℕ, ℤ, Bool, true, false, not, ◌&&◌, is_some, List, [], ◌∷◌, map, Option, Some, None, option_map}
 use Rattle.jpa_value.specs.declared.value.Identity.{Identity}
 use Rattle.jpa_value.specs.declared.refusal.Cause.{Cause}
@@ -20,15 +21,18 @@ use Rattle.jpa_flush.specs.Flush as flushes
 
 -- ---- steps: actions, of whose base the version alone is asked
 
+-- an action as a step, with the version alone of its base
 abbrev pub step_as : Option Action → Step
 step_as None = Step.Keep
 step_as (Some Insert) = Step.Insert
 step_as (Some (Replace b)) = Step.Replace (b.stored).version
 step_as (Some (Drop b)) = Step.Drop (b.stored).version
 
+-- the step of an entry
 abbrev pub step_of : PersistenceUnit → Work → Entry → Step
 step_of m w e = step_as (action_of m w e)
 
+-- PreUpdate runs on an object whose row is to be replaced (chapter 3.5)
 abbrev pub update : World → ℕ → Step → Op (Unit {0})
 update world n Step.Keep = done
 update world n Step.Insert = done
@@ -37,10 +41,12 @@ update world n (Step.Drop version) = done
 
 -- ---- the checks
 
+-- there is a row, with this version
 abbrev pub has_version : Option Stored → Option ℤ → Bool
 has_version None version = false
 has_version (Some x) version = same_version x.version version
 
+-- the identity is free, and the values can be stored
 abbrev pub check_insertion : World → ℕ → Op (Unit {0})
 check_insertion world n = do
   free ← read (λ w. not (is_some (row_at w (identity_at world.model w n))))
@@ -48,6 +54,7 @@ check_insertion world n = do
   convertible ← read (λ w. all_convert world (object w n))
   require convertible (Cause.Persistence Persist.Converter)
 
+-- the row has this version, which can rise, and the values can be stored
 abbrev pub check_replacement : World → ℕ → Option ℤ → Op (Unit {0})
 check_replacement world n version = do
   current ← read (λ w. has_version (row_at w (identity_at world.model w n)) version)
@@ -56,11 +63,13 @@ check_replacement world n version = do
   convertible ← read (λ w. all_convert world (object w n))
   require convertible (Cause.Persistence Persist.Converter)
 
+-- the row has this version
 abbrev pub check_removal : PersistenceUnit → ℕ → Option ℤ → Op (Unit {0})
 check_removal m n version = do
   current ← read (λ w. has_version (row_at w (identity_at m w n)) version)
   require current Cause.OptimisticLock
 
+-- the check of a step
 abbrev pub check : World → ℕ → Step → Op (Unit {0})
 check world n Step.Keep = done
 check world n Step.Insert = check_insertion world n
@@ -88,15 +97,19 @@ planned_as m w n event stored =
       stored = stored;
     }
 
+-- what a plan has of an object whose row is inserted
 abbrev pub insertion : PersistenceUnit → Work → ℕ → Planned
 insertion m w n = planned_as m w n LifecycleEvent.PostPersist (Some (stored_of m w n (first_version (is_versioned m (object w n).class))))
 
+-- what a plan has of an object whose row is replaced
 abbrev pub replacement : PersistenceUnit → Work → ℕ → Option ℤ → Planned
 replacement m w n version = planned_as m w n LifecycleEvent.PostUpdate (Some (stored_of m w n (raised version)))
 
+-- what a plan has of an object whose row is dropped
 abbrev pub removal : PersistenceUnit → Work → ℕ → Planned
 removal m w n = planned_as m w n LifecycleEvent.PostRemove None
 
+-- what a plan has of a step, if anything
 abbrev pub planned : PersistenceUnit → Work → ℕ → Step → Option Planned
 planned m w n Step.Keep = None
 planned m w n Step.Insert = Some (insertion m w n)
@@ -107,9 +120,11 @@ planned m w n (Step.Drop version) = Some (removal m w n)
 abbrev pub item : PersistenceUnit → Work → ℕ × Action → Planned
 item m w a = planned_as m w a.0 (post_event a.1) (written m w a.0 a.1)
 
+-- what a plan has of an entry
 abbrev pub planned_of : PersistenceUnit → Work → Entry → List Planned
 planned_of m w e = map (item m w) (flushes.planned m w e (action_of m w e))
 
+-- the plan of a flush, in the order of the context
 abbrev pub plan_of : PersistenceUnit → Work → List Planned
 plan_of m w = map (item m w) (actions m w)
 
@@ -121,34 +136,42 @@ put_or_take None x s = s
 put_or_take (Some id) None s = without (id ∷ []) s
 put_or_take (Some id) (Some x) s = with_stored id x s
 
+-- a set after one object of a plan is written or taken out
 abbrev pub write : Planned → StoredSet → StoredSet
 write p s = put_or_take p.id p.stored s
 
+-- a set after the objects of a plan are written or taken out, in turn
 abbrev pub write_each : List Planned → StoredSet → StoredSet
 write_each [] s = s
 write_each (p ∷ ps) s = write_each ps (write p s)
 
+-- the work after the objects of a plan are settled, in turn
 abbrev pub settled_by : List Planned → Work → Work
 settled_by [] w = w
 settled_by (p ∷ ps) w = settled_by ps (settled p.object p.stored w)
 
+-- the event of a planned object runs
 abbrev pub tell : World → Planned → Op (Unit {0})
 tell world p = callback world p.event p.object
 
+-- the events of a plan run, in its order
 abbrev pub told_by : World → List Planned → Op (Unit {0})
 told_by world plan = each (tell world) plan
 
+-- the work after a plan: objects are settled, bases remember, and the view is the new set
 abbrev pub applied : PersistenceUnit → List Planned → StoredSet → Work → Work
 applied m plan set w = let v = all_remembered m (settled_by plan w) in record v { view = set }
 
 -- ---- what bases remember
 
+-- whether the same is known of a relation: nothing, or the same identities
 abbrev pub same_member : Option (List Identity) → Option (List Identity) → Bool
 same_member None None = true
 same_member None (Some ys) = false
 same_member (Some xs) None = false
 same_member (Some xs) (Some ys) = same_identities xs ys
 
+-- whether the same is known of each relation
 abbrev pub same_members : List (Option (List Identity)) → List (Option (List Identity)) → Bool
 same_members [] [] = true
 same_members [] (y ∷ ys) = false

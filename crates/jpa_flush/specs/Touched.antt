@@ -1,4 +1,5 @@
--- The entries at which a walk looks in the place of all: those of marked objects, and what a call noted since it began.
+-- The entries at which a walk looks in the place of all: those of marked objects, and what a call
+-- noted since it began.
 use Rattle.std.specs.Prelude.{◌≡◌, ◌<◌, ◌≤◌, ℕ, true, false, All, List, length, take, Some}
 use Rattle.jpa_undo.specs.Undo.{put_back}
 use Rattle.jpa_heap.specs.declared.LiveObject.{LiveObject}
@@ -33,7 +34,8 @@ HavePlacesOf es places objects = (n : ℕ) → is_listed objects n ≡ true → 
 abbrev pub AreNotesOf : {T : Type 0} → List T → List T → List (ℕ × T) → Type 0
 AreNotesOf since now os = since ≡ take (length since) (put_back now os)
 
--- the places of each marked object, of each object and entry that was overwritten, and of each entry that was added
+-- the places of each marked object, of each object and entry that was overwritten, and of each
+-- entry that was added
 pub record HaveTouched (u : UnitOfWork) (places : List ℕ) : Type 0 where
   pub marked : HavePlacesOf u.context.now places (u.context.marks).objects
   pub objects : (os : List (ℕ × LiveObject)) × AreNotesOf u.objects.since u.objects.now os × All (λ o. HasPlaceOf u.context.now places o.0) os

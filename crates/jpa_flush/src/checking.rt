@@ -84,8 +84,9 @@ pub fn raised(version: Option<i64>) -> Option<i64>
     }
 }
 
-/// Whether the converter of this name makes something of a value for its column. It doesn't where it throws, where its
-/// answer counts as a throw, and where there is none of this name. `OutOfMemory` where a growth was refused.
+/// Whether the converter of this name makes something of a value for its column. It doesn't where
+/// it throws, where its answer counts as a throw, and where there is none of this name.
+/// `OutOfMemory` where a growth was refused.
 fn goes_through<B: Behaviour>(
     registry: &Registry<B>,
     name: &str,
@@ -102,8 +103,8 @@ fn goes_through<B: Behaviour>(
     }
 }
 
-/// Whether a value goes through its attribute's converter, if there is one; null passes no converter. `OutOfMemory` where
-/// a growth was refused.
+/// Whether a value goes through its attribute's converter, if there is one; null passes no
+/// converter. `OutOfMemory` where a growth was refused.
 fn converts<B: Behaviour>(
     registry: &Registry<B>,
     attribute: &Attribute,
@@ -120,7 +121,8 @@ fn converts<B: Behaviour>(
     }
 }
 
-/// Whether no converter of an object throws (chapter 3.8). `OutOfMemory` where a growth was refused.
+/// Whether no converter of an object throws (chapter 3.8). `OutOfMemory` where a growth was
+/// refused.
 pub fn all_convert<B: Behaviour>(unit: &ServedUnit<B>, object: &LiveObject) -> Result<bool, Cause>
     requires { HasShape unit.now.metamodel object.now }
     ensures ok { let world = world_of_unit B.meaning unit.now in

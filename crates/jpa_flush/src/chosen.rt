@@ -2,7 +2,8 @@
 
 use jpa_value::Seq;
 
-/// Places of entries, rising, and whether what the objects of the others lead to is managed, or stored where no cascade persists it.
+/// Places of entries, rising, and whether what the objects of the others lead to is managed, or
+/// stored where no cascade persists it.
 #[derive(Drop)]
 pub struct Looked {
     pub places: Seq<usize>,

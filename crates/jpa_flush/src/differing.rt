@@ -37,7 +37,8 @@ pub(crate) fn known(base: &Base, relation: usize) -> Option<&Seq<Identity>>
     }
 }
 
-/// Whether a relation, which stands at this place, is not written, was not read, or holds what the base knows of it.
+/// Whether a relation, which stands at this place, is not written, was not read, or holds what the
+/// base knows of it.
 fn is_same_along(
     metamodel: &Metamodel,
     work: &UnitOfWork,
@@ -62,8 +63,9 @@ fn is_same_along(
     holds_still(metamodel, work, held, before.as_slice())
 }
 
-/// Whether an object has another value than its base, or holds others in a relation that it owns and that was read: whether a
-/// flush is to write it (Jakarta Persistence 3.1, chapter 3.2.4). Fails for want of memory alone, with `OutOfMemory`.
+/// Whether an object has another value than its base, or holds others in a relation that it owns
+/// and that was read: whether a flush is to write it (Jakarta Persistence 3.1, chapter 3.2.4).
+/// Fails for want of memory alone, with `OutOfMemory`.
 ///
 /// It looks at values first, and gathers only the members of a collection that is compared.
 pub(crate) fn differs(

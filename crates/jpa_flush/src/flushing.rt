@@ -26,11 +26,11 @@ use jpa_context::UnitOfWork;
 use jpa_value::Cause;
 use std::alloc::Global;
 
-/// Checks and writes what the objects of a context differ in from the set, as they are after PreUpdate, and tells of it; nothing is
-/// written of the entries at other places.
+/// Checks and writes what the objects of a context differ in from the set, as they are after
+/// PreUpdate, and tells of it; nothing is written of the entries at other places.
 ///
-/// Objects and entries settle before the set is written and judged: what they remember is what they hold, of whatever set, and
-/// what was changed is undone where the new set is refused.
+/// Objects and entries settle before the set is written and judged: what they remember is what they
+/// hold, of whatever set, and what was changed is undone where the new set is refused.
 fn write_changes<B: Behaviour>(
     alloc: Global,
     unit: &ServedUnit<B>,
@@ -53,21 +53,25 @@ fn write_changes<B: Behaviour>(
     tell_written(alloc, unit, work, plan.as_slice())
 }
 
-/// Writes what the objects of a manager's context differ in from the set that it sees, and takes out the rows of removed ones
-/// (Jakarta Persistence 3.1, chapters 2.9, 3.2.3, 3.2.4, 3.4 and 3.5). What managed objects lead to along relations that cascade
-/// persist becomes managed before, and the orphans of managed objects are removed. The work sees the new set then.
+/// Writes what the objects of a manager's context differ in from the set that it sees, and takes
+/// out the rows of removed ones (Jakarta Persistence 3.1, chapters 2.9, 3.2.3, 3.2.4, 3.4 and 3.5).
+/// What managed objects lead to along relations that cascade persist becomes managed before, and
+/// the orphans of managed objects are removed. The work sees the new set then.
 ///
-/// What persisting, loading and removing refuse; `IllegalState(reference)` where a managed object leads to a new
-/// or a removed one along a relation that doesn't cascade persist; `EntityExists` where an object that is new to the set has the identity of one in it; `OptimisticLock` where the set
-/// has not the version that a changed or a removed object was loaded with; `Persistence(version)` where a version can't rise;
-/// `Persistence(converter)` where a converter throws; `Persistence` with `Null`, `Reference` or `Unique` where the new set
-/// would not be sound; `Listener` with its text where a listener or callback throws, and `Persistence(callback)` where one
-/// assigns what is not allowed; `OutOfMemory` where a growth was refused. What a refused call changed is undone by
-/// `UnitOfWork::undo`.
+/// What persisting, loading and removing refuse; `IllegalState(reference)` where a managed object
+/// leads to a new or a removed one along a relation that doesn't cascade persist; `EntityExists`
+/// where an object that is new to the set has the identity of one in it; `OptimisticLock` where the
+/// set has not the version that a changed or a removed object was loaded with;
+/// `Persistence(version)` where a version can't rise; `Persistence(converter)` where a converter
+/// throws; `Persistence` with `Null`, `Reference` or `Unique` where the new set would not be sound;
+/// `Listener` with its text where a listener or callback throws, and `Persistence(callback)` where
+/// one assigns what is not allowed; `OutOfMemory` where a growth was refused. What a refused call
+/// changed is undone by `UnitOfWork::undo`.
 ///
-/// It looks at the entries of marked objects and of what was touched since the call began, and what these objects hold; at each
-/// entry where one of them leads to an object that is to be persisted, or has an orphan, and where marks don't say to what the others
-/// lead. Of the set it looks at what it writes, at what that leads to, and at what leads to what it takes out.
+/// It looks at the entries of marked objects and of what was touched since the call began, and what
+/// these objects hold; at each entry where one of them leads to an object that is to be persisted,
+/// or has an orphan, and where marks don't say to what the others lead. Of the set it looks at what
+/// it writes, at what that leads to, and at what leads to what it takes out.
 pub fn flush<B: Behaviour>(
     alloc: Global,
     unit: &ServedUnit<B>,
@@ -92,8 +96,8 @@ pub fn flush<B: Behaviour>(
     write_changes(alloc, unit, work, places)
 }
 
-/// The flush before a query or a bulk statement, where there is one: in a transaction under flush mode AUTO (chapter 3.10.8).
-/// Refused as `flush` is.
+/// The flush before a query or a bulk statement, where there is one: in a transaction under flush
+/// mode AUTO (chapter 3.10.8). Refused as `flush` is.
 pub fn flush_if<B: Behaviour>(
     alloc: Global,
     unit: &ServedUnit<B>,

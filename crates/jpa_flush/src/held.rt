@@ -42,8 +42,8 @@ fn put_in(ids: &mut Vec<Identity>, id: Identity) -> Result<(), Cause>
     }
 }
 
-/// The identities of objects in rising order, each once. Where the objects come in that order already, as the members of an
-/// inverse side do, each identity is put at the end.
+/// The identities of objects in rising order, each once. Where the objects come in that order
+/// already, as the members of an inverse side do, each identity is put at the end.
 pub(crate) fn rising(
     alloc: Global,
     metamodel: &Metamodel,
@@ -77,11 +77,13 @@ fn at_most_one(alloc: Global, id: Option<Identity>) -> Result<Seq<Identity>, Cau
     Ok(ids)
 }
 
-/// The identities that a relation holds now, those of a collection in rising order, each once: what a flush writes of it
-/// (Jakarta Persistence 3.1, chapters 2.9 and 3.2.4). Nothing of a collection that was not read; an object whose key is not
-/// whole has none. Fails for want of memory alone, with `OutOfMemory`.
+/// The identities that a relation holds now, those of a collection in rising order, each once: what
+/// a flush writes of it (Jakarta Persistence 3.1, chapters 2.9 and 3.2.4). Nothing of a collection
+/// that was not read; an object whose key is not whole has none. Fails for want of memory alone,
+/// with `OutOfMemory`.
 ///
-/// With n members it takes O(n log n) comparisons, and moves none of them where they come in rising order.
+/// With n members it takes O(n log n) comparisons, and moves none of them where they come in rising
+/// order.
 pub(crate) fn held_now(
     metamodel: &Metamodel,
     work: &UnitOfWork,
@@ -108,7 +110,8 @@ pub(crate) fn held_now(
     }
 }
 
-/// The identities that each relation of an object holds now. Fails for want of memory alone, with `OutOfMemory`.
+/// The identities that each relation of an object holds now. Fails for want of memory alone, with
+/// `OutOfMemory`.
 pub(crate) fn members_held(
     alloc: Global,
     metamodel: &Metamodel,

@@ -32,9 +32,10 @@ fn changes_of(alloc: Global, plan: &[Planned]) -> Result<Vec<Change<'_>>, Cause>
     Ok(changes)
 }
 
-/// Whether the set that a manager sees is sound (chapters 2.9, 2.10 and 3.2.4) after a plan was written over one that was so: else
-/// `Persistence` with the first part that fails, `Null`, `Reference` or `Unique`; `OutOfMemory` where a growth was refused.
-/// Looks at what was written, at what that leads to, and at what leads to what was taken out.
+/// Whether the set that a manager sees is sound (chapters 2.9, 2.10 and 3.2.4) after a plan was
+/// written over one that was so: else `Persistence` with the first part that fails, `Null`,
+/// `Reference` or `Unique`; `OutOfMemory` where a growth was refused. Looks at what was written, at
+/// what that leads to, and at what leads to what was taken out.
 pub fn judge_written(
     alloc: Global,
     metamodel: &Metamodel,

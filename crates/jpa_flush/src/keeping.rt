@@ -36,8 +36,8 @@ fn keeps_name_at(work: &UnitOfWork, at: usize, old: &LiveObject) -> bool
     }
 }
 
-/// Whether no object that is not new took another class or key, or became new, since the work was last kept. It looks at what was
-/// overwritten since then alone, and takes no memory.
+/// Whether no object that is not new took another class or key, or became new, since the work was
+/// last kept. It looks at what was overwritten since then alone, and takes no memory.
 pub fn keep_names(work: &UnitOfWork) -> bool
     ensures { result ≡ true
         → marked.GoesOn (undone work.now.manager (since work.now)) (now work.now) }
@@ -80,7 +80,8 @@ fn is_storable(manager: usize, life: Life) -> bool
     }
 }
 
-/// Whether the object that stands at a place may be led to still, as far as the one that stood there might.
+/// Whether the object that stands at a place may be led to still, as far as the one that stood
+/// there might.
 fn keeps_link_at(work: &UnitOfWork, at: usize, old: &LiveObject) -> bool
     ensures { result ≡ true
         → marked.keeps_links work.now.manager old.now (works.object (now work.now) at) ≡ true }
@@ -91,8 +92,8 @@ fn keeps_link_at(work: &UnitOfWork, at: usize, old: &LiveObject) -> bool
     }
 }
 
-/// Whether what may have been led to as the work was last kept may be led to still. It looks at what was overwritten since then
-/// alone, and takes no memory.
+/// Whether what may have been led to as the work was last kept may be led to still. It looks at
+/// what was overwritten since then alone, and takes no memory.
 pub fn keep_links(work: &UnitOfWork) -> bool
     ensures { result ≡ true
         → marked.LeadsStill (undone work.now.manager (since work.now)) (now work.now) }

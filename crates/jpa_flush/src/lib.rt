@@ -1,7 +1,8 @@
 //! The flush: what a manager's context writes to the set that it sees.
 //!
-//! The definition stands in `specs/Flush.antt`; `specs/Plan.antt` has it as a plan, which the code makes, writes, judges and tells
-//! of, and `specs/Changes.antt` what a plan changes of a set. The crate stands on the operations of a manager.
+//! The definition stands in `specs/Flush.antt`; `specs/Plan.antt` has it as a plan, which the code
+//! makes, writes, judges and tells of, and `specs/Changes.antt` what a plan changes of a set. The
+//! crate stands on the operations of a manager.
 #![tactic(auto)]
 
 mod calm;

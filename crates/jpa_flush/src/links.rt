@@ -48,7 +48,8 @@ fn holds_storable(work: &UnitOfWork, held: &Held) -> bool
     }
 }
 
-/// Whether an entry's object, if it is managed, leads to none that is not stored, along relations that don't cascade persist.
+/// Whether an entry's object, if it is managed, leads to none that is not stored, along relations
+/// that don't cascade persist.
 pub(crate) fn links_stored(metamodel: &Metamodel, work: &UnitOfWork, entry: &Entry) -> bool
     requires ready { IsReady metamodel.now (now work.now) }
     requires object { entry.now.object < length work.now.objects.now }
@@ -68,8 +69,8 @@ pub(crate) fn links_stored(metamodel: &Metamodel, work: &UnitOfWork, entry: &Ent
     true
 }
 
-/// `IllegalState(reference)` where a managed object leads to a new or a removed one, along a relation that doesn't cascade
-/// persist (Jakarta Persistence 3.1, chapter 3.2.4). Takes no memory.
+/// `IllegalState(reference)` where a managed object leads to a new or a removed one, along a
+/// relation that doesn't cascade persist (Jakarta Persistence 3.1, chapter 3.2.4). Takes no memory.
 pub(crate) fn check_links(metamodel: &Metamodel, work: &UnitOfWork) -> Result<(), Cause>
     requires ready { IsReady metamodel.now (now work.now) }
     ensures meets { (world : World) → Meets result (now work.now)

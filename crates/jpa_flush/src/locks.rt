@@ -23,8 +23,8 @@ fn is_read(work: &UnitOfWork, entry: &Entry) -> bool
     matches!(entry.lock, Lock::Read) && matches!(state_of(work, entry.object), EntityState::Managed)
 }
 
-/// Whether the set has the version of an object that it had when the object was last loaded or written; so it is of one that was
-/// neither. Fails for want of memory alone, with `OutOfMemory`.
+/// Whether the set has the version of an object that it had when the object was last loaded or
+/// written; so it is of one that was neither. Fails for want of memory alone, with `OutOfMemory`.
 fn base_is_row(
     metamodel: &Metamodel,
     work: &UnitOfWork,
@@ -46,8 +46,8 @@ fn base_is_row(
     }
 }
 
-/// Whether an entry's object, if it is managed and locked to be read, has the version that the set has of it. Fails for want of
-/// memory alone, with `OutOfMemory`.
+/// Whether an entry's object, if it is managed and locked to be read, has the version that the set
+/// has of it. Fails for want of memory alone, with `OutOfMemory`.
 fn read_holds(metamodel: &Metamodel, work: &UnitOfWork, entry: &Entry) -> Result<bool, Cause>
     requires ready { IsReady metamodel.now (now work.now) }
     requires object { entry.now.object < length work.now.objects.now }
@@ -61,9 +61,10 @@ fn read_holds(metamodel: &Metamodel, work: &UnitOfWork, entry: &Entry) -> Result
     base_is_row(metamodel, work, entry, &entry.base)
 }
 
-/// Whether each managed object that is locked to be read has the version that the set has of it (Jakarta Persistence 3.1,
-/// chapter 3.4.4.1), where the entries at other places are as their bases say and not locked. Fails for want of memory alone, with
-/// `OutOfMemory`. Looks at the entries at these places, and at the set for those that are locked so.
+/// Whether each managed object that is locked to be read has the version that the set has of it
+/// (Jakarta Persistence 3.1, chapter 3.4.4.1), where the entries at other places are as their bases
+/// say and not locked. Fails for want of memory alone, with `OutOfMemory`. Looks at the entries at
+/// these places, and at the set for those that are locked so.
 pub fn reads_hold(metamodel: &Metamodel, work: &UnitOfWork, places: &[usize]) -> Result<bool, Cause>
     requires ready { IsReady metamodel.now (now work.now) }
     requires looked { marked.AreLooked (λ e. marked.is_calm metamodel.now (now work.now) e ≡ true)

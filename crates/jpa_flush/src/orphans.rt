@@ -1,4 +1,5 @@
-//! Orphans: what a relation that removes orphans held when it was last read or written, and holds no more.
+//! Orphans: what a relation that removes orphans held when it was last read or written, and holds
+//! no more.
 ghost use Rattle.std.specs.Prelude.{◌≡◌, ◌<◌, ◌++◌, true, Some, length, option_copied, IfOk, IfErr, OnOk};
 ghost use Rattle.std.specs.List.{list_any};
 ghost use Rattle.jpa_value.specs.declared.refusal.Cause.{Cause};
@@ -6,8 +7,9 @@ ghost use Rattle.jpa_value.specs.Value.{same_identity};
 ghost use Rattle.jpa_stored.specs.Sets.{is_rising};
 ghost use Rattle.jpa_behaviour.specs.Served.{world_of_unit};
 ghost use Rattle.jpa_heap.specs.Objects.{held_at};
-ghost use Rattle.jpa_context.specs.Steps.{Meets, each};
-ghost use Rattle.jpa_context.specs.Undo.{now, since};
+ghost use Rattle.jpa_context.specs.Carries.{Carries};
+ghost use Rattle.jpa_context.specs.Steps.{each};
+ghost use Rattle.jpa_context.specs.Undo.{now};
 ghost use Rattle.jpa_context.specs.Work as works;
 ghost use Rattle.jpa_fetch.specs.Grown.{IsReady};
 ghost use Rattle.jpa_ops.specs.Names.{has_distinct_entries};
@@ -45,7 +47,8 @@ fn base_of(work: &UnitOfWork, object: usize) -> Option<&Base>
     }
 }
 
-/// What the base of an object knows of a relation, if there is one and the relation was read. Takes no memory.
+/// What the base of an object knows of a relation, if there is one and the relation was read. Takes
+/// no memory.
 fn known_before(work: &UnitOfWork, object: usize, relation: usize) -> Option<&Seq<Identity>>
     ensures { option_copied result
         ≡ flushes.in_base (works.base_of (now work.now) object) relation }
@@ -65,8 +68,8 @@ fn is_among(ids: &[Identity], id: &Identity) -> bool
         .is_ok()
 }
 
-/// Adds the identities that stood in a relation and are not among those that stand there now, in rising order. With n before and k
-/// now it compares identities O(n log k) times.
+/// Adds the identities that stood in a relation and are not among those that stand there now, in
+/// rising order. With n before and k now it compares identities O(n log k) times.
 fn push_gone(
     before: &[Identity],
     held: &[Identity],
@@ -111,8 +114,9 @@ fn push_orphans_along(
     }
 }
 
-/// The orphans of an object, if it is managed: relation by relation, in the order in which its base has them. Fails for want of
-/// memory alone, with `OutOfMemory`; takes none where no relation of its class removes orphans.
+/// The orphans of an object, if it is managed: relation by relation, in the order in which its base
+/// has them. Fails for want of memory alone, with `OutOfMemory`; takes none where no relation of
+/// its class removes orphans.
 pub(crate) fn orphans_of(
     alloc: Global,
     metamodel: &Metamodel,
@@ -148,11 +152,9 @@ fn remove_instance<B: Behaviour>(
 ) -> Result<(), Cause>
     requires ready { IsReady unit.now.metamodel (now work.old) }
     requires object { object < length work.old.objects.now }
-    ensures meets { let world = world_of_unit B.meaning unit.now in
-        Meets result (now work.new) (flushes.remove_instance world object
-        (works.state_of (now work.old) object) (now work.old)) }
-    ensures view { work.new.view ≡ work.old.view }
-    ensures since { since work.new ≡ since work.old }
+    ensures { let world = world_of_unit B.meaning unit.now in
+        Carries (flushes.remove_instance world object (works.state_of (now work.old) object))
+        result work.old work.new }
 {
     match state_of(work, object) {
         EntityState::Managed => remove(alloc, unit, work, object),
@@ -160,8 +162,8 @@ fn remove_instance<B: Behaviour>(
     }
 }
 
-/// Removes an orphan: its instance in the context, if that is managed; without one its row, which is loaded first. Refused as
-/// `load` and `remove` are.
+/// Removes an orphan: its instance in the context, if that is managed; without one its row, which
+/// is loaded first. Refused as `load` and `remove` are.
 fn remove_orphan<B: Behaviour>(
     alloc: Global,
     unit: &ServedUnit<B>,
@@ -169,10 +171,8 @@ fn remove_orphan<B: Behaviour>(
     id: &Identity,
 ) -> Result<(), Cause>
     requires ready { IsReady unit.now.metamodel (now work.old) }
-    ensures meets { let world = world_of_unit B.meaning unit.now in
-        Meets result (now work.new) (flushes.remove_orphan world id.now (now work.old)) }
-    ensures view { work.new.view ≡ work.old.view }
-    ensures since { since work.new ≡ since work.old }
+    ensures { let world = world_of_unit B.meaning unit.now in
+        Carries (flushes.remove_orphan world id.now) result work.old work.new }
 {
     if let Some(object) = instance(&unit.metamodel, work, id) {
         return remove_instance(alloc, unit, work, object);
@@ -194,12 +194,11 @@ fn remove_orphans_of<B: Behaviour>(
 ) -> Result<(), Cause>
     requires ready { IsReady unit.now.metamodel (now work.old) }
     requires object { object < length work.old.objects.now }
-    ensures meets { let w = now work.old in
+    ensures { let w = now work.old in
         let world = world_of_unit B.meaning unit.now in
-        Meets result (now work.new) (each (flushes.remove_orphan world)
-        (flushes.orphans_of unit.now.metamodel w object (works.state_of w object)) w) }
-    ensures view { work.new.view ≡ work.old.view }
-    ensures since { since work.new ≡ since work.old }
+        Carries (each (flushes.remove_orphan world)
+        (flushes.orphans_of unit.now.metamodel w object (works.state_of w object)))
+        result work.old work.new }
 {
     let orphans = orphans_of(alloc, &unit.metamodel, work, object)?;
     for id in orphans.as_slice() {
@@ -208,26 +207,26 @@ fn remove_orphans_of<B: Behaviour>(
     Ok(())
 }
 
-/// Removes the orphans of a context's managed objects: what stood in a relation that removes orphans when it was last read or
-/// written, and doesn't stand there now (Jakarta Persistence 3.1, chapters 2.9 and 3.2.4). An orphan without an instance is
-/// loaded, and PostLoad and PreRemove happen to it; one that is new, removed or detached stays as it is. What enters the context
+/// Removes the orphans of a context's managed objects: what stood in a relation that removes
+/// orphans when it was last read or written, and doesn't stand there now (Jakarta Persistence 3.1,
+/// chapters 2.9 and 3.2.4). An orphan without an instance is loaded, and PostLoad and PreRemove
+/// happen to it; one that is new, removed or detached stays as it is. What enters the context
 /// meanwhile is not looked at.
 ///
-/// Refused as loading and `remove` are; what a refused call changed is undone by `UnitOfWork::undo`. Where no relation removes
-/// orphans, it looks at each entry once and takes no memory.
+/// Refused as loading and `remove` are; what a refused call changed is undone by
+/// `UnitOfWork::undo`. Where no relation removes orphans, it looks at each entry once and takes no
+/// memory.
 pub(crate) fn remove_orphans<B: Behaviour>(
     alloc: Global,
     unit: &ServedUnit<B>,
     work: &mut UnitOfWork,
 ) -> Result<(), Cause>
     requires ready { IsReady unit.now.metamodel (now work.old) }
-    ensures meets { let world = world_of_unit B.meaning unit.now in
-        Meets result (now work.new) (flushes.remove_orphans world (now work.old)) }
+    ensures carries { let world = world_of_unit B.meaning unit.now in
+        Carries (flushes.remove_orphans world) result work.old work.new }
     ensures ready { OnOk result (IsReady unit.now.metamodel (now work.new)) }
     ensures named { has_distinct_entries unit.now.metamodel (now work.old) ≡ true →
         OnOk result (has_distinct_entries unit.now.metamodel (now work.new) ≡ true) }
-    ensures view { work.new.view ≡ work.old.view }
-    ensures since { since work.new ≡ since work.old }
 {
     // the entries of the start stay at their places
     for i in 0..work.context.len() {

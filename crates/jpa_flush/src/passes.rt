@@ -1,7 +1,9 @@
-//! The passes of a flush over the entries that it looks at, found anew where the pass before may have touched others.
+//! The passes of a flush over the entries that it looks at, found anew where the pass before may
+//! have touched others.
 ghost use Rattle.std.specs.Prelude.{◌≡◌, true, IfErr, OnOk};
 ghost use Rattle.jpa_behaviour.specs.Behaviour.{World};
 ghost use Rattle.jpa_behaviour.specs.Served.{world_of_unit};
+ghost use Rattle.jpa_context.specs.Carries.{Carries};
 ghost use Rattle.jpa_context.specs.Steps.{Meets};
 ghost use Rattle.jpa_context.specs.Undo.{now, since};
 ghost use Rattle.jpa_fetch.specs.Grown.{IsReady};
@@ -22,8 +24,8 @@ use jpa_model::Metamodel;
 use jpa_value::Cause;
 use std::alloc::Global;
 
-/// `persist_reachable`, which looks at each entry only where one that is marked leads to an object that is not managed, or where marks
-/// don't say to what the others lead.
+/// `persist_reachable`, which looks at each entry only where one that is marked leads to an object
+/// that is not managed, or where marks don't say to what the others lead.
 pub(crate) fn persist_looked<B: Behaviour>(
     alloc: Global,
     unit: &ServedUnit<B>,
@@ -32,13 +34,11 @@ pub(crate) fn persist_looked<B: Behaviour>(
     requires orderly { IsOrderly unit.now.metamodel }
     requires ready { IsReady unit.now.metamodel (now work.old) }
     requires marked { marked.IsMarked unit.now.metamodel work.old }
-    ensures meets { let world = world_of_unit B.meaning unit.now in
-        Meets result (now work.new) (flushes.persist_reachable world (now work.old)) }
+    ensures carries { let world = world_of_unit B.meaning unit.now in
+        Carries (flushes.persist_reachable world) result work.old work.new }
     ensures ready { OnOk result (IsReady unit.now.metamodel (now work.new)) }
     ensures named { has_distinct_entries unit.now.metamodel (now work.old) ≡ true →
         OnOk result (has_distinct_entries unit.now.metamodel (now work.new) ≡ true) }
-    ensures view { work.new.view ≡ work.old.view }
-    ensures since { since work.new ≡ since work.old }
 {
     let found = looked(alloc, &unit.metamodel, work)?;
     if found.linked {
@@ -47,7 +47,8 @@ pub(crate) fn persist_looked<B: Behaviour>(
     persist_reachable(alloc, unit, work)
 }
 
-/// `remove_orphans`, which looks at each entry only where one of those that are marked or were touched has an orphan.
+/// `remove_orphans`, which looks at each entry only where one of those that are marked or were
+/// touched has an orphan.
 pub(crate) fn remove_orphans_looked<B: Behaviour>(
     alloc: Global,
     unit: &ServedUnit<B>,
@@ -55,19 +56,18 @@ pub(crate) fn remove_orphans_looked<B: Behaviour>(
 ) -> Result<(), Cause>
     requires ready { IsReady unit.now.metamodel (now work.old) }
     requires marked { marked.AreMarkedBefore unit.now.metamodel work.old }
-    ensures meets { let world = world_of_unit B.meaning unit.now in
-        Meets result (now work.new) (flushes.remove_orphans world (now work.old)) }
+    ensures carries { let world = world_of_unit B.meaning unit.now in
+        Carries (flushes.remove_orphans world) result work.old work.new }
     ensures ready { OnOk result (IsReady unit.now.metamodel (now work.new)) }
     ensures named { has_distinct_entries unit.now.metamodel (now work.old) ≡ true →
         OnOk result (has_distinct_entries unit.now.metamodel (now work.new) ≡ true) }
-    ensures view { work.new.view ≡ work.old.view }
-    ensures since { since work.new ≡ since work.old }
 {
     let found = looked(alloc, &unit.metamodel, work)?;
     remove_orphans_at(alloc, unit, work, found.places.as_slice())
 }
 
-/// `check_links`, which looks at the entries elsewhere only where it is not known to what they lead. Takes no memory.
+/// `check_links`, which looks at the entries elsewhere only where it is not known to what they
+/// lead. Takes no memory.
 pub(crate) fn check_links_looked(
     metamodel: &Metamodel,
     work: &UnitOfWork,

@@ -1,8 +1,9 @@
 //! Persist along cascades, as a flush begins.
 ghost use Rattle.std.specs.Prelude.{◌≡◌, ◌<◌, ◌≤◌, true, All, length, OnOk};
 ghost use Rattle.jpa_behaviour.specs.Served.{world_of_unit};
-ghost use Rattle.jpa_context.specs.Steps.{Meets, each};
-ghost use Rattle.jpa_context.specs.Undo.{now, since};
+ghost use Rattle.jpa_context.specs.Carries.{Carries};
+ghost use Rattle.jpa_context.specs.Steps.{each};
+ghost use Rattle.jpa_context.specs.Undo.{now};
 ghost use Rattle.jpa_context.specs.Work.{state_of};
 ghost use Rattle.jpa_fetch.specs.Grown.{IsReady};
 ghost use Rattle.jpa_fetch.specs.Orderly.{IsOrderly};
@@ -27,13 +28,11 @@ fn persist_each<B: Behaviour>(
     requires orderly { IsOrderly unit.now.metamodel }
     requires ready { IsReady unit.now.metamodel (now work.old) }
     requires within { All (λ k. k < length work.old.objects.now) objects.now }
-    ensures meets { let world = world_of_unit B.meaning unit.now in
-        Meets result (now work.new) (each (states.persist world) objects.now (now work.old)) }
+    ensures carries { let world = world_of_unit B.meaning unit.now in
+        Carries (each (states.persist world) objects.now) result work.old work.new }
     ensures ready { OnOk result (IsReady unit.now.metamodel (now work.new)) }
     ensures named { has_distinct_entries unit.now.metamodel (now work.old) ≡ true →
         OnOk result (has_distinct_entries unit.now.metamodel (now work.new) ≡ true) }
-    ensures view { work.new.view ≡ work.old.view }
-    ensures since { since work.new ≡ since work.old }
 {
     for object in objects {
         persist(alloc, unit, work, *object)?;
@@ -41,7 +40,8 @@ fn persist_each<B: Behaviour>(
     Ok(())
 }
 
-/// Persists the objects that a managed one leads to, along relations that cascade persist. Refused as `persist_each`.
+/// Persists the objects that a managed one leads to, along relations that cascade persist. Refused
+/// as `persist_each`.
 fn persist_targets<B: Behaviour>(
     alloc: Global,
     unit: &ServedUnit<B>,
@@ -51,14 +51,12 @@ fn persist_targets<B: Behaviour>(
     requires orderly { IsOrderly unit.now.metamodel }
     requires ready { IsReady unit.now.metamodel (now work.old) }
     requires object { object < length work.old.objects.now }
-    ensures meets { let world = world_of_unit B.meaning unit.now in
-        Meets result (now work.new) (flushes.persist_targets world object
-        (state_of (now work.old) object) (now work.old)) }
+    ensures carries { let world = world_of_unit B.meaning unit.now in
+        Carries (flushes.persist_targets world object (state_of (now work.old) object))
+        result work.old work.new }
     ensures ready { OnOk result (IsReady unit.now.metamodel (now work.new)) }
     ensures named { has_distinct_entries unit.now.metamodel (now work.old) ≡ true →
         OnOk result (has_distinct_entries unit.now.metamodel (now work.new) ≡ true) }
-    ensures view { work.new.view ≡ work.old.view }
-    ensures since { since work.new ≡ since work.old }
 {
     match state_of(work, object) {
         EntityState::Managed => {
@@ -69,11 +67,12 @@ fn persist_targets<B: Behaviour>(
     }
 }
 
-/// Persists what the managed objects of a context lead to along relations that cascade persist, and what those lead to that
-/// enter meanwhile (Jakarta Persistence 3.1, chapter 3.2.4). Refused as `persist`; what a refused call changed is undone by
-/// `UnitOfWork::undo`.
+/// Persists what the managed objects of a context lead to along relations that cascade persist, and
+/// what those lead to that enter meanwhile (Jakarta Persistence 3.1, chapter 3.2.4). Refused as
+/// `persist`; what a refused call changed is undone by `UnitOfWork::undo`.
 ///
-/// It looks at each entry once, and walks the whole cascade of each object that a managed one leads to.
+/// It looks at each entry once, and walks the whole cascade of each object that a managed one leads
+/// to.
 pub(crate) fn persist_reachable<B: Behaviour>(
     alloc: Global,
     unit: &ServedUnit<B>,
@@ -81,13 +80,11 @@ pub(crate) fn persist_reachable<B: Behaviour>(
 ) -> Result<(), Cause>
     requires orderly { IsOrderly unit.now.metamodel }
     requires ready { IsReady unit.now.metamodel (now work.old) }
-    ensures meets { let world = world_of_unit B.meaning unit.now in
-        Meets result (now work.new) (flushes.persist_reachable world (now work.old)) }
+    ensures carries { let world = world_of_unit B.meaning unit.now in
+        Carries (flushes.persist_reachable world) result work.old work.new }
     ensures ready { OnOk result (IsReady unit.now.metamodel (now work.new)) }
     ensures named { has_distinct_entries unit.now.metamodel (now work.old) ≡ true →
         OnOk result (has_distinct_entries unit.now.metamodel (now work.new) ≡ true) }
-    ensures view { work.new.view ≡ work.old.view }
-    ensures since { since work.new ≡ since work.old }
 {
     // only live objects enter, so their number bounds the places
     for i in 0..work.objects.len() {

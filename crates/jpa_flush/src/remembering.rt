@@ -36,7 +36,8 @@ fn remembering(
     })
 }
 
-/// The entry of an object with the members that its relations have now, where its base remembers others.
+/// The entry of an object with the members that its relations have now, where its base remembers
+/// others.
 fn relearned(
     alloc: Global,
     metamodel: &Metamodel,
@@ -60,7 +61,8 @@ fn relearned(
     Ok(Some(remembering(entry, base, members)?))
 }
 
-/// The entry of an object with the members that its relations have now, where it is managed and its base remembers others.
+/// The entry of an object with the members that its relations have now, where it is managed and its
+/// base remembers others.
 pub(crate) fn outdated(
     alloc: Global,
     metamodel: &Metamodel,

@@ -67,7 +67,8 @@ fn settle_version(work: &mut UnitOfWork, object: usize, version: Option<i64>) ->
     Ok(())
 }
 
-/// An object that was written takes the version, and the entry at its place in the context what was written as its base.
+/// An object that was written takes the version, and the entry at its place in the context what was
+/// written as its base.
 fn settle_written(
     alloc: Global,
     work: &mut UnitOfWork,
@@ -124,8 +125,8 @@ fn settle_at(
     }
 }
 
-/// Each object of a plan takes the version that was written, and its base is what was written; one that was taken out has
-/// no base. It looks at the entries of these objects alone.
+/// Each object of a plan takes the version that was written, and its base is what was written; one
+/// that was taken out has no base. It looks at the entries of these objects alone.
 pub(crate) fn settle(alloc: Global, work: &mut UnitOfWork, plan: &[Planned]) -> Result<(), Cause>
     requires objects { All (λ p. p.object < length work.old.objects.now) plan.now }
     requires distinct { all_distinct (λ a b. a.object == b.object) work.old.context.now ≡ true }

@@ -23,7 +23,8 @@ pub enum Step {
     Drop(Option<i64>),
 }
 
-/// Whether a managed object replaces its row: it is not what its base is, or its lock is to raise the version (chapter 3.4.4).
+/// Whether a managed object replaces its row: it is not what its base is, or its lock is to raise
+/// the version (chapter 3.4.4).
 fn replaces(
     metamodel: &Metamodel,
     work: &UnitOfWork,
@@ -62,8 +63,9 @@ fn step_from(
     }
 }
 
-/// What the flush does with an entry: a managed object that was not written yet is inserted, one that differs from its base
-/// replaces its row, and the row of a removed object is taken out, if it has one. `OutOfMemory` where a growth was refused.
+/// What the flush does with an entry: a managed object that was not written yet is inserted, one
+/// that differs from its base replaces its row, and the row of a removed object is taken out, if it
+/// has one. `OutOfMemory` where a growth was refused.
 pub fn step_of(metamodel: &Metamodel, work: &UnitOfWork, entry: &Entry) -> Result<Step, Cause>
     requires ready { IsReady metamodel.now (now work.now) }
     requires object { entry.now.object < length work.now.objects.now }

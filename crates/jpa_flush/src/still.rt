@@ -1,4 +1,5 @@
-//! Whether relations hold what bases know of them. An identity is compared where it stands; only a collection's are gathered.
+//! Whether relations hold what bases know of them. An identity is compared where it stands; only a
+//! collection's are gathered.
 ghost use Rattle.std.specs.Prelude.{◌≡◌, ◌<◌, ◌∷◌, [], All, Some, length, IfOk, IfErr};
 ghost use Rattle.jpa_value.specs.declared.refusal.Cause.{Cause};
 ghost use Rattle.jpa_value.specs.declared.value.Identity.{Identity};
@@ -55,7 +56,8 @@ fn are_one(ids: &[Identity], id: &Identity) -> bool
     is_same_identity(&ids[0], id)
 }
 
-/// Whether these identities are that of an object; none, where its key isn't whole. Takes no memory.
+/// Whether these identities are that of an object; none, where its key isn't whole. Takes no
+/// memory.
 fn are_that_of(metamodel: &Metamodel, object: &LiveObject, ids: &[Identity]) -> bool
     requires { object.now.class < length metamodel.now.entities }
     ensures { result ≡ flushes.same_identities ids.now
@@ -70,8 +72,8 @@ fn are_that_of(metamodel: &Metamodel, object: &LiveObject, ids: &[Identity]) -> 
     is_that_of(metamodel, object, &ids[0])
 }
 
-/// Whether a relation holds these identities now; it does where it was not read. Fails for want of memory alone, with
-/// `OutOfMemory`, and takes none but for a collection.
+/// Whether a relation holds these identities now; it does where it was not read. Fails for want of
+/// memory alone, with `OutOfMemory`, and takes none but for a collection.
 pub(crate) fn holds_still(
     metamodel: &Metamodel,
     work: &UnitOfWork,

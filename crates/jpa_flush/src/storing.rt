@@ -17,7 +17,8 @@ use jpa_stored::Stored;
 use jpa_value::{Cause, Identity, Seq, TryCopy};
 use std::alloc::Global;
 
-/// What is written of a relation of an object: what it holds as the owner; what the set has there, where that was not read.
+/// What is written of a relation of an object: what it holds as the owner; what the set has there,
+/// where that was not read.
 fn owned_along(
     alloc: Global,
     metamodel: &Metamodel,
@@ -68,8 +69,8 @@ fn owned_of(
     Ok(owned)
 }
 
-/// What is written of an object, with this version: its values, and what it owns. Fails for want of memory alone, with
-/// `OutOfMemory`.
+/// What is written of an object, with this version: its values, and what it owns. Fails for want of
+/// memory alone, with `OutOfMemory`.
 pub fn stored_of(
     alloc: Global,
     metamodel: &Metamodel,

@@ -38,8 +38,8 @@ pub(crate) fn tell_update<B: Behaviour>(
     }
 }
 
-/// The event of each object that was written happens, in the order of the plan. Refused as the first listener or callback that
-/// refuses; `OutOfMemory` where a growth was refused.
+/// The event of each object that was written happens, in the order of the plan. Refused as the
+/// first listener or callback that refuses; `OutOfMemory` where a growth was refused.
 pub fn tell_written<B: Behaviour>(
     alloc: Global,
     unit: &ServedUnit<B>,

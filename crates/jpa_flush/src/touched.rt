@@ -1,4 +1,5 @@
-//! The places at which a flush looks: those of marked objects, and of what was touched since the call began.
+//! The places at which a flush looks: those of marked objects, and of what was touched since the
+//! call began.
 ghost use Rattle.std.specs.Prelude.{◌≡◌, ◌<◌, true, All, length, IfOk, IfErr, OnOk};
 ghost use Rattle.jpa_value.specs.declared.refusal.Cause.{Cause};
 ghost use Rattle.jpa_context.specs.Marks.{is_listed};
@@ -134,7 +135,8 @@ fn each_below(alloc: Global, len: usize) -> Result<Seq<usize>, Cause>
     Ok(found)
 }
 
-/// Whether it is known what marks say: not each object is marked, and none that is not new took another key. Takes no memory.
+/// Whether it is known what marks say: not each object is marked, and none that is not new took
+/// another key. Takes no memory.
 fn is_known(work: &UnitOfWork) -> bool
     ensures { result ≡ true → touched.IsKnown work.now }
 {
@@ -144,7 +146,8 @@ fn is_known(work: &UnitOfWork) -> bool
     keep_names(work)
 }
 
-/// Whether marks say to what the objects of the others lead, and that may be led to still. Takes no memory.
+/// Whether marks say to what the objects of the others lead, and that may be led to still. Takes no
+/// memory.
 fn are_linked_still(work: &UnitOfWork) -> bool
     ensures { result ≡ true → touched.IsLinkedStill work.now }
 {
@@ -154,9 +157,10 @@ fn are_linked_still(work: &UnitOfWork) -> bool
     keep_links(work)
 }
 
-/// The places at which a walk over the entries of a context looks, at any moment of a call: those of the marked objects, and of what
-/// was overwritten or added since the call began; all, where each object is marked. What stands elsewhere is as its base says, and
-/// linked where the answer says so. Fails for want of memory alone, with `OutOfMemory`; looks at no entry elsewhere.
+/// The places at which a walk over the entries of a context looks, at any moment of a call: those
+/// of the marked objects, and of what was overwritten or added since the call began; all, where
+/// each object is marked. What stands elsewhere is as its base says, and linked where the answer
+/// says so. Fails for want of memory alone, with `OutOfMemory`; looks at no entry elsewhere.
 pub fn looked(alloc: Global, _metamodel: &Metamodel, work: &UnitOfWork) -> Result<Looked, Cause>
     requires ready { IsReady _metamodel.now (now work.now) }
     requires marked { marked.AreMarkedBefore _metamodel.now work.now }

@@ -3,6 +3,7 @@ ghost use Rattle.std.specs.Prelude.{◌≡◌, ◌<◌, All, [], length, true, I
 ghost use Rattle.jpa_value.specs.declared.refusal.Cause.{Cause};
 ghost use Rattle.jpa_behaviour.specs.Behaviour.{World};
 ghost use Rattle.jpa_behaviour.specs.Served.{world_of_unit};
+ghost use Rattle.jpa_context.specs.Carries.{Carries};
 ghost use Rattle.jpa_context.specs.Steps.{Ends, Meets};
 ghost use Rattle.jpa_context.specs.Undo.{now, since};
 ghost use Rattle.jpa_context.specs.Work as works;
@@ -40,7 +41,8 @@ fn is_linked_if_managed(metamodel: &Metamodel, work: &UnitOfWork, object: usize)
     is_linked(metamodel, work, object)
 }
 
-/// Whether each managed object of a context is linked; of the entries at other places it is known. Takes no memory.
+/// Whether each managed object of a context is linked; of the entries at other places it is known.
+/// Takes no memory.
 fn are_linked(metamodel: &Metamodel, work: &UnitOfWork, places: &[usize]) -> bool
     requires ready { IsReady metamodel.now (now work.now) }
     requires looked { marked.AreLooked (λ e. marked.is_linked_if_managed metamodel.now
@@ -56,8 +58,9 @@ fn are_linked(metamodel: &Metamodel, work: &UnitOfWork, places: &[usize]) -> boo
     true
 }
 
-/// Persists what the managed objects of a context lead to along relations that cascade persist, as `persist_reachable`. Where each
-/// managed object among these leads to managed ones alone, as all others do, it looks at no other, and nothing is to be done.
+/// Persists what the managed objects of a context lead to along relations that cascade persist, as
+/// `persist_reachable`. Where each managed object among these leads to managed ones alone, as all
+/// others do, it looks at no other, and nothing is to be done.
 pub(crate) fn persist_from_looked<B: Behaviour>(
     alloc: Global,
     unit: &ServedUnit<B>,
@@ -69,13 +72,11 @@ pub(crate) fn persist_from_looked<B: Behaviour>(
     requires entered { marked.AreEntered (now work.old) }
     requires looked { marked.AreLooked (λ e. marked.is_linked_if_managed unit.now.metamodel
         (now work.old) e.object ≡ true) work.old.context.now places.now }
-    ensures meets { let world = world_of_unit B.meaning unit.now in
-        Meets result (now work.new) (flushes.persist_reachable world (now work.old)) }
+    ensures carries { let world = world_of_unit B.meaning unit.now in
+        Carries (flushes.persist_reachable world) result work.old work.new }
     ensures ready { OnOk result (IsReady unit.now.metamodel (now work.new)) }
     ensures named { has_distinct_entries unit.now.metamodel (now work.old) ≡ true →
         OnOk result (has_distinct_entries unit.now.metamodel (now work.new) ≡ true) }
-    ensures view { work.new.view ≡ work.old.view }
-    ensures since { since work.new ≡ since work.old }
 {
     if are_linked(&unit.metamodel, work, places) {
         return Ok(());
@@ -83,7 +84,8 @@ pub(crate) fn persist_from_looked<B: Behaviour>(
     persist_reachable(alloc, unit, work)
 }
 
-/// `check_links`, where the entries at other places are known to lead to nothing that is refused. Takes no memory.
+/// `check_links`, where the entries at other places are known to lead to nothing that is refused.
+/// Takes no memory.
 pub(crate) fn check_links_at(
     metamodel: &Metamodel,
     work: &UnitOfWork,
@@ -104,8 +106,8 @@ pub(crate) fn check_links_at(
     Ok(())
 }
 
-/// What the flush writes, in the order of the context, each object checked against the set; of the entries at other places nothing is
-/// written.
+/// What the flush writes, in the order of the context, each object checked against the set; of the
+/// entries at other places nothing is written.
 pub(crate) fn plan_at<B: Behaviour>(
     alloc: Global,
     unit: &ServedUnit<B>,
@@ -133,9 +135,9 @@ pub(crate) fn plan_at<B: Behaviour>(
     Ok(plan)
 }
 
-/// PreUpdate happens to each object that replaces its row (chapter 3.5.2); what it assigns is what the flush finds then. To the objects
-/// of the entries at other places it doesn't. Refused as the first listener or callback that refuses; `OutOfMemory` where a growth was
-/// refused.
+/// PreUpdate happens to each object that replaces its row (chapter 3.5.2); what it assigns is what
+/// the flush finds then. To the objects of the entries at other places it doesn't. Refused as the
+/// first listener or callback that refuses; `OutOfMemory` where a growth was refused.
 pub(crate) fn tell_updates_at<B: Behaviour>(
     alloc: Global,
     unit: &ServedUnit<B>,
@@ -178,8 +180,8 @@ fn has_no_orphan(
     Ok(orphans.len() == 0)
 }
 
-/// Whether no object of a context has an orphan; of the entries at other places it is known. Fails for want of memory alone, with
-/// `OutOfMemory`.
+/// Whether no object of a context has an orphan; of the entries at other places it is known. Fails
+/// for want of memory alone, with `OutOfMemory`.
 fn are_without_orphans(
     alloc: Global,
     metamodel: &Metamodel,
@@ -202,7 +204,8 @@ fn are_without_orphans(
     Ok(true)
 }
 
-/// `remove_orphans`, where the entries at other places have none. Where these have none either, nothing is to be done.
+/// `remove_orphans`, where the entries at other places have none. Where these have none either,
+/// nothing is to be done.
 pub(crate) fn remove_orphans_at<B: Behaviour>(
     alloc: Global,
     unit: &ServedUnit<B>,
@@ -212,13 +215,11 @@ pub(crate) fn remove_orphans_at<B: Behaviour>(
     requires ready { IsReady unit.now.metamodel (now work.old) }
     requires looked { marked.AreLooked (λ e. marked.has_no_orphan unit.now.metamodel
         (now work.old) e.object ≡ true) work.old.context.now places.now }
-    ensures meets { let world = world_of_unit B.meaning unit.now in
-        Meets result (now work.new) (flushes.remove_orphans world (now work.old)) }
+    ensures carries { let world = world_of_unit B.meaning unit.now in
+        Carries (flushes.remove_orphans world) result work.old work.new }
     ensures ready { OnOk result (IsReady unit.now.metamodel (now work.new)) }
     ensures named { has_distinct_entries unit.now.metamodel (now work.old) ≡ true →
         OnOk result (has_distinct_entries unit.now.metamodel (now work.new) ≡ true) }
-    ensures view { work.new.view ≡ work.old.view }
-    ensures since { since work.new ≡ since work.old }
 {
     if are_without_orphans(alloc, &unit.metamodel, work, places)? {
         return Ok(());
@@ -226,9 +227,10 @@ pub(crate) fn remove_orphans_at<B: Behaviour>(
     remove_orphans(alloc, unit, work)
 }
 
-/// The base of each managed object takes the members that its relations have now (chapter 3.2.4), as far as they were read; those of the
-/// entries at other places have them. An entry changes only where these are others, so that a context that nothing was done to takes no
-/// memory for good. `OutOfMemory` is the only refusal.
+/// The base of each managed object takes the members that its relations have now (chapter 3.2.4),
+/// as far as they were read; those of the entries at other places have them. An entry changes only
+/// where these are others, so that a context that nothing was done to takes no memory for good.
+/// `OutOfMemory` is the only refusal.
 pub(crate) fn remember_at(
     alloc: Global,
     metamodel: &Metamodel,

@@ -23,7 +23,8 @@ fn write(view: &mut OpenSet, planned: &Planned) -> Result<(), Cause>
     }
 }
 
-/// Writes a plan over the set that the manager sees. What a refused call wrote is undone with the work.
+/// Writes a plan over the set that the manager sees. What a refused call wrote is undone with the
+/// work.
 pub fn write_all(work: &mut UnitOfWork, plan: &[Planned]) -> Result<(), Cause>
     ensures ok { OnOk result (now work.new
         ≡ record (now work.old) { view = plans.write_each plan.now (now work.old).view }) }

@@ -1,5 +1,5 @@
--- What the program's stored functions mean (Jakarta Persistence 3.1, chapters 3.5 listeners and callbacks, 3.8
--- converters).
+-- What the program's stored functions mean (Jakarta Persistence 3.1, chapters 3.5 listeners and
+-- callbacks, 3.8 converters).
 use Rattle.std.specs.Prelude.{ℕ, ℤ, pos, negsuc, ◌+ℤ◌, int_lt, List, [], ◌∷◌, ◌++◌, find, codes, bytes_eq, if◌then◌else◌, Option, Some, None, option_map, unwrap_or, Result, Ok, Err}
 use Rattle.hex.specs.Hex.{encode_lower, decode_of}
 use Rattle.hex.specs.declared.error.FromHexError.{FromHexError}
@@ -16,6 +16,7 @@ use Rattle.jpa_functions.specs.declared.make.Converter.{Converter}
 
 -- ---- listeners
 
+-- the value under a name, with the name
 abbrev pub named_so : List Named → List ℕ → Option Named
 named_so values name = find (λ n. same_name n.name name) values
 
@@ -23,12 +24,15 @@ named_so values name = find (λ n. same_name n.name name) values
 abbrev pub value_of : Image → List ℕ → Option Value
 value_of image name = option_map (λ n. n.value) (named_so image.values name)
 
+-- a value, or null where there is none
 abbrev pub value_or_null : Option Value → Value
 value_or_null value = unwrap_or value Value.Null
 
+-- the answer that assigns one value
 abbrev pub assign : List ℕ → Value → Heard
 assign name value = Heard.Assign ((record { name = name; value = value }) ∷ [])
 
+-- the greatest integer, 2^63 - 1
 abbrev pub greatest : ℤ
 greatest = pos 9223372036854775807
 
@@ -47,6 +51,7 @@ abbrev pub required : List ℕ → Option Value → Heard
 required name None = Heard.Throw (codes "require " ++ name)
 required name (Some v) = if is_null v then Heard.Throw (codes "require " ++ name) else Heard.Assign []
 
+-- what a listener answers to what it sees (chapter 3.5)
 abbrev pub heard_by : Listener → Image → Heard
 heard_by (Listener.SetText given) image = assign given.attribute (Value.Text given.value)
 heard_by (Listener.Copy from to) image = assign to (value_or_null (value_of image from))
@@ -61,6 +66,7 @@ abbrev pub flipped : ℤ → ℤ
 flipped (pos n) = negsuc n
 flipped (negsuc n) = pos n
 
+-- an integer turned round; other values throw
 abbrev pub flip : Value → Option Value
 flip (Value.Int n) = Some (Value.Int (flipped n))
 flip v = None
@@ -74,13 +80,16 @@ digits_of v = None
 abbrev pub if_written_so : List ℕ → List ℕ → Option Value
 if_written_so digits bytes = if bytes_eq (encode_lower bytes) digits then Some (Value.Bytes bytes) else None
 
+-- the bytes that were decoded, where their digits are those
 abbrev pub if_decoded : List ℕ → Result (List ℕ) FromHexError → Option Value
 if_decoded digits (Ok bytes) = if_written_so digits bytes
 if_decoded digits (Err e) = None
 
+-- the bytes of digits in lower case
 abbrev pub bytes_in : List ℕ → Option Value
 bytes_in digits = if_decoded digits (decode_of digits)
 
+-- the bytes of a text of digits in lower case; other values throw
 abbrev pub bytes_of : Value → Option Value
 bytes_of (Value.Text digits) = bytes_in digits
 bytes_of v = None

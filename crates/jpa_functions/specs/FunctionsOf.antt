@@ -1,4 +1,5 @@
--- Which functions JSON data describes: each object has its name, its make, and the members of the make and no others.
+-- Which functions JSON data describes: each object has its name, its make, and the members of the
+-- make and no others.
 use Rattle.std.specs.Prelude.{ℕ, ◌==◌, List, [], codes, bytes_eq, if◌then◌else◌, Option, Some, None}
 use Rattle.std.specs.Str.{is_utf8}
 use Rattle.serde_json.specs.Data.{Data, Items, no_items, item}
@@ -26,14 +27,17 @@ pair_in (item a (item c no_items)) = do
   Some (record { attribute = attribute; column = column })
 pair_in ds = None
 
+-- a pair of a table
 abbrev pub pair_of : Data → Option Pair
 pair_of d = as_array d >>= pair_in
 
+-- a table of pairs that share no side
 unfoldable pub table_with : List Pair → Option Table
 table_with pairs = do
   apart ← proof_of (are_apart pairs)
   Some (record { pairs = pairs; apart = apart })
 
+-- a table: its name, its make and its pairs
 unfoldable pub table_of : Data → Option Converter
 table_of d = do
   all ← guard (count_of d == 3)
@@ -50,6 +54,7 @@ text_for attribute value = do
   is_text ← proof_of (is_utf8 value)
   Some (record { attribute = attribute; value = value; is_text = is_text })
 
+-- a listener that sets an attribute to a text
 unfoldable pub set_text_of : Data → Option Listener
 set_text_of d = do
   all ← guard (count_of d == 4)
@@ -58,6 +63,7 @@ set_text_of d = do
   given ← text_for attribute value
   Some (Listener.SetText given)
 
+-- a listener that copies one attribute to another
 unfoldable pub copy_of : Data → Option Listener
 copy_of d = do
   all ← guard (count_of d == 4)
@@ -65,12 +71,14 @@ copy_of d = do
   to ← text_at (codes "to") d
   Some (Listener.Copy from to)
 
+-- a listener that counts in an attribute
 unfoldable pub count_listener_of : Data → Option Listener
 count_listener_of d = do
   all ← guard (count_of d == 3)
   attribute ← text_at (codes "attribute") d
   Some (Listener.Count attribute)
 
+-- a listener that requires an attribute
 unfoldable pub require_of : Data → Option Listener
 require_of d = do
   all ← guard (count_of d == 3)
@@ -79,9 +87,11 @@ require_of d = do
 
 -- ---- functions
 
+-- a listener as a function
 abbrev pub listener : Option Listener → Option Make
 listener l = l >>= λ m. Some (Make.Listener m)
 
+-- a converter as a function
 abbrev pub converter : Option Converter → Option Make
 converter c = c >>= λ m. Some (Make.Converter m)
 
@@ -102,6 +112,7 @@ made_of word d =
     else if bytes_eq word (codes "hextext") then bare (Make.Converter Converter.Hextext) d
     else None
 
+-- a function: its name, and what it makes
 unfoldable pub function_of : Data → Option Function
 function_of d = do
   name ← text_at (codes "name") d

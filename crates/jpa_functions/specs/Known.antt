@@ -12,13 +12,16 @@ module _ {L C : Type 0} (r : Registered L C) where
   abbrev pub listener_is_known : Listener → Bool
   listener_is_known l = is_some (known_as l.name r.listeners)
 
+  -- a converter that is registered, or none
   abbrev pub converter_is_known : Option (List ℕ) → Bool
   converter_is_known None = true
   converter_is_known (Some name) = is_some (known_as name r.converters)
 
+  -- an attribute's converter is registered, or it has none
   abbrev pub attribute_is_known : Attribute → Bool
   attribute_is_known a = converter_is_known a.converter
 
+  -- all that an entity names is registered
   abbrev pub entity_is_known : Entity → Bool
   entity_is_known e = list_all listener_is_known e.listeners && list_all listener_is_known e.callbacks && list_all attribute_is_known e.attributes
 

@@ -1,5 +1,5 @@
--- The laws of the functions: the two directions of a converter are inverse, and a listener that sees values of the
--- program answers such.
+-- The laws of the functions: the two directions of a converter are inverse, and a listener that
+-- sees values of the program answers such.
 use Rattle.std.specs.Prelude.{◌≡◌, ◌↔◌, ◌⊎◌, ◌<◌, ◌+◌, ◌-◌, ℕ, zero, suc, ℤ, pos, negsuc, ◌+ℤ◌, int_lt, nat_lt, Bool, true, false, not, ◌&&◌, ◌||◌, List, [], ◌∷◌, find, cond, if◌then◌else◌, codes, bytes_eq, Option, Some, None, option_map, Result, Ok, Err}
 use Rattle.std.specs.List.{list_all, list_any}
 use Rattle.std.specs.Cmp.{Equal-is, tied_itself, first_so, second_so}
@@ -27,6 +27,7 @@ use Rattle.jpa_functions.specs.Functions.{named_so, value_of, value_or_null, ass
 
 -- ---- small facts
 
+-- false is not true
 pub false_true : false ≡ true → ⊥
 false_true e = subst T (sym e) tt
 
@@ -147,6 +148,7 @@ to_digits v (Value.Int n) e = absurd (none-some v e)
 to_digits v (Value.Text digits) e = from_digits digits (decode_of digits) v e
 to_digits v (Value.Bytes bytes) e = absurd (none-some v e)
 
+-- the two directions of each converter are inverse (chapter 3.8)
 pub inverse : ConvertersAreInverse meaning
 inverse Converter.Flip v d h g = (turned_round v d, turned_round d v)
 inverse (Converter.Table table) v d h g = table_inverse table.pairs v d table.apart
@@ -198,6 +200,7 @@ required_representable name (Some (Value.Int n)) = refl
 required_representable name (Some (Value.Text bytes)) = refl
 required_representable name (Some (Value.Bytes bytes)) = refl
 
+-- each listener that sees values of the program answers such
 pub representable : ListenersAnswerRepresentable meaning
 representable (Listener.SetText given) image h = assigned given.attribute (Value.Text given.value) given.is_text
 representable (Listener.Copy from to) image h = assigned to (value_or_null (value_of image from)) (found_representable image.values from h)

@@ -11,11 +11,13 @@ use Rattle.jpa_functions.specs.declared.make.Make.{Make}
 use Rattle.jpa_functions.specs.declared.make.Listener.{Listener}
 use Rattle.jpa_functions.specs.declared.make.Converter.{Converter}
 
+-- whether both are listeners, or both converters
 abbrev pub are_of_one_sort : Make → Make → Bool
 are_of_one_sort (Make.Listener l) (Make.Listener m) = true
 are_of_one_sort (Make.Converter c) (Make.Converter d) = true
 are_of_one_sort a b = false
 
+-- whether two functions of one sort have one name
 abbrev pub share_a_name : Function → Function → Bool
 share_a_name f g = are_of_one_sort f.make g.make && same_name f.name g.name
 
@@ -25,21 +27,26 @@ are_named_once = none_meets share_a_name
 
 -- ---- what is registered
 
+-- a listener under a name, where the function is one
 abbrev pub listener_so : List ℕ → Make → Option (Known Listener)
 listener_so name (Make.Listener l) = Some (record { name = name; what = l })
 listener_so name (Make.Converter c) = None
 
+-- a converter under a name, where the function is one
 abbrev pub converter_so : List ℕ → Make → Option (Known Converter)
 converter_so name (Make.Listener l) = None
 converter_so name (Make.Converter c) = Some (record { name = name; what = c })
 
+-- the listeners among functions
 abbrev pub listeners_in : List Function → List (Known Listener)
 listeners_in = filter_map (λ f. listener_so f.name f.make)
 
+-- the converters among functions
 abbrev pub converters_in : List Function → List (Known Converter)
 converters_in = filter_map (λ f. converter_so f.name f.make)
 
--- each function in its sort under its name, in the order of the list; a second name of a sort is refused
+-- each function in its sort under its name, in the order of the list; a second name of a sort is
+-- refused
 abbrev pub registered : List Function → Result (Registered Listener Converter) Cause
 registered fs =
     if are_named_once fs then Ok (record { listeners = listeners_in fs; converters = converters_in fs })

@@ -108,8 +108,8 @@ fn bytes_of(alloc: Global, value: &Value) -> Result<Option<Value>, Cause>
     }
 }
 
-/// What a converter makes of an attribute's value for its column, nothing where it throws; `OutOfMemory` where a
-/// growth was refused.
+/// What a converter makes of an attribute's value for its column, nothing where it throws;
+/// `OutOfMemory` where a growth was refused.
 pub(crate) fn to_column(
     alloc: Global,
     converter: &Converter,
@@ -125,8 +125,8 @@ pub(crate) fn to_column(
     }
 }
 
-/// What a converter makes of a column's value for its attribute, nothing where it throws; `OutOfMemory` where a
-/// growth was refused.
+/// What a converter makes of a column's value for its attribute, nothing where it throws;
+/// `OutOfMemory` where a growth was refused.
 pub(crate) fn to_attribute(
     alloc: Global,
     converter: &Converter,

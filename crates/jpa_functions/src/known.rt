@@ -53,8 +53,8 @@ fn entities_are_known<B: Behaviour>(registry: &Registry<B>, entities: &[Entity])
         .all(|entity| entity_is_known(registry, entity))
 }
 
-/// Whether each listener, callback and converter that a unit names is registered in its sort (Jakarta Persistence
-/// 3.1, chapters 3.5 and 3.8). Takes no memory.
+/// Whether each listener, callback and converter that a unit names is registered in its sort
+/// (Jakarta Persistence 3.1, chapters 3.5 and 3.8). Takes no memory.
 pub fn names_are_known<B: Behaviour>(metamodel: &Metamodel, registry: &Registry<B>) -> bool
     ensures { result ≡ known.names_are_known registry.now metamodel.now }
 {

@@ -16,15 +16,15 @@ use jpa_value::{Cause, MappingFault, Seq};
 use serde_json::Value as Json;
 use std::alloc::Global;
 
-/// The stored functions that a mapping describes, in the order of its member `functions`; none where it has no such
-/// member. The bytes are the whole mapping, a text of JSON in UTF-8.
+/// The stored functions that a mapping describes, in the order of its member `functions`; none
+/// where it has no such member. The bytes are the whole mapping, a text of JSON in UTF-8.
 ///
-/// Refuses as `Mapping(Json)` bytes that are no UTF-8 or a text that `serde_json` does not read, else as
-/// `Mapping(Shape)` JSON that is no object, as whoever reads the entities of the mapping does. Else refuses as
-/// `Mapping(Function)` functions of another form: no list of objects, another make, a member that is missing, that
-/// the make does not have or that is of another type, a pair of a table that is no list of two values (null and
-/// objects that live are none), a side of a table that stands twice, a second name of one sort. `OutOfMemory` where
-/// a growth was refused.
+/// Refuses as `Mapping(Json)` bytes that are no UTF-8 or a text that `serde_json` does not read,
+/// else as `Mapping(Shape)` JSON that is no object, as whoever reads the entities of the mapping
+/// does. Else refuses as `Mapping(Function)` functions of another form: no list of objects, another
+/// make, a member that is missing, that the make does not have or that is of another type, a pair
+/// of a table that is no list of two values (null and objects that live are none), a side of a
+/// table that stands twice, a second name of one sort. `OutOfMemory` where a growth was refused.
 pub fn read_functions(alloc: Global, bytes: &[u8]) -> Result<Seq<Function>, Cause>
     ensures functions { IsUnlessMemory result (spec.functions_in bytes.now) }
     ensures once { IfOk result (λ functions. are_named_once functions ≡ true) }

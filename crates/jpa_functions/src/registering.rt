@@ -12,9 +12,9 @@ use jpa_behaviour::Registry;
 use jpa_value::{Cause, Seq};
 use std::alloc::Global;
 
-/// The registry of these functions, each in its sort under its name, in the order of the list. A second name of a
-/// sort is `IllegalArgument(second)`; functions that `read_functions` answered have none. `OutOfMemory` where a
-/// growth was refused.
+/// The registry of these functions, each in its sort under its name, in the order of the list. A
+/// second name of a sort is `IllegalArgument(second)`; functions that `read_functions` answered
+/// have none. `OutOfMemory` where a growth was refused.
 pub fn registry_of(
     alloc: Global,
     functions: Seq<Function>,

@@ -1,4 +1,5 @@
--- What set makes of an object, or why it is refused (Jakarta Persistence 3.1, chapters 2.2 and 3.2).
+-- What set makes of an object, or why it is refused (Jakarta Persistence 3.1, chapters 2.2 and
+-- 3.2).
 use Rattle.std.specs.Prelude.{ℕ, Bool, true, false, List, slice_get, Option, Some, None, Result, Ok, Err}
 use Rattle.jpa_value.specs.declared.value.Value.{Value}
 use Rattle.jpa_value.specs.declared.refusal.Cause.{Cause}
@@ -17,11 +18,13 @@ use Rattle.jpa_heap.specs.Objects.{object_at, is_new, with_value, with_held}
 
 -- ---- which values a member takes
 
+-- a key part takes a value that fits its kind
 abbrev pub fits_part : Option Part → Handed → Bool
 fits_part None v = false
 fits_part (Some part) (Handed.Plain v) = fits part.kind v
 fits_part (Some part) (Handed.Object k) = false
 
+-- a version takes null and integers
 abbrev pub fits_version : Handed → Bool
 fits_version (Handed.Plain Value.Null) = true
 fits_version (Handed.Plain (Value.Int n)) = true
@@ -34,11 +37,13 @@ abbrev pub fits_attribute : Option Attribute → Value → Bool
 fits_attribute None v = false
 fits_attribute (Some a) v = fits a.kind v
 
+-- an attribute takes a value that fits it, and no object
 abbrev pub fits_plain : Option Attribute → Handed → Bool
 fits_plain a (Handed.Plain v) = fits_attribute a v
 fits_plain a (Handed.Object k) = false
 
--- a to-one relation takes null and an object of the relation's target or a subclass, in whatever state
+-- a to-one relation takes null and an object of the relation's target or a subclass, in whatever
+-- state
 abbrev pub fits_link : PersistenceUnit → List LiveObject → ℕ → Handed → Bool
 fits_link m objects target (Handed.Plain Value.Null) = true
 fits_link m objects target (Handed.Plain (Value.Int n)) = false
@@ -46,10 +51,12 @@ fits_link m objects target (Handed.Plain (Value.Text bytes)) = false
 fits_link m objects target (Handed.Plain (Value.Bytes bytes)) = false
 fits_link m objects target (Handed.Object k) = is_kind_of m (object_at objects k).class target
 
+-- a value that is handed in; null where an object is
 abbrev pub plain : Handed → Value
 plain (Handed.Plain v) = v
 plain (Handed.Object k) = Value.Null
 
+-- the link to an object that is handed in; none where a value is
 abbrev pub link_to : Handed → Link
 link_to (Handed.Plain v) = Link.None
 link_to (Handed.Object k) = Link.Object k
@@ -67,11 +74,13 @@ set_part parts x v i =
     unless_refused (fits_part (slice_get parts i) v) Argument.Type
     (unless_refused (is_new x.life) Argument.Key (Ok (with_value x (Member.KeyPart i) (plain v))))
 
+-- the version is set of a new object alone, to null or an integer
 abbrev pub set_version : LiveObject → Handed → Result LiveObject Cause
 set_version x v =
     unless_refused (fits_version v) Argument.Type
     (unless_refused (is_new x.life) Argument.Version (Ok (with_value x Member.Version (plain v))))
 
+-- an attribute is set to a value that fits it, in any state of the object
 abbrev pub set_attribute : List Attribute → LiveObject → Handed → ℕ → Result LiveObject Cause
 set_attribute attributes x v i = unless_refused (fits_plain (slice_get attributes i) v) Argument.Type (Ok (with_value x (Member.Attribute i) (plain v)))
 

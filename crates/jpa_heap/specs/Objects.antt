@@ -1,4 +1,5 @@
--- Live objects: how a new one is, its identity, and its members (Jakarta Persistence 3.1, chapters 2.4 and 3.2).
+-- Live objects: how a new one is, its identity, and its members (Jakarta Persistence 3.1, chapters
+-- 2.4 and 3.2).
 use Rattle.std.specs.Prelude.{ℕ, zero, suc, ℤ, pos, negsuc, Bool, true, false, not, nat_lt, List, [], map, slice_index_or, slice_set, Option, Some, None, if◌then◌else◌}
 use Rattle.std.specs.List.{list_all}
 use Rattle.jpa_value.specs.declared.value.Value.{Value}
@@ -13,9 +14,11 @@ use Rattle.jpa_heap.specs.declared.Held.{Held}
 use Rattle.jpa_heap.specs.declared.Life.{Life}
 use Rattle.jpa_heap.specs.declared.LiveObject.{LiveObject}
 
+-- what stands where a place has no object
 abbrev pub no_object : LiveObject
 no_object = record { class = 0; key = []; version = None; values = []; relations = []; life = Life.Detached }
 
+-- the object at a place
 abbrev pub object_at : List LiveObject → ℕ → LiveObject
 object_at objects n = slice_index_or objects n no_object
 
@@ -24,6 +27,7 @@ abbrev pub empty_held : Bool → Held
 empty_held true = Held.One Link.None
 empty_held false = Held.Many (Collection.Fetched [])
 
+-- a new object of a class: null values, links to nothing, empty collections (chapter 3.2.1)
 abbrev pub new_object : PersistenceUnit → ℕ → LiveObject
 new_object m class =
     record {
@@ -35,6 +39,7 @@ new_object m class =
       life = Life.New;
     }
 
+-- whether no part of a key is null
 abbrev pub is_whole : List Value → Bool
 is_whole key = list_all (λ part. not (is_null part)) key
 
@@ -42,15 +47,19 @@ is_whole key = list_all (λ part. not (is_null part)) key
 abbrev pub identity_of : PersistenceUnit → LiveObject → Option Identity
 identity_of m x = if is_whole x.key then Some (record { table = (root_of m x.class).table; key = x.key }) else None
 
+-- what an object holds in a relation
 abbrev pub held_at : LiveObject → ℕ → Held
 held_at x r = slice_index_or x.relations r (Held.One Link.None)
 
+-- an object that holds this in a relation
 abbrev pub with_held : LiveObject → ℕ → Held → LiveObject
 with_held x r h = record x { relations = slice_set x.relations r h }
 
+-- an object in this state
 abbrev pub with_life : LiveObject → Life → LiveObject
 with_life x l = record x { life = l }
 
+-- whether a state is new
 abbrev pub is_new : Life → Bool
 is_new Life.New = true
 is_new _ = false
@@ -61,10 +70,12 @@ place_of count (pos zero) = None
 place_of count (pos (suc n)) = if nat_lt n count then Some n else None
 place_of count (negsuc n) = None
 
+-- a version as a value; null where there is none
 abbrev pub version_value : Option ℤ → Value
 version_value None = Value.Null
 version_value (Some n) = Value.Int n
 
+-- the version that a value is: an integer, else none
 abbrev pub to_version : Value → Option ℤ
 to_version (Value.Int n) = Some n
 to_version _ = None

@@ -6,7 +6,8 @@ use Rattle.jpa_model.specs.Chains.{attributes_of, relations_of, root_of}
 use Rattle.jpa_heap.specs.declared.Handed.{Handed}
 use Rattle.jpa_heap.specs.declared.LiveObject.{LiveObject}
 
--- an object of an entity, with a value for each part of its key and each attribute, and what it holds in each relation
+-- an object of an entity, with a value for each part of its key and each attribute, and what it
+-- holds in each relation
 pub record HasShape (m : PersistenceUnit) (x : LiveObject) : Type 0 where
   pub class : x.class < length m.entities
   pub key : length x.key ≡ length (root_of m x.class).key

@@ -58,8 +58,8 @@ fn empty_relations(alloc: Global, relations: &[Relation]) -> Result<Seq<Held>, C
     Ok(held)
 }
 
-/// A new object of an entity, which no manager knows: its values are null, and it holds no object (Jakarta Persistence
-/// 3.1, chapter 3.2.1). Fails for want of memory alone, with `OutOfMemory`.
+/// A new object of an entity, which no manager knows: its values are null, and it holds no object
+/// (Jakarta Persistence 3.1, chapter 3.2.1). Fails for want of memory alone, with `OutOfMemory`.
 pub fn new_object(alloc: Global, metamodel: &Metamodel, class: usize) -> Result<LiveObject, Cause>
     requires { class < length metamodel.now.entities }
     ensures ok { IfOk result (λ object. object ≡ objects.new_object metamodel.now class) }
@@ -87,8 +87,8 @@ pub fn is_whole(key: &[Value]) -> bool
     true
 }
 
-/// The identity of an object: none while its key isn't whole (chapter 2.4). Fails for want of memory alone, with
-/// `OutOfMemory`.
+/// The identity of an object: none while its key isn't whole (chapter 2.4). Fails for want of
+/// memory alone, with `OutOfMemory`.
 pub fn identity_of(metamodel: &Metamodel, object: &LiveObject) -> Result<Option<Identity>, Cause>
     requires { object.now.class < length metamodel.now.entities }
     ensures ok { IfOk result (λ id. id ≡ objects.identity_of metamodel.now object.now) }

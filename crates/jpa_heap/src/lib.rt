@@ -1,8 +1,9 @@
 //! Live objects: what an application holds of its entities.
 //!
-//! Their model is plain data. An object goes by its place in the heap, a list of live objects, and holds its values and
-//! relations by their places in the chain of its class. `specs/Objects.antt` says how a new object is and what names
-//! it, `specs/Assign.antt` what `set` makes of it. The crate stands on the metamodel.
+//! Their model is plain data. An object goes by its place in the heap, a list of live objects, and
+//! holds its values and relations by their places in the chain of its class. `specs/Objects.antt`
+//! says how a new object is and what names it, `specs/Assign.antt` what `set` makes of it. The
+//! crate stands on the metamodel.
 #![tactic(auto)]
 
 mod copy;
@@ -38,7 +39,8 @@ pub enum Held {
     Many(Collection),
 }
 
-/// Where a live object stands in its life cycle (chapter 3.2), with the place of the manager that holds it.
+/// Where a live object stands in its life cycle (chapter 3.2), with the place of the manager that
+/// holds it.
 #[derive(Clone, Copy)]
 pub enum Life {
     New,
@@ -47,8 +49,8 @@ pub enum Life {
     Detached,
 }
 
-/// A live object: a value for each part of its key and for each attribute of the chain, and what it holds in each
-/// relation of the chain.
+/// A live object: a value for each part of its key and for each attribute of the chain, and what it
+/// holds in each relation of the chain.
 #[derive(Drop)]
 pub struct LiveObject {
     pub class: usize,

@@ -197,12 +197,12 @@ fn set_member(
     }
 }
 
-/// An object after one of its members, by its name, took what was handed in (Jakarta Persistence 3.1, chapters 2.2 and
-/// 3.2). The object stands at this place of the heap.
+/// An object after one of its members, by its name, took what was handed in (Jakarta Persistence
+/// 3.1, chapters 2.2 and 3.2). The object stands at this place of the heap.
 ///
-/// Refused are, as `IllegalArgument`: a name that is no member's or a collection's (`Name`); what the member doesn't take
-/// (`Type`); and a part of the key (`Key`) or the version (`Version`) of an object that isn't new. `OutOfMemory` where a
-/// growth was refused.
+/// Refused are, as `IllegalArgument`: a name that is no member's or a collection's (`Name`); what
+/// the member doesn't take (`Type`); and a part of the key (`Key`) or the version (`Version`) of an
+/// object that isn't new. `OutOfMemory` where a growth was refused.
 #[tactic(auto, using(crate::proofs::Placed::placed, crate::proofs::Placed::by_name))]
 pub fn assign(
     metamodel: &Metamodel,

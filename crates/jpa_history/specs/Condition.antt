@@ -1,4 +1,5 @@
--- When a description gives a history: revision 1 has none of its members, and revision 2 meets condition 8 on them.
+-- When a description gives a history: revision 1 has none of its members, and revision 2 meets
+-- condition 8 on them.
 use Rattle.std.specs.Prelude.{◌≡◌, ◌⊎◌, ℕ, ℤ, pos, Bool, true, not, ◌&&◌, ◌||◌, ◌==◌, List, [], ◌∷◌, ◌++◌, map, filter, length, Option, Some, None, is_some, unsigned_abs, if◌then◌else◌, Result, Ok, Err, IsTrue}
 use Rattle.std.specs.List.{list_all, list_any, flat_map, range_with_len}
 use Rattle.std.specs.Ordering.{int_eq}
@@ -24,40 +25,49 @@ use Rattle.jpa_history.specs.History.{class_at, unchanged}
 
 -- ---- what is described
 
+-- what an attribute is beside revision 1: moved, new or kept
 abbrev pub change_by : Option ℤ → Option Value → Option ℤ → Change
 change_by since default (Some column) = Change.Moved (unsigned_abs column)
 change_by (Some revision) default None = Change.New default
 change_by None default None = Change.Kept
 
+-- what a description says that an attribute is beside revision 1
 abbrev pub change_of : DraftChange → Change
 change_of c = change_by c.since c.default c.was
 
+-- the numbers of a list, where there is one
 abbrev pub some_list : Option (List ℤ) → List ℤ
 some_list None = []
 some_list (Some numbers) = numbers
 
+-- the history of a class
 abbrev pub class_history_of : DraftClassHistory → ClassHistory
 class_history_of c = record { dropped = map unsigned_abs (some_list c.dropped); changes = map change_of c.changes }
 
+-- the history that a description describes
 abbrev pub history_of : DraftHistory → History
 history_of e = record { classes = map class_history_of e.classes }
 
 -- ---- revision 1 has none of the members, not even an empty list
 
+-- an attribute has none of the members
 abbrev pub says_nothing : DraftChange → Bool
 says_nothing c = not (is_some c.since) && not (is_some c.default) && not (is_some c.was)
 
+-- a class has none of the members
 abbrev pub is_as_before : DraftClassHistory → Bool
 is_as_before c = not (is_some c.dropped) && list_all says_nothing c.changes
 
--- ---- 8. With revision 2 an attribute may be new (its `since` is 2) or have moved (from the column that it `was` in), not
--- both. A new one may have a default, a value of its type of at most 65,535 bytes, and has one where it is required; no
--- other one has. The columns of a hierarchy, those that its attributes had and those that are dropped are distinct and lie
--- from 1 to 1,000,000.
+-- ---- 8. With revision 2 an attribute may be new (its `since` is 2) or have moved (from the column
+-- that it `was` in), not both. A new one may have a default, a value of its type of at most 65,535
+-- bytes, and has one where it is required; no other one has. The columns of a hierarchy, those that
+-- its attributes had and those that are dropped are distinct and lie from 1 to 1,000,000.
 
+-- a value of an attribute's type, short enough
 abbrev pub is_value_of : Attribute → Value → Bool
 is_value_of a v = is_part_of a.kind v && is_short v
 
+-- what condition 8 asks of an attribute
 abbrev pub is_changed_well : Attribute → DraftChange → Bool
 is_changed_well a c =
     if_some (int_eq (pos 2)) c.since && if_some (is_value_of a) c.default && if_some is_number c.was
@@ -71,6 +81,7 @@ all_paired p [] ys = true
 all_paired p (x ∷ xs) [] = true
 all_paired p (x ∷ xs) (y ∷ ys) = p x y && all_paired p xs ys
 
+-- what condition 8 asks of a class by itself
 abbrev pub is_class_changed_well : Entity → DraftClassHistory → Bool
 is_class_changed_well e c = list_all is_number (some_list c.dropped) && all_paired is_changed_well e.attributes c.changes
 
@@ -79,6 +90,7 @@ abbrev pub version_columns : Origin → List ℕ
 version_columns (Origin.Root root) = listed (λ v. v.column) root.version
 version_columns (Origin.Extends parent) = []
 
+-- the columns that a class declares: of its version, its attributes and its links
 abbrev pub columns : PersistenceUnit → ℕ → List ℕ
 columns m class =
     let e = entity_at m class in
@@ -91,6 +103,7 @@ moved_from Change.Kept = []
 moved_from (Change.New default) = []
 moved_from (Change.Moved column) = column ∷ []
 
+-- the columns that a class had in revision 1 and has no more, and those that it drops
 abbrev pub old_columns : History → ℕ → List ℕ
 old_columns h class = flat_map moved_from (class_at h class).changes ++ (class_at h class).dropped
 
@@ -99,6 +112,7 @@ abbrev pub are_distinct : List ℕ → Bool
 are_distinct [] = true
 are_distinct (n ∷ ns) = not (list_any (λ k. n == k) ns) && are_distinct ns
 
+-- the places of the classes
 abbrev pub classes : PersistenceUnit → List ℕ
 classes m = range_with_len 0 (length m.entities)
 
@@ -106,12 +120,15 @@ classes m = range_with_len 0 (length m.entities)
 abbrev pub hierarchy : PersistenceUnit → ℕ → List ℕ
 hierarchy m root = filter (λ class. root_class m class == root) (classes m)
 
+-- the columns that these classes have and had are distinct
 abbrev pub is_apart : PersistenceUnit → History → List ℕ → Bool
 is_apart m h places = are_distinct (flat_map (columns m) places ++ flat_map (old_columns h) places)
 
+-- the columns of each hierarchy, and those that it had, are distinct
 abbrev pub are_apart : PersistenceUnit → History → Bool
 are_apart m h = list_all (λ root. is_apart m h (hierarchy m root)) (classes m)
 
+-- a unit of revision 1 has no history, and one of revision 2 meets condition 8
 abbrev pub has_changes : PersistenceUnit → DraftHistory → Bool
 has_changes m e =
     (m.revision == 1 && list_all is_as_before e.classes)
@@ -121,7 +138,8 @@ has_changes m e =
 abbrev pub checked_history : PersistenceUnit → DraftHistory → Result History Cause
 checked_history m e = if has_changes m e then Ok (history_of e) else Err (Cause.Mapping MappingFault.Model)
 
--- what some description says of the unit; a unit of revision 1 has also the history without a change
+-- what some description says of the unit; a unit of revision 1 has also the history without a
+-- change
 abbrev pub IsHistoryOf : PersistenceUnit → History → Type 0
 IsHistoryOf m h =
     ((m.revision ≡ 1) × (h ≡ unchanged)) ⊎ ((e : DraftHistory) × (IsTrue (has_changes m e) × (h ≡ history_of e)))

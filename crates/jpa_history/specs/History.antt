@@ -1,5 +1,5 @@
--- What a history says of the classes of a unit: of each attribute what it is beside revision 1, and which columns are no
--- more.
+-- What a history says of the classes of a unit: of each attribute what it is beside revision 1, and
+-- which columns are no more.
 use Rattle.std.specs.Prelude.{ℕ, List, [], ◌∷◌, slice_index_or}
 use Rattle.std.specs.List.{flat_map}
 use Rattle.jpa_model.specs.Chains.{chain, entity_at}
@@ -13,6 +13,7 @@ use Rattle.jpa_history.specs.declared.history.History.{History}
 abbrev pub no_class : ClassHistory
 no_class = record { dropped = []; changes = [] }
 
+-- the history of a class
 abbrev pub class_at : History → ℕ → ClassHistory
 class_at h class = slice_index_or h.classes class no_class
 
@@ -30,6 +31,7 @@ changes_of m h class = changed (entity_at m class).attributes (class_at h class)
 abbrev pub changes_along : PersistenceUnit → History → ℕ → List (Attribute × Change)
 changes_along m h class = flat_map (changes_of m h) (chain m class)
 
+-- the columns that a class drops
 abbrev pub dropped_by : History → ℕ → List ℕ
 dropped_by h class = (class_at h class).dropped
 

@@ -123,7 +123,8 @@ fn is_class_changed_well(entity: &Entity, class: &DraftClassHistory) -> bool
         && are_changed_well(entity.attributes.as_slice(), class.changes.as_slice())
 }
 
-/// Whether what is said of each attribute goes together, and dropped columns have numbers of columns.
+/// Whether what is said of each attribute goes together, and dropped columns have numbers of
+/// columns.
 pub(crate) fn are_classes_changed_well(entities: &[Entity], classes: &[DraftClassHistory]) -> bool
     ensures { result
         ≡ condition.all_paired condition.is_class_changed_well entities.now classes.now }

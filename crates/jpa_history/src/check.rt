@@ -35,8 +35,8 @@ fn has_changes(
 
 /// The history of a unit that a description gives beside it.
 ///
-/// `Mapping(Model)` exactly where the description says what revision 1 may not say, or fails condition 8 at revision 2;
-/// `OutOfMemory` where a growth was refused.
+/// `Mapping(Model)` exactly where the description says what revision 1 may not say, or fails
+/// condition 8 at revision 2; `OutOfMemory` where a growth was refused.
 pub fn check_history(
     alloc: Global,
     metamodel: &Metamodel,

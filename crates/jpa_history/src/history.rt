@@ -21,7 +21,8 @@ pub struct ClassHistory {
     pub changes: Seq<Change>,
 }
 
-/// What has changed of a persistence unit since revision 1: one item for each of its entities, in their order.
+/// What has changed of a persistence unit since revision 1: one item for each of its entities, in
+/// their order.
 #[derive(Drop)]
 pub struct History {
     pub classes: Seq<ClassHistory>,

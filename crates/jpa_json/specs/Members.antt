@@ -14,6 +14,7 @@ count_of (string s) = 0
 count_of (array ds) = 0
 count_of (object ms) = members_len ms
 
+-- the text in the member of a name
 abbrev pub text_at : List ℕ → Data → Option (List ℕ)
 text_at name d = get name d >>= as_str
 
@@ -29,5 +30,6 @@ each meaning (item d ds) = do
   xs ← each meaning ds
   Some (x ∷ xs)
 
+-- a list, with the meaning of each item
 abbrev pub list_of : {A : Type 0} → (Data → Option A) → Data → Option (List A)
 list_of meaning d = as_array d >>= each meaning

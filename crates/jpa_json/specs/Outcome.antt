@@ -4,6 +4,7 @@ use Rattle.jpa_value.specs.declared.refusal.Cause.{Cause}
 use Rattle.jpa_json.specs.declared.unread.Unread.{Unread}
 
 infixl 10 ◌>>=◌
+-- goes on with a meaning, where there is one
 abbrev pub ◌>>=◌ : {A B : Type 0} → Option A → (A → Option B) → Option B
 (Some x) >>= f = f x
 None >>= f = None
@@ -28,6 +29,7 @@ abbrev pub Gives : {A B : Type 0} → (A → B) → Result A Unread → Option B
 Gives view (Ok x) meaning = meaning ≡ Some (view x)
 Gives view (Err unread) meaning = Fails unread meaning
 
+-- a thing as it is
 abbrev pub same : {A : Type 0} → A → A
 same x = x
 

@@ -11,13 +11,14 @@ use jpa_value::{Seq, Text};
 use serde_json::Value as Json;
 use std::alloc::Global;
 
-/// What a value of JSON is read as, in the language `L`: a type of the crate that reads, so that it may say how types
-/// of the crates below it are written.
+/// What a value of JSON is read as, in the language `L`: a type of the crate that reads, so that it
+/// may say how types of the crates below it are written.
 pub trait Described<L>: Drop {
     /// What a value says, where it has the form.
     ghost meaning: { Data → Option Self };
 
-    /// What the value says; `Form` where it has another form, `OutOfMemory` where a growth was refused.
+    /// What the value says; `Form` where it has another form, `OutOfMemory` where a growth was
+    /// refused.
     fn read(alloc: Global, json: &Json) -> Result<Self, Unread>
         ensures { Gives same result (meaning (view json.now)) };
 }

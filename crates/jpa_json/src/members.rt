@@ -11,8 +11,8 @@ use jpa_value::Text;
 use serde_json::Value as Json;
 use std::alloc::Global;
 
-/// Whether an object has this many members: where each of as many names is found, there is no other. `Form` where
-/// it has more or fewer; what is no object has none.
+/// Whether an object has this many members: where each of as many names is found, there is no
+/// other. `Form` where it has more or fewer; what is no object has none.
 pub fn only(json: &Json, count: usize) -> Result<(), Unread>
     ensures { Gives same result (guard (members.count_of (view json.now) == count)) }
 {
@@ -47,8 +47,8 @@ pub fn str_at<'v>(json: &'v Json, name: &str) -> Result<&'v str, Unread>
     str_of(member(json, name)?)
 }
 
-/// A copy of a member that is a text; `Form` where it is not there or is no text, `OutOfMemory` where a growth was
-/// refused.
+/// A copy of a member that is a text; `Form` where it is not there or is no text, `OutOfMemory`
+/// where a growth was refused.
 pub fn text_at(alloc: Global, json: &Json, name: &str) -> Result<Text, Unread>
     ensures { Gives same result (members.text_at name.now (view json.now)) }
 {

@@ -7,8 +7,8 @@ use crate::unread::Unread;
 use serde_json::Value as Json;
 use std::alloc::Global;
 
-/// What the bytes say as a text of JSON in UTF-8; `Form` where they are no UTF-8 or `serde_json` does not read the
-/// text, `OutOfMemory` where a growth was refused.
+/// What the bytes say as a text of JSON in UTF-8; `Form` where they are no UTF-8 or `serde_json`
+/// does not read the text, `OutOfMemory` where a growth was refused.
 pub fn json_of(alloc: Global, bytes: &[u8]) -> Result<Json, Unread>
     ensures { Gives view result (text_data bytes.now) }
 {

@@ -31,7 +31,8 @@ impl<T: Drop> From<AllocFailed<T>> for Unread {
     }
 }
 
-/// What was read, or else a refusal: `form` of what has another form, `OutOfMemory` where a growth was refused.
+/// What was read, or else a refusal: `form` of what has another form, `OutOfMemory` where a growth
+/// was refused.
 pub fn or_refuse<T>(read: Result<T, Unread>, form: Cause) -> Result<T, Cause>
     ensures { result ≡ outcome.or_refuse form read }
 {

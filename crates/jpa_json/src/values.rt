@@ -30,8 +30,8 @@ fn bytes_of(alloc: Global, json: &Json) -> Result<Value, Unread>
     bytes_said(alloc, digits)
 }
 
-/// A value that is not null: an integer of 64 bits, a text, or bytes as `{"hex":"0aff"}`; `Form` where it is none,
-/// `OutOfMemory` where a growth was refused.
+/// A value that is not null: an integer of 64 bits, a text, or bytes as `{"hex":"0aff"}`; `Form`
+/// where it is none, `OutOfMemory` where a growth was refused.
 pub fn value_of(alloc: Global, json: &Json) -> Result<Value, Unread>
     ensures { Gives same result (values.value_of (view json.now)) }
 {

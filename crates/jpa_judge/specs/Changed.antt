@@ -1,4 +1,5 @@
--- Changes of a set that was sound: where something was written or taken out, and of which class what stood there was.
+-- Changes of a set that was sound: where something was written or taken out, and of which class
+-- what stood there was.
 use Rattle.std.specs.Prelude.{◌≡◌, ℕ, Bool, false, T, All, List, Option, option_map}
 use Rattle.std.specs.List.{list_any}
 use Rattle.std.specs.FinMap.Entries.{is_sorted}
@@ -23,5 +24,6 @@ pub record IsChangedFrom (m : PersistenceUnit) (before : StoredSet) (changes : L
   pub elsewhere : (q : Identity) → is_changed changes q ≡ false → stored_at after q ≡ stored_at before q
   pub classes : All (λ c. c.class_before ≡ class_at before c.id.now) changes
 
+-- the set after the changes comes from a sound one
 abbrev pub IsChanged : PersistenceUnit → List Change → StoredSet → Type 0
 IsChanged m changes after = (before : StoredSet) × IsChangedFrom m before changes after

@@ -1,4 +1,5 @@
--- What is asked of a set where it was changed: what is required is there, links lead, no target is shared.
+-- What is asked of a set where it was changed: what is required is there, links lead, no target is
+-- shared.
 use Rattle.std.specs.Prelude.{ℕ, Bool, true, false, not, ◌&&◌, ◌||◌, ◌==◌, List, [], ◌∷◌, Option, Some, None}
 use Rattle.std.specs.List.{list_any, list_all, zip}
 use Rattle.jpa_value.specs.declared.value.Identity.{Identity}
@@ -20,18 +21,22 @@ if_there f (Some x) = f x
 
 -- ---- null
 
+-- an object has its required values and links
 abbrev pub has_required : PersistenceUnit → Stored → Bool
 has_required m x = values_there (zip (attributes_of m x.class) x.values) && links_there (zip (relations_of m x.class) x.owned)
 
+-- what stands where something was changed has what is required
 abbrev pub fills : PersistenceUnit → StoredSet → Change → Bool
 fills m s c = if_there (has_required m) (stored_at s c.id.now)
 
 -- ---- reference
 
--- each identity that is owned in these relations leads to an object of the relation's target class or below it
+-- each identity that is owned in these relations leads to an object of the relation's target class
+-- or below it
 abbrev pub links_lead : PersistenceUnit → StoredSet → List (Relation × List Identity) → Bool
 links_lead m s = list_all (λ p. list_all (λ id. is_of m (stored_at s id) (p.0).target) p.1)
 
+-- the links of an object lead to objects of their targets
 abbrev pub object_leads : PersistenceUnit → StoredSet → Stored → Bool
 object_leads m s x = links_lead m s (zip (relations_of m x.class) x.owned)
 
@@ -41,6 +46,7 @@ keeps_class None now = true
 keeps_class (Some class) None = false
 keeps_class (Some class) (Some now) = class == now
 
+-- what stands where something was changed leads well, and so does what leads there
 abbrev pub leads : PersistenceUnit → StoredSet → Change → Bool
 leads m s c = if_there (object_leads m s) (stored_at s c.id.now) && (keeps_class c.class_before (class_at s c.id.now) || leads_well m s c.id.now)
 
@@ -52,10 +58,12 @@ ids_apart column [] ps = true
 ids_apart column (id ∷ ids) ps =
     not (list_any (same_identity id) ids || list_any (λ p. is_of_column column p.0 && list_any (same_identity id) p.1) ps) && ids_apart column ids ps
 
+-- no identity is owned twice in the column of a one-to-one relation
 abbrev pub link_apart : Option ℕ → List Identity → List (Relation × List Identity) → Bool
 link_apart None ids ps = true
 link_apart (Some column) ids ps = ids_apart column ids ps
 
+-- no identity is owned twice in one one-to-one relation of an object
 abbrev pub links_apart : List (Relation × List Identity) → Bool
 links_apart [] = true
 links_apart (p ∷ ps) = link_apart (one_to_one_column (p.0).side) p.1 ps && links_apart ps
@@ -64,13 +72,16 @@ links_apart (p ∷ ps) = link_apart (one_to_one_column (p.0).side) p.1 ps && lin
 abbrev pub links_alone : PersistenceUnit → StoredSet → Identity → List (Relation × List Identity) → Bool
 links_alone m s owner = list_all (λ p. list_all (λ claim. not (has_rival m s claim owner)) (claims_at owner.table (one_to_one_column (p.0).side) p.1))
 
+-- an object shares no target of its one-to-one relations
 abbrev pub object_alone : PersistenceUnit → StoredSet → Identity → Stored → Bool
 object_alone m s id x = let ps = zip (relations_of m x.class) x.owned in links_apart ps && links_alone m s id ps
 
+-- what stands where something was changed shares no target
 abbrev pub is_alone : PersistenceUnit → StoredSet → Change → Bool
 is_alone m s c = if_there (object_alone m s c.id.now) (stored_at s c.id.now)
 
 -- ---- the first part that fails where something was changed
 
+-- the first part of soundness that fails where something was changed, if one does
 abbrev pub fault_at : PersistenceUnit → StoredSet → List Change → Option Persist
 fault_at m s changes = first_fault (list_all (fills m s) changes) (list_all (leads m s) changes) (list_all (is_alone m s) changes)

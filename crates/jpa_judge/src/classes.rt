@@ -1,5 +1,5 @@
-//! What a metamodel says of the class of a stored object, which may be a number that names none: then it declares
-//! nothing, and is a class of its own.
+//! What a metamodel says of the class of a stored object, which may be a number that names none:
+//! then it declares nothing, and is a class of its own.
 ghost use Rattle.std.specs.Prelude.{◌≡◌};
 ghost use Rattle.jpa_model.specs.Chains as chains;
 

@@ -15,13 +15,15 @@ use jpa_model::Metamodel;
 use jpa_open::OpenSet;
 use jpa_value::{Cause, Persist};
 
-/// Whether the set that the manager at work sees is sound still (chapters 2.9, 2.10 and 3.2.4), where it was so before these
-/// changes: required values and links are there, each link leads to an object of its target class or below it, and no two
-/// objects own the same target in one one-to-one relation.
+/// Whether the set that the manager at work sees is sound still (chapters 2.9, 2.10 and 3.2.4),
+/// where it was so before these changes: required values and links are there, each link leads to an
+/// object of its target class or below it, and no two objects own the same target in one one-to-one
+/// relation.
 ///
-/// Else `Persistence` with the first part that fails over the whole set: `Null`, then `Reference`, then `Unique`. Takes no
-/// memory. It looks at what was changed, at what that leads to, and at what leads to an identity that was taken out or has
-/// an object of another class now: with c changes and r references of these in a set of n objects O((c + r) log n) steps.
+/// Else `Persistence` with the first part that fails over the whole set: `Null`, then `Reference`,
+/// then `Unique`. Takes no memory. It looks at what was changed, at what that leads to, and at what
+/// leads to an identity that was taken out or has an object of another class now: with c changes
+/// and r references of these in a set of n objects O((c + r) log n) steps.
 pub fn judge(metamodel: &Metamodel, view: &OpenSet, changes: &[Change<'_>]) -> Result<(), Cause>
     requires rising { T (is_sorted identity_cmp (opened.now view.now)) }
     requires changed { IsChanged metamodel.now changes.now (opened.now view.now) }

@@ -77,14 +77,16 @@ fn keeps_class(before: Option<usize>, object: Option<&Stored>) -> bool
     }
 }
 
-/// Whether each link to an identity leads to an object of its target. Asks first whether there is one at all.
+/// Whether each link to an identity leads to an object of its target. Asks first whether there is
+/// one at all.
 fn leads_well(metamodel: &Metamodel, view: &OpenSet, id: &Identity) -> bool
     ensures { result ≡ leads.leads_well metamodel.now (opened.now view.now) id.now }
 {
     !view.is_led_to(id) || view.leads_well(metamodel, id)
 }
 
-/// Whether the links from and to what stands where something was changed lead to objects of their targets.
+/// Whether the links from and to what stands where something was changed lead to objects of their
+/// targets.
 fn leads(metamodel: &Metamodel, view: &OpenSet, change: &Change<'_>) -> bool
     ensures { result ≡ judged.leads metamodel.now (opened.now view.now) change.now }
 {

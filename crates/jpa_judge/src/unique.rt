@@ -46,7 +46,8 @@ fn is_of_column(side: Side, column: u64) -> bool
     }
 }
 
-/// Whether an identity is owned in one of these relations that is the one-to-one relation of a column.
+/// Whether an identity is owned in one of these relations that is the one-to-one relation of a
+/// column.
 fn is_owned(column: u64, id: &Identity, relations: &[Relation], owned: &[Seq<Identity>]) -> bool
     ensures { result ≡ leads.holds_in (leads.is_of_column column) id.now relations.now owned.now }
 {
@@ -61,8 +62,8 @@ fn is_owned(column: u64, id: &Identity, relations: &[Relation], owned: &[Seq<Ide
     false
 }
 
-/// Whether none of these identities, which are owned in the one-to-one relation of a column, is owned there again or in
-/// one of these relations.
+/// Whether none of these identities, which are owned in the one-to-one relation of a column, is
+/// owned there again or in one of these relations.
 fn ids_apart(column: u64, ids: &[Identity], relations: &[Relation], owned: &[Seq<Identity>]) -> bool
     ensures { result ≡ judged.ids_apart column ids.now (zip relations.now owned.now) }
 {
@@ -74,7 +75,8 @@ fn ids_apart(column: u64, ids: &[Identity], relations: &[Relation], owned: &[Seq
     true
 }
 
-/// Whether none of these identities is owned again in the same one-to-one relation or in one of these.
+/// Whether none of these identities is owned again in the same one-to-one relation or in one of
+/// these.
 fn link_apart(side: Side, ids: &[Identity], relations: &[Relation], owned: &[Seq<Identity>]) -> bool
     ensures { result ≡ judged.link_apart (sets.one_to_one_column side) ids.now
         (zip relations.now owned.now) }

@@ -1,4 +1,5 @@
--- Which row of cells is the lowest damaged one, and what it is for cells without one to stand for nothing.
+-- Which row of cells is the lowest damaged one, and what it is for cells without one to stand for
+-- nothing.
 use Rattle.std.specs.Prelude.{◌≡◌, ◌⊎◌, ℕ, pos, true, nat_lt, List, [], ◌∷◌, ◌++◌, map, Some}
 use Rattle.std.specs.List.{flat_map, AllByRecursion}
 use Rattle.jpa_behaviour.specs.Behaviour.{World}
@@ -16,6 +17,7 @@ use Rattle.jpa_judgment.specs.Sound.{IsSoundRow}
 abbrev pub cells_of_row : ℕ → CellRow → List Cell
 cells_of_row table r = map (λ c. record { table = table; row = r.row; column = c.column; bytes = c.value }) r.cells
 
+-- the cells of the unit's tables
 abbrev pub cells_in : World → Tables → List Cell
 cells_in world tables = flat_map (λ rule. flat_map (cells_of_row rule.table) (tables (pos rule.table))) (schema_of world.model).tables
 

@@ -20,6 +20,7 @@ abbrev pub StartsUnsound : World → Rows → Type 0
 StartsUnsound world [] = ⊥
 StartsUnsound world (e ∷ rows) = IsSoundRow world e.0 e.1 → ⊥
 
+-- the rows before this place are sound, and the row there is not
 pub record IsFirstDamaged (world : World) (rows : Rows) (place : ℕ) : Type 0 where
   pub before : AreSoundRows world (take place rows)
   pub damaged : StartsUnsound world (drop place rows)
@@ -29,6 +30,7 @@ pub record AreOfNone (world : World) (rows : Rows) : Type 0 where
   pub sound : AreSoundRows world rows
   pub none : (set : StoredSet) (numbers : List ℕ) → CanBeHeld world set numbers → rows ≡ rows_of world set numbers → ⊥
 
+-- what a judgment says of rows: what they hold, the first damaged one, or that they are of no set
 abbrev pub IsJudged : World → Rows → Judged → Type 0
 IsJudged world rows (Judged.Held c) = AreHeld world rows c
 IsJudged world rows (Judged.Damaged place) = IsFirstDamaged world rows place

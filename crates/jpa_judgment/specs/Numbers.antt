@@ -17,6 +17,7 @@ natural (Value.Int (negsuc n)) = None
 natural (Value.Text bytes) = None
 natural (Value.Bytes bytes) = None
 
+-- a natural number that is the value of a content, if it is one
 abbrev pub natural_in : Content → Option ℕ
 natural_in (Content.Value v) = natural v
 natural_in (Content.Reference key) = None
@@ -27,6 +28,7 @@ only_number [] = None
 only_number (f ∷ []) = if f.column == 0 then natural_in f.content else None
 only_number (f ∷ g ∷ row) = None
 
+-- a natural number that is a key's only part, if it is one
 abbrev pub only_part : List Value → Option ℕ
 only_part [] = None
 only_part (v ∷ []) = natural v
@@ -45,5 +47,6 @@ abbrev pub generates : ℕ → Origin → Bool
 generates table (Origin.Root root) = (root.table == table) && root.generated
 generates table (Origin.Extends parent) = false
 
+-- whether a root with this table has generated keys
 abbrev pub has_generator : PersistenceUnit → ℕ → Bool
 has_generator m table = list_any (λ (e : Entity). generates table e.origin) m.entities

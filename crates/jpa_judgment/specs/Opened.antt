@@ -1,4 +1,5 @@
--- What the tables of a store are to the unit that opens it: as they are found, or migrated, and what was read of them so.
+-- What the tables of a store are to the unit that opens it: as they are found, or migrated, and
+-- what was read of them so.
 use Rattle.std.specs.Prelude.{◌≡◌, ◌+◌, ℕ, pos, Bool, true, false, ◌==◌, List, [], ◌++◌, Option, None, IfSome, sum_by, if◌then◌else◌}
 use Rattle.std.specs.List.{AllByRecursion, flat_map}
 use Rattle.std.specs.List.Sorted.{IsPermutation}
@@ -36,6 +37,7 @@ due_after m table rows due = if table == 0 then is_due m rows else due
 abbrev pub rows_opened : World → History → Bool → ℕ → List CellRow → List CellRow
 rows_opened world h due table rows = if due then rows_migrated world h (pos table) rows else rows
 
+-- the changes of a table that the migration makes, where it is due
 abbrev pub changes_opened : World → History → Bool → ℕ → List CellRow → List CellChange
 changes_opened world h due table rows = if due then changes_made world h (pos table) rows else []
 

@@ -19,8 +19,10 @@ abbrev pub is_owned_by : PersistenceUnit → StoredSet → List Value → Option
 is_owned_by m set key None = true
 is_owned_by m set key (Some class) = is_of m (stored_at set (owner_of (root_of m class) key)) class
 
+-- whether the owner of a pair's row stands in the set
 abbrev pub is_owned : PersistenceUnit → StoredSet → RowId → Bool
 is_owned m set id = is_owned_by m set id.key (declarer_at m id.table)
 
+-- whether the owner of each row stands in the set
 abbrev pub are_owned : PersistenceUnit → StoredSet → Rows → Bool
 are_owned m set = list_all (λ e. is_owned m set e.0)

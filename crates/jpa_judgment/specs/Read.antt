@@ -20,6 +20,7 @@ Says world rows id row Meaning.Pair = IsPairRow world.model id row
 Says world rows id row Meaning.Number = IsNumberRow world.model id row
 Says world rows id row Meaning.Revision = IsRevisionRow world.model id row
 
+-- a sound row says this meaning, and one without a meaning is not sound
 abbrev pub SaysIfSound : World → Rows → RowId → Row → Option Meaning → Type 0
 SaysIfSound world rows id row None = IsSoundRow world id row → ⊥
 SaysIfSound world rows id row (Some meaning) = Says world rows id row meaning
@@ -41,6 +42,7 @@ pub record AreObjectsOf (world : World) (rows : Rows) (set : StoredSet) : Type 0
   pub same : set ≡ set_in world rows
   pub each : HaveObjects world set rows
 
+-- what was read of rows: their set, or the place of the first damaged one
 abbrev pub AreRead : World → Rows → Objects → Type 0
 AreRead world rows (Objects.Set set) = AreObjectsOf world rows set
 AreRead world rows (Objects.Damaged place) = IsFirstDamaged world rows place

@@ -18,6 +18,7 @@ use Rattle.jpa_rowspace.specs.Space.{Space}
 use Rattle.jpa_judgment.specs.Sound.{IsSoundRow, AreSoundRows}
 use Rattle.jpa_judgment.specs.Judged.{AreOfNone}
 
+-- numbers rise strictly
 abbrev pub IsRising : List ℕ → Type 0
 IsRising = IsAscending (λ a b. a < b)
 
@@ -36,7 +37,8 @@ pub record AreReadWhole (schema : Schema) (tables : Tables) (numbers : List ℕ)
   pub within : AllByRecursion (λ e. list_any (λ t. t == (e.0).table) numbers ≡ true) rows
   pub each : AllByRecursion (λ n. IsReadBy (table_of schema n) (tables (pos n)) (table_rows n rows)) numbers
 
--- those of the first tables, and those of the next one up to a row that is ill-formed, which has these bytes
+-- those of the first tables, and those of the next one up to a row that is ill-formed, which has
+-- these bytes
 pub record AreReadInto (schema : Schema) (tables : Tables) (numbers : List ℕ) (rows : Rows) (table : ℕ) (bytes : List ℕ) : Type 0 where
   pub front : List ℕ
   pub back : List ℕ
@@ -70,17 +72,20 @@ pub record IsFirstUnsound (world : World) (rows : Rows) (table : ℕ) (bytes : L
   pub own : id.table ≡ table
   pub named : key_bytes id.key ≡ bytes
 
--- where each row is sound: the row that ended the reading; else the place of none, as the rows are those of no set
+-- where each row is sound: the row that ended the reading; else the place of none, as the rows are
+-- those of no set
 abbrev pub TellsEnd : World → Rows → Option (ℕ × List ℕ) → ℕ → List ℕ → Type 0
 TellsEnd world rows None table bytes = (table ≡ 0) × (bytes ≡ []) × AreOfNone world rows
 TellsEnd world rows (Some at) table bytes = (table ≡ at.0) × (bytes ≡ at.1) × AreSoundRows world rows
 
+-- the place that is told: the first row that is not sound, else what ended the reading
 abbrev pub IsTold : World → Rows → Option (ℕ × List ℕ) → ℕ → List ℕ → Type 0
 IsTold world rows end table bytes = IsFirstUnsound world rows table bytes ⊎ TellsEnd world rows end table bytes
 
 -- ---- what a reading leaves
 
--- the tables are as they were, and how the database holds them, and so is what is counted apart from SELECTs and faults
+-- the tables are as they were, and how the database holds them, and so is what is counted apart
+-- from SELECTs and faults
 pub record KeepsTables {S : Type 0} (g : Ghosts S) (old new : Space S) : Type 0 where
   pub kept : Keeps g old.store.conn new.store.conn
   pub content : KeepsContent (state g old.store.conn) (state g new.store.conn)

@@ -13,7 +13,8 @@ use Rattle.jpa_judgment.specs.Owners.{are_owned}
 abbrev pub is_marked : PersistenceUnit → Rows → Bool
 is_marked m rows = (m.revision == 1) || is_some (find identity_cmp (number_id 0) rows)
 
--- each pair has its owner, the set is sound, generated keys lie below the next numbers, and the revision has its row
+-- each pair has its owner, the set is sound, generated keys lie below the next numbers, and the
+-- revision has its row
 pub record StandTogether (m : PersistenceUnit) (rows : Rows) (set : StoredSet) (numbers : List ℕ) : Type 0 where
   pub owned : are_owned m set rows ≡ true
   pub sound : IsSound m set

@@ -19,7 +19,8 @@ fn are_rising(rows: &[(RowId, Row)]) -> bool
     true
 }
 
-/// Whether the id names a row of one of the schema's tables, and the row is one of that table's, with a column.
+/// Whether the id names a row of one of the schema's tables, and the row is one of that table's,
+/// with a column.
 fn is_entry(schema: &Schema, id: &RowId, row: &Row) -> bool
     ensures { IsTrue result ↔ IsEntryBy (table_of schema.now id.now.table) (id.now, row.now) }
 {

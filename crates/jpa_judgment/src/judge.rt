@@ -27,7 +27,8 @@ use std::alloc::Global;
 pub struct Committed {
     /// The stored objects.
     pub set: StoredSet,
-    /// For each entity the next number of its generated keys where it is a root that has them, 1 for any other.
+    /// For each entity the next number of its generated keys where it is a root that has them, 1
+    /// for any other.
     pub numbers: Seq<u64>,
 }
 
@@ -38,8 +39,8 @@ pub(crate) enum Judged {
     Held(Committed),
     /// The row at this place is damaged, and none before it.
     Damaged(usize),
-    /// None is damaged, and yet they are those of no set: it is not sound, or an owner is missing, or a generated key is
-    /// not below its next number, or the revision has no row.
+    /// None is damaged, and yet they are those of no set: it is not sound, or an owner is missing,
+    /// or a generated key is not below its next number, or the revision has no row.
     Unsound,
 }
 
@@ -55,8 +56,8 @@ fn is_sound(metamodel: &Metamodel, set: &StoredSet) -> Result<bool, Cause>
     }
 }
 
-/// Whether objects of sound rows and next numbers stand together: each pair has its owner, the revision its row, the set is
-/// sound, and generated keys lie below the next numbers.
+/// Whether objects of sound rows and next numbers stand together: each pair has its owner, the
+/// revision its row, the set is sound, and generated keys lie below the next numbers.
 fn stand_together(
     alloc: Global,
     metamodel: &Metamodel,

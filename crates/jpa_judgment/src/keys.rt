@@ -42,7 +42,8 @@ fn is_key_given(metamodel: &Metamodel, numbers: &[u64], entry: &(Identity, Store
         )
 }
 
-/// Whether the key of each object whose hierarchy has generated keys is one that its generator has given.
+/// Whether the key of each object whose hierarchy has generated keys is one that its generator has
+/// given.
 pub(crate) fn are_keys_given(metamodel: &Metamodel, set: &StoredSet, numbers: &[u64]) -> bool
     requires { AreOfClasses metamodel.now set.now }
     ensures { result ≡ cells.keys_given metamodel.now set.now numbers.now }

@@ -1,10 +1,12 @@
-//! The judgment of a whole store: the set and the next numbers that its cells stand for, or the place where they are damaged.
+//! The judgment of a whole store: the set and the next numbers that its cells stand for, or the
+//! place where they are damaged.
 //!
-//! `open_store` reads the tables that a metamodel names in rising order, as they are to be where they are migrated, judges their
-//! rows together, and writes the migration. `specs/Sound.antt` says which rows an object, a pair, a next number or the revision
-//! may have, `specs/Damage.antt` which place is told where the cells stand for nothing, and `specs/Opened.antt` what an opening
-//! makes of the tables. The crate stands on the rows of `jpa_rowspace`, the migration of cells (`jpa_migration`), objects as rows
-//! (`jpa_mapper`), and sound sets (`jpa_stored`).
+//! `open_store` reads the tables that a metamodel names in rising order, as they are to be where
+//! they are migrated, judges their rows together, and writes the migration. `specs/Sound.antt` says
+//! which rows an object, a pair, a next number or the revision may have, `specs/Damage.antt` which
+//! place is told where the cells stand for nothing, and `specs/Opened.antt` what an opening makes
+//! of the tables. The crate stands on the rows of `jpa_rowspace`, the migration of cells
+//! (`jpa_migration`), objects as rows (`jpa_mapper`), and sound sets (`jpa_stored`).
 #![tactic(auto)]
 
 mod entries;

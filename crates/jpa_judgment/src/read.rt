@@ -57,8 +57,9 @@ fn append(rows: &mut Seq<(RowId, Row)>, more: Vec<(RowId, Row)>) -> Result<(), C
     Ok(())
 }
 
-/// The rows of a table as the unit opens them, read by one SELECT, up to the first that is ill-formed, and the bytes of that
-/// one; the changes that make them so are added. Table 0 tells whether the migration is due.
+/// The rows of a table as the unit opens them, read by one SELECT, up to the first that is
+/// ill-formed, and the bytes of that one; the changes that make them so are added. Table 0 tells
+/// whether the migration is due.
 fn read_table<S: Alter, B: Behaviour>(
     alloc: Global,
     metamodel: &Metamodel,
@@ -101,8 +102,8 @@ pub(crate) struct Found {
     pub(crate) changes: Seq<CellChange>,
 }
 
-/// The rows of these tables, table by table, each by one SELECT: all, or those before the first row that is ill-formed, with
-/// the table and the bytes of that one.
+/// The rows of these tables, table by table, each by one SELECT: all, or those before the first row
+/// that is ill-formed, with the table and the bytes of that one.
 pub(crate) fn read_tables<S: Alter, B: Behaviour>(
     alloc: Global,
     metamodel: &Metamodel,

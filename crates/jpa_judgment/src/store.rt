@@ -48,8 +48,9 @@ fn nothing_at_fault(alloc: Global) -> Cause
     Cause::Damaged(0, Bytes::of(Vec::new(alloc)))
 }
 
-/// What the rows of a schema stand for, which were read whole or up to an ill-formed row. Rows that are not the schema's, as a
-/// disk may answer that does not return what was written, are refused too.
+/// What the rows of a schema stand for, which were read whole or up to an ill-formed row. Rows that
+/// are not the schema's, as a disk may answer that does not return what was written, are refused
+/// too.
 fn judge_read<B: Behaviour>(
     alloc: Global,
     metamodel: &Metamodel,
@@ -79,8 +80,8 @@ fn judge_read<B: Behaviour>(
     }
 }
 
-/// What the tables of a store stand for as a unit opens them, read by one SELECT for each table of the metamodel, and the
-/// changes that make them so. Nothing is written.
+/// What the tables of a store stand for as a unit opens them, read by one SELECT for each table of
+/// the metamodel, and the changes that make them so. Nothing is written.
 fn read_store<S: Alter, B: Behaviour>(
     alloc: Global,
     metamodel: &Metamodel,
@@ -143,18 +144,20 @@ fn read_store<S: Alter, B: Behaviour>(
     }
 }
 
-/// The set and the next numbers that the cells of a store stand for, read by one SELECT for each table of the metamodel. A
-/// store of revision 1 is migrated first, where the metamodel is of revision 2: the cells are judged as they are to be, and
-/// where they stand for something, the rows that differ and that of the revision are written in one transaction. Else nothing
-/// is written. The space is one of the metamodel's schema. What is answered can always be held; that the cells stand for it
-/// is sure where the disk is clean.
+/// The set and the next numbers that the cells of a store stand for, read by one SELECT for each
+/// table of the metamodel. A store of revision 1 is migrated first, where the metamodel is of
+/// revision 2: the cells are judged as they are to be, and where they stand for something, the rows
+/// that differ and that of the revision are written in one transaction. Else nothing is written.
+/// The space is one of the metamodel's schema. What is answered can always be held; that the cells
+/// stand for it is sure where the disk is clean.
 ///
-/// Cells that stand for none are `Damaged`. Where a row of cells is one that no object, pair, next number or revision has, it is
-/// told by its table and its bytes, and so is the lowest of several: an ill-formed one, of an unknown class, with a column
-/// that its class lacks, without a version, of a converter's throw. Else each row may be one, and yet they are those of no
-/// sound set with its next numbers, as where an owner is missing, a generated key is not below the next number, or a unit of
-/// revision 2 finds no row of it: that is `Damaged(0, [])`. Otherwise it fails for want of memory, or with `StoreFault`.
-/// Refused, the tables are as they were.
+/// Cells that stand for none are `Damaged`. Where a row of cells is one that no object, pair, next
+/// number or revision has, it is told by its table and its bytes, and so is the lowest of several:
+/// an ill-formed one, of an unknown class, with a column that its class lacks, without a version,
+/// of a converter's throw. Else each row may be one, and yet they are those of no sound set with
+/// its next numbers, as where an owner is missing, a generated key is not below the next number, or
+/// a unit of revision 2 finds no row of it: that is `Damaged(0, [])`. Otherwise it fails for want
+/// of memory, or with `StoreFault`. Refused, the tables are as they were.
 pub fn open_store<S: Alter, B: Behaviour>(
     alloc: Global,
     metamodel: &Metamodel,

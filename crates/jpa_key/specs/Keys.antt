@@ -12,6 +12,7 @@ abbrev pub shifted : ℤ → ℕ
 shifted (pos n) = n + 2 ^ 63
 shifted (negsuc n) = 2 ^ 63 - suc n
 
+-- an integer's eight bytes, the highest first, after it was shifted
 abbrev pub int_bytes : ℤ → List ℕ
 int_bytes n = to_be_bytes w64 (shifted n)
 
@@ -19,12 +20,14 @@ int_bytes n = to_be_bytes w64 (shifted n)
 abbrev pub escaped : List ℕ → List ℕ
 escaped bytes = flat_map (λ b. if b == 0 then 0 ∷ 255 ∷ [] else b ∷ []) bytes
 
+-- the bytes of a key part: its tag, then its value; none for null
 abbrev pub part_bytes : Value → List ℕ
 part_bytes Value.Null = []
 part_bytes (Value.Int n) = 1 ∷ int_bytes n
 part_bytes (Value.Text bytes) = 2 ∷ escaped bytes ++ 0 ∷ 0 ∷ []
 part_bytes (Value.Bytes bytes) = 3 ∷ escaped bytes ++ 0 ∷ 0 ∷ []
 
+-- the bytes of a key: those of its parts, in turn (chapter 2.4)
 abbrev pub key_bytes : List Value → List ℕ
 key_bytes key = flat_map part_bytes key
 

@@ -170,8 +170,8 @@ fn read_pair(
     }
 }
 
-/// The key of these kinds that these bytes spell: `None` exactly where they spell none, so for each key one
-/// spelling is read and no other. A text or byte part may be of any length here.
+/// The key of these kinds that these bytes spell: `None` exactly where they spell none, so for each
+/// key one spelling is read and no other. A text or byte part may be of any length here.
 ///
 /// Fails for want of memory alone, with `OutOfMemory`.
 pub fn decode_key(alloc: Global, kinds: &[Kind], bytes: &[u8]) -> Result<Option<Key>, Cause>
@@ -182,8 +182,8 @@ pub fn decode_key(alloc: Global, kinds: &[Kind], bytes: &[u8]) -> Result<Option<
     Ok(read_whole(alloc, kinds, bytes)?)
 }
 
-/// The key of these kinds that the first so many of these bytes spell, and that number: no other key's bytes
-/// begin these bytes. `None` exactly where no key's do.
+/// The key of these kinds that the first so many of these bytes spell, and that number: no other
+/// key's bytes begin these bytes. `None` exactly where no key's do.
 ///
 /// Fails for want of memory alone, with `OutOfMemory`.
 pub fn decode_front(
@@ -198,8 +198,8 @@ pub fn decode_front(
     Ok(read_key(alloc, kinds, bytes)?)
 }
 
-/// The owner's key and after it the target's that these bytes spell, as `encode_pair` writes them: there is at
-/// most one such pair. `None` exactly where there is none.
+/// The owner's key and after it the target's that these bytes spell, as `encode_pair` writes them:
+/// there is at most one such pair. `None` exactly where there is none.
 ///
 /// Fails for want of memory alone, with `OutOfMemory`.
 pub fn decode_pair(
@@ -216,8 +216,8 @@ pub fn decode_pair(
     Ok(read_pair(alloc, owner_kinds, target_kinds, bytes)?)
 }
 
-/// The order of two byte strings, a proper front of the other first. Where they spell keys of the same kinds it
-/// is the order of the keys. Takes no memory.
+/// The order of two byte strings, a proper front of the other first. Where they spell keys of the
+/// same kinds it is the order of the keys. Takes no memory.
 #[tactic(auto, using(crate::proofs::Orders::spelled_order))]
 pub fn order_key_bytes(a: &[u8], b: &[u8]) -> Ordering
     ensures bytes { result ≡ slice_cmp nat_cmp a.now b.now }

@@ -1,4 +1,5 @@
-//! From keys to bytes. Each function appends to bytes that are there already, so that a key takes one vector.
+//! From keys to bytes. Each function appends to bytes that are there already, so that a key takes
+//! one vector.
 ghost use Rattle.std.specs.Prelude.{◌≡◌, true, IfOk, IfErr, ◌++◌, ◌∷◌, [], OnOk, OnErr};
 ghost use Rattle.std.specs.List.{list_all};
 ghost use Rattle.jpa_value.specs.Value.{is_representable};
@@ -99,8 +100,9 @@ fn push_key(out: &mut Vec<u8>, key: &Key) -> Result<(), Cause>
     Ok(())
 }
 
-/// The bytes of a key: its parts' bytes joined. Of keys of the same kinds the bytes are in the order of the keys
-/// (`order_key_bytes`), and `decode_key` reads them again. A null part has no bytes and is read by nothing.
+/// The bytes of a key: its parts' bytes joined. Of keys of the same kinds the bytes are in the
+/// order of the keys (`order_key_bytes`), and `decode_key` reads them again. A null part has no
+/// bytes and is read by nothing.
 ///
 /// Fails for want of memory alone, with `OutOfMemory`.
 pub fn encode_key(alloc: Global, key: &Key) -> Result<Bytes, Cause>
@@ -113,8 +115,8 @@ pub fn encode_key(alloc: Global, key: &Key) -> Result<Bytes, Cause>
     Ok(Bytes::of(out))
 }
 
-/// The bytes of an owner's key followed by those of the key of what it owns, as the row of a join table is
-/// named. `decode_pair` reads them again.
+/// The bytes of an owner's key followed by those of the key of what it owns, as the row of a join
+/// table is named. `decode_pair` reads them again.
 ///
 /// Fails for want of memory alone, with `OutOfMemory`.
 pub fn encode_pair(alloc: Global, owner: &Key, target: &Key) -> Result<Bytes, Cause>

@@ -1,5 +1,5 @@
--- Which listeners and callbacks hear an event, in which order, and what they do to the object (Jakarta Persistence 3.1,
--- chapter 3.5).
+-- Which listeners and callbacks hear an event, in which order, and what they do to the object
+-- (Jakarta Persistence 3.1, chapter 3.5).
 use Rattle.std.specs.Prelude.{ℕ, suc, Bool, true, false, List, [], ◌∷◌, ◌++◌, map, slice_get, Option, Some, None, if◌then◌else◌}
 use Rattle.std.specs.List.{flat_map, list_any, filter, zip}
 use Rattle.jpa_value.specs.declared.value.Value.{Value}
@@ -25,6 +25,7 @@ use Rattle.jpa_context.specs.Steps.{Outcome, Done, Refused, Op}
 
 -- ---- who hears
 
+-- whether two life cycle events are the same
 abbrev pub same_event : LifecycleEvent → LifecycleEvent → Bool
 same_event LifecycleEvent.PrePersist LifecycleEvent.PrePersist = true
 same_event LifecycleEvent.PostPersist LifecycleEvent.PostPersist = true
@@ -51,6 +52,7 @@ hearers m class =
     ++ flat_map (λ c. (entity_at m c).listeners) (heard_from [] m (chain m class))
     ++ flat_map (λ c. (entity_at m c).callbacks) (chain m class)
 
+-- whether a listener is for an event
 abbrev pub hears : LifecycleEvent → Listener → Bool
 hears event l = list_any (same_event event) l.events
 
@@ -64,13 +66,16 @@ order m class event = hearing event (hearers m class)
 
 -- ---- what a listener sees
 
+-- names with their values, as a listener sees them
 abbrev pub named : List (List ℕ × Value) → List Named
 named = map (λ p. record { name = p.0; value = p.1 })
 
+-- the version as a listener sees it, where the hierarchy has one
 abbrev pub version_image : Option VersionColumn → LiveObject → List Named
 version_image None x = []
 version_image (Some v) x = record { name = v.name; value = version_value x.version } ∷ []
 
+-- what a listener sees: entity, event, key parts, version and attributes, each by its name
 abbrev pub image_of : PersistenceUnit → LifecycleEvent → LiveObject → Image
 image_of m event x =
     record {
@@ -91,6 +96,7 @@ takes attributes (Some Member.Version) v = false
 takes attributes (Some (Member.Attribute i)) v = fits_attribute (slice_get attributes i) v
 takes attributes (Some (Member.Relation r)) v = false
 
+-- an object with a value in a member, where there is the member
 abbrev pub assigned_to : Option Member → LiveObject → Value → LiveObject
 assigned_to None x v = x
 assigned_to (Some member) x v = with_value x member v
@@ -104,6 +110,7 @@ assigned m (a ∷ as') x =
 
 -- ---- firing
 
+-- what was fired, with a listener before that ran, too
 abbrev pub after_name : List ℕ → Fired → Fired
 after_name name f = record f { names = name ∷ f.names }
 
@@ -119,6 +126,7 @@ abbrev pub after_assignments : (LiveObject → Fired) → List ℕ → LiveObjec
 after_assignments next name x None = record { names = name ∷ []; object = x; refusal = Some (Cause.Persistence Persist.Callback) }
 after_assignments next name x (Some y) = after_name name (next y)
 
+-- after a listener's answer: it assigns, or it threw, and nothing runs after it
 abbrev pub after_answer : (LiveObject → Fired) → PersistenceUnit → List ℕ → LiveObject → Heard → Fired
 after_answer next m name x (Heard.Assign list) = after_assignments next name x (assigned m list x)
 after_answer next m name x (Heard.Throw text) = record { names = name ∷ []; object = x; refusal = Some (Cause.Listener text) }
@@ -134,6 +142,7 @@ fired_by world event [] x = record { names = []; object = x; refusal = None }
 fired_by world event (name ∷ names) x =
     after_answer (λ y. fired_by world event names y) world.model name x (world.heard name (image_of world.model event x))
 
+-- the listeners and callbacks of an event, run one after another on an object (chapter 3.5)
 abbrev pub fire : World → LifecycleEvent → LiveObject → Fired
 fire world event x = fired_by world event (order world.model x.class event) x
 
@@ -141,6 +150,7 @@ fire world event x = fired_by world event (order world.model x.class event) x
 abbrev pub told_fired : LifecycleEvent → ℕ → Fired → Work → Work
 told_fired event n f w = told (record { event = event; object = suc n; ran = f.names }) (with_object n f.object w)
 
+-- the end of a callback: done, or refused with the events that were told
 abbrev pub ended : Option Cause → Work → Outcome (Unit {0})
 ended None w = Done tt w
 ended (Some r) w = Refused r w.events

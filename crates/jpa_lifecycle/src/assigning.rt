@@ -20,7 +20,8 @@ fn fits_attribute(attribute: Option<&Attribute>, value: &Value) -> bool
     }
 }
 
-/// Whether a member of a class takes a value that a listener assigns: an attribute, where the value fits it.
+/// Whether a member of a class takes a value that a listener assigns: an attribute, where the value
+/// fits it.
 fn takes(metamodel: &Metamodel, class: usize, member: Option<Member>, value: &Value) -> bool
     requires { class < length metamodel.now.entities }
     ensures { result ≡ callbacks.takes (attributes_of metamodel.now class) member value.now }
@@ -46,8 +47,9 @@ fn assign(metamodel: &Metamodel, object: &mut LiveObject, member: Option<Member>
     }
 }
 
-/// An object after a listener's assignments, in their order; none where one of them is not allowed: to what is no attribute, or of a
-/// value that doesn't fit it. Fails for want of memory alone, with `OutOfMemory`.
+/// An object after a listener's assignments, in their order; none where one of them is not allowed:
+/// to what is no attribute, or of a value that doesn't fit it. Fails for want of memory alone, with
+/// `OutOfMemory`.
 pub(crate) fn assigned(
     metamodel: &Metamodel,
     object: &LiveObject,

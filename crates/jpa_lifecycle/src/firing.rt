@@ -15,8 +15,8 @@ use jpa_heap::LiveObject;
 use jpa_value::{Cause, LifecycleEvent, Persist, Seq, Text};
 use std::alloc::Global;
 
-/// What became of an object to which an event happened: the names of the listeners and callbacks that ran, in their order, the object
-/// then, and the refusal of the last, if it refused.
+/// What became of an object to which an event happened: the names of the listeners and callbacks
+/// that ran, in their order, the object then, and the refusal of the last, if it refused.
 #[derive(Drop)]
 pub struct Fired {
     pub names: Seq<Text>,
@@ -24,8 +24,8 @@ pub struct Fired {
     pub refusal: Option<Cause>,
 }
 
-/// What the listener or callback of this name answers to an image; under a name that is not registered nobody is heard, and nothing
-/// is assigned.
+/// What the listener or callback of this name answers to an image; under a name that is not
+/// registered nobody is heard, and nothing is assigned.
 fn answer<B: Behaviour>(
     alloc: Global,
     registry: &Registry<B>,
@@ -42,8 +42,8 @@ fn answer<B: Behaviour>(
     registry.hear(name, image)
 }
 
-/// A listener or callback runs: it sees the object as it is and assigns what it answers. Answers why it refused, if it did: the object
-/// is then as it was.
+/// A listener or callback runs: it sees the object as it is and assigns what it answers. Answers
+/// why it refused, if it did: the object is then as it was.
 fn run_one<B: Behaviour>(
     alloc: Global,
     unit: &ServedUnit<B>,
@@ -77,9 +77,10 @@ fn run_one<B: Behaviour>(
     }
 }
 
-/// The listeners and callbacks of these names run one after another: each sees the object as it is by then, and assigns attributes or
-/// throws; after a throw, or an assignment that is not allowed, none runs (Jakarta Persistence 3.1, chapter 3.5). A throw is
-/// `Listener` with its text, such an assignment `Persistence(callback)`. Fails for want of memory alone, with `OutOfMemory`.
+/// The listeners and callbacks of these names run one after another: each sees the object as it is
+/// by then, and assigns attributes or throws; after a throw, or an assignment that is not allowed,
+/// none runs (Jakarta Persistence 3.1, chapter 3.5). A throw is `Listener` with its text, such an
+/// assignment `Persistence(callback)`. Fails for want of memory alone, with `OutOfMemory`.
 pub fn fire<B: Behaviour>(
     alloc: Global,
     unit: &ServedUnit<B>,

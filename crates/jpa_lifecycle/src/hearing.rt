@@ -83,7 +83,8 @@ fn push_default(
     push_hearing(names, metamodel.listeners(), event)
 }
 
-/// The classes of a chain whose listeners hear: from the lowest on that leaves those of its superclasses out.
+/// The classes of a chain whose listeners hear: from the lowest on that leaves those of its
+/// superclasses out.
 fn heard_from<'a>(metamodel: &Metamodel, chain: &'a [usize]) -> &'a [usize]
     requires { All (λ c. c < length metamodel.now.entities) chain.now }
     ensures heard { result.now ≡ callbacks.heard_from [] metamodel.now chain.now }
@@ -136,9 +137,10 @@ fn push_callbacks(
     Ok(())
 }
 
-/// The names of those that hear an event of an object of this class, in the order in which they run: default listeners, listeners
-/// of the class and its superclasses, the superclass's first, then their callbacks (Jakarta Persistence 3.1, chapters 3.5.5 and
-/// 3.5.6). Takes no memory where nobody hears; fails for want of memory alone, with `OutOfMemory`.
+/// The names of those that hear an event of an object of this class, in the order in which they
+/// run: default listeners, listeners of the class and its superclasses, the superclass's first,
+/// then their callbacks (Jakarta Persistence 3.1, chapters 3.5.5 and 3.5.6). Takes no memory where
+/// nobody hears; fails for want of memory alone, with `OutOfMemory`.
 pub fn order(
     alloc: Global,
     metamodel: &Metamodel,

@@ -82,8 +82,8 @@ fn push_attributes(
     Ok(())
 }
 
-/// What a listener or callback sees of an object to which an event happens: its entity's name, and its values under their names
-/// (chapter 3.5). Fails for want of memory alone, with `OutOfMemory`.
+/// What a listener or callback sees of an object to which an event happens: its entity's name, and
+/// its values under their names (chapter 3.5). Fails for want of memory alone, with `OutOfMemory`.
 pub(crate) fn image_of(
     alloc: Global,
     metamodel: &Metamodel,

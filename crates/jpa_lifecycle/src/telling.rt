@@ -39,7 +39,8 @@ fn tell(
     Ok(())
 }
 
-/// What became of an object stands in its place, and the event is told; refused as the last that ran refused.
+/// What became of an object stands in its place, and the event is told; refused as the last that
+/// ran refused.
 fn conclude(
     work: &mut UnitOfWork,
     event: LifecycleEvent,
@@ -67,11 +68,13 @@ fn conclude(
     }
 }
 
-/// The event happens to an object: the listeners and callbacks that hear it run in their order, on the object as it is by then, and it
-/// is told, whether or not one runs (Jakarta Persistence 3.1, chapters 3.5.2 to 3.5.6). Where nobody hears, nothing is copied.
+/// The event happens to an object: the listeners and callbacks that hear it run in their order, on
+/// the object as it is by then, and it is told, whether or not one runs (Jakarta Persistence 3.1,
+/// chapters 3.5.2 to 3.5.6). Where nobody hears, nothing is copied.
 ///
-/// `Listener` with its text where one throws, `Persistence(callback)` where one assigns what is not allowed: the event is told then
-/// too. `OutOfMemory` where a growth was refused. What a refused call changed is undone by `UnitOfWork::undo`.
+/// `Listener` with its text where one throws, `Persistence(callback)` where one assigns what is not
+/// allowed: the event is told then too. `OutOfMemory` where a growth was refused. What a refused
+/// call changed is undone by `UnitOfWork::undo`.
 pub fn callback<B: Behaviour>(
     alloc: Global,
     unit: &ServedUnit<B>,

@@ -26,6 +26,7 @@ use Rattle.jpa_lines.specs.declared.reading.QueryMembers.{QueryMembers}
 use Rattle.jpa_lines.specs.declared.reading.Word.{Word}
 use Rattle.jpa_lines.specs.declared.reading.Word.TheVariants as word
 
+-- the integer of 64 bits in the member of a name
 abbrev pub integer_at : List ℕ → Data → Option ℤ
 integer_at name d = get name d >>= integer_of
 
@@ -34,6 +35,7 @@ abbrev pub decoded : Result (List ℕ) FromHexError → Option (List ℕ)
 decoded (Ok bytes) = Some bytes
 decoded (Err e) = None
 
+-- the bytes of hexadecimal digits
 unfoldable pub hex_of : List ℕ → Option (List ℕ)
 hex_of digits = decoded (decode_of digits)
 
@@ -48,15 +50,18 @@ marked None digits = do
   bytes ← hex_of s
   Some (given.Plain (Bytes bytes))
 
+-- an object by its number, or bytes, as a value that is handed in
 unfoldable pub marked_of : Data → Option Given
 marked_of d = do
   one ← guard (count_of d == 1)
   marked (get (codes "object") d) (get (codes "hex") d)
 
+-- an integer as a value that is handed in
 abbrev pub plain_integer : Option ℤ → Option Given
 plain_integer (Some z) = Some (given.Plain (Int z))
 plain_integer None = None
 
+-- a value that is handed in: null, an integer, a text, bytes or an object
 unfoldable pub given_of : Data → Option Given
 given_of null = Some (given.Plain Null)
 given_of (boolean b) = None
@@ -67,17 +72,20 @@ given_of (object ms) = marked_of (object ms)
 
 -- ---- the calls, each of exactly its members
 
+-- the call createEntityManager
 unfoldable pub create_of : Data → Option Call
 create_of d = do
   all ← guard (count_of d == 1)
   Some CreateEntityManager
 
+-- the call new
 unfoldable pub new_of : Data → Option Call
 new_of d = do
   all ← guard (count_of d == 2)
   entity ← text_at (codes "entity") d
   Some (NewObject entity)
 
+-- the call set
 unfoldable pub set_of : Data → Option Call
 set_of d = do
   all ← guard (count_of d == 4)
@@ -87,6 +95,7 @@ set_of d = do
   value ← given_of member
   Some (SetValue on name value)
 
+-- the call get
 unfoldable pub get_of : Data → Option Call
 get_of d = do
   all ← guard (count_of d == 3)
@@ -138,6 +147,7 @@ lock_mode_of name =
     else if bytes_eq name (codes "OPTIMISTIC_FORCE_INCREMENT") then Some mode.Write
     else None
 
+-- the call lock
 unfoldable pub lock_of : Data → Option Call
 lock_of d = do
   all ← guard (count_of d == 4)
@@ -164,6 +174,7 @@ flush_mode_of name =
     else if bytes_eq name (codes "COMMIT") then Some flush.Commit
     else None
 
+-- the call setFlushMode
 unfoldable pub set_flush_mode_of : Data → Option Call
 set_flush_mode_of d = do
   all ← guard (count_of d == 3)
@@ -178,12 +189,14 @@ set_flush_mode_of d = do
 abbrev pub count_at : List ℕ → Data → ℕ
 count_at name d = if is_some (get name d) then 1 else 0
 
+-- an integer, where the member is there
 abbrev pub integer_if_there : Option Data → Option (Option ℤ)
 integer_if_there None = Some None
 integer_if_there (Some d) = do
   z ← integer_of d
   Some (Some z)
 
+-- an integer in a member that may be absent
 abbrev pub optional_integer_at : List ℕ → Data → Option (Option ℤ)
 optional_integer_at name d = integer_if_there (get name d)
 
@@ -195,13 +208,16 @@ parameters (json.member name d ms) = do
   others ← parameters ms
   Some (record { name = name; value = value } ∷ others)
 
+-- parameters, where the member is there
 abbrev pub parameters_if_there : Option Data → Option (List Parameter)
 parameters_if_there None = Some []
 parameters_if_there (Some d) = as_object d >>= parameters
 
+-- the parameters of a statement
 abbrev pub parameters_at : Data → Option (List Parameter)
 parameters_at d = parameters_if_there (get (codes "params") d)
 
+-- the members of a call that asks for rows
 unfoldable pub query_members_of : Data → Option QueryMembers
 query_members_of d = do
   all ← guard (count_of d == 3 + count_at (codes "params") d + (count_at (codes "first") d + count_at (codes "max") d))
@@ -218,6 +234,7 @@ of_query_members call d = do
   q ← query_members_of d
   Some (call q.em q.text q.parameters q.first q.max)
 
+-- the call executeUpdate
 unfoldable pub execute_update_of : Data → Option Call
 execute_update_of d = do
   all ← guard (count_of d == 3 + count_at (codes "params") d)
@@ -228,6 +245,7 @@ execute_update_of d = do
 
 -- ---- the words
 
+-- the word that names a call
 abbrev pub word_of : List ℕ → Option Word
 word_of name =
     if bytes_eq name (codes "createEntityManager") then Some word.CreateEntityManager
@@ -287,6 +305,7 @@ worded_call word.Query d = of_query_members Query d
 worded_call word.QuerySingle d = of_query_members QuerySingle d
 worded_call word.ExecuteUpdate d = execute_update_of d
 
+-- the call that JSON means, by its word and its members
 unfoldable pub call_of : Data → Option Call
 call_of d = do
   name ← text_at (codes "call") d

@@ -24,9 +24,11 @@ value_data (Int z) = number (of_integer z)
 value_data (Text text) = string text
 value_data (Bytes bytes) = object (member (codes "hex") (string (encode_lower bytes)) no_members)
 
+-- an object, by its number
 abbrev pub object_data : ℕ → Data
 object_data n = object (member (codes "object") (number (unsigned n)) no_members)
 
+-- an item of a row: a value or an object
 abbrev pub item_data : Item → Data
 item_data (row.Value v) = value_data v
 item_data (row.Object n) = object_data n
@@ -37,6 +39,7 @@ row_data [] = array no_items
 row_data (x ∷ []) = item_data x
 row_data (x ∷ y ∷ xs) = array (items_of (map item_data (x ∷ y ∷ xs)))
 
+-- an answer
 abbrev pub answer_data : Answer → Data
 answer_data answer.Null = null
 answer_data (answer.Truth b) = boolean b
@@ -51,13 +54,16 @@ answer_data (answer.Rows rows) = array (items_of (map row_data rows))
 abbrev pub event_data : Told → Data
 event_data told = array (item (string (event_name told.event)) (item (number (unsigned told.object)) (items_of (map string told.ran))))
 
+-- the events that were told
 abbrev pub events_data : List Told → Data
 events_data events = array (items_of (map event_data events))
 
+-- the member `why`, where a refusal has a detail
 abbrev pub why_member : Option (List ℕ) → Members
 why_member None = no_members
 why_member (Some detail) = member (codes "why") (string detail) no_members
 
+-- a refusal: name, number and detail
 abbrev pub refusal_data : Refusal → Data
 refusal_data r = object (member (codes "name") (string (refusal_name r)) (member (codes "no") (number (unsigned (refusal_number r))) (why_member (refusal_detail r))))
 
@@ -65,13 +71,16 @@ refusal_data r = object (member (codes "name") (string (refusal_name r)) (member
 abbrev pub accepted_data : Data → Data → Data
 accepted_data events ok = object (member (codes "events") events (member (codes "ok") ok no_members))
 
+-- the reply of a refused call
 abbrev pub refused_data : Data → Data → Data
 refused_data events error = object (member (codes "error") error (member (codes "events") events no_members))
 
+-- the reply of an accepted or a refused call
 abbrev pub outcome_data : Data → Result Answer Refusal → Data
 outcome_data events (Ok answer) = accepted_data events (answer_data answer)
 outcome_data events (Err refusal) = refused_data events (refusal_data refusal)
 
+-- a reply
 abbrev pub reply_data : Reply → Data
 reply_data r = outcome_data (events_data r.events) r.answer
 

@@ -11,6 +11,7 @@ use Rattle.jpa_lines.specs.declared.run.RunFault.{RunFault}
 use Rattle.jpa_lines.specs.CallOf.{meaning}
 use Rattle.jpa_lines.specs.ReplyText.{reply_text}
 
+-- a byte before the first line
 abbrev pub onto_first : ℕ → List (List ℕ) → List (List ℕ)
 onto_first x [] = (x ∷ []) ∷ []
 onto_first x (line ∷ lines) = (x ∷ line) ∷ lines
@@ -40,6 +41,7 @@ Runs {M = M} steps old (line ∷ lines) (reply ∷ replies) new = (mid : M) × A
 Runs steps old [] (reply ∷ replies) new = ⊥
 Runs steps old (line ∷ lines) [] new = ⊥
 
+-- the bytes of replies, one after the other
 abbrev pub texts_of : List Reply → List ℕ
 texts_of = flat_map reply_text
 
@@ -53,13 +55,15 @@ pub record Serves {M : Type 0} (steps : M → Call → Reply → M → Type 0) (
   pub run : Runs steps old (lines_of input) replies new
   pub written : Appends before after (texts_of replies)
 
--- After a failed read the reply to each call that was made is written, and where memory ran out nothing of the last one's.
+-- After a failed read the reply to each call that was made is written, and where memory ran out
+-- nothing of the last one's.
 abbrev pub Leaves : RunFault → List Reply → List ℕ → Type 0
 Leaves RunFault.Read last part = last ≡ []
 Leaves RunFault.Write last part = ⊤
 Leaves RunFault.Memory last part = part ≡ []
 
--- A run that broke off: the calls of the first lines are done, and their replies written, but for at most the last, of which a part may be.
+-- A run that broke off: the calls of the first lines are done, and their replies written, but for
+-- at most the last, of which a part may be.
 pub record Breaks {M : Type 0} (steps : M → Call → Reply → M → Type 0) (old new : M) (fault : RunFault) (input : List ℕ) (before after : Option (List ℕ)) : Type 0 where
   pub lines : List (List ℕ)
   pub others : List (List ℕ)
@@ -100,6 +104,7 @@ AnswersRead steps old new RunFault.Memory known left before after = ⊤
 
 -- ---- for private clauses
 
+-- the fault is not one of reading
 abbrev pub IsNoRead : RunFault → Type 0
 IsNoRead RunFault.Read = ⊥
 IsNoRead RunFault.Write = ⊤
@@ -109,6 +114,7 @@ IsNoRead RunFault.Memory = ⊤
 abbrev pub ServesLine : {M : Type 0} → (M → Call → Reply → M → Type 0) → M → M → List ℕ → Option (List ℕ) → Option (List ℕ) → Type 0
 ServesLine steps old new line before after = (reply : Reply) × Answers steps old line reply new × Appends before after (reply_text reply)
 
+-- a line was not answered: nothing was done, or a part of its reply was written
 abbrev pub BreaksLine : {M : Type 0} → (M → Call → Reply → M → Type 0) → M → M → RunFault → List ℕ → Option (List ℕ) → Option (List ℕ) → Type 0
 BreaksLine steps old new fault line before after =
     ((new ≡ old) × Keeps before after)
@@ -118,7 +124,8 @@ BreaksLine steps old new fault line before after =
 abbrev pub kept_len : ℕ
 kept_len = 1048577
 
--- After the bytes taken, the whole lines among them are answered; current is the line that has begun, of which held is kept.
+-- After the bytes taken, the whole lines among them are answered; current is the line that has
+-- begun, of which held is kept.
 pub record SoFar {M : Type 0} (steps : M → Call → Reply → M → Type 0) (old new : M) (taken held : List ℕ) (before after : Option (List ℕ)) : Type 0 where
   pub lines : List (List ℕ)
   pub current : List ℕ
@@ -145,6 +152,7 @@ abbrev pub Finishes : {M : Type 0} → (M → Call → Reply → M → Type 0) �
 Finishes {M = M} steps old new held before after =
     (first : M) (taken : List ℕ) (start : Option (List ℕ)) → SoFar steps first old taken held start before → Serves steps first new taken start after
 
+-- at the end of the input the run broke off
 abbrev pub FailsToFinish : {M : Type 0} → (M → Call → Reply → M → Type 0) → M → M → RunFault → List ℕ → Option (List ℕ) → Option (List ℕ) → Type 0
 FailsToFinish {M = M} steps old new fault held before after =
     (first : M) (taken : List ℕ) (start : Option (List ℕ)) → SoFar steps first old taken held start before → Breaks steps first new fault taken start after
@@ -164,5 +172,6 @@ pub record Underway {M : Type 0} (steps : M → Call → Reply → M → Type 0)
 abbrev pub Served : {M : Type 0} → (M → Call → Reply → M → Type 0) → M → M → Option (List ℕ) → Option (List ℕ) → Option (List ℕ) → Type 0
 Served steps old new known before after = (input : List ℕ) × IsInput known input × Serves steps old new input before after
 
+-- for some input, which is the reader's where that is known, the run broke off
 abbrev pub Broken : {M : Type 0} → (M → Call → Reply → M → Type 0) → M → M → RunFault → Option (List ℕ) → Option (List ℕ) → Option (List ℕ) → Type 0
 Broken steps old new fault known before after = (input : List ℕ) × IsInput known input × Breaks steps old new fault input before after

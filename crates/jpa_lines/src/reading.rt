@@ -47,8 +47,9 @@ enum Word {
     ExecuteUpdate,
 }
 
-/// The call that a line means. A line that is longer than `MOST_LINE_BYTES` is refused as `Limit`, whatever it says, and
-/// another one that is no call as `BadLine`. Whether its numbers and names name anything is not asked here.
+/// The call that a line means. A line that is longer than `MOST_LINE_BYTES` is refused as `Limit`,
+/// whatever it says, and another one that is no call as `BadLine`. Whether its numbers and names
+/// name anything is not asked here.
 pub fn read_call(alloc: Global, line: &[u8]) -> Result<Call, Cause>
     ensures ok { IfOk result (λ call. meaning line.now ≡ Ok call) }
     ensures err { IfErr result (λ cause. (cause ≡ OutOfMemory)
@@ -283,8 +284,8 @@ fn lock_of(json: &Json) -> Result<Call, Unread>
     Ok(Call::Lock { em, object, mode })
 }
 
-/// The lock that a word names. `READ` and `WRITE` mean the same as the newer words (Jakarta Persistence 3.1,
-/// chapter 3.4.4.1).
+/// The lock that a word names. `READ` and `WRITE` mean the same as the newer words (Jakarta
+/// Persistence 3.1, chapter 3.4.4.1).
 fn lock_mode_of(name: &str) -> Result<LockMode, Unread>
     ensures { Gives same result (lock_mode_of name.now) }
 {
@@ -427,7 +428,8 @@ fn execute_update_of(alloc: Global, json: &Json) -> Result<Call, Unread>
     })
 }
 
-/// How often the member stands there, which is once or not at all: for `only`, where a member may be absent.
+/// How often the member stands there, which is once or not at all: for `only`, where a member may
+/// be absent.
 fn count_at(json: &Json, name: &str) -> usize
     ensures count { result ≡ count_at name.now (view json.now) }
     ensures small { result ≤ 1 }

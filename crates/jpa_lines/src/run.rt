@@ -33,12 +33,14 @@ pub enum RunFault {
     Memory,
 }
 
-/// Answers each line of the input by a reply, until the input ends. Of a line at most `MOST_LINE_BYTES` + 1 bytes are kept; what
-/// is past them is skipped to its line feed. The output is flushed whenever the lines that were read are answered.
+/// Answers each line of the input by a reply, until the input ends. Of a line at most
+/// `MOST_LINE_BYTES` + 1 bytes are kept; what is past them is skipped to its line feed. The output
+/// is flushed whenever the lines that were read are answered.
 ///
-/// Where a fault ends the run, the lines before it are answered and their replies written, but for at most the last
-/// one, whose call is done: of its reply a front is written after `Write` and nothing after `Memory`. After `Read` all
-/// whole lines that were read are answered, and their replies written. More than `MOST_READS` reads are a `Read` fault.
+/// Where a fault ends the run, the lines before it are answered and their replies written, but for
+/// at most the last one, whose call is done: of its reply a front is written after `Write` and
+/// nothing after `Memory`. After `Read` all whole lines that were read are answered, and their
+/// replies written. More than `MOST_READS` reads are a `Read` fault.
 ///
 /// What stands between calls stands at the end, whatever the input, also where the run breaks off.
 pub fn run<R: Read, W: Write, P: PersistenceProvider>(

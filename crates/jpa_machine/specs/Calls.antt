@@ -1,4 +1,5 @@
--- What a call hands in, in the order in which it is judged, and the reply to an operation (the order is this provider's own).
+-- What a call hands in, in the order in which it is judged, and the reply to an operation (the
+-- order is this provider's own).
 use Rattle.std.specs.Prelude.{ℕ, suc, ℤ, Bool, true, false, not, ◌&&◌, List, [], ◌∷◌, length, map, Option, Some, None, Ok, Err, if◌then◌else◌}
 use Rattle.jpa_value.specs.declared.value.Value.{Value}
 use Rattle.jpa_value.specs.declared.refusal.Cause.{Cause}
@@ -21,6 +22,7 @@ use Rattle.jpa_machine.specs.Machine.{Machine, kept, marked}
 
 -- ---- what is handed in
 
+-- what is there is given, else the call is refused
 abbrev pub give_or : {A : Type 0} → Cause → Option A → Op A
 give_or r (Some x) = give x
 give_or r None = refuse r
@@ -29,10 +31,12 @@ give_or r None = refuse r
 abbrev pub object_numbered : ℤ → Op ℕ
 object_numbered n w = give_or Cause.NoSuchObject (place_of (length w.objects) n) w
 
+-- whether a value that is handed in has at most as many bytes as one may have
 abbrev pub is_short_given : Given → Bool
 is_short_given (Given.Plain v) = is_short v
 is_short_given (Given.Object n) = true
 
+-- what is handed in: a value that is short enough, or an object that there is
 abbrev pub handed : Given → Op Handed
 handed (Given.Plain v) = do
   require (is_short v) Cause.Limit
@@ -41,6 +45,7 @@ handed (Given.Object n) = do
   k ← object_numbered n
   give (Handed.Object k)
 
+-- the class of an entity by its name, else IllegalArgument(entity)
 abbrev pub class_named : World → List ℕ → Op ℕ
 class_named world name = give_or (Cause.IllegalArgument Argument.Entity) (class_of world.model name)
 
@@ -50,24 +55,29 @@ onto None vs = None
 onto (Some v) None = None
 onto (Some v) (Some vs) = Some (v ∷ vs)
 
+-- a value that a key part takes: of its kind and not null
 abbrev pub part_given : Part → Given → Option Value
 part_given part (Given.Plain v) = if fits part.kind v && not (is_null v) then Some v else None
 part_given part (Given.Object n) = None
 
+-- the key that is handed in, where there is one value for each part and it takes it
 abbrev pub whole_key : List Part → List Given → Option (List Value)
 whole_key [] [] = Some []
 whole_key [] (g ∷ gs) = None
 whole_key (p ∷ ps) [] = None
 whole_key (p ∷ ps) (g ∷ gs) = onto (part_given p g) (whole_key ps gs)
 
+-- the key that is handed in for a class, else IllegalArgument(key)
 abbrev pub key_given : World → ℕ → List Given → Op (List Value)
 key_given world class gs = give_or (Cause.IllegalArgument Argument.Key) (whole_key (root_of world.model class).key gs)
 
 -- ---- replies
 
+-- a call is accepted, with these events and this answer
 abbrev pub accepted : List Told → Answer → Machine → Reply × Machine
 accepted events answer M = (record { events = events; answer = Ok answer }, M)
 
+-- a call is refused, with the events that were told before
 abbrev pub refused : List Told → Refusal → Machine → Reply × Machine
 refused events r M = (record { events = events; answer = Err r }, M)
 
@@ -95,26 +105,32 @@ marks_if_callback (Cause.Persistence Persist.Callback) = true
 marks_if_callback (Cause.Listener t) = true
 marks_if_callback _ = false
 
+-- the manager's transaction can only roll back, where this is true
 abbrev pub marked_if : Bool → Machine → ℕ → Machine
 marked_if true M m = marked M m
 marked_if false M m = M
 
--- done: the manager keeps what the operation made; refused: nothing stays but the mark, and the events are told
+-- done: the manager keeps what the operation made; refused: nothing stays but the mark, and the
+-- events are told
 abbrev pub ended : (Cause → Bool) → Machine → ℕ → Outcome Answer → Reply × Machine
 ended rule M m (Done a w) = accepted w.events a (kept M m w)
 ended rule M m (Refused r events) = refused events (Refusal.Because r) (marked_if (rule r) M m)
 
 -- ---- answers
 
+-- the answer of a call that gives nothing
 abbrev pub nothing : Unit {0} → Answer
 nothing u = Answer.Null
 
+-- the answer of a call that asks whether something holds
 abbrev pub truth : Bool → Answer
 truth b = Answer.Truth b
 
+-- an object, by its number, as an answer
 abbrev pub object_told : ℕ → Answer
 object_told n = Answer.Object (suc n)
 
+-- an object, by its number, or null, as an answer
 abbrev pub object_or_null : Option ℕ → Answer
 object_or_null None = Answer.Null
 object_or_null (Some n) = Answer.Object (suc n)

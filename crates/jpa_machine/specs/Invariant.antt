@@ -1,5 +1,6 @@
--- What holds of the machine between calls: the objects have the shape of their classes, contexts and states of objects agree,
--- each identity has one instance in a context, and every set of the machine is one that a store can hold.
+-- What holds of the machine between calls. The objects have the shape of their classes. Contexts
+-- and states of objects agree. Each identity has one instance in a context. A store can hold every
+-- set of the machine.
 use Rattle.jpa_value.specs.Limits.{most_managers, most_objects}
 use Rattle.std.specs.Prelude.{◌≡◌, ◌<◌, ◌≤◌, ℕ, Bool, true, false, nat_le, List, [], ◌∷◌, length, Option, Some, None}
 use Rattle.std.specs.List.{All, list_all}
@@ -30,6 +31,7 @@ is_idle false [] None = true
 is_idle false [] (Some t) = false
 is_idle false (e ∷ es) t = false
 
+-- what holds of a manager between calls: of its entries, its transaction and its end
 pub record IsManager (world : World) (objects : List LiveObject) (numbers : List ℕ) (manager : ℕ) (x : Manager) : Type 0 where
   pub entries : All (IsEntry world.model objects numbers manager) x.context
   pub distinct : all_distinct (are_one world.model objects) x.context ≡ true
@@ -38,9 +40,11 @@ pub record IsManager (world : World) (objects : List LiveObject) (numbers : List
 
 -- ---- the machine
 
+-- the context of a manager
 abbrev pub context_of : Machine → ℕ → List Entry
 context_of M m = (manager_at M m).context
 
+-- what holds of a machine between calls
 pub record IsMachine (world : World) (M : Machine) : Type 0 where
   pub objects : All (IsLive world.model M.objects) M.objects
   pub managers : (m : ℕ) → m < length M.managers → IsManager world M.objects M.numbers m (manager_at M m)
@@ -53,6 +57,7 @@ pub record IsMachine (world : World) (M : Machine) : Type 0 where
 
 -- ---- calls
 
+-- whether a value that is handed in is one of the program; an object is
 abbrev pub given_representable : Given → Bool
 given_representable (Given.Plain v) = is_representable v
 given_representable (Given.Object n) = true

@@ -18,10 +18,12 @@ use Rattle.jpa_machine.specs.Invariant.{IsMachine, hands_representable}
 
 -- ---- of a machine
 
+-- the sets of a transaction, if one is open
 abbrev pub snapshot_of : Option Transaction → Option Snapshot
 snapshot_of None = None
 snapshot_of (Some t) = Some (record { begun = t.begun; view = t.view })
 
+-- the sets of a manager's transaction, if one is open
 abbrev pub snapshot_in : Manager → Option Snapshot
 snapshot_in x = snapshot_of x.transaction
 
@@ -49,12 +51,14 @@ named_in M (ToClear em) = place_of (length M.managers) em
 named_in M (ToSetMode em mode) = place_of (length M.managers) em
 named_in M (ToClose em) = place_of (length M.managers) em
 
+-- whether a call was accepted
 abbrev pub is_ok : Result Answer Refusal → Bool
 is_ok (Ok a) = true
 is_ok (Err r) = false
 
 -- ---- of a move
 
+-- whether a move is a commit
 abbrev pub is_commit_move : Move → Bool
 is_commit_move Creates = false
 is_commit_move (Begins m) = false
@@ -72,8 +76,8 @@ IsFlushed world M (Works m set) = Unit {0}
 IsFlushed world M (Ends m) = Unit {0}
 IsFlushed world M Rests = Unit {0}
 
--- a step is a move that is allowed: a commit exactly where the call is one that is accepted, and one of the manager that the call
--- names, or of none
+-- a step is a move that is allowed: a commit exactly where the call is one that is accepted, and
+-- one of the manager that the call names, or of none
 pub record IsMoveAlong (world : World) (M : Machine) (r : Route) (reply : Reply) (N : Machine) (move : Move) : Type 0 where
   pub allowed : IsAllowed (scene_of M) move
   pub makes : scene_of N ≡ moved (scene_of M) move
@@ -81,6 +85,7 @@ pub record IsMoveAlong (world : World) (M : Machine) (r : Route) (reply : Reply)
   pub flushed : IsFlushed world M move
   pub apart : (m : ℕ) → named_in M r ≢ Some m → is_apart m move
 
+-- the step of a call is this move
 abbrev pub IsMove : World → Machine → Call → Reply → Machine → Move → Type 0
 IsMove world M call reply N move = IsMoveAlong world M (route call) reply N move
 
@@ -94,7 +99,8 @@ AreMoves world M [] (reply ∷ replies) moves last = ⊥
 AreMoves world M (call ∷ calls) [] moves last = ⊥
 AreMoves world M (call ∷ calls) (reply ∷ replies) [] last = ⊥
 
--- a run at each call of which holds what holds between calls, and whose calls hand in values of the program
+-- a run at each call of which holds what holds between calls, and whose calls hand in values of the
+-- program
 abbrev pub RunsHeld : World → Machine → List Call → List Reply → Machine → Type 0
 RunsHeld world M [] [] last = last ≡ M
 RunsHeld world M (call ∷ calls) (reply ∷ replies) last = (mid : Machine) × IsMachine world M × (hands_representable call ≡ true) × Step world M call reply mid × RunsHeld world mid calls replies last

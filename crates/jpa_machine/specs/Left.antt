@@ -1,5 +1,5 @@
--- What a call leaves as it was (Jakarta Persistence 3.1, chapters 3.3.3 rollback, 7.5 transactions; that a refused call changes
--- nothing is this provider's own).
+-- What a call leaves as it was (Jakarta Persistence 3.1, chapters 3.3.3 rollback, 7.5 transactions;
+-- that a refused call changes nothing is this provider's own).
 use Rattle.std.specs.Prelude.{◌≡◌, false, map, Option, Some, None}
 use Rattle.jpa_heap.specs.declared.Life.{Life}
 use Rattle.jpa_heap.specs.declared.LiveObject.{LiveObject}
@@ -11,6 +11,7 @@ abbrev pub unmarked_in : Option Transaction → Option Transaction
 unmarked_in None = None
 unmarked_in (Some t) = Some (record t { is_marked = false })
 
+-- a manager without the mark of its transaction
 abbrev pub unmarked : Manager → Manager
 unmarked x = record x { transaction = unmarked_in x.transaction }
 

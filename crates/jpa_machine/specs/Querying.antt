@@ -1,5 +1,5 @@
--- query, querySingle and executeUpdate with what their calls hand in (Jakarta Persistence 3.1, chapters 3.10.1, 3.10.12
--- parameters).
+-- query, querySingle and executeUpdate with what their calls hand in (Jakarta Persistence 3.1,
+-- chapters 3.10.1, 3.10.12 parameters).
 use Rattle.std.specs.Prelude.{ℕ, ℤ, Bool, List, [], ◌∷◌, length, Option, Some, None}
 use Rattle.std.specs.List.{list_all}
 use Rattle.jpa_value.specs.declared.refusal.Cause.{Cause}
@@ -23,10 +23,12 @@ abbrev pub object_handed : Option ℕ → Option Handed
 object_handed None = None
 object_handed (Some k) = Some (Handed.Object k)
 
+-- what is handed in for a parameter: a value, or an object that there is
 abbrev pub handed_in : ℕ → Given → Option Handed
 handed_in count (Given.Plain v) = Some (Handed.Plain v)
 handed_in count (Given.Object n) = object_handed (place_of count n)
 
+-- a binding before others, where there are both
 abbrev pub before : List ℕ → Option Handed → Option (List Binding) → Option (List Binding)
 before name None bs = None
 before name (Some h) None = None
@@ -37,6 +39,7 @@ abbrev pub bindings_in : ℕ → List Parameter → Option (List Binding)
 bindings_in count [] = Some []
 bindings_in count (p ∷ ps) = before p.name (handed_in count p.value) (bindings_in count ps)
 
+-- whether each value that is handed in has at most as many bytes as one may have
 abbrev pub are_short : List Parameter → Bool
 are_short ps = list_all (λ (p : Parameter). is_short_given p.value) ps
 
@@ -50,23 +53,26 @@ bound parameters = do
 
 -- ---- calls
 
--- a statement's text with what is bound to its parameters, how many rows are skipped, and how many are told at most
+-- a statement's text with what is bound to its parameters, how many rows are skipped, and how many
+-- are told at most
 abbrev pub asked_of : List ℕ → List Parameter → Option ℤ → Option ℤ → Op Asked
 asked_of text parameters first max = do
   bindings ← bound parameters
   give (record { text = text; bindings = bindings; first = first; max = max })
 
+-- the call query: the rows of a SELECT (chapter 3.10.1)
 abbrev pub query_call : List ℕ → List Parameter → Option ℤ → Option ℤ → Bool → World → Op Answer
 query_call text parameters first max flushes world = do
   call ← asked_of text parameters first max
   told_as Answer.Rows (query world flushes call)
 
+-- the call querySingle: the one row of a SELECT (chapter 3.10.1)
 abbrev pub query_single_call : List ℕ → List Parameter → Option ℤ → Option ℤ → Bool → World → Op Answer
 query_single_call text parameters first max flushes world = do
   call ← asked_of text parameters first max
   told_as Answer.Row (query_single world flushes call)
 
--- an UPDATE or DELETE (chapter 4.10): how many objects it concerned
+-- an UPDATE or DELETE (chapter 4.11): how many objects it concerned
 abbrev pub update_call : List ℕ → List Parameter → Bool → Bool → World → Op Answer
 update_call text parameters is_active flushes world = do
   bindings ← bound parameters

@@ -1,5 +1,5 @@
--- The route of each call, and what is served along it (Jakarta Persistence 3.1, chapter 3.1.1 EntityManager, chapter 7.4
--- EntityManagerFactory).
+-- The route of each call, and what is served along it (Jakarta Persistence 3.1, chapter 3.1.1
+-- EntityManager, chapter 7.4 EntityManagerFactory).
 use Rattle.jpa_value.specs.Limits.{most_objects, most_open_managers, most_managers}
 use Rattle.std.specs.Prelude.{ℕ, suc, ℤ, Bool, true, false, nat_lt, ◌&&◌, List, [], ◌∷◌, ◌++◌, length, count_by, Option, Some, None, Result, Ok, Err, if◌then◌else◌}
 use Rattle.std.specs.List.{list_all}
@@ -31,6 +31,7 @@ use Rattle.jpa_machine.specs.Transactions.{begin, commit, rollback, set_rollback
 
 -- ---- managers
 
+-- the call createEntityManager: one more manager, where there are not too many (chapter 7.4)
 abbrev pub create : Machine → Reply × Machine
 create M =
     if nat_lt (count_by (λ x. x.is_open) M.managers) most_open_managers && nat_lt (length M.managers) most_managers
@@ -42,15 +43,18 @@ abbrev pub if_open : Machine → Option ℕ → (ℕ → Reply × Machine) → R
 if_open M None next = because M Cause.NoSuchManager
 if_open M (Some m) next = if (manager_at M m).is_open then next m else because M Cause.NoSuchManager
 
+-- a call of a manager, by its number
 abbrev pub by_manager : Machine → ℤ → (ℕ → Reply × Machine) → Reply × Machine
 by_manager M em next = if_open M (place_of (length M.managers) em) next
 
 -- ---- objects, without a manager of the call
 
+-- the call new of a class, or IllegalArgument(entity)
 abbrev pub made_new : World → Machine → Option ℕ → Reply × Machine
 made_new world M None = because M (Cause.IllegalArgument Argument.Entity)
 made_new world M (Some class) = accepted [] (Answer.Object (suc (length M.objects))) (record M { objects = M.objects ++ new_object world.model class ∷ [] })
 
+-- the call new: one more object, where there are not too many (chapter 3.2.1)
 abbrev pub make_new : World → Machine → List ℕ → Reply × Machine
 make_new world M name = if nat_lt (length M.objects) most_objects then made_new world M (class_of world.model name) else because M Cause.Limit
 
@@ -61,50 +65,60 @@ holder_in M (Life.Managed m) = m
 holder_in M (Life.Removed m) = m
 holder_in M Life.Detached = length M.managers
 
+-- the manager that holds an object; without one, a number that is no manager's
 abbrev pub holder : Machine → Option ℕ → ℕ
 holder M None = length M.managers
 holder M (Some n) = holder_in M (object_at M.objects n).life
 
 -- ---- operations
 
+-- the call get: what an object has in a member (chapter 2.2)
 abbrev pub get_call : World → List ℕ → ℕ → Op Answer
 get_call world name n = told_as got (get world n name)
 
+-- the call set: an object takes a value or a link in a member (chapter 2.2)
 abbrev pub set_call : World → List ℕ → Given → ℕ → Op Answer
 set_call world name value n = do
   v ← handed value
   told_as nothing (set world n name v)
 
+-- the call add: a collection takes one object more (chapter 2.2)
 abbrev pub add_call : World → List ℕ → ℤ → ℕ → Op Answer
 add_call world name member n = do
   k ← object_numbered member
   told_as nothing (add world n name k)
 
+-- the call that takes an object out of a collection, and whether it was there (chapter 2.2)
 abbrev pub take_out_call : World → List ℕ → ℤ → ℕ → Op Answer
 take_out_call world name member n = do
   k ← object_numbered member
   told_as truth (take_out world n name k)
 
+-- the call persist (chapter 3.2.2)
 abbrev pub persist_call : World → ℤ → Op Answer
 persist_call world number = do
   n ← object_numbered number
   told_as nothing (persist world n)
 
+-- the call remove (chapter 3.2.3)
 abbrev pub remove_call : World → ℤ → Op Answer
 remove_call world number = do
   n ← object_numbered number
   told_as nothing (remove world n)
 
+-- the call refresh (chapter 3.2.5)
 abbrev pub refresh_call : World → ℤ → Op Answer
 refresh_call world number = do
   n ← object_numbered number
   told_as nothing (refresh world n)
 
+-- the call detach (chapter 3.2.6)
 abbrev pub detach_call : World → ℤ → Op Answer
 detach_call world number = do
   n ← object_numbered number
   told_as nothing (detach world n)
 
+-- the call merge, which answers the object's image (chapter 3.2.7.1)
 abbrev pub merge_call : World → ℤ → Op Answer
 merge_call world number = do
   n ← object_numbered number
@@ -114,18 +128,22 @@ merge_call world number = do
 abbrev pub stands_numbered : ℤ → Op (Unit {0})
 stands_numbered number = object_numbered number >>= (λ n. done)
 
+-- the lock that a lock mode asks for (chapter 3.4.4)
 abbrev pub lock_of : LockMode → Lock
 lock_of LockMode.Read = Lock.Read
 lock_of LockMode.Write = Lock.Write
 
+-- the call lock (chapter 3.4.4)
 abbrev pub lock_call : World → ℤ → LockMode → Op Answer
 lock_call world number mode = do
   n ← object_numbered number
   told_as nothing (lock world n (lock_of mode))
 
+-- the call flush (chapter 3.2.4)
 abbrev pub flush_call : World → Op Answer
 flush_call world = told_as nothing (flush world)
 
+-- the call find: an object or null (chapter 3.1.1)
 abbrev pub find_call : World → List ℕ → List Given → Op Answer
 find_call world name key = do
   require (list_all is_short_given key) Cause.Limit
@@ -138,6 +156,7 @@ abbrev pub there_must_be : Answer → Op Answer
 there_must_be Answer.Null = refuse Cause.EntityNotFound
 there_must_be a = give a
 
+-- the call getReference: find, with EntityNotFound in place of null (chapter 3.1.1)
 abbrev pub get_reference_call : World → List ℕ → List Given → Op Answer
 get_reference_call world name key = do
   a ← find_call world name key
@@ -145,6 +164,7 @@ get_reference_call world name key = do
 
 -- ---- questions, which change nothing
 
+-- whether the manager manages an object, which there must be (chapter 3.1.1)
 abbrev pub contains_in : Machine → ℕ → Option ℕ → Result Answer Cause
 contains_in M m None = Err Cause.NoSuchObject
 contains_in M m (Some n) = Ok (Answer.Truth (is_managed (state_of (work_of M m) n)))
@@ -153,6 +173,7 @@ contains_in M m (Some n) = Ok (Answer.Truth (is_managed (state_of (work_of M m) 
 abbrev pub contains : ℤ → Machine → ℕ → Result Answer Cause
 contains number M m = contains_in M m (place_of (length M.objects) number)
 
+-- the reply to a question, which leaves the machine as it is
 abbrev pub answered : Machine → Result Answer Cause → Reply × Machine
 answered M (Ok a) = accepted [] a M
 answered M (Err r) = because M r
@@ -169,18 +190,20 @@ abbrev pub transaction_required : Machine → Outcome (Unit {0}) → Reply × Ma
 transaction_required M (Done u w) = because M Cause.TransactionRequired
 transaction_required M (Refused r events) = because M r
 
+-- what a call does in an open transaction; without one it is refused
 abbrev pub if_begun : Machine → ℕ → Outcome (Unit {0}) → Reply × Machine → Reply × Machine
 if_begun M m given next = if has_transaction (manager_at M m) then next else transaction_required M given
 
+-- the call close, which is refused while a transaction is open (chapter 3.1.1)
 abbrev pub close : Machine → ℕ → Reply × Machine
 close M m = if has_transaction (manager_at M m) then because M (Cause.IllegalState State.Active) else accepted [] Answer.Null (closed M m)
 
 -- ---- routes
 
--- how a call is served: an operation of a manager, one before which its objects may be flushed, one that also asks whether its
--- transaction is open, one that asks for its open transaction and before that of what it is
--- handed, an operation on an object of
--- whoever holds it, or one of those that are none
+-- how a call is served. It is an operation of a manager, or one before which its objects may be
+-- flushed, or one that also asks whether its transaction is open. It may need an open transaction,
+-- and be judged before by what it hands in. It is an operation on an object, of whoever holds it;
+-- or it is no operation
 pub data Route : Type 0 where
   OfManager : ℤ → (World → Op Answer) → Route
   ToQuery : ℤ → (Bool → World → Op Answer) → Route
@@ -198,6 +221,7 @@ pub data Route : Type 0 where
   ToSetMode : ℤ → FlushMode → Route
   ToClose : ℤ → Route
 
+-- the reply to a call by its route, and the machine after it
 abbrev pub by_route : World → Machine → Route → Reply × Machine
 by_route world M (OfManager em op) = by_manager M em (λ m. ended marks M m (op world (work_of M m)))
 by_route world M (ToQuery em op) = by_manager M em (λ m. ended marks M m (op (flushes_first M m) world (work_of M m)))
@@ -266,6 +290,7 @@ commits (ToClear em) = false
 commits (ToSetMode em mode) = false
 commits (ToClose em) = false
 
+-- whether a route is that of rollback
 abbrev pub rolls_back : Route → Bool
 rolls_back (ToRollBack em) = true
 rolls_back (OfManager em op) = false
@@ -301,11 +326,14 @@ is_free ToCreate = false
 is_free (ToMake name) = false
 is_free (ToCommit em) = false
 
+-- whether a call is commit
 abbrev pub is_commit : Call → Bool
 is_commit call = commits (route call)
 
+-- whether a call is rollback
 abbrev pub is_rollback : Call → Bool
 is_rollback call = rolls_back (route call)
 
+-- whether a call takes no memory and reads no store
 abbrev pub takes_nothing : Call → Bool
 takes_nothing call = is_free (route call)

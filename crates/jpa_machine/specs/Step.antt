@@ -1,5 +1,5 @@
--- The reply to a call and the machine after it, the step relation over it, and runs (Jakarta Persistence 3.1, chapter 3.1.1
--- EntityManager).
+-- The reply to a call and the machine after it, the step relation over it, and runs (Jakarta
+-- Persistence 3.1, chapter 3.1.1 EntityManager).
 use Rattle.std.specs.Prelude.{◌≡◌, ◌⊎◌, false, List, [], ◌∷◌, Err}
 use Rattle.jpa_value.specs.declared.refusal.Cause.{Cause}
 use Rattle.jpa_value.specs.declared.refusal.Refusal.{Refusal}
@@ -15,6 +15,7 @@ outcome world M call = by_route world M (route call)
 
 -- ---- steps and runs
 
+-- the reply to a call that is given up: this cause, and no events
 abbrev pub gives_up : Cause → Reply
 gives_up r = record { events = []; answer = Err (Refusal.Because r) }
 
@@ -43,6 +44,7 @@ abbrev pub replies_of : World → Machine → List Call → List Reply
 replies_of world M [] = []
 replies_of world M (call ∷ calls) = let o = outcome world M call in o.0 ∷ replies_of world o.1 calls
 
+-- the machine after calls of which none gives up
 abbrev pub machine_after : World → Machine → List Call → Machine
 machine_after world M [] = M
 machine_after world M (call ∷ calls) = let o = outcome world M call in machine_after world o.1 calls

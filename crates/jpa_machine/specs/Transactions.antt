@@ -1,4 +1,5 @@
--- begin, commit and rollback (Jakarta Persistence 3.1, chapters 7.5 transactions, 3.4 optimistic locking).
+-- begin, commit and rollback (Jakarta Persistence 3.1, chapters 7.5 transactions, 3.4 optimistic
+-- locking).
 use Rattle.std.specs.Prelude.{ℕ, Bool, true, false, ◌&&◌, List, [], Option, Some, None, if◌then◌else◌}
 use Rattle.std.specs.List.{flat_map}
 use Rattle.jpa_value.specs.declared.value.Identity.{Identity}
@@ -25,6 +26,7 @@ use Rattle.jpa_machine.specs.Calls.{accepted, refused, because}
 abbrev pub begun : Machine → ℕ → Machine
 begun M m = record M { managers = with_manager M m (record (manager_at M m) { transaction = Some (record { begun = M.committed; view = M.committed; is_marked = false }) }) }
 
+-- the call begin, by the manager's transaction: an open one refuses it (chapter 7.5)
 abbrev pub begin_in : Machine → ℕ → Option Transaction → Reply × Machine
 begin_in M m (Some t) = because M (Cause.IllegalState State.Active)
 begin_in M m None = accepted [] Answer.Null (begun M m)
@@ -35,6 +37,7 @@ begin M m = begin_in M m (manager_at M m).transaction
 
 -- ---- commit
 
+-- the identity of an entry's object, where it is managed and locked READ
 abbrev pub read_along : PersistenceUnit → Work → Entry → List Identity
 read_along m w e = if is_read_lock e.lock && is_managed (state_of w e.object) then listed (identity_at m w e.object) else []
 
@@ -42,12 +45,13 @@ read_along m w e = if is_read_lock e.lock && is_managed (state_of w e.object) th
 abbrev pub locked_ids : PersistenceUnit → Work → List Identity
 locked_ids m w = flat_map (read_along m w) w.context
 
--- what the transaction changed, and what it holds locked READ, is committed as it was at its begin: the first committer wins
+-- what the transaction changed, and what it holds locked READ, is committed as it was at its begin:
+-- the first committer wins
 abbrev pub is_current : PersistenceUnit → StoredSet → StoredSet → Work → Bool
 is_current m committed begun w = all_agree committed begun (differing begun w.view) && all_agree committed begun (locked_ids m w)
 
--- the flush; what is committed and what is locked is to be current; then what others committed since the begin is seen too, but for
--- what the transaction changed, and that set is to be sound
+-- the flush; what is committed and what is locked is to be current; then what others committed
+-- since the begin is seen too, but for what the transaction changed, and that set is to be sound
 abbrev pub commit_work : World → StoredSet → StoredSet → Op (Unit {0})
 commit_work world committed begun = do
   flush world
@@ -64,10 +68,12 @@ abbrev pub commit_of : Machine → ℕ → Outcome (Unit {0}) → Reply × Machi
 commit_of M m (Done u w) = accepted w.events Answer.Null (committed_after M m w)
 commit_of M m (Refused r events) = refused events (Refusal.Rollback r) (rolled_back M m)
 
+-- a commit by the mark: a marked transaction rolls back (chapter 7.5)
 abbrev pub commit_if : World → Machine → ℕ → Bool → Reply × Machine
 commit_if world M m true = refused [] Refusal.RollbackMarked (rolled_back M m)
 commit_if world M m false = commit_of M m (commit_work world M.committed (begun_set M m) (work_of M m))
 
+-- the call commit, by the manager's transaction: without an open one it is refused (chapter 7.5)
 abbrev pub commit_in : World → Machine → ℕ → Option Transaction → Reply × Machine
 commit_in world M m None = because M (Cause.IllegalState State.Inactive)
 commit_in world M m (Some t) = commit_if world M m t.is_marked
@@ -78,13 +84,17 @@ commit world M m = commit_in world M m (manager_at M m).transaction
 
 -- ---- rollback
 
+-- the call rollback, by the manager's transaction: without an open one it is refused (chapter 7.5)
 abbrev pub rollback_in : Machine → ℕ → Option Transaction → Reply × Machine
 rollback_in M m None = because M (Cause.IllegalState State.Inactive)
 rollback_in M m (Some t) = accepted [] Answer.Null (rolled_back M m)
 
+-- the call rollback: the manager's objects are detached, and nothing is written (chapters 3.3.3 and
+-- 7.5)
 abbrev pub rollback : Machine → ℕ → Reply × Machine
 rollback M m = rollback_in M m (manager_at M m).transaction
 
+-- the call setRollbackOnly, by the manager's transaction: without one it is refused (chapter 7.5)
 abbrev pub only_rollback_in : Machine → ℕ → Option Transaction → Reply × Machine
 only_rollback_in M m None = because M (Cause.IllegalState State.Inactive)
 only_rollback_in M m (Some t) = accepted [] Answer.Null (marked M m)

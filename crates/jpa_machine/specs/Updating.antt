@@ -1,4 +1,5 @@
--- What executeUpdate puts into a set: values of the program, as the types of the code say of all that it computes.
+-- What executeUpdate puts into a set: values of the program, as the types of the code say of all
+-- that it computes.
 use Rattle.std.specs.Prelude.{◌≡◌, ℕ, Bool, true, false, List, length, Some}
 use Rattle.jpa_behaviour.specs.Behaviour.{World}
 use Rattle.jpa_rows.specs.Cells.{all_representable}
@@ -11,10 +12,12 @@ use Rattle.jpa_protocol.specs.declared.reply.Answer.{Answer}
 use Rattle.jpa_machine.specs.Machine.{Machine, manager_at, has_transaction, flushes_first, work_of}
 use Rattle.jpa_machine.specs.Querying.{update_call}
 
+-- whether a call is executeUpdate
 abbrev pub is_bulk : Call → Bool
 is_bulk (Call.ExecuteUpdate em text parameters) = true
 is_bulk _ = false
 
+-- the outcome of executeUpdate for a manager at work
 abbrev pub update_outcome : World → Machine → List ℕ → List Parameter → ℕ → Outcome Answer
 update_outcome world M text parameters m = update_call text parameters (has_transaction (manager_at M m)) (flushes_first M m) world (work_of M m)
 

@@ -19,8 +19,8 @@ use Rattle.jpa_object_rows.specs.Sets.{targets_in}
 use Rattle.jpa_mapper.specs.Mapped.{IsReadAs}
 use Rattle.jpa_mapper.specs.Own.{OwnAreOnes}
 
--- an object is read off these rows: they are rows of the unit, its main row stands among them, its pairs are those that it
--- owns, and their rows are those that a pair has
+-- an object is read off these rows. They are rows of the unit, and its main row stands among them.
+-- Its pairs are those that it owns, and their rows are those of pairs
 pub record StandsWhole (world : World) (id : Identity) (x : Stored) (own : Rows) : Type 0 where
   pub rows : AreRowsOf (schema_of world.model) own
   pub main : find identity_cmp id own ≡ Some (main_row world x)

@@ -1,5 +1,5 @@
--- What it is for an object to be read off its rows: its main row, and its pairs in the join tables (Jakarta Persistence 3.1,
--- chapters 2.10 relations, 2.12 hierarchies, 3.8 converters).
+-- What it is for an object to be read off its rows: its main row, and its pairs in the join tables
+-- (Jakarta Persistence 3.1, chapters 2.10 relations, 2.12 hierarchies, 3.8 converters).
 use Rattle.std.specs.Prelude.{◌≡◌, Bool, true, []}
 use Rattle.std.specs.List.{list_all, zip}
 use Rattle.jpa_value.specs.declared.value.Identity.{Identity}

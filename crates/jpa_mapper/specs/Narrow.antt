@@ -6,6 +6,7 @@ use Rattle.jpa_model.specs.declared.unit.Relation.{Relation}
 use Rattle.jpa_model.specs.Chains.{column_of}
 use Rattle.jpa_rows.specs.Numbers.{IsNarrowLink}
 
+-- the columns of attributes fit 32 bits
 abbrev pub HaveNarrowColumns : List Attribute → Type 0
 HaveNarrowColumns = AllByRecursion (λ a. a.column < 2 ^ 32)
 

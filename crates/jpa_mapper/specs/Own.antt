@@ -1,5 +1,5 @@
--- Which rows of join tables are those of an owner's pairs, and what is told where one of them is no pair's (Jakarta
--- Persistence 3.1, chapter 2.10.4: relations kept in join tables).
+-- Which rows of join tables are those of an owner's pairs, and what is told where one of them is no
+-- pair's (Jakarta Persistence 3.1, chapter 2.10.4: relations kept in join tables).
 use Rattle.std.specs.Prelude.{◌≡◌, ◌⊎◌, ℕ, Bool, true, ◌==◌, ◌&&◌, is_some, ◌∷◌, ◌++◌}
 use Rattle.std.specs.List.{list_any, AllByRecursion}
 use Rattle.jpa_value.specs.declared.value.Identity.{Identity}
@@ -39,7 +39,8 @@ pub record IsDamagedPair (m : PersistenceUnit) (class : ℕ) (owner : Identity) 
   pub damaged : row ≡ pair_row → ⊥
   pub told : cause ≡ Cause.Damaged id.table (key_bytes id.key)
 
--- want of memory, a row that is no object's main row, or else the lowest row of the object's pairs that no pair has
+-- want of memory, a row that is no object's main row, or else the lowest row of the object's pairs
+-- that no pair has
 abbrev pub IsRefused : World → Identity → Row → Rows → Cause → Type 0
 IsRefused world id row pairs cause =
     (cause ≡ Cause.OutOfMemory)

@@ -1,5 +1,5 @@
--- The pairs of an object: what a row of a join table gives an owner, and an object with other pairs (Jakarta Persistence
--- 3.1, chapter 2.10.4: relations kept in join tables).
+-- The pairs of an object: what a row of a join table gives an owner, and an object with other pairs
+-- (Jakarta Persistence 3.1, chapter 2.10.4: relations kept in join tables).
 use Rattle.std.specs.Prelude.{ℕ, ◌==◌, List, [], ◌∷◌, Option, None, option_map, if◌then◌else◌}
 use Rattle.jpa_value.specs.declared.value.Value.{Value}
 use Rattle.jpa_value.specs.declared.value.Identity.{Identity}
@@ -12,7 +12,8 @@ use Rattle.jpa_rows.specs.Rows.{RowId}
 use Rattle.jpa_view.specs.View.{Pairs}
 use Rattle.jpa_object_rows.specs.Sets.{key_after, identity_of}
 
--- what of its key follows the owner's, in the target's table; nothing where the row is of another table or another owner
+-- what of its key follows the owner's, in the target's table; nothing where the row is of another
+-- table or another owner
 abbrev pub pair_target : ℕ → ℕ → List Value → RowId → Option Identity
 pair_target join table owner id = if id.table == join then option_map (identity_of table) (key_after owner id.key) else None
 
@@ -25,6 +26,7 @@ side_owned pairs target ids (Side.OneToMany owner) = ids
 side_owned pairs target ids (Side.ManyToMany join) = pairs join target
 side_owned pairs target ids (Side.ManyToManyInverse owner) = ids
 
+-- what is owned along relations, with these pairs in join tables
 abbrev pub owned_with : Pairs → List Relation → List (List Identity) → List (List Identity)
 owned_with pairs [] owned = owned
 owned_with pairs (r ∷ relations) [] = []

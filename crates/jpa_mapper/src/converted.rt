@@ -10,8 +10,8 @@ use jpa_behaviour::{Behaviour, Registry};
 use jpa_model::Attribute;
 use jpa_value::{Cause, Persist, TryCopy, Value};
 
-/// What the converter of this name makes of a value for its column; a throw, an answer that counts as one and an unknown
-/// name are `Persistence(converter)`.
+/// What the converter of this name makes of a value for its column; a throw, an answer that counts
+/// as one and an unknown name are `Persistence(converter)`.
 fn convert<B: Behaviour>(registry: &Registry<B>, name: &str, value: &Value) -> Result<Value, Cause>
     ensures ok { IfOk result (λ held. column_in B.meaning registry.now name.now value.now
         ≡ Some held) }
@@ -26,7 +26,8 @@ fn convert<B: Behaviour>(registry: &Registry<B>, name: &str, value: &Value) -> R
     }
 }
 
-/// What stands in the column of an attribute for a value: what the converter makes of it. Null passes no converter.
+/// What stands in the column of an attribute for a value: what the converter makes of it. Null
+/// passes no converter.
 pub(crate) fn column_value<B: Behaviour>(
     registry: &Registry<B>,
     attribute: &Attribute,

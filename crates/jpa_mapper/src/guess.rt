@@ -58,8 +58,8 @@ fn class_by(metamodel: &Metamodel, table: u64, text: &Text) -> Option<usize>
     None
 }
 
-/// The class that a main row of this table says: the one of the table's hierarchy with the discriminator in column 0. Takes no
-/// memory.
+/// The class that a main row of this table says: the one of the table's hierarchy with the
+/// discriminator in column 0. Takes no memory.
 pub(crate) fn class_in(metamodel: &Metamodel, table: u64, row: &[Field]) -> Option<usize>
     ensures class { result ≡ spec.class_in metamodel.now table row.now }
     ensures within { IfSome result (λ class. class < length metamodel.now.entities) }
@@ -98,7 +98,8 @@ fn value_at(row: &[Field], column: u64) -> Result<Value, Cause>
     }
 }
 
-/// What the converter of this name makes of a column's value; null where it throws, or where there is none.
+/// What the converter of this name makes of a column's value; null where it throws, or where there
+/// is none.
 fn converted<B: Behaviour>(
     registry: &Registry<B>,
     name: &Text,
@@ -194,8 +195,8 @@ fn owned_in(
     Ok(owned)
 }
 
-/// The object of this class that a main row says, if it says one: what stands in the columns of the class, and no pairs. What a
-/// converter throws at, and what has no column, is null.
+/// The object of this class that a main row says, if it says one: what stands in the columns of the
+/// class, and no pairs. What a converter throws at, and what has no column, is null.
 pub(crate) fn guessed<B: Behaviour>(
     alloc: Global,
     metamodel: &Metamodel,

@@ -8,15 +8,17 @@ ghost use Rattle.jpa_mapper.specs.Laws.{ReadsWhatIsWritten, ReadsOne, StandForOn
 use jpa_model::Metamodel;
 use jpa_rows::text_is_representable;
 
-/// The laws of objects and their rows, for contracts to cite; it does nothing. What is written for an object is read as the
-/// object and as no other, and a store's cells stand for at most one set and next numbers.
+/// The laws of objects and their rows, for contracts to cite; it does nothing. What is written for
+/// an object is read as the object and as no other, and a store's cells stand for at most one set
+/// and next numbers.
 pub fn mapper_laws()
     ensures read { ReadsWhatIsWritten }
     ensures one { ReadsOne }
     ensures cells { StandForOne }
 {}
 
-/// The law of discriminators, for contracts to cite: a column may hold each of them. It takes no memory.
+/// The law of discriminators, for contracts to cite: a column may hold each of them. It takes no
+/// memory.
 pub fn discriminator_law(metamodel: &Metamodel)
     ensures { (class : ℕ) → is_class metamodel.now class ≡ true →
         is_discriminator (entity_at metamodel.now class) ≡ true }

@@ -39,8 +39,9 @@ fn has_main_row<B: Behaviour>(
     }
 }
 
-/// The object without pairs that has this main row under this identity; none where no object has it: an unknown
-/// discriminator, a column that is not one of the class's, a missing version, a wrong kind, a converter's throw.
+/// The object without pairs that has this main row under this identity; none where no object has
+/// it: an unknown discriminator, a column that is not one of the class's, a missing version, a
+/// wrong kind, a converter's throw.
 pub(crate) fn main_object<B: Behaviour>(
     alloc: Global,
     metamodel: &Metamodel,

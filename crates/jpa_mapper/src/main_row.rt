@@ -49,8 +49,8 @@ fn row_of_places(alloc: Global, places: Seq<Place>) -> Result<Row, Cause>
     Ok(Seq::of(fields))
 }
 
-/// The main row of an object of this metamodel: in column 0 the discriminator of its class, and the version, the
-/// attributes and the owned to-one relations in theirs; null has no column.
+/// The main row of an object of this metamodel: in column 0 the discriminator of its class, and the
+/// version, the attributes and the owned to-one relations in theirs; null has no column.
 ///
 /// A converter's throw is `Persistence(converter)`.
 pub(crate) fn main_row<B: Behaviour>(

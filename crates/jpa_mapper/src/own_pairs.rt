@@ -1,4 +1,5 @@
-//! The rows of an owner's pairs: which of the rows of join tables they are, and whether each is one that a pair has.
+//! The rows of an owner's pairs: which of the rows of join tables they are, and whether each is one
+//! that a pair has.
 ghost use Rattle.std.specs.Prelude.{◌≡◌, ◌<◌, ◌⊎◌, ◌==◌, ◌↔◌, pos, length, is_some, IsTrue, IfErr, OnOk};
 ghost use Rattle.std.specs.List.{list_any};
 ghost use Rattle.jpa_value.specs.declared.value.Value.{Value};
@@ -75,8 +76,9 @@ fn damaged(alloc: Global, id: &RowId) -> Cause
     }
 }
 
-/// Refuses rows where one of this owner's pairs, an object of the class, has another row than a pair has: with `Damaged` and
-/// the place of the lowest such row, or with `OutOfMemory`. It tests each row once.
+/// Refuses rows where one of this owner's pairs, an object of the class, has another row than a
+/// pair has: with `Damaged` and the place of the lowest such row, or with `OutOfMemory`. It tests
+/// each row once.
 pub(crate) fn judge_own_pairs(
     alloc: Global,
     metamodel: &Metamodel,

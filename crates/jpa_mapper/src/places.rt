@@ -1,4 +1,5 @@
-//! The columns of an object's class, in the order of its declaration, each with what the object holds in it.
+//! The columns of an object's class, in the order of its declaration, each with what the object
+//! holds in it.
 ghost use Rattle.std.specs.Prelude.{◌≡◌, ◌<◌, ◌^◌, ◌⊎◌, ◌++◌, ◌∷◌, [], true, false, length, Some, IfOk, IfErr, OnOk};
 ghost use Rattle.std.specs.List.{list_all, zip};
 ghost use Rattle.jpa_value.specs.declared.refusal.Cause.{Cause};

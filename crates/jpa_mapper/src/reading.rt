@@ -23,12 +23,13 @@ use jpa_stored::Stored;
 use jpa_value::{Cause, Identity, Seq};
 use std::alloc::Global;
 
-/// The object of this identity and main row, with its pairs among these rows, which are in rising order and may be those
-/// of other owners and other join tables too. With n rows each relation takes O(n) comparisons.
+/// The object of this identity and main row, with its pairs among these rows, which are in rising
+/// order and may be those of other owners and other join tables too. With n rows each relation
+/// takes O(n) comparisons.
 ///
-/// Where no object has that main row it is `Damaged` with the table and the bytes of the key. Else, where a row of one of the
-/// object's pairs is not the one that a pair has, it is `Damaged` with the table and the bytes of the lowest such row.
-/// `OutOfMemory` where a growth was refused.
+/// Where no object has that main row it is `Damaged` with the table and the bytes of the key. Else,
+/// where a row of one of the object's pairs is not the one that a pair has, it is `Damaged` with
+/// the table and the bytes of the lowest such row. `OutOfMemory` where a growth was refused.
 pub fn from_rows<B: Behaviour>(
     alloc: Global,
     metamodel: &Metamodel,
@@ -49,13 +50,13 @@ pub fn from_rows<B: Behaviour>(
     Ok(object)
 }
 
-/// The object of this identity and main row, with the pairs that the ids of these rows say, which are in rising order and may
-/// be those of other owners and other join tables too. What a row of a join table holds is not looked at: who calls this has
-/// judged apart whether each is a pair's, as `from_rows` does. With n rows each relation takes O(log n + k) comparisons for
-/// its k pairs.
+/// The object of this identity and main row, with the pairs that the ids of these rows say, which
+/// are in rising order and may be those of other owners and other join tables too. What a row of a
+/// join table holds is not looked at: who calls this has judged apart whether each is a pair's, as
+/// `from_rows` does. With n rows each relation takes O(log n + k) comparisons for its k pairs.
 ///
-/// Where no object has that main row it is `Damaged` with the table and the bytes of the key; `OutOfMemory` where a growth
-/// was refused.
+/// Where no object has that main row it is `Damaged` with the table and the bytes of the key;
+/// `OutOfMemory` where a growth was refused.
 pub fn from_rows_by_id<B: Behaviour>(
     alloc: Global,
     metamodel: &Metamodel,
@@ -111,7 +112,8 @@ fn with_pairs(
     })
 }
 
-/// What is owned along the relations of a class, with the pairs among these rows for those that have join tables.
+/// What is owned along the relations of a class, with the pairs among these rows for those that
+/// have join tables.
 fn owned_with(
     alloc: Global,
     metamodel: &Metamodel,

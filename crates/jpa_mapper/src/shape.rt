@@ -89,8 +89,9 @@ fn lead_well(metamodel: &Metamodel, relations: &[Relation], owned: &[Seq<Identit
     relations.len() == owned.len()
 }
 
-/// Whether an object has what its class says: an identity of its hierarchy, a version exactly where that has one, values of the
-/// kinds of its attributes and of at most 65,535 bytes, and links into the hierarchies of its relations. Takes no memory.
+/// Whether an object has what its class says: an identity of its hierarchy, a version exactly where
+/// that has one, values of the kinds of its attributes and of at most 65,535 bytes, and links into
+/// the hierarchies of its relations. Takes no memory.
 pub(crate) fn is_sound(metamodel: &Metamodel, id: &Identity, object: &Stored) -> bool
     requires { object.now.class < length metamodel.now.entities }
     ensures { result ≡ spec.is_sound metamodel.now id.now object.now }

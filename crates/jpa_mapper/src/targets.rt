@@ -13,10 +13,11 @@ use jpa_value::{Cause, Identity, Key, Seq, TryCopy, Value, order_keys, order_val
 use std::alloc::Global;
 use std::cmp::Ordering;
 
-/// The targets of an owner's pairs in the join table of a relation to a class, among rows in rising order, which may be those
-/// of other owners and other tables too.
+/// The targets of an owner's pairs in the join table of a relation to a class, among rows in rising
+/// order, which may be those of other owners and other tables too.
 ///
-/// With n rows and k targets it takes O(log n + k) comparisons. `OutOfMemory` where a growth was refused.
+/// With n rows and k targets it takes O(log n + k) comparisons. `OutOfMemory` where a growth was
+/// refused.
 pub(crate) fn targets(
     alloc: Global,
     metamodel: &Metamodel,
@@ -55,8 +56,8 @@ fn is_before(id: &RowId, table: u64, key: &[Value]) -> bool
     matches!(order, Ordering::Less)
 }
 
-/// The target of the pair that a row is, if it is one of this owner's in the join table: its key is the owner's and after it
-/// the target's, which stands in a table of its own.
+/// The target of the pair that a row is, if it is one of this owner's in the join table: its key is
+/// the owner's and after it the target's, which stands in a table of its own.
 fn pair_target(
     alloc: Global,
     id: &RowId,

@@ -18,8 +18,8 @@ use jpa_stored::Stored;
 use jpa_value::{Cause, Identity, Seq, TryCopy, Value};
 use std::alloc::Global;
 
-/// The rows of an object: first its main row, under its identity, then a row of the join table for each pair that it
-/// owns, relation by relation.
+/// The rows of an object: first its main row, under its identity, then a row of the join table for
+/// each pair that it owns, relation by relation.
 ///
 /// A converter's throw is `Persistence(converter)`.
 pub fn to_rows<B: Behaviour>(

@@ -1,5 +1,5 @@
--- What a mapping description says: each object has its required members, may have its optional ones, and has no
--- others; each member is of its type.
+-- What a mapping description says: each object has its required members, may have its optional
+-- ones, and has no others; each member is of its type.
 use Rattle.std.specs.Prelude.{⊤, ◌&&◌, ℕ, Bool, true, false, List, [], ◌∷◌, codes, if◌then◌else◌, Option, Some, None, is_some, bytes_eq}
 use Rattle.std.specs.List.{list_any}
 use Rattle.jpa_value.specs.declared.value.Kind.{Kind}
@@ -21,9 +21,11 @@ use Rattle.jpa_json.specs.Outcome.{◌>>=◌, guard}
 
 -- ---- members
 
+-- whether a name is one of these
 abbrev pub is_listed : List (List ℕ) → List ℕ → Bool
 is_listed names name = list_any (λ listed. bytes_eq listed name) names
 
+-- whether each member has one of these names
 abbrev pub are_listed : List (List ℕ) → Members → Bool
 are_listed names no_members = true
 are_listed names (member name d ms) = is_listed names name && are_listed names ms
@@ -41,6 +43,7 @@ only names (object ms) = guard (are_listed names ms)
 abbrev pub required : {A : Type 0} → (Data → Option A) → List ℕ → Data → Option A
 required meaning name d = get name d >>= meaning
 
+-- the meaning of a member, where the member is there
 abbrev pub if_there : {A : Type 0} → (Data → Option A) → Option Data → Option (Option A)
 if_there meaning (Some d) = meaning d >>= λ a. Some (Some a)
 if_there meaning None = Some None
@@ -49,6 +52,7 @@ if_there meaning None = Some None
 abbrev pub optional : {A : Type 0} → (Data → Option A) → List ℕ → Data → Option (Option A)
 optional meaning name d = if_there meaning (get name d)
 
+-- a truth, which is false where it is absent
 abbrev pub true_if_there : Option Data → Option Bool
 true_if_there (Some d) = as_bool d
 true_if_there None = Some false
@@ -57,6 +61,7 @@ true_if_there None = Some false
 abbrev pub flag : List ℕ → Data → Option Bool
 flag name d = true_if_there (get name d)
 
+-- the items of a list, which has none where it is absent
 abbrev pub items_if_there : {A : Type 0} → (Data → Option A) → Option Data → Option (List A)
 items_if_there meaning (Some d) = list_of meaning d
 items_if_there meaning None = Some []
@@ -67,6 +72,7 @@ list_at meaning name d = items_if_there meaning (get name d)
 
 -- ---- words
 
+-- the type of a name: int, text or bytes
 abbrev pub kind_named : List ℕ → Option Kind
 kind_named word =
     if bytes_eq word (codes "int") then Some Kind.Int
@@ -74,9 +80,11 @@ kind_named word =
     else if bytes_eq word (codes "bytes") then Some Kind.Bytes
     else None
 
+-- a type, by its name
 abbrev pub kind_of : Data → Option Kind
 kind_of d = as_str d >>= kind_named
 
+-- the kind of a relation by its name
 abbrev pub relation_kind_named : List ℕ → Option RelationKind
 relation_kind_named word =
     if bytes_eq word (codes "manyToOne") then Some RelationKind.ManyToOne
@@ -85,9 +93,11 @@ relation_kind_named word =
     else if bytes_eq word (codes "manyToMany") then Some RelationKind.ManyToMany
     else None
 
+-- the kind of a relation (chapter 2.9)
 abbrev pub relation_kind_of : Data → Option RelationKind
 relation_kind_of d = as_str d >>= relation_kind_named
 
+-- the cascade of a name
 abbrev pub cascade_named : List ℕ → Option Cascade
 cascade_named word =
     if bytes_eq word (codes "PERSIST") then Some Cascade.Persist
@@ -98,6 +108,7 @@ cascade_named word =
     else if bytes_eq word (codes "ALL") then Some Cascade.All
     else None
 
+-- a cascade, by its name (chapter 3.2)
 abbrev pub cascade_of : Data → Option Cascade
 cascade_of d = as_str d >>= cascade_named
 
@@ -111,6 +122,7 @@ part_of d = do
   kind ← required kind_of (codes "type") d
   Some (record { name = name; kind = kind })
 
+-- a version: name and column (chapter 3.4.2)
 unfoldable pub version_of : Data → Option DraftVersion
 version_of d = do
   known ← only (codes "name" ∷ codes "column" ∷ []) d
@@ -124,6 +136,7 @@ attribute_members =
     codes "name" ∷ codes "type" ∷ codes "column" ∷ codes "required" ∷ codes "converter" ∷ codes "since" ∷ codes "default"
     ∷ codes "was" ∷ []
 
+-- an attribute (chapter 2.2)
 unfoldable pub attribute_of : Data → Option DraftAttribute
 attribute_of d = do
   known ← only attribute_members d
@@ -134,7 +147,8 @@ attribute_of d = do
   converter ← optional as_str (codes "converter") d
   Some (record { name = name; kind = kind; column = column; required = not_null; converter = converter })
 
--- exactly one of the members `column`, `joinTable` and `mappedBy`, and `required` beside the first alone
+-- exactly one of the members `column`, `joinTable` and `mappedBy`, and `required` beside the first
+-- alone
 unfoldable pub side_of : Option Data → Option Data → Option Data → Option Data → Option DraftSide
 side_of (Some d) None None needed = do
   column ← integer_of d
@@ -148,14 +162,17 @@ side_of None None (Some d) None = do
   Some (DraftSide.MappedBy name)
 side_of column table owner needed = None
 
+-- where a relation is kept
 abbrev pub side_at : Data → Option DraftSide
 side_at d = side_of (get (codes "column") d) (get (codes "joinTable") d) (get (codes "mappedBy") d) (get (codes "required") d)
 
+-- the members that a relation may have
 abbrev pub relation_members : List (List ℕ)
 relation_members =
     codes "name" ∷ codes "kind" ∷ codes "target" ∷ codes "column" ∷ codes "joinTable" ∷ codes "mappedBy" ∷ codes "required" ∷ codes "cascade"
     ∷ codes "orphanRemoval" ∷ []
 
+-- a relation (chapter 2.9)
 unfoldable pub relation_of : Data → Option DraftRelation
 relation_of d = do
   known ← only relation_members d
@@ -188,9 +205,11 @@ abbrev pub root_members : List (List ℕ)
 root_members =
     codes "table" ∷ codes "key" ∷ codes "embedded" ∷ codes "generated" ∷ codes "version" ∷ codes "dropped" ∷ common_members
 
+-- the members that a subclass may have
 abbrev pub subclass_members : List (List ℕ)
 subclass_members = codes "extends" ∷ common_members
 
+-- a root: table, key and version (chapter 2.4)
 unfoldable pub root_of : Data → Option DraftOrigin
 root_of d = do
   known ← only root_members d
@@ -201,6 +220,7 @@ root_of d = do
   version ← optional version_of (codes "version") d
   Some (DraftOrigin.Root (record { table = table; key = key; embedded = embedded; generated = generated; version = version }))
 
+-- a subclass, by its superclass (chapter 2.11)
 unfoldable pub subclass_of : Data → Option DraftOrigin
 subclass_of d = do
   known ← only subclass_members d
@@ -211,6 +231,7 @@ subclass_of d = do
 abbrev pub origin_of : Data → Option DraftOrigin
 origin_of d = if is_some (get (codes "extends") d) then subclass_of d else root_of d
 
+-- an entity (chapter 2.1)
 unfoldable pub entity_of : Data → Option DraftEntity
 entity_of d = do
   name ← required as_str (codes "name") d

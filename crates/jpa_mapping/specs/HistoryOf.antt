@@ -1,5 +1,6 @@
--- What a mapping description says of what has changed since revision 1: members of attributes and of root entities, each of its
--- type. Which members an object may have stands with what it describes.
+-- What a mapping description says of what has changed since revision 1: members of attributes and
+-- of root entities, each of its type. Which members an object may have stands with what it
+-- describes.
 use Rattle.std.specs.Prelude.{codes, Option, Some}
 use Rattle.jpa_value.specs.declared.value.Value.{Value}
 use Rattle.jpa_history.specs.declared.draft.DraftChange.{DraftChange}
@@ -11,6 +12,7 @@ use Rattle.jpa_json.specs.Outcome.{◌>>=◌}
 use Rattle.jpa_json.specs.Values.{value_of}
 use Rattle.jpa_mapping.specs.DraftOf.{required, optional, list_at}
 
+-- a value, or null
 abbrev pub value_or_null : Data → Option Value
 value_or_null null = Some Value.Null
 value_or_null d = value_of d

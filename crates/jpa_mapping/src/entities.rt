@@ -68,7 +68,8 @@ fn subclass_of(alloc: Global, json: &Json) -> Result<DraftOrigin, Unread>
     Ok(DraftOrigin::Extends(name))
 }
 
-/// Where a class stands in its hierarchy: one that says `extends` is a subclass, and another one a root.
+/// Where a class stands in its hierarchy: one that says `extends` is a subclass, and another one a
+/// root.
 fn origin_of(alloc: Global, json: &Json) -> Result<DraftOrigin, Unread>
     ensures { Gives same result (drafts.origin_of (view json.now)) }
 {

@@ -149,8 +149,8 @@ impl Described<Description> for DraftRelation {
     }
 }
 
-/// Where a relation is kept: exactly one of `column`, `joinTable` and `mappedBy` tells, with `required` beside
-/// the first alone.
+/// Where a relation is kept: exactly one of `column`, `joinTable` and `mappedBy` tells, with
+/// `required` beside the first alone.
 #[tactic(auto, unfolding(crate::specs::DraftOf::side_of))]
 fn side_of(alloc: Global, json: &Json) -> Result<DraftSide, Unread>
     ensures { Gives same result (drafts.side_at (view json.now)) }

@@ -28,13 +28,13 @@ pub(crate) struct Drafts {
     pub(crate) history: DraftHistory,
 }
 
-/// The metamodel and its history that a mapping description describes, a text of JSON in UTF-8 (Jakarta Persistence 3.1,
-/// chapters 11 and 12, as data).
+/// The metamodel and its history that a mapping description describes, a text of JSON in UTF-8
+/// (Jakarta Persistence 3.1, chapters 11 and 12, as data).
 ///
-/// Refuses as `Mapping(Json)` bytes that are no UTF-8 or a text that `serde_json` does not read, else as
-/// `Mapping(Shape)` a member that is missing, that no table lists or that is of another type or word, else as
-/// `Mapping(Model)` a metamodel or a history that is not well formed; as `OutOfMemory` where a growth was refused. What
-/// `functions` holds is not asked.
+/// Refuses as `Mapping(Json)` bytes that are no UTF-8 or a text that `serde_json` does not read,
+/// else as `Mapping(Shape)` a member that is missing, that no table lists or that is of another
+/// type or word, else as `Mapping(Model)` a metamodel or a history that is not well formed; as
+/// `OutOfMemory` where a growth was refused. What `functions` holds is not asked.
 pub fn read_mapping(alloc: Global, bytes: &[u8]) -> Result<Mapping, Cause>
     ensures read { IsUnlessMemory result (mappings.mapping_of bytes.now) }
     ensures history { IfOk result (λ mapping. IsHistoryOf mapping.metamodel mapping.history) }

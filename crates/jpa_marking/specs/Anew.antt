@@ -1,5 +1,5 @@
--- How marks are made anew at the end of a call: entries that it may have touched are looked at, and each other one stands as it did
--- and keeps its mark (Jakarta Persistence 3.1, chapter 3.2.4).
+-- How marks are made anew at the end of a call: entries that it may have touched are looked at, and
+-- each other one stands as it did and keeps its mark (Jakarta Persistence 3.1, chapter 3.2.4).
 use Rattle.std.specs.Prelude.{◌≡◌, ◌<◌, ◌⊎◌, ℕ, false, length, slice_index_or}
 use Rattle.jpa_model.specs.declared.unit.PersistenceUnit.{PersistenceUnit}
 use Rattle.jpa_heap.specs.Objects.{object_at}
@@ -10,12 +10,14 @@ use Rattle.jpa_context.specs.Undo.{now}
 use Rattle.jpa_context.specs.Work.{Work}
 use Rattle.jpa_flush.specs.Marked.{IsUntouched}
 
--- its object is marked where a flush has to look at the entry, and nowhere else unless each object is
+-- its object is marked where a flush has to look at the entry, and nowhere else unless each object
+-- is
 pub record IsTold (m : PersistenceUnit) (w : Work) (k : Marks) (e : Entry) : Type 0 where
   pub looked : is_marked k e.object ≡ false → IsUntouched m w k.linked e
   pub taken : k.all ≡ false → IsUntouched m w k.linked e → is_marked k e.object ≡ false
 
--- of each entry the marks say what is so; but those that were missed, by their places, have the marks that they had
+-- of each entry the marks say what is so; but those that were missed, by their places, have the
+-- marks that they had
 pub record IsGoneOver (m : PersistenceUnit) (w : Work) (Missed : ℕ → Type 0) (old new : Marks) : Type 0 where
   pub all : new.all ≡ old.all
   pub linked : new.linked ≡ old.linked
@@ -42,7 +44,8 @@ WasThere u i = i < length u.context.since
 abbrev pub IsMissed : UnitOfWork → ℕ → Type 0
 IsMissed u i = StandsAt u i × (HasObjectAsItWas u i × WasThere u i)
 
--- of an entry that was touched no mark is left where a flush need not look at it, unless each object is marked
+-- of an entry that was touched no mark is left where a flush need not look at it, unless each
+-- object is marked
 abbrev pub TakesMarksAway : PersistenceUnit → UnitOfWork → Marks → Type 0
 TakesMarksAway m u k =
     k.all ≡ false → (i : ℕ) (d : Entry) → i < length u.context.now → (IsMissed u i → ⊥) →

@@ -1,5 +1,5 @@
--- What a commit leaves of the marks of its manager: of objects that leave, and of what is calm and linked once locks are over, none
--- (Jakarta Persistence 3.1, chapters 3.2.4 and 3.4).
+-- What a commit leaves of the marks of its manager: of objects that leave, and of what is calm and
+-- linked once locks are over, none (Jakarta Persistence 3.1, chapters 3.2.4 and 3.4).
 use Rattle.std.specs.Prelude.{◌≡◌, ◌<◌, ◌⊎◌, ◌||◌, ℕ, Bool, true, false, length, slice_index_or}
 use Rattle.std.specs.List.{list_all}
 use Rattle.jpa_model.specs.declared.unit.PersistenceUnit.{PersistenceUnit}

@@ -12,7 +12,8 @@ use jpa_model::Metamodel;
 use jpa_value::Cause;
 use std::alloc::Global;
 
-/// Whether the objects without a mark were linked, and what might be led to then may be led to still.
+/// Whether the objects without a mark were linked, and what might be led to then may be led to
+/// still.
 fn are_linked_still(work: &UnitOfWork, marks: &Marks) -> bool
     ensures linked { result ≡ true → marks.now.linked ≡ true }
     ensures leads { result ≡ true → marked.LeadsStill (marked.before work.now) (now work.now) }
@@ -20,8 +21,9 @@ fn are_linked_still(work: &UnitOfWork, marks: &Marks) -> bool
     marks.are_linked() && keep_links(work)
 }
 
-/// Makes marks that say of the work as it is what they said of the work as it was last kept. Answers false where each object is marked,
-/// or where more may have changed than the objects that were overwritten. Fails for want of memory alone.
+/// Makes marks that say of the work as it is what they said of the work as it was last kept.
+/// Answers false where each object is marked, or where more may have changed than the objects that
+/// were overwritten. Fails for want of memory alone.
 fn renew(metamodel: &Metamodel, work: &UnitOfWork, marks: &mut Marks) -> Result<bool, Cause>
     requires ready { IsReady metamodel.now (now work.now) }
     requires marked { marked.AreMarked metamodel.now (marked.before work.now) marks.old }
@@ -42,7 +44,8 @@ fn renew(metamodel: &Metamodel, work: &UnitOfWork, marks: &mut Marks) -> Result<
     Ok(true)
 }
 
-/// The marks of the work as it is, from those of the work as it was last kept; each object is marked where that isn't known.
+/// The marks of the work as it is, from those of the work as it was last kept; each object is
+/// marked where that isn't known.
 fn marks_anew(alloc: Global, metamodel: &Metamodel, work: &UnitOfWork, marks: Marks) -> Marks
     requires ready { IsReady metamodel.now (now work.now) }
     requires marked { marked.AreMarked metamodel.now (marked.before work.now) marks }
@@ -56,10 +59,11 @@ fn marks_anew(alloc: Global, metamodel: &Metamodel, work: &UnitOfWork, marks: Ma
     }
 }
 
-/// Marks, at the end of a call that was accepted and before its changes are kept, what the next flush has to look at (Jakarta
-/// Persistence 3.1, chapter 3.2.4). It compares what the call touched, and nothing else, with its bases. It takes no memory that a
-/// caller would see refused: where there is none, each object is marked. Else what was touched has a mark just where the next flush
-/// has to look at it: one that a refresh brought back to what is stored has none.
+/// Marks, at the end of a call that was accepted and before its changes are kept, what the next
+/// flush has to look at (Jakarta Persistence 3.1, chapter 3.2.4). It compares what the call
+/// touched, and nothing else, with its bases. It takes no memory that a caller would see refused:
+/// where there is none, each object is marked. Else what was touched has a mark just where the next
+/// flush has to look at it: one that a refresh brought back to what is stored has none.
 pub fn mark_anew(alloc: Global, metamodel: &Metamodel, work: &mut UnitOfWork)
     requires ready { IsReady metamodel.now (now work.old) }
     requires marked { marked.AreMarkedBefore metamodel.now work.old }

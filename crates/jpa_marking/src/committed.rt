@@ -14,8 +14,8 @@ use jpa_model::Metamodel;
 use jpa_value::Cause;
 use std::alloc::Global;
 
-/// Whether a commit leaves nothing of an entry at which a flush has to look: its object leaves, or once unlocked it is calm and linked.
-/// Fails for want of memory alone.
+/// Whether a commit leaves nothing of an entry at which a flush has to look: its object leaves, or
+/// once unlocked it is calm and linked. Fails for want of memory alone.
 fn is_over(metamodel: &Metamodel, work: &UnitOfWork, entry: &Entry) -> Result<bool, Cause>
     requires ready { IsReady metamodel.now (now work.now) }
     requires object { entry.now.object < length work.now.objects.now }
@@ -111,7 +111,8 @@ fn are_linked(metamodel: &Metamodel, work: &UnitOfWork, marks: &Marks) -> bool
     true
 }
 
-/// Whether each managed object without a mark is linked, where that may be known of those that nobody looked at.
+/// Whether each managed object without a mark is linked, where that may be known of those that
+/// nobody looked at.
 fn are_linked_left(metamodel: &Metamodel, work: &UnitOfWork, linked: bool, marks: &Marks) -> bool
     requires ready { IsReady metamodel.now (now work.now) }
     ensures { result ≡ (linked
@@ -156,10 +157,11 @@ fn marks_left(alloc: Global, metamodel: &Metamodel, work: &UnitOfWork, looked: &
     }
 }
 
-/// Marks, at the end of a commit and before its removed objects leave and its locks end, what the next flush has to look at (Jakarta
-/// Persistence 3.1, chapter 3.2.4). Of the entries at other places than those looked at it is known what a flush need not look at.
-/// It takes no memory that a caller would see refused: where there is none, each object is marked. Else what was written, and is as
-/// the store has it, has no mark.
+/// Marks, at the end of a commit and before its removed objects leave and its locks end, what the
+/// next flush has to look at (Jakarta Persistence 3.1, chapter 3.2.4). Of the entries at other
+/// places than those looked at it is known what a flush need not look at. It takes no memory that a
+/// caller would see refused: where there is none, each object is marked. Else what was written, and
+/// is as the store has it, has no mark.
 pub fn mark_committed(alloc: Global, metamodel: &Metamodel, work: &mut UnitOfWork, looked: &Looked)
     requires ready { IsReady metamodel.now (now work.old) }
     requires looked { marked.AreLooked (marked.IsUntouched metamodel.now (now work.old)

@@ -1,5 +1,6 @@
-//! Looks at the entries that a call may have touched: those that were overwritten, those whose objects were, and those that entered.
-//! The rest stands as it did when the changes were last kept, with its objects.
+//! Looks at the entries that a call may have touched: those that were overwritten, those whose
+//! objects were, and those that entered. The rest stands as it did when the changes were last kept,
+//! with its objects.
 ghost use Rattle.std.specs.Prelude.{◌≡◌, ◌≢◌, ◌↔◌, ◌<◌, true, length, slice_index_or, IfOk, OnOk};
 ghost use Rattle.jpa_context.specs.Undo.{now};
 ghost use Rattle.jpa_context.specs.declared.Entry.{Entry};
@@ -12,7 +13,8 @@ use jpa_flush::{is_calm, is_linked};
 use jpa_model::Metamodel;
 use jpa_value::Cause;
 
-/// Whether a flush need not look at an entry, where the objects without a mark are linked or not. Fails for want of memory alone.
+/// Whether a flush need not look at an entry, where the objects without a mark are linked or not.
+/// Fails for want of memory alone.
 fn is_untouched(
     metamodel: &Metamodel,
     work: &UnitOfWork,
@@ -30,8 +32,8 @@ fn is_untouched(
     Ok(!linked || is_linked(metamodel, work, entry.object))
 }
 
-/// Looks at the entry at a place, if there is one: its object is marked, or not any more, as a flush has to look at it or not. Fails
-/// for want of memory alone.
+/// Looks at the entry at a place, if there is one: its object is marked, or not any more, as a
+/// flush has to look at it or not. Fails for want of memory alone.
 fn look_at(
     metamodel: &Metamodel,
     work: &UnitOfWork,
@@ -114,7 +116,8 @@ fn look_at_entered(metamodel: &Metamodel, work: &UnitOfWork, marks: &mut Marks) 
     Ok(())
 }
 
-/// Looks at each entry that was touched since the changes were last kept. It looks at no other, and fails for want of memory alone.
+/// Looks at each entry that was touched since the changes were last kept. It looks at no other, and
+/// fails for want of memory alone.
 pub(crate) fn look_at_touched(
     metamodel: &Metamodel,
     work: &UnitOfWork,

@@ -14,9 +14,9 @@ use Rattle.jpa_context.specs.Steps.{Meets}
 use Rattle.jpa_context.specs.Work.{Work, object}
 use Rattle.jpa_lifecycle.specs.Callbacks.{callback}
 use Rattle.jpa_lifecycle.proofs.Keeps.{happened}
-use Rattle.jpa_fetch.specs.Grown.{HasGrown, IsReady}
+use Rattle.jpa_fetch.specs.Grown.{HasGrown, IsReady, GoesOn}
 use Rattle.jpa_fetch.proofs.Grown.{grown_happened, grown_set, placed_happened, placed_set, ready_on}
-use Rattle.jpa_ops.proofs.Ready.{IsFrom, links_same}
+use Rattle.jpa_ops.proofs.Ready.{links_same}
 use Rattle.jpa_merge.specs.declared.images.NodeImage.{NodeImage}
 use Rattle.jpa_merge.specs.Imaged.{AreImaged, IsImaged}
 use Rattle.jpa_merge.specs.Merge.{with_values_of}
@@ -55,7 +55,7 @@ module _ (m : PersistenceUnit) (w : Work) (x : NodeImage) (ready : IsReady m w) 
 
 -- ---- an event happened to an image
 
-pub told_from : (world : World) (event : LifecycleEvent) (n : ℕ) (w v : Work) (r : Result (Unit {0}) Cause) → IsReady world.model w → n < length w.objects → Meets r v (callback world event n w) → OnOk r (IsFrom world.model w v)
+pub told_from : (world : World) (event : LifecycleEvent) (n : ℕ) (w v : Work) (r : Result (Unit {0}) Cause) → IsReady world.model w → n < length w.objects → Meets r v (callback world event n w) → OnOk r (GoesOn world.model w v)
 told_from world event n w v (Ok a) ready l met =
     let h = happened world event n w v met in
     let grown = grown_happened n w v l h in

@@ -36,3 +36,12 @@ module _ {X : Type 0} (f : ℕ × X → Op (Unit {0})) (xs : List X) (i : ℕ) (
 
   pub place_done : (v : Work) → f (i, x) w ≡ Done tt v → each f (enumerate_from (i + 1) (drop (i + 1) xs)) v ≡ each f (enumerate_from i (drop i xs)) w
   place_done v done = sym (next_place ∙ ap (λ o. after o (λ _. each f (enumerate_from (i + 1) (drop (i + 1) xs)))) done)
+
+-- ---- one after another
+
+pub next_done : {X : Type 0} (f : X → Op (Unit {0})) (xs : List X) (i : ℕ) (x : X) (w v : Work) → i < length xs → x ≡ get_or xs i x → f x w ≡ Done tt v →
+    each f (drop (i + 1) xs) v ≡ each f (drop i xs) w
+next_done f xs i x w v l read done =
+    sym (at_drop_more (λ ys. each f ys w) xs i x l
+    ∙ ap (λ y. after (f y w) (λ _. each f (drop (i + 1) xs))) (sym read)
+    ∙ ap (λ o. after o (λ _. each f (drop (i + 1) xs))) done)

@@ -2,10 +2,11 @@
 ghost use Rattle.std.specs.Prelude.{◌≡◌, IfErr, OnOk};
 ghost use Rattle.jpa_value.specs.declared.refusal.Cause.{Cause};
 ghost use Rattle.jpa_behaviour.specs.Served.{world_of_unit};
-ghost use Rattle.jpa_context.specs.Steps.{Meets, each};
+ghost use Rattle.jpa_context.specs.Carries.{Carries};
+ghost use Rattle.jpa_context.specs.Steps.{each};
 ghost use Rattle.jpa_context.specs.Undo.{now, since};
 ghost use Rattle.jpa_context.specs.Work as works;
-ghost use Rattle.jpa_fetch.specs.Grown.{HasGrown, IsReady};
+ghost use Rattle.jpa_fetch.specs.Grown.{GoesOn, IsReady};
 ghost use Rattle.jpa_merge.specs.Imaged.{AreImaged, IsImaged};
 ghost use Rattle.jpa_merge.specs.Merge as merges;
 
@@ -38,15 +39,15 @@ fn is_current(work: &UnitOfWork, image: NodeImage) -> bool
     version_is(objects[image.node].version, objects[image.image].version)
 }
 
-/// An image takes the values of its node's attributes. Fails for want of memory alone, with `OutOfMemory`.
+/// An image takes the values of its node's attributes. Fails for want of memory alone, with
+/// `OutOfMemory`.
 fn copy_values(_metamodel: &Metamodel, work: &mut UnitOfWork, image: NodeImage) -> Result<(), Cause>
     requires ready { IsReady _metamodel.now (now work.old) }
     requires imaged { IsImaged (now work.old) image }
     ensures ok { OnOk result
         (now work.new ≡ merges.with_values_of image (now work.old)) }
     ensures err { IfErr result (λ cause. cause ≡ Cause.OutOfMemory) }
-    ensures ready { OnOk result (IsReady _metamodel.now (now work.new)) }
-    ensures grown { OnOk result (HasGrown (now work.old) (now work.new)) }
+    ensures goes { OnOk result (GoesOn _metamodel.now (now work.old) (now work.new)) }
     ensures view { work.new.view ≡ work.old.view }
     ensures since { since work.new ≡ since work.old }
 {
@@ -57,15 +58,16 @@ fn copy_values(_metamodel: &Metamodel, work: &mut UnitOfWork, image: NodeImage) 
     Ok(())
 }
 
-/// Whether an image takes what its node holds in a relation: a managed node, which is its own image, has its targets replaced along
-/// relations that cascade merge alone.
+/// Whether an image takes what its node holds in a relation: a managed node, which is its own
+/// image, has its targets replaced along relations that cascade merge alone.
 fn takes(image: NodeImage, relation: &Relation) -> bool
     ensures { result ≡ merges.takes image relation.now }
 {
     image.node != image.image || relation.cascade.merge
 }
 
-/// An image takes what its node holds in its relations, as far as it was read. Refused as `merge` is.
+/// An image takes what its node holds in its relations, as far as it was read. Refused as `merge`
+/// is.
 fn copy_relations<B: Behaviour>(
     alloc: Global,
     unit: &ServedUnit<B>,
@@ -76,13 +78,9 @@ fn copy_relations<B: Behaviour>(
     requires ready { IsReady unit.now.metamodel (now work.old) }
     requires imaged { AreImaged (now work.old) images.now }
     requires image { IsImaged (now work.old) image }
-    ensures meets { let world = world_of_unit B.meaning unit.now in
-        Meets result (now work.new)
-        (merges.copy_relations world images.now image (now work.old)) }
-    ensures ready { OnOk result (IsReady unit.now.metamodel (now work.new)) }
-    ensures grown { OnOk result (HasGrown (now work.old) (now work.new)) }
-    ensures view { work.new.view ≡ work.old.view }
-    ensures since { since work.new ≡ since work.old }
+    ensures carries { let world = world_of_unit B.meaning unit.now in
+        Carries (merges.copy_relations world images.now image) result work.old work.new }
+    ensures goes { OnOk result (GoesOn unit.now.metamodel (now work.old) (now work.new)) }
 {
     let relations = unit
         .metamodel
@@ -95,8 +93,8 @@ fn copy_relations<B: Behaviour>(
     Ok(())
 }
 
-/// An image takes the values and the read relations of its node. `OptimisticLock` where the node's version is not the image's;
-/// what `replaced` refuses.
+/// An image takes the values and the read relations of its node. `OptimisticLock` where the node's
+/// version is not the image's; what `replaced` refuses.
 fn copy_to_other<B: Behaviour>(
     alloc: Global,
     unit: &ServedUnit<B>,
@@ -107,13 +105,9 @@ fn copy_to_other<B: Behaviour>(
     requires ready { IsReady unit.now.metamodel (now work.old) }
     requires imaged { AreImaged (now work.old) images.now }
     requires image { IsImaged (now work.old) image }
-    ensures meets { let world = world_of_unit B.meaning unit.now in
-        Meets result (now work.new)
-        (merges.copy_to_other world images.now image (now work.old)) }
-    ensures ready { OnOk result (IsReady unit.now.metamodel (now work.new)) }
-    ensures grown { OnOk result (HasGrown (now work.old) (now work.new)) }
-    ensures view { work.new.view ≡ work.old.view }
-    ensures since { since work.new ≡ since work.old }
+    ensures carries { let world = world_of_unit B.meaning unit.now in
+        Carries (merges.copy_to_other world images.now image) result work.old work.new }
+    ensures goes { OnOk result (GoesOn unit.now.metamodel (now work.old) (now work.new)) }
 {
     if !is_current(work, image) {
         return Err(Cause::OptimisticLock);
@@ -122,7 +116,8 @@ fn copy_to_other<B: Behaviour>(
     copy_relations(alloc, unit, work, images, image)
 }
 
-/// A node is copied into its image; where it is its own, its targets are replaced. Refused as `merge` is.
+/// A node is copied into its image; where it is its own, its targets are replaced. Refused as
+/// `merge` is.
 fn copy_node<B: Behaviour>(
     alloc: Global,
     unit: &ServedUnit<B>,
@@ -133,12 +128,9 @@ fn copy_node<B: Behaviour>(
     requires ready { IsReady unit.now.metamodel (now work.old) }
     requires imaged { AreImaged (now work.old) images.now }
     requires image { IsImaged (now work.old) image }
-    ensures meets { let world = world_of_unit B.meaning unit.now in
-        Meets result (now work.new) (merges.copy_node world images.now image (now work.old)) }
-    ensures ready { OnOk result (IsReady unit.now.metamodel (now work.new)) }
-    ensures grown { OnOk result (HasGrown (now work.old) (now work.new)) }
-    ensures view { work.new.view ≡ work.old.view }
-    ensures since { since work.new ≡ since work.old }
+    ensures carries { let world = world_of_unit B.meaning unit.now in
+        Carries (merges.copy_node world images.now image) result work.old work.new }
+    ensures goes { OnOk result (GoesOn unit.now.metamodel (now work.old) (now work.new)) }
 {
     if image.node == image.image {
         copy_relations(alloc, unit, work, images, image)
@@ -147,7 +139,8 @@ fn copy_node<B: Behaviour>(
     }
 }
 
-/// Each node is copied into its image, in the order of the waves. Refused as `merge` is, at the first that is refused.
+/// Each node is copied into its image, in the order of the waves. Refused as `merge` is, at the
+/// first that is refused.
 pub(crate) fn copy_nodes<B: Behaviour>(
     alloc: Global,
     unit: &ServedUnit<B>,
@@ -156,13 +149,9 @@ pub(crate) fn copy_nodes<B: Behaviour>(
 ) -> Result<(), Cause>
     requires ready { IsReady unit.now.metamodel (now work.old) }
     requires imaged { AreImaged (now work.old) images.now }
-    ensures meets { let world = world_of_unit B.meaning unit.now in
-        Meets result (now work.new)
-        (each (merges.copy_node world images.now) images.now (now work.old)) }
-    ensures ready { OnOk result (IsReady unit.now.metamodel (now work.new)) }
-    ensures grown { OnOk result (HasGrown (now work.old) (now work.new)) }
-    ensures view { work.new.view ≡ work.old.view }
-    ensures since { since work.new ≡ since work.old }
+    ensures carries { let world = world_of_unit B.meaning unit.now in
+        Carries (each (merges.copy_node world images.now) images.now) result work.old work.new }
+    ensures goes { OnOk result (GoesOn unit.now.metamodel (now work.old) (now work.new)) }
 {
     for image in images.as_slice() {
         copy_node(alloc, unit, work, images, *image)?;

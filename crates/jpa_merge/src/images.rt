@@ -8,7 +8,8 @@ use std::alloc::{AllocError, Global};
 use std::collections::HashMap;
 use std::marker::Model;
 
-/// A node of the cascade of a merge and its image, by their places in the heap; fresh where the merge made the image.
+/// A node of the cascade of a merge and its image, by their places in the heap; fresh where the
+/// merge made the image.
 #[derive(Clone, Copy)]
 pub struct NodeImage {
     pub node: usize,
@@ -16,7 +17,8 @@ pub struct NodeImage {
     pub fresh: bool,
 }
 
-/// The nodes of a merge with their images, in the order of the waves. An image is found by its node, not by a walk.
+/// The nodes of a merge with their images, in the order of the waves. An image is found by its
+/// node, not by a walk.
 ///
 /// Contracts see it as the list.
 #[derive(Drop)]

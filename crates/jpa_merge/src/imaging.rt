@@ -3,12 +3,13 @@ ghost use Rattle.std.specs.Prelude.{◌≡◌, ◌<◌, All, length, suc, IfOk, 
 ghost use Rattle.jpa_value.specs.declared.refusal.Cause.{Cause};
 ghost use Rattle.jpa_behaviour.specs.Behaviour.{World};
 ghost use Rattle.jpa_behaviour.specs.Served.{world_of_unit};
+ghost use Rattle.jpa_context.specs.Carries.{Carries};
 ghost use Rattle.jpa_context.specs.Steps.{Meets};
 ghost use Rattle.jpa_context.specs.Undo.{now, since};
 ghost use Rattle.jpa_context.specs.Work as works;
 ghost use Rattle.jpa_cascade.specs.There.{IsThere};
 ghost use Rattle.jpa_cascade.specs.Waves.{live_nodes};
-ghost use Rattle.jpa_fetch.specs.Grown.{HasGrown, IsReady};
+ghost use Rattle.jpa_fetch.specs.Grown.{GoesOn, IsReady};
 ghost use Rattle.jpa_fetch.specs.Load as load;
 ghost use Rattle.jpa_fetch.specs.Members.{collect};
 ghost use Rattle.jpa_fetch.specs.Orderly.{IsOrderly};
@@ -27,8 +28,8 @@ use jpa_stored::Stored;
 use jpa_value::{Argument, Cause, Identity, MOST_OBJECTS, Seq, TryCopy};
 use std::alloc::Global;
 
-/// A new object of the class of another, with its key where keys are not generated. Fails for want of memory alone, with
-/// `OutOfMemory`.
+/// A new object of the class of another, with its key where keys are not generated. Fails for want
+/// of memory alone, with `OutOfMemory`.
 fn fresh_object(
     alloc: Global,
     metamodel: &Metamodel,
@@ -46,7 +47,8 @@ fn fresh_object(
     Ok(fresh)
 }
 
-/// A new object of the class of a node stands last in the heap. Fails for want of memory alone, with `OutOfMemory`.
+/// A new object of the class of a node stands last in the heap. Fails for want of memory alone,
+/// with `OutOfMemory`.
 fn push_fresh(
     alloc: Global,
     metamodel: &Metamodel,
@@ -68,8 +70,9 @@ fn push_fresh(
     Ok(())
 }
 
-/// A new object of the class of a node becomes its image, and managed. `OptimisticLock` where the node has a version; `Limit`
-/// where there are 1,000,000 live objects already; what `become_managed` refuses.
+/// A new object of the class of a node becomes its image, and managed. `OptimisticLock` where the
+/// node has a version; `Limit` where there are 1,000,000 live objects already; what
+/// `become_managed` refuses.
 fn fresh_image(
     alloc: Global,
     metamodel: &Metamodel,
@@ -82,8 +85,7 @@ fn fresh_image(
     ensures meets { (world : World) → Meets result (now work.new)
         (merges.fresh_image (record world { model = metamodel.now }) node (now work.old)) }
     ensures imaged { IfOk result (IsImaged (now work.new)) }
-    ensures ready { OnOk result (IsReady metamodel.now (now work.new)) }
-    ensures grown { OnOk result (HasGrown (now work.old) (now work.new)) }
+    ensures goes { OnOk result (GoesOn metamodel.now (now work.old) (now work.new)) }
     ensures view { work.new.view ≡ work.old.view }
     ensures since { since work.new ≡ since work.old }
 {
@@ -103,7 +105,8 @@ fn fresh_image(
     })
 }
 
-/// An object as the image of a node, which is to be of its very class: else `IllegalArgument(type)`.
+/// An object as the image of a node, which is to be of its very class: else
+/// `IllegalArgument(type)`.
 fn of_class_of(work: &UnitOfWork, node: usize, image: usize) -> Result<NodeImage, Cause>
     requires node { node < length work.now.objects.now }
     requires image { image < length work.now.objects.now }
@@ -121,8 +124,8 @@ fn of_class_of(work: &UnitOfWork, node: usize, image: usize) -> Result<NodeImage
     })
 }
 
-/// The context's instance of a node's identity as its image. `IllegalArgument(state)` where it is removed,
-/// `IllegalArgument(type)` where it is of another class.
+/// The context's instance of a node's identity as its image. `IllegalArgument(state)` where it is
+/// removed, `IllegalArgument(type)` where it is of another class.
 fn image_of_instance(work: &UnitOfWork, node: usize, image: usize) -> Result<NodeImage, Cause>
     requires node { node < length work.now.objects.now }
     requires image { image < length work.now.objects.now }
@@ -136,8 +139,8 @@ fn image_of_instance(work: &UnitOfWork, node: usize, image: usize) -> Result<Nod
     of_class_of(work, node, image)
 }
 
-/// The row of a node's identity, loaded, as its image. What `load` refuses; then `IllegalArgument(type)` where it is of another
-/// class.
+/// The row of a node's identity, loaded, as its image. What `load` refuses; then
+/// `IllegalArgument(type)` where it is of another class.
 fn image_of_row<B: Behaviour>(
     alloc: Global,
     unit: &ServedUnit<B>,
@@ -149,19 +152,17 @@ fn image_of_row<B: Behaviour>(
     requires ready { IsReady unit.now.metamodel (now work.old) }
     requires node { node < length work.old.objects.now }
     requires row { works.row (now work.old) id.now ≡ Some row }
-    ensures meets { let world = world_of_unit B.meaning unit.now in
-        Meets result (now work.new) (merges.image_of_row world node id.now row (now work.old)) }
+    ensures carries { let world = world_of_unit B.meaning unit.now in
+        Carries (merges.image_of_row world node id.now row) result work.old work.new }
     ensures imaged { IfOk result (IsImaged (now work.new)) }
-    ensures ready { OnOk result (IsReady unit.now.metamodel (now work.new)) }
-    ensures grown { OnOk result (HasGrown (now work.old) (now work.new)) }
-    ensures view { work.new.view ≡ work.old.view }
-    ensures since { since work.new ≡ since work.old }
+    ensures goes { OnOk result (GoesOn unit.now.metamodel (now work.old) (now work.new)) }
 {
     let image = load(alloc, unit, work, id, row)?;
     of_class_of(work, node, image)
 }
 
-/// The image of a node with an identity: the context's instance, else its row, loaded, else a new object. Refused as `merge` is.
+/// The image of a node with an identity: the context's instance, else its row, loaded, else a new
+/// object. Refused as `merge` is.
 fn image_named<B: Behaviour>(
     alloc: Global,
     unit: &ServedUnit<B>,
@@ -172,14 +173,10 @@ fn image_named<B: Behaviour>(
     requires orderly { IsOrderly unit.now.metamodel }
     requires ready { IsReady unit.now.metamodel (now work.old) }
     requires node { node < length work.old.objects.now }
-    ensures meets { let world = world_of_unit B.meaning unit.now in
-        Meets result (now work.new)
-        (merges.image_named world node (Some id.now) (now work.old)) }
+    ensures carries { let world = world_of_unit B.meaning unit.now in
+        Carries (merges.image_named world node (Some id.now)) result work.old work.new }
     ensures imaged { IfOk result (IsImaged (now work.new)) }
-    ensures ready { OnOk result (IsReady unit.now.metamodel (now work.new)) }
-    ensures grown { OnOk result (HasGrown (now work.old) (now work.new)) }
-    ensures view { work.new.view ≡ work.old.view }
-    ensures since { since work.new ≡ since work.old }
+    ensures goes { OnOk result (GoesOn unit.now.metamodel (now work.old) (now work.new)) }
 {
     if let Some(image) = instance(&unit.metamodel, work, id) {
         return image_of_instance(work, node, image);
@@ -201,13 +198,10 @@ fn image_elsewhere<B: Behaviour>(
     requires orderly { IsOrderly unit.now.metamodel }
     requires ready { IsReady unit.now.metamodel (now work.old) }
     requires node { node < length work.old.objects.now }
-    ensures meets { let world = world_of_unit B.meaning unit.now in
-        Meets result (now work.new) (merges.image_elsewhere world node (now work.old)) }
+    ensures carries { let world = world_of_unit B.meaning unit.now in
+        Carries (merges.image_elsewhere world node) result work.old work.new }
     ensures imaged { IfOk result (IsImaged (now work.new)) }
-    ensures ready { OnOk result (IsReady unit.now.metamodel (now work.new)) }
-    ensures grown { OnOk result (HasGrown (now work.old) (now work.new)) }
-    ensures view { work.new.view ≡ work.old.view }
-    ensures since { since work.new ≡ since work.old }
+    ensures goes { OnOk result (GoesOn unit.now.metamodel (now work.old) (now work.new)) }
 {
     match identity_of(&unit.metamodel, &work.objects.as_slice()[node])? {
         Some(id) => image_named(alloc, unit, work, node, &id),
@@ -215,7 +209,8 @@ fn image_elsewhere<B: Behaviour>(
     }
 }
 
-/// The image of a node that stands so for the manager: a managed one is its own. Refused as `merge` is.
+/// The image of a node that stands so for the manager: a managed one is its own. Refused as `merge`
+/// is.
 fn image_in<B: Behaviour>(
     alloc: Global,
     unit: &ServedUnit<B>,
@@ -226,13 +221,10 @@ fn image_in<B: Behaviour>(
     requires orderly { IsOrderly unit.now.metamodel }
     requires ready { IsReady unit.now.metamodel (now work.old) }
     requires node { node < length work.old.objects.now }
-    ensures meets { let world = world_of_unit B.meaning unit.now in
-        Meets result (now work.new) (merges.image_in world node state (now work.old)) }
+    ensures carries { let world = world_of_unit B.meaning unit.now in
+        Carries (merges.image_in world node state) result work.old work.new }
     ensures imaged { IfOk result (IsImaged (now work.new)) }
-    ensures ready { OnOk result (IsReady unit.now.metamodel (now work.new)) }
-    ensures grown { OnOk result (HasGrown (now work.old) (now work.new)) }
-    ensures view { work.new.view ≡ work.old.view }
-    ensures since { since work.new ≡ since work.old }
+    ensures goes { OnOk result (GoesOn unit.now.metamodel (now work.old) (now work.new)) }
 {
     match state {
         EntityState::New => image_elsewhere(alloc, unit, work, node),
@@ -256,13 +248,10 @@ fn image_of_node<B: Behaviour>(
     requires orderly { IsOrderly unit.now.metamodel }
     requires ready { IsReady unit.now.metamodel (now work.old) }
     requires node { node < length work.old.objects.now }
-    ensures meets { let world = world_of_unit B.meaning unit.now in
-        Meets result (now work.new) (merges.image_of_node world node (now work.old)) }
+    ensures carries { let world = world_of_unit B.meaning unit.now in
+        Carries (merges.image_of_node world node) result work.old work.new }
     ensures imaged { IfOk result (IsImaged (now work.new)) }
-    ensures ready { OnOk result (IsReady unit.now.metamodel (now work.new)) }
-    ensures grown { OnOk result (HasGrown (now work.old) (now work.new)) }
-    ensures view { work.new.view ≡ work.old.view }
-    ensures since { since work.new ≡ since work.old }
+    ensures goes { OnOk result (GoesOn unit.now.metamodel (now work.old) (now work.new)) }
 {
     let state = state_of(work, node);
     image_in(alloc, unit, work, node, state)
@@ -278,14 +267,11 @@ pub(crate) fn images_of<B: Behaviour>(
     requires orderly { IsOrderly unit.now.metamodel }
     requires ready { IsReady unit.now.metamodel (now work.old) }
     requires there { All (IsThere (now work.old)) nodes.now }
-    ensures meets { let world = world_of_unit B.meaning unit.now in
-        Meets result (now work.new)
-        (collect (merges.image_of_node world) (live_nodes nodes.now) (now work.old)) }
+    ensures carries { let world = world_of_unit B.meaning unit.now in
+        Carries (collect (merges.image_of_node world) (live_nodes nodes.now))
+        result work.old work.new }
     ensures imaged { IfOk result (AreImaged (now work.new)) }
-    ensures ready { OnOk result (IsReady unit.now.metamodel (now work.new)) }
-    ensures grown { OnOk result (HasGrown (now work.old) (now work.new)) }
-    ensures view { work.new.view ≡ work.old.view }
-    ensures since { since work.new ≡ since work.old }
+    ensures goes { OnOk result (GoesOn unit.now.metamodel (now work.old) (now work.new)) }
 {
     let mut images = Seq::new(alloc);
     for node in nodes {

@@ -1,9 +1,10 @@
 //! Merging an object.
 ghost use Rattle.std.specs.Prelude.{◌≡◌, ◌<◌, All, length, IfOk, OnOk};
 ghost use Rattle.jpa_behaviour.specs.Served.{world_of_unit};
-ghost use Rattle.jpa_context.specs.Steps.{Meets, each};
-ghost use Rattle.jpa_context.specs.Undo.{now, since};
-ghost use Rattle.jpa_fetch.specs.Grown.{HasGrown, IsReady};
+ghost use Rattle.jpa_context.specs.Carries.{Carries};
+ghost use Rattle.jpa_context.specs.Steps.{each};
+ghost use Rattle.jpa_context.specs.Undo.{now};
+ghost use Rattle.jpa_fetch.specs.Grown.{GoesOn, IsReady};
 ghost use Rattle.jpa_fetch.specs.Orderly.{IsOrderly};
 ghost use Rattle.jpa_merge.specs.Imaged.{AreImaged, IsImaged};
 ghost use Rattle.jpa_merge.specs.Merge as merges;
@@ -18,8 +19,8 @@ use jpa_lifecycle::callback;
 use jpa_value::{Cause, LifecycleEvent};
 use std::alloc::Global;
 
-/// PrePersist happens to an image that the merge made (chapter 3.5.2). Refused as a listener or callback refuses, and with
-/// `OutOfMemory`.
+/// PrePersist happens to an image that the merge made (chapter 3.5.2). Refused as a listener or
+/// callback refuses, and with `OutOfMemory`.
 fn pre_persist_fresh<B: Behaviour>(
     alloc: Global,
     unit: &ServedUnit<B>,
@@ -28,12 +29,9 @@ fn pre_persist_fresh<B: Behaviour>(
 ) -> Result<(), Cause>
     requires ready { IsReady unit.now.metamodel (now work.old) }
     requires image { IsImaged (now work.old) image }
-    ensures meets { let world = world_of_unit B.meaning unit.now in
-        Meets result (now work.new) (merges.pre_persist_fresh world image (now work.old)) }
-    ensures ready { OnOk result (IsReady unit.now.metamodel (now work.new)) }
-    ensures grown { OnOk result (HasGrown (now work.old) (now work.new)) }
-    ensures view { work.new.view ≡ work.old.view }
-    ensures since { since work.new ≡ since work.old }
+    ensures carries { let world = world_of_unit B.meaning unit.now in
+        Carries (merges.pre_persist_fresh world image) result work.old work.new }
+    ensures goes { OnOk result (GoesOn unit.now.metamodel (now work.old) (now work.new)) }
 {
     if !image.fresh {
         return Ok(());
@@ -42,7 +40,8 @@ fn pre_persist_fresh<B: Behaviour>(
     callback(alloc, unit, work, event, image.image)
 }
 
-/// PrePersist happens to each image that the merge made, in the order of the waves. Refused as `pre_persist_fresh`.
+/// PrePersist happens to each image that the merge made, in the order of the waves. Refused as
+/// `pre_persist_fresh`.
 fn pre_persist_each<B: Behaviour>(
     alloc: Global,
     unit: &ServedUnit<B>,
@@ -51,13 +50,9 @@ fn pre_persist_each<B: Behaviour>(
 ) -> Result<(), Cause>
     requires ready { IsReady unit.now.metamodel (now work.old) }
     requires imaged { AreImaged (now work.old) images.now }
-    ensures meets { let world = world_of_unit B.meaning unit.now in
-        Meets result (now work.new)
-        (each (merges.pre_persist_fresh world) images.now (now work.old)) }
-    ensures ready { OnOk result (IsReady unit.now.metamodel (now work.new)) }
-    ensures grown { OnOk result (HasGrown (now work.old) (now work.new)) }
-    ensures view { work.new.view ≡ work.old.view }
-    ensures since { since work.new ≡ since work.old }
+    ensures carries { let world = world_of_unit B.meaning unit.now in
+        Carries (each (merges.pre_persist_fresh world) images.now) result work.old work.new }
+    ensures goes { OnOk result (GoesOn unit.now.metamodel (now work.old) (now work.new)) }
 {
     for image in images {
         pre_persist_fresh(alloc, unit, work, *image)?;
@@ -75,13 +70,16 @@ fn first_image(start: usize, images: &[NodeImage]) -> usize
     }
 }
 
-/// Makes what an object holds, and what those hold that it leads to along relations that cascade merge, the state of managed
-/// objects (Jakarta Persistence 3.1, chapter 3.2.7.1). Answers the place of the object's image.
+/// Makes what an object holds, and what those hold that it leads to along relations that cascade
+/// merge, the state of managed objects (Jakarta Persistence 3.1, chapter 3.2.7.1). Answers the
+/// place of the object's image.
 ///
-/// `IllegalArgument(state)` where one of them is removed, or the instance of its identity is; `IllegalArgument(type)` where what
-/// stands under its identity is of another class; `OptimisticLock` where a version is not the image's; `IllegalState(reference)`
-/// where a relation leads to what has neither an image, an instance nor a row; `Limit` where no more objects can be made; what
-/// loading and persisting refuse; `OutOfMemory`. What a refused call changed is undone by `UnitOfWork::undo`.
+/// `IllegalArgument(state)` where one of them is removed, or the instance of its identity is;
+/// `IllegalArgument(type)` where what stands under its identity is of another class;
+/// `OptimisticLock` where a version is not the image's; `IllegalState(reference)` where a relation
+/// leads to what has neither an image, an instance nor a row; `Limit` where no more objects can be
+/// made; what loading and persisting refuse; `OutOfMemory`. What a refused call changed is undone
+/// by `UnitOfWork::undo`.
 pub fn merge<B: Behaviour>(
     alloc: Global,
     unit: &ServedUnit<B>,
@@ -91,13 +89,10 @@ pub fn merge<B: Behaviour>(
     requires orderly { IsOrderly unit.now.metamodel }
     requires ready { IsReady unit.now.metamodel (now work.old) }
     requires object { object < length work.old.objects.now }
-    ensures meets { let world = world_of_unit B.meaning unit.now in
-        Meets result (now work.new) (merges.merge world object (now work.old)) }
+    ensures carries { let world = world_of_unit B.meaning unit.now in
+        Carries (merges.merge world object) result work.old work.new }
     ensures within { IfOk result (λ n. n < length (now work.new).objects) }
-    ensures ready { OnOk result (IsReady unit.now.metamodel (now work.new)) }
-    ensures grown { OnOk result (HasGrown (now work.old) (now work.new)) }
-    ensures view { work.new.view ≡ work.old.view }
-    ensures since { since work.new ≡ since work.old }
+    ensures goes { OnOk result (GoesOn unit.now.metamodel (now work.old) (now work.new)) }
 {
     let nodes = waves(alloc, &unit.metamodel, work, Operation::Merge, object)?;
     let list = images_of(alloc, unit, work, nodes.as_slice())?;

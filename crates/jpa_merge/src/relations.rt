@@ -5,9 +5,10 @@ ghost use Rattle.jpa_model.specs.Chains.{relations_of};
 ghost use Rattle.jpa_behaviour.specs.Behaviour.{World};
 ghost use Rattle.jpa_behaviour.specs.Served.{world_of_unit};
 ghost use Rattle.jpa_heap.specs.Objects.{object_at};
+ghost use Rattle.jpa_context.specs.Carries.{Carries};
 ghost use Rattle.jpa_context.specs.Steps.{Meets};
 ghost use Rattle.jpa_context.specs.Undo.{now, since};
-ghost use Rattle.jpa_fetch.specs.Grown.{HasGrown, IsReady, objects_held};
+ghost use Rattle.jpa_fetch.specs.Grown.{GoesOn, IsReady, objects_held};
 ghost use Rattle.jpa_fetch.specs.Members as members;
 ghost use Rattle.jpa_merge.specs.Imaged.{AreImaged, IsImaged};
 ghost use Rattle.jpa_merge.specs.Merge as merges;
@@ -39,16 +40,15 @@ fn set_held(
     ensures ok { OnOk result
         (now work.new ≡ members.with_relation image relation held (now work.old)) }
     ensures err { IfErr result (λ cause. cause ≡ Cause.OutOfMemory) }
-    ensures ready { OnOk result (IsReady metamodel.now (now work.new)) }
-    ensures grown { OnOk result (HasGrown (now work.old) (now work.new)) }
+    ensures goes { OnOk result (GoesOn metamodel.now (now work.old) (now work.new)) }
     ensures view { work.new.view ≡ work.old.view }
     ensures since { since work.new ≡ since work.old }
 {
     set_relation(metamodel, work, image, relation, held)
 }
 
-/// A collection of an image holds these objects; the image's base takes what the view has in it, where it was not read. Fails for
-/// want of memory alone, with `OutOfMemory`.
+/// A collection of an image holds these objects; the image's base takes what the view has in it,
+/// where it was not read. Fails for want of memory alone, with `OutOfMemory`.
 fn settle_members(
     alloc: Global,
     metamodel: &Metamodel,
@@ -64,8 +64,7 @@ fn settle_members(
     requires within { All (λ k. k < length work.old.objects.now) targets }
     ensures meets { (world : World) → Meets result (now work.new) (merges.settle_members
         (record world { model = metamodel.now }) image relation targets (now work.old)) }
-    ensures ready { OnOk result (IsReady metamodel.now (now work.new)) }
-    ensures grown { OnOk result (HasGrown (now work.old) (now work.new)) }
+    ensures goes { OnOk result (GoesOn metamodel.now (now work.old) (now work.new)) }
     ensures view { work.new.view ≡ work.old.view }
     ensures since { since work.new ≡ since work.old }
 {
@@ -94,20 +93,18 @@ fn copy_target<B: Behaviour>(
     requires relation { relation
         < length (relations_of unit.now.metamodel (object_at work.old.objects.now image).class) }
     requires target { target < length work.old.objects.now }
-    ensures meets { let world = world_of_unit B.meaning unit.now in
-        Meets result (now work.new)
-        (merges.copy_target world images.now image relation target (now work.old)) }
-    ensures ready { OnOk result (IsReady unit.now.metamodel (now work.new)) }
-    ensures grown { OnOk result (HasGrown (now work.old) (now work.new)) }
-    ensures view { work.new.view ≡ work.old.view }
-    ensures since { since work.new ≡ since work.old }
+    ensures carries { let world = world_of_unit B.meaning unit.now in
+        Carries (merges.copy_target world images.now image relation target)
+        result work.old work.new }
+    ensures goes { OnOk result (GoesOn unit.now.metamodel (now work.old) (now work.new)) }
 {
     let object = replaced(alloc, unit, work, images, target)?;
     let held = Held::One(Link::Object(object));
     set_held(&unit.metamodel, work, image, relation, held)
 }
 
-/// A collection of an image holds what stands for these members. Refused as `replaced` is, at the first that is refused.
+/// A collection of an image holds what stands for these members. Refused as `replaced` is, at the
+/// first that is refused.
 fn copy_members<B: Behaviour>(
     alloc: Global,
     unit: &ServedUnit<B>,
@@ -123,19 +120,17 @@ fn copy_members<B: Behaviour>(
     requires relation { relation
         < length (relations_of unit.now.metamodel (object_at work.old.objects.now image).class) }
     requires within { All (λ k. k < length work.old.objects.now) members.now }
-    ensures meets { let world = world_of_unit B.meaning unit.now in
-        Meets result (now work.new)
-        (merges.copy_members world images.now image relation members.now (now work.old)) }
-    ensures ready { OnOk result (IsReady unit.now.metamodel (now work.new)) }
-    ensures grown { OnOk result (HasGrown (now work.old) (now work.new)) }
-    ensures view { work.new.view ≡ work.old.view }
-    ensures since { since work.new ≡ since work.old }
+    ensures carries { let world = world_of_unit B.meaning unit.now in
+        Carries (merges.copy_members world images.now image relation members.now)
+        result work.old work.new }
+    ensures goes { OnOk result (GoesOn unit.now.metamodel (now work.old) (now work.new)) }
 {
     let targets = replace_all(alloc, unit, work, images, members)?;
     settle_members(alloc, &unit.metamodel, work, image, relation, targets)
 }
 
-/// An image takes what is held in a relation, as far as it was read, with what stands for its targets. Refused as `replaced` is.
+/// An image takes what is held in a relation, as far as it was read, with what stands for its
+/// targets. Refused as `replaced` is.
 fn copy_held<B: Behaviour>(
     alloc: Global,
     unit: &ServedUnit<B>,
@@ -151,13 +146,10 @@ fn copy_held<B: Behaviour>(
     requires relation { relation
         < length (relations_of unit.now.metamodel (object_at work.old.objects.now image).class) }
     requires within { All (λ k. k < length work.old.objects.now) (objects_held held.now) }
-    ensures meets { let world = world_of_unit B.meaning unit.now in
-        Meets result (now work.new)
-        (merges.copy_held world images.now image relation held.now (now work.old)) }
-    ensures ready { OnOk result (IsReady unit.now.metamodel (now work.new)) }
-    ensures grown { OnOk result (HasGrown (now work.old) (now work.new)) }
-    ensures view { work.new.view ≡ work.old.view }
-    ensures since { since work.new ≡ since work.old }
+    ensures carries { let world = world_of_unit B.meaning unit.now in
+        Carries (merges.copy_held world images.now image relation held.now)
+        result work.old work.new }
+    ensures goes { OnOk result (GoesOn unit.now.metamodel (now work.old) (now work.new)) }
 {
     match held {
         Held::One(Link::None) => {
@@ -196,13 +188,9 @@ pub(crate) fn copy_relation<B: Behaviour>(
     requires relation { relation
         < length (relations_of unit.now.metamodel
         (object_at work.old.objects.now image.node).class) }
-    ensures meets { let world = world_of_unit B.meaning unit.now in
-        Meets result (now work.new)
-        (merges.copy_at world images.now image relation (now work.old)) }
-    ensures ready { OnOk result (IsReady unit.now.metamodel (now work.new)) }
-    ensures grown { OnOk result (HasGrown (now work.old) (now work.new)) }
-    ensures view { work.new.view ≡ work.old.view }
-    ensures since { since work.new ≡ since work.old }
+    ensures carries { let world = world_of_unit B.meaning unit.now in
+        Carries (merges.copy_at world images.now image relation) result work.old work.new }
+    ensures goes { OnOk result (GoesOn unit.now.metamodel (now work.old) (now work.new)) }
 {
     let held = held_at(&unit.metamodel, work, image.node, relation).try_copy()?;
     copy_held(alloc, unit, work, images, image.image, relation, &held)

@@ -3,9 +3,9 @@ ghost use Rattle.std.specs.Prelude.{◌≡◌, ◌<◌, All, length, IfOk, OnOk,
 ghost use Rattle.jpa_value.specs.declared.refusal.Cause.{Cause};
 ghost use Rattle.jpa_value.specs.declared.refusal.State.{State};
 ghost use Rattle.jpa_behaviour.specs.Served.{world_of_unit};
-ghost use Rattle.jpa_context.specs.Steps.{Meets};
-ghost use Rattle.jpa_context.specs.Undo.{now, since};
-ghost use Rattle.jpa_fetch.specs.Grown.{HasGrown, IsReady};
+ghost use Rattle.jpa_context.specs.Carries.{Carries};
+ghost use Rattle.jpa_context.specs.Undo.{now};
+ghost use Rattle.jpa_fetch.specs.Grown.{GoesOn, IsReady};
 ghost use Rattle.jpa_fetch.specs.Load.{reach};
 ghost use Rattle.jpa_fetch.specs.Members.{collect};
 ghost use Rattle.jpa_merge.specs.Imaged.{AreImaged};
@@ -20,8 +20,8 @@ use jpa_heap::identity_of;
 use jpa_value::{Cause, Identity, Seq, State, TryCopy};
 use std::alloc::Global;
 
-/// The context's instance of an identity, else its row, loaded. `IllegalState(reference)` where there is neither; what `load`
-/// refuses.
+/// The context's instance of an identity, else its row, loaded. `IllegalState(reference)` where
+/// there is neither; what `load` refuses.
 fn reach_target<B: Behaviour>(
     alloc: Global,
     unit: &ServedUnit<B>,
@@ -29,14 +29,10 @@ fn reach_target<B: Behaviour>(
     id: &Identity,
 ) -> Result<usize, Cause>
     requires ready { IsReady unit.now.metamodel (now work.old) }
-    ensures meets { let world = world_of_unit B.meaning unit.now in
-        Meets result (now work.new)
-        (reach world (Cause.IllegalState State.Reference) id.now (now work.old)) }
+    ensures carries { let world = world_of_unit B.meaning unit.now in
+        Carries (reach world (Cause.IllegalState State.Reference) id.now) result work.old work.new }
     ensures within { IfOk result (λ n. n < length (now work.new).objects) }
-    ensures ready { OnOk result (IsReady unit.now.metamodel (now work.new)) }
-    ensures grown { OnOk result (HasGrown (now work.old) (now work.new)) }
-    ensures view { work.new.view ≡ work.old.view }
-    ensures since { since work.new ≡ since work.old }
+    ensures goes { OnOk result (GoesOn unit.now.metamodel (now work.old) (now work.new)) }
 {
     if let Some(object) = instance(&unit.metamodel, work, id) {
         return Ok(object);
@@ -48,7 +44,8 @@ fn reach_target<B: Behaviour>(
     load(alloc, unit, work, id, row)
 }
 
-/// What stands for a target that is no node: itself where the manager holds it. Refused as `replaced` is.
+/// What stands for a target that is no node: itself where the manager holds it. Refused as
+/// `replaced` is.
 fn replaced_outside<B: Behaviour>(
     alloc: Global,
     unit: &ServedUnit<B>,
@@ -57,13 +54,10 @@ fn replaced_outside<B: Behaviour>(
 ) -> Result<usize, Cause>
     requires ready { IsReady unit.now.metamodel (now work.old) }
     requires target { target < length work.old.objects.now }
-    ensures meets { let world = world_of_unit B.meaning unit.now in
-        Meets result (now work.new) (merges.replaced_outside world target (now work.old)) }
+    ensures carries { let world = world_of_unit B.meaning unit.now in
+        Carries (merges.replaced_outside world target) result work.old work.new }
     ensures within { IfOk result (λ n. n < length (now work.new).objects) }
-    ensures ready { OnOk result (IsReady unit.now.metamodel (now work.new)) }
-    ensures grown { OnOk result (HasGrown (now work.old) (now work.new)) }
-    ensures view { work.new.view ≡ work.old.view }
-    ensures since { since work.new ≡ since work.old }
+    ensures goes { OnOk result (GoesOn unit.now.metamodel (now work.old) (now work.new)) }
 {
     if is_held(work, target) {
         return Ok(target);
@@ -74,8 +68,9 @@ fn replaced_outside<B: Behaviour>(
     }
 }
 
-/// What stands for a target: the image of a node, an object that the manager holds, else the context's instance of its identity
-/// or its row, loaded. `IllegalState(reference)` without any of them; what `load` refuses.
+/// What stands for a target: the image of a node, an object that the manager holds, else the
+/// context's instance of its identity or its row, loaded. `IllegalState(reference)` without any of
+/// them; what `load` refuses.
 pub(crate) fn replaced<B: Behaviour>(
     alloc: Global,
     unit: &ServedUnit<B>,
@@ -86,13 +81,10 @@ pub(crate) fn replaced<B: Behaviour>(
     requires ready { IsReady unit.now.metamodel (now work.old) }
     requires imaged { AreImaged (now work.old) images.now }
     requires target { target < length work.old.objects.now }
-    ensures meets { let world = world_of_unit B.meaning unit.now in
-        Meets result (now work.new) (merges.replaced world images.now target (now work.old)) }
+    ensures carries { let world = world_of_unit B.meaning unit.now in
+        Carries (merges.replaced world images.now target) result work.old work.new }
     ensures within { IfOk result (λ n. n < length (now work.new).objects) }
-    ensures ready { OnOk result (IsReady unit.now.metamodel (now work.new)) }
-    ensures grown { OnOk result (HasGrown (now work.old) (now work.new)) }
-    ensures view { work.new.view ≡ work.old.view }
-    ensures since { since work.new ≡ since work.old }
+    ensures goes { OnOk result (GoesOn unit.now.metamodel (now work.old) (now work.new)) }
 {
     match images.get(target) {
         Some(image) => Ok(image),
@@ -100,7 +92,8 @@ pub(crate) fn replaced<B: Behaviour>(
     }
 }
 
-/// What stands for each of these targets, in their order. Refused as `replaced` is, at the first that is refused.
+/// What stands for each of these targets, in their order. Refused as `replaced` is, at the first
+/// that is refused.
 pub(crate) fn replace_all<B: Behaviour>(
     alloc: Global,
     unit: &ServedUnit<B>,
@@ -111,14 +104,10 @@ pub(crate) fn replace_all<B: Behaviour>(
     requires ready { IsReady unit.now.metamodel (now work.old) }
     requires imaged { AreImaged (now work.old) images.now }
     requires targets { All (λ k. k < length work.old.objects.now) targets.now }
-    ensures meets { let world = world_of_unit B.meaning unit.now in
-        Meets result (now work.new)
-        (collect (merges.replaced world images.now) targets.now (now work.old)) }
+    ensures carries { let world = world_of_unit B.meaning unit.now in
+        Carries (collect (merges.replaced world images.now) targets.now) result work.old work.new }
     ensures within { IfOk result (λ places. All (λ k. k < length (now work.new).objects) places) }
-    ensures ready { OnOk result (IsReady unit.now.metamodel (now work.new)) }
-    ensures grown { OnOk result (HasGrown (now work.old) (now work.new)) }
-    ensures view { work.new.view ≡ work.old.view }
-    ensures since { since work.new ≡ since work.old }
+    ensures goes { OnOk result (GoesOn unit.now.metamodel (now work.old) (now work.new)) }
 {
     let mut places = Seq::new(alloc);
     for target in targets {

@@ -13,9 +13,11 @@ use Rattle.jpa_migration.specs.Migration.{default_passes, default_in, default_by
 abbrev pub change_if : History → ℕ → ℕ → Option Change
 change_if h class attribute = slice_get (class_at h class).changes attribute
 
+-- what an attribute of a class is beside revision 1
 abbrev pub change_at : History → ℕ → ℕ → Change
 change_at h class attribute = unwrap_or (change_if h class attribute) Change.Kept
 
+-- the column that an attribute had, where it has moved
 abbrev pub column_before : Change → Option ℕ
 column_before Change.Kept = None
 column_before (Change.New default) = None

@@ -7,7 +7,8 @@ use Rattle.jpa_cells_meaning.specs.Tables.{cell_cmp, ColumnsDiffer}
 use Rattle.jpa_migration.specs.declared.plan.Plan.{Plan}
 use Rattle.jpa_migration.specs.Plans.{is_taken, loose_by}
 
--- the cells rise, and unless one is where none can be, no two of those that come of them have one column
+-- the cells rise, and unless one is where none can be, no two of those that come of them have one
+-- column
 pub record IsOrderly (plan : Plan) (cells : List Cell) : Type 0 where
   pub rise : IsAscending (λ (a b : Cell). cell_cmp a b ≡ Less) cells
   pub apart : is_taken plan cells ≡ false → ColumnsDiffer (loose_by plan cells)

@@ -15,7 +15,8 @@ use jpa_rows::{Content, spell_content};
 use jpa_value::{Bytes, Cause, TryCopy, Value};
 use std::alloc::Global;
 
-/// What the converter of this name makes of a value for its column; null where it throws, and under an unknown name.
+/// What the converter of this name makes of a value for its column; null where it throws, and under
+/// an unknown name.
 fn converted<B: Behaviour>(
     registry: &Registry<B>,
     name: &str,

@@ -31,7 +31,8 @@ fn has_revision_row(rows: &[CellRow]) -> bool
     rows.iter().any(|row| is_revision_row(row))
 }
 
-/// Whether a store that has these rows in its table 0 is of revision 1, and the unit is of revision 2. Takes no memory.
+/// Whether a store that has these rows in its table 0 is of revision 1, and the unit is of revision
+/// 2. Takes no memory.
 pub fn is_due(metamodel: &Metamodel, numbers: &[CellRow]) -> bool
     ensures { result ≡ migration.is_due metamodel.now numbers.now }
 {

@@ -107,7 +107,8 @@ fn rows_by(
     Ok(after)
 }
 
-/// The rows of a root's table as they are afterwards, with the changes of those that differ; they are walked only where one may.
+/// The rows of a root's table as they are afterwards, with the changes of those that differ; they
+/// are walked only where one may.
 fn root_rows<B: Behaviour>(
     alloc: Global,
     metamodel: &Metamodel,
@@ -135,9 +136,9 @@ fn root_rows<B: Behaviour>(
     rows_by(alloc, &plan, table, rows, changes)
 }
 
-/// What becomes of the rows of one table of a store of revision 1 that is opened by a unit of revision 2, each in rising
-/// columns; the changes that make them so in the store are added. The rows of table 0 get the revision's row. Tables without a
-/// change are not walked.
+/// What becomes of the rows of one table of a store of revision 1 that is opened by a unit of
+/// revision 2, each in rising columns; the changes that make them so in the store are added. The
+/// rows of table 0 get the revision's row. Tables without a change are not walked.
 ///
 /// Fails for want of memory alone, with `OutOfMemory`; the changes are then any.
 pub fn migrate<B: Behaviour>(

@@ -1,4 +1,5 @@
--- What names mean in a description: superclasses, chains, hierarchies, and what the classes of these declare.
+-- What names mean in a description: superclasses, chains, hierarchies, and what the classes of
+-- these declare.
 use Rattle.std.specs.Prelude.{ℕ, zero, suc, ℤ, pos, false, ◌==◌, List, [], ◌∷◌, ◌++◌, map, filter, length, slice_index_or, Option, Some, None, unwrap_or, if◌then◌else◌, codes}
 use Rattle.std.specs.List.{flat_map, position_from, range_with_len}
 use Rattle.std.specs.Borrow.{Bor}
@@ -24,6 +25,7 @@ listed f (Some a) = f a ∷ []
 abbrev pub no_entity : DraftEntity
 no_entity = record { name = []; origin = DraftOrigin.Root (record { table = pos 0; key = []; embedded = None; generated = false; version = None }); discriminator = None; attributes = []; relations = []; listeners = []; callbacks = []; exclude_default = false; exclude_super = false }
 
+-- the entity at a place
 abbrev pub entity_at : Draft → ℕ → DraftEntity
 entity_at d class = slice_index_or d.entities class no_entity
 
@@ -35,10 +37,12 @@ classes d = range_with_len 0 (length d.entities)
 abbrev pub place_of : Draft → List ℕ → Option ℕ
 place_of d name = position_from (λ e. same_name e.name name) 0 d.entities
 
+-- the place of the superclass that an origin names, if it is an entity
 abbrev pub superclass_in : Draft → DraftOrigin → Option ℕ
 superclass_in d (DraftOrigin.Root r) = None
 superclass_in d (DraftOrigin.Extends name) = place_of d name
 
+-- the place of a class's superclass, if it has one
 abbrev pub superclass_of : Draft → ℕ → Option ℕ
 superclass_of d class = superclass_in d (entity_at d class).origin
 
@@ -48,13 +52,16 @@ chain_from d zero class superclass = class ∷ []
 chain_from d (suc n) class None = class ∷ []
 chain_from d (suc n) class (Some superclass) = chain_from d n superclass (superclass_of d superclass) ++ class ∷ []
 
--- the classes from the root to this one; no chain without a cycle is longer than the list of entities
+-- the classes from the root to this one; no chain without a cycle is longer than the list of
+-- entities
 abbrev pub chain : Draft → ℕ → List ℕ
 chain d class = chain_from d (length d.entities) class (superclass_of d class)
 
+-- the chains of all entities
 abbrev pub chains : Draft → List (List ℕ)
 chains d = map (chain d) (classes d)
 
+-- the first class of a chain
 abbrev pub first_of : List ℕ → ℕ
 first_of chain = slice_index_or chain 0 0
 
@@ -74,6 +81,7 @@ key_names root = under root.embedded
     under None = map (λ part. part.name) root.key
     under (Some id) = id ∷ []
 
+-- the names of a root: those of its key and of its version
 abbrev pub root_names : DraftOrigin → List (List ℕ)
 root_names (DraftOrigin.Root root) = key_names root ++ listed (λ v. v.name) root.version
 root_names (DraftOrigin.Extends name) = []
@@ -82,10 +90,12 @@ root_names (DraftOrigin.Extends name) = []
 abbrev pub member_names : DraftEntity → List (List ℕ)
 member_names e = root_names e.origin ++ map (λ a. a.name) e.attributes ++ map (λ r. r.name) e.relations
 
+-- the column of a root's version, if it has one
 abbrev pub version_columns : DraftOrigin → List ℤ
 version_columns (DraftOrigin.Root root) = listed (λ v. v.column) root.version
 version_columns (DraftOrigin.Extends name) = []
 
+-- the column of an owning side, if it has one
 abbrev pub side_columns : DraftSide → List ℤ
 side_columns (DraftSide.Column c) = c.column ∷ []
 side_columns (DraftSide.JoinTable table) = []
@@ -95,10 +105,12 @@ side_columns (DraftSide.MappedBy name) = []
 abbrev pub columns : DraftEntity → List ℤ
 columns e = version_columns e.origin ++ map (λ a. a.column) e.attributes ++ flat_map (λ r. side_columns r.side) e.relations
 
+-- the table of a root
 abbrev pub root_tables : DraftOrigin → List ℤ
 root_tables (DraftOrigin.Root root) = root.table ∷ []
 root_tables (DraftOrigin.Extends name) = []
 
+-- the join table of a side, if it has one
 abbrev pub join_tables : DraftSide → List ℤ
 join_tables (DraftSide.Column c) = []
 join_tables (DraftSide.JoinTable table) = table ∷ []
@@ -108,6 +120,7 @@ join_tables (DraftSide.MappedBy name) = []
 abbrev pub tables : DraftEntity → List ℤ
 tables e = root_tables e.origin ++ flat_map (λ r. join_tables r.side) e.relations
 
+-- the discriminator of an entity: the one that is written, else its name (chapter 2.12)
 abbrev pub discriminator : DraftEntity → List ℕ
 discriminator e = unwrap_or e.discriminator e.name
 

@@ -14,10 +14,12 @@ use Rattle.jpa_model.specs.declared.lineage.Lineage.{Lineage}
 abbrev pub kinds_of : PersistenceUnit → List ℕ → List Bool
 kinds_of m chain = map (λ above. list_any (λ c. c == above) chain) (range_with_len 0 (length m.entities))
 
+-- what is kept for a class
 abbrev pub lineage_of : PersistenceUnit → ℕ → Lineage
 lineage_of m class =
     record { chain = chain m class; kinds = kinds_of m (chain m class); root_class = root_class m class; root = root_of m class; attributes = attributes_of m class; relations = relations_of m class; declarers = declarers_of m class }
 
+-- what is kept for each class
 abbrev pub lineages_of : PersistenceUnit → List Lineage
 lineages_of m = map (lineage_of m) (range_with_len 0 (length m.entities))
 

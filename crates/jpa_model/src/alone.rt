@@ -1,4 +1,5 @@
-//! The conditions on a description that each declaration meets or fails alone, but for the names of entities.
+//! The conditions on a description that each declaration meets or fails alone, but for the names of
+//! entities.
 ghost use Rattle.std.specs.Prelude.{◌≡◌, ◌<◌, length, IfSome};
 ghost use Rattle.std.specs.List.{list_all};
 ghost use Rattle.jpa_model.specs.Drafted.{place_of, discriminator};

@@ -1,4 +1,5 @@
-//! What a mapping description says, with names where a persistence unit has places and with numbers of any size.
+//! What a mapping description says, with names where a persistence unit has places and with numbers
+//! of any size.
 use crate::unit::Part;
 use jpa_value::{Kind, Seq, Text};
 
@@ -40,7 +41,8 @@ pub struct DraftAttribute {
     pub converter: Option<Text>,
 }
 
-/// How many objects stand on the two sides of a relation: first on the declaring side, then on the target's.
+/// How many objects stand on the two sides of a relation: first on the declaring side, then on the
+/// target's.
 #[derive(Clone, Copy)]
 pub enum RelationKind {
     ManyToOne,

@@ -85,7 +85,8 @@ fn entity_hears(alloc: Global, entity: &DraftEntity) -> Result<bool, Cause>
     Ok(are_distinct_names(names.as_slice()))
 }
 
-/// Whether listeners and callbacks hear events of the seven names, and each callback's events are its own.
+/// Whether listeners and callbacks hear events of the seven names, and each callback's events are
+/// its own.
 pub(crate) fn has_events(alloc: Global, draft: &Draft) -> Result<bool, Cause>
     ensures judged { IfOk result (λ b. b ≡ well.has_events draft.now) }
     ensures refused { IfErr result (λ cause. cause ≡ Cause.OutOfMemory) }

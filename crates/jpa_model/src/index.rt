@@ -130,7 +130,8 @@ fn add_version(
     Ok(())
 }
 
-/// What each name means for a class whose chain has these attributes and relations, and whose hierarchy this root.
+/// What each name means for a class whose chain has these attributes and relations, and whose
+/// hierarchy this root.
 pub(crate) fn members_by_name(
     alloc: Global,
     root: &Root,

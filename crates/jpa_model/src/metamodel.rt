@@ -12,8 +12,8 @@ use std::alloc::Global;
 use std::collections::BTreeMap;
 use std::marker::Model;
 
-/// A well-formed metamodel (chapter 2), seen by contracts as its persistence unit. What it answers takes no
-/// memory, and no chain is walked: names are found in sorted order, places at once.
+/// A well-formed metamodel (chapter 2), seen by contracts as its persistence unit. What it answers
+/// takes no memory, and no chain is walked: names are found in sorted order, places at once.
 #[derive(Drop)]
 pub struct Metamodel {
     unit: PersistenceUnit,
@@ -59,7 +59,8 @@ impl Metamodel {
         self.unit.listeners.as_slice()
     }
 
-    /// The entities, in the order of the description: 1 to 64. A class is named by its place among them.
+    /// The entities, in the order of the description: 1 to 64. A class is named by its place among
+    /// them.
     pub fn entities(&self) -> &[Entity]
         ensures { result.now ≡ self.now.entities }
     {
@@ -168,7 +169,8 @@ impl Metamodel {
         self.class_at(class).declarers()
     }
 
-    /// Whether objects of another class hold the relation that stands at a place of this one's chain.
+    /// Whether objects of another class hold the relation that stands at a place of this one's
+    /// chain.
     pub fn is_held_by(&self, class: usize, relation: usize, other: usize) -> bool
         requires class { class < length self.now.entities }
         requires relation { relation < length (chains.relations_of self.now class) }
@@ -202,7 +204,8 @@ ghost use Rattle.jpa_model.specs.Described.{checked, IsUnlessMemory};
 
 /// The metamodel that a description describes.
 ///
-/// `Mapping(Model)` exactly where the description isn't well formed; `OutOfMemory` where a growth was refused.
+/// `Mapping(Model)` exactly where the description isn't well formed; `OutOfMemory` where a growth
+/// was refused.
 pub fn check(alloc: Global, draft: &Draft) -> Result<Metamodel, Cause>
     ensures { IsUnlessMemory result (checked draft.now) }
 {

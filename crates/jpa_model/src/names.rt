@@ -109,7 +109,8 @@ fn are_letters_or_digits(bytes: &[u8]) -> bool
     bytes.iter().all(|byte| letter_or_digit(*byte))
 }
 
-/// Whether a text has the form of a name: a letter of ASCII or `_`, then letters, digits or `_`, at most 64 bytes.
+/// Whether a text has the form of a name: a letter of ASCII or `_`, then letters, digits or `_`, at
+/// most 64 bytes.
 pub(crate) fn has_form_of_name(text: &Text) -> bool
     ensures { result ≡ is_name text.now }
 {

@@ -1,4 +1,5 @@
-//! The entities of a persistence unit as plain data (chapters 2 and 8.2): what a name names is a place in a list.
+//! The entities of a persistence unit as plain data (chapters 2 and 8.2): what a name names is a
+//! place in a list.
 use jpa_value::{Kind, LifecycleEvent, Seq, Text};
 
 /// A part of a primary key (chapter 2.4).
@@ -61,8 +62,8 @@ pub struct Column {
     pub required: bool,
 }
 
-/// A side of a relation (chapter 2.9). An inverse side names the place of its owner among the relations of the
-/// target's chain.
+/// A side of a relation (chapter 2.9). An inverse side names the place of its owner among the
+/// relations of the target's chain.
 #[derive(Clone, Copy)]
 pub enum Side {
     ManyToOne(Column),
@@ -144,7 +145,8 @@ pub struct Listener {
 pub struct Entity {
     pub name: Text,
     pub origin: Origin,
-    /// What tells the classes of a hierarchy apart in its table: at most 65,535 bytes (chapter 2.12).
+    /// What tells the classes of a hierarchy apart in its table: at most 65,535 bytes (chapter
+    /// 2.12).
     pub discriminator: Text,
     /// The attributes that this class itself declares.
     pub attributes: Seq<Attribute>,
@@ -160,8 +162,8 @@ pub struct Entity {
     pub exclude_super: bool,
 }
 
-/// What a name means for an object: a part of the key, the version, an attribute or a relation, by its place in
-/// the chain of the class.
+/// What a name means for an object: a part of the key, the version, an attribute or a relation, by
+/// its place in the chain of the class.
 #[derive(Clone, Copy)]
 pub enum Member {
     KeyPart(usize),
@@ -170,7 +172,8 @@ pub enum Member {
     Relation(usize),
 }
 
-/// The revision of its rows, the default listeners and the entities, in the order of the description.
+/// The revision of its rows, the default listeners and the entities, in the order of the
+/// description.
 #[derive(Drop)]
 pub struct PersistenceUnit {
     /// 1, or 2 where the rows of a store were migrated once.

@@ -22,8 +22,8 @@ fn has_roots(draft: &Draft, chains: &[Seq<usize>]) -> bool
         && have_keys(draft.entities.as_slice())
 }
 
-/// Whether a description with these chains meets the conditions 2 to 7: inheritance and keys, members, tables and
-/// columns, relations, orphan removal, events.
+/// Whether a description with these chains meets the conditions 2 to 7: inheritance and keys,
+/// members, tables and columns, relations, orphan removal, events.
 pub(crate) fn stands_together(
     alloc: Global,
     draft: &Draft,

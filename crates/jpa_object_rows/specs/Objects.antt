@@ -1,5 +1,6 @@
--- The rows of a stored object: its main row in the table of its hierarchy, and a row of the join table for each pair that it
--- owns (Jakarta Persistence 3.1, chapters 2.10 relations, 2.12 hierarchies, 3.4.2 versions, 3.8 converters).
+-- The rows of a stored object: its main row in the table of its hierarchy, and a row of the join
+-- table for each pair that it owns (Jakarta Persistence 3.1, chapters 2.10 relations, 2.12
+-- hierarchies, 3.4.2 versions, 3.8 converters).
 use Rattle.std.specs.Prelude.{ℕ, ℤ, pos, Bool, List, [], ◌∷◌, ◌++◌, map, Option, Some, None}
 use Rattle.std.specs.List.{flat_map, zip}
 use Rattle.std.specs.FinMap.{put}
@@ -27,25 +28,30 @@ use Rattle.jpa_row_laws.specs.Slots.{filled}
 
 -- ---- what stands in a column: nothing for null, nor for a relation that leads nowhere
 
+-- what stands in the column of a value; nothing for null
 abbrev pub value_content : Value → Option Content
 value_content Value.Null = None
 value_content (Value.Int n) = Some (Content.Value (Value.Int n))
 value_content (Value.Text bytes) = Some (Content.Value (Value.Text bytes))
 value_content (Value.Bytes bytes) = Some (Content.Value (Value.Bytes bytes))
 
+-- what stands in the column of a version; nothing for none
 abbrev pub version_content : Option ℤ → Option Content
 version_content None = None
 version_content (Some n) = Some (Content.Value (Value.Int n))
 
+-- what stands in the column of a link: a reference by the target's key
 abbrev pub link_content : List Identity → Option Content
 link_content [] = None
 link_content (id ∷ ids) = Some (Content.Reference id.key)
 
 -- ---- the columns of an object's class, each with what the object holds in it
 
+-- columns, each with what stands there, if anything
 abbrev pub Places : Type 0
 Places = List (ℕ × Option Content)
 
+-- the column of a version, where the hierarchy has one
 abbrev pub version_places : Option VersionColumn → Option ℤ → Places
 version_places None version = []
 version_places (Some c) version = (c.column, version_content version) ∷ []
@@ -63,9 +69,11 @@ side_places (Side.OneToMany owner) ids = []
 side_places (Side.ManyToMany join) ids = []
 side_places (Side.ManyToManyInverse owner) ids = []
 
+-- the columns of relations
 abbrev pub relation_places : List (Relation × List Identity) → Places
 relation_places = flat_map (λ p. side_places (p.0).side p.1)
 
+-- what stands in column 0: the discriminator of the class (chapter 2.12)
 abbrev pub discriminator_content : Entity → Content
 discriminator_content e = Content.Value (Value.Text e.discriminator)
 
@@ -73,6 +81,7 @@ discriminator_content e = Content.Value (Value.Text e.discriminator)
 abbrev pub is_discriminator : Entity → Bool
 is_discriminator e = may_hold (Holds.Kind Kind.Text) (discriminator_content e)
 
+-- the columns of an object: discriminator, version, attributes, links
 abbrev pub places_of : World → Stored → Places
 places_of world x =
     let m = world.model in
@@ -83,6 +92,7 @@ places_of world x =
 
 -- ---- the main row, which stands under the object's identity
 
+-- a column with its content, as a field
 abbrev pub field_of : ℕ × Content → Field
 field_of e = record { column = e.0; content = e.1 }
 
@@ -90,20 +100,25 @@ field_of e = record { column = e.0; content = e.1 }
 abbrev pub row_of_places : Places → Row
 row_of_places places = map field_of (filled nat_cmp places)
 
+-- the main row of an object
 abbrev pub main_row : World → Stored → Row
 main_row world x = row_of_places (places_of world x)
 
 -- ---- pairs: the owner's key, and after it the target's
 
+-- the id of a pair's row: the owner's key and then the target's (chapter 2.10)
 abbrev pub pair_id : ℕ → Identity → Identity → RowId
 pair_id join owner target = record { table = join; key = owner.key ++ target.key }
 
+-- a row that has a number in column 0
 abbrev pub number_in_first : ℕ → Row
 number_in_first k = record { column = 0; content = Content.Value (Value.Int (pos k)) } ∷ []
 
+-- the row of a pair, which says 1
 abbrev pub pair_row : Row
 pair_row = number_in_first 1
 
+-- the ids of the pairs that an owner has along a side
 abbrev pub side_pairs : Identity → Side → List Identity → List RowId
 side_pairs owner (Side.ManyToOne c) ids = []
 side_pairs owner (Side.OneToOne c) ids = []
@@ -112,6 +127,7 @@ side_pairs owner (Side.OneToMany o) ids = []
 side_pairs owner (Side.ManyToMany join) ids = map (pair_id join owner) ids
 side_pairs owner (Side.ManyToManyInverse o) ids = []
 
+-- the ids of the pairs that an owner has along relations
 abbrev pub pairs_along : Identity → List (Relation × List Identity) → List RowId
 pairs_along owner = flat_map (λ p. side_pairs owner (p.0).side p.1)
 
@@ -121,22 +137,27 @@ pair_ids world id x = pairs_along id (zip (relations_of world.model x.class) x.o
 
 -- ---- a next number: a row of table 0, named by the hierarchy's table
 
+-- the id of the row of a table's next number
 abbrev pub number_id : ℕ → RowId
 number_id table = record { table = 0; key = Value.Int (pos table) ∷ [] }
 
+-- the row of a next number
 abbrev pub number_row : ℕ → Row
 number_row k = number_in_first k
 
 -- ---- rows put over others, or dropped from them
 
+-- rows with others put over them
 abbrev pub with_rows : Rows → Rows → Rows
 with_rows [] rows = rows
 with_rows (e ∷ es) rows = put identity_cmp e.0 e.1 (with_rows es rows)
 
+-- rows without those of some ids
 abbrev pub without_rows : List RowId → Rows → Rows
 without_rows [] rows = rows
 without_rows (id ∷ ids) rows = dropped identity_cmp id (without_rows ids rows)
 
+-- the rows of pairs with these ids
 abbrev pub as_pairs : List RowId → Rows
 as_pairs = map (λ id. (id, pair_row))
 
@@ -152,14 +173,17 @@ object_rows world id x = with_rows (object_entries world id x) []
 abbrev pub with_object : World → Identity → Stored → Rows → Rows
 with_object world id x rows = with_rows (object_rows world id x) rows
 
+-- rows without those of the pairs that an object owns
 abbrev pub without_pairs : World → Identity → Stored → Rows → Rows
 without_pairs world id x rows = without_rows (pair_ids world id x) rows
 
+-- rows without those of an object
 abbrev pub without_object : World → Identity → Stored → Rows → Rows
 without_object world id x rows = dropped identity_cmp id (without_pairs world id x rows)
 
 -- ---- as changes
 
+-- a change that puts a row
 abbrev pub change_to : RowId × Row → RowChange
 change_to e = record { id = e.0; row = Some e.1 }
 

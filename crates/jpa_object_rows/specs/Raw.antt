@@ -12,11 +12,13 @@ use Rattle.jpa_view.specs.Rows.{row_of}
 abbrev pub raw_entry : RowId × Row → by_bytes.Row
 raw_entry e = (row_of e.0, cells_of e.1)
 
+-- rows by the bytes of their keys
 abbrev pub raw : Rows → by_bytes.Rows
 raw = map raw_entry
 
 -- ---- ids of a schema's tables
 
+-- there is the table, and a row of it may have this key
 abbrev pub is_key_by : Option TableRule → List Value → Bool
 is_key_by None key = false
 is_key_by (Some table) key = is_key table.key key
@@ -25,9 +27,11 @@ is_key_by (Some table) key = is_key table.key key
 abbrev pub is_id_of : Schema → RowId → Bool
 is_id_of schema id = is_key_by (table_of schema id.table) id.key
 
+-- each id names a row of one of the schema's tables
 abbrev pub AreIds : Schema → List RowId → Type 0
 AreIds schema = AllByRecursion (λ id. is_id_of schema id ≡ true)
 
+-- each row stands under an id of one of the schema's tables
 abbrev pub AreNamed : Schema → Rows → Type 0
 AreNamed schema = AllByRecursion (λ e. is_id_of schema e.0 ≡ true)
 
@@ -36,6 +40,7 @@ pub record AreRowsOf (schema : Schema) (rows : Rows) : Type 0 where
   pub rising : AreRising rows
   pub named : AreNamed schema rows
 
+-- there is the table, and the row is one of it
 abbrev pub IsRowBy : Option TableRule → Row → Type 0
 IsRowBy None row = ⊥
 IsRowBy (Some table) row = IsRowOf table row

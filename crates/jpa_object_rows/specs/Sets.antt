@@ -21,14 +21,17 @@ use Rattle.jpa_view.specs.View.{set_of, Pairs, PairsAre}
 use Rattle.jpa_object_rows.specs.Raw.{raw, AreRowsOf, AreWhole, AreFilled}
 use Rattle.jpa_object_rows.specs.Objects.{main_row, number_id, number_row, pair_row, with_object}
 
+-- the set that rows stand for
 abbrev pub set_in : World → Rows → StoredSet
 set_in world rows = set_of world (raw rows)
 
 -- ---- what stands in a column
 
+-- the columns of a row, each with its content
 abbrev pub placed : Row → List (ℕ × Content)
 placed = map (λ f. (f.column, f.content))
 
+-- what stands in a column of a row, if anything
 abbrev pub content_at : ℕ → Row → Option Content
 content_at column row = find nat_cmp column (placed row)
 
@@ -40,12 +43,15 @@ key_after [] key = Some key
 key_after (v ∷ owner) [] = None
 key_after (v ∷ owner) (w ∷ key) = if same_value v w then key_after owner key else None
 
+-- the identity of a table and a key
 abbrev pub identity_of : ℕ → List Value → Identity
 identity_of table key = record { table = table; key = key }
 
+-- the target of an owner's pair, by the id of its row
 abbrev pub target_in : PersistenceUnit → ℕ → Identity → RowId → Option Identity
 target_in m target owner id = option_map (identity_of (root_of m target).table) (key_after owner.key id.key)
 
+-- an identity as a list, or the empty list
 abbrev pub if_any : Option Identity → List Identity
 if_any None = []
 if_any (Some id) = id ∷ []
@@ -62,7 +68,8 @@ AreOnes join rows = AllByRecursion (λ e. e.1 ≡ pair_row) (table_rows join row
 abbrev pub HoldsOnes : PersistenceUnit → Rows → Type 0
 HoldsOnes m rows = (class : ℕ) → is_class m class ≡ true → AllByRecursion (λ join. AreOnes join rows) (joins_of (relations_of m class))
 
--- rows of a unit: rising, each a row of the table that its id names and with a column, those of join tables pairs
+-- rows of a unit: rising, each a row of the table that its id names and with a column, those of
+-- join tables pairs
 pub record AreUnitRows (m : PersistenceUnit) (rows : Rows) : Type 0 where
   pub named : AreRowsOf (schema_of m) rows
   pub whole : AreWhole (schema_of m) rows
@@ -76,6 +83,7 @@ pub record StandsIn (world : World) (rows : Rows) (id : Identity) (x : Stored) :
 
 -- ---- next numbers: 1 where no row says another one
 
+-- the next number that a content is; 1 where it is none
 abbrev pub next_in : Option Content → ℕ
 next_in None = 1
 next_in (Some (Content.Value Value.Null)) = 1
@@ -85,30 +93,37 @@ next_in (Some (Content.Value (Value.Text bytes))) = 1
 next_in (Some (Content.Value (Value.Bytes bytes))) = 1
 next_in (Some (Content.Reference key)) = 1
 
+-- the next number in a row; 1 where there is no row
 abbrev pub number_in : Option Row → ℕ
 number_in None = 1
 number_in (Some row) = next_in (content_at 0 row)
 
+-- the next number of a root with generated keys, 1 of other classes
 abbrev pub next_at : Rows → Origin → ℕ
 next_at rows (Origin.Root root) = if root.generated then number_in (find identity_cmp (number_id root.table) rows) else 1
 next_at rows (Origin.Extends parent) = 1
 
+-- the next numbers of all classes
 abbrev pub numbers_in : PersistenceUnit → Rows → List ℕ
 numbers_in m rows = map (λ e. next_at rows e.origin) m.entities
 
 -- ---- the rows of a set and of next numbers, where one that is 1 has none
 
+-- rows with that of a next number; 1 has no row
 abbrev pub with_number : ℕ → ℕ → Rows → Rows
 with_number table k rows = if k == 1 then rows else put identity_cmp (number_id table) (number_row k) rows
 
+-- rows with that of a root's next number, where keys are generated
 abbrev pub with_next : Origin → ℕ → Rows → Rows
 with_next (Origin.Root root) k rows = if root.generated then with_number root.table k rows else rows
 with_next (Origin.Extends parent) k rows = rows
 
+-- rows with those of the next numbers of all classes
 abbrev pub with_numbers : List (Entity × ℕ) → Rows → Rows
 with_numbers [] rows = rows
 with_numbers (p ∷ ps) rows = with_next (p.0).origin p.1 (with_numbers ps rows)
 
+-- rows with those of all objects of a set
 abbrev pub with_set : World → StoredSet → Rows → Rows
 with_set world [] rows = rows
 with_set world (e ∷ set) rows = with_object world e.0 e.1 (with_set world set rows)
@@ -117,5 +132,6 @@ with_set world (e ∷ set) rows = with_object world e.0 e.1 (with_set world set 
 abbrev pub base_of : PersistenceUnit → Rows
 base_of m = with_number 0 m.revision []
 
+-- the rows of a set and of the next numbers
 abbrev pub rows_of : World → StoredSet → List ℕ → Rows
 rows_of world set numbers = with_set world set (with_numbers (zip (world.model).entities numbers) (base_of world.model))

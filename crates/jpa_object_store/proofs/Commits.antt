@@ -26,7 +26,7 @@ use Rattle.jpa_object_rows.specs.Sets.{AreUnitRows, rows_of}
 use Rattle.jpa_object_rows.proofs.Exact.{rows_of_unit}
 use Rattle.jpa_overlay.specs.Overlay.{Changes}
 use Rattle.jpa_object_store.specs.Shown.{Show, Recall}
-use Rattle.jpa_object_store.specs.Written.{IsDifference}
+use Rattle.jpa_rows.specs.Commits.{IsDifference}
 
 -- a change by a table
 

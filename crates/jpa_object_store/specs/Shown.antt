@@ -21,10 +21,12 @@ use Rattle.jpa_object_store.specs.Written.{with_or_without}
 
 -- ---- more changes: rows put, or dropped
 
+-- changes with these rows put
 abbrev pub with_puts : Rows → Changes → Changes
 with_puts [] changes = changes
 with_puts (e ∷ es) changes = with_change e.0 (Some e.1) (with_puts es changes)
 
+-- changes with these rows dropped
 abbrev pub with_drops : Rows → Changes → Changes
 with_drops [] changes = changes
 with_drops (e ∷ es) changes = with_change e.0 None (with_drops es changes)
@@ -53,7 +55,8 @@ with_old_next origin k stood = if k == 1 then stood else with_next origin k stoo
 abbrev pub AreOf : Schema → Changes → Type 0
 AreOf schema = AllByRecursion (λ change. is_id_of schema change.0 ≡ true)
 
--- under the changes the rows of this set and these next numbers are seen, in place of those that they lie over
+-- under the changes the rows of this set and these next numbers are seen, in place of those that
+-- they lie over
 pub record Show (world : World) (base : Rows) (changes : Changes) (set : StoredSet) (numbers : List ℕ) : Type 0 where
   pub below : AreRising base
   pub own : AreOf (schema_of world.model) changes
@@ -62,19 +65,22 @@ pub record Show (world : World) (base : Rows) (changes : Changes) (set : StoredS
   pub numbered : are_numbers world.model numbers ≡ true
   pub seen : rows_under changes base ≡ rows_of world set numbers
 
--- what the first say stood under an id does stand there, and so it does under each id that is changed
+-- what the first say stood under an id does stand there, and so it does under each id that is
+-- changed
 pub record Recall (base : Rows) (stood changes : Changes) : Type 0 where
   pub own : Recalls stood stood base
   pub changed : Recalls stood changes base
 
 -- ---- what a step of changes does to what is seen
 
--- where the one set was seen before, the other is seen after, over any rows and with any next numbers
+-- where the one set was seen before, the other is seen after, over any rows and with any next
+-- numbers
 abbrev pub Brings : World → StoredSet → StoredSet → Changes → Changes → Type 0
 Brings world one other before after =
     (base : Rows) (numbers : List ℕ) → Show world base before one numbers → Show world base after other numbers
 
--- where a set was seen that has the old object under an identity, or none, it is seen with the new one there, or none
+-- where a set was seen with the old object under an identity, or none, it is seen with the new one,
+-- or none
 abbrev pub Replaces : World → Identity → Option Stored → Option Stored → Changes → Changes → Type 0
 Replaces world id old new before after =
     (base : Rows) (set : StoredSet) (numbers : List ℕ) → stored_at set id ≡ old

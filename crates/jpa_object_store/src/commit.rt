@@ -1,5 +1,5 @@
 //! What a commit writes.
-ghost use Rattle.std.specs.Prelude.{◌≡◌, ◌⊎◌, true, nat_le, OnOk, OnErr, IfOk, IfErr};
+ghost use Rattle.std.specs.Prelude.{◌≡◌, ◌⊎◌, true, nat_le, IfOk, IfErr};
 ghost use Rattle.std.specs.List.{AllByRecursion};
 ghost use Rattle.jpa_value.specs.declared.refusal.Cause.{Cause};
 ghost use Rattle.jpa_value.specs.Value.{same_identity};
@@ -8,10 +8,11 @@ ghost use Rattle.jpa_open.specs.Opened.{AreAllChanged};
 ghost use Rattle.jpa_stored.specs.Sets.{all_distinct, each_fits, is_rising};
 ghost use Rattle.jpa_rows.specs.Cells.{are_numbers, CanBeHeld};
 ghost use Rattle.jpa_rows.specs.Faults.{faults_after};
-ghost use Rattle.jpa_rows.specs.Rows.{Rows, AreChanges};
+ghost use Rattle.jpa_rows.specs.Rows.{AreChanges};
 ghost use Rattle.jpa_rows.specs.Tables.{schema_of};
 ghost use Rattle.jpa_object_rows.specs.Sets.{rows_of};
-ghost use Rattle.jpa_object_store.specs.Written.{IsDifference, RunsDifference, RunsAtMost, entries_in, is_storable_if_any, set_after};
+ghost use Rattle.jpa_rows.specs.Commits.{Commits, IsDifference};
+ghost use Rattle.jpa_object_store.specs.Written.{entries_in, is_storable_if_any, set_after};
 
 use crate::numbers::change_numbers;
 use crate::object_change::{ObjectChange, changes_of};
@@ -25,8 +26,9 @@ use jpa_rows::{RowChange, RowSource};
 use jpa_value::{Cause, Identity, Seq};
 use std::alloc::Global;
 
-/// The difference of the rows of a view's committed objects and their next numbers from those with what is to stand under some
-/// identities and of the new next numbers. The committed objects say what stands, so no store is read.
+/// The difference of the rows of a view's committed objects and their next numbers from those with
+/// what is to stand under some identities and of the new next numbers. The committed objects say
+/// what stands, so no store is read.
 fn difference_of<B: Behaviour>(
     alloc: Global,
     metamodel: &Metamodel,
@@ -69,9 +71,10 @@ fn difference_of<B: Behaviour>(
     overlay.into_difference(&stood)
 }
 
-/// Writes what is to stand under some identities, none of which comes twice, over the view's committed objects, and the next
-/// numbers of generated keys in the place of those before. An object of an identity that is committed takes the place of the old
-/// one, whose pairs go with it. Where no object is to stand, the one that is committed goes, its row and its pairs.
+/// Writes what is to stand under some identities, none of which comes twice, over the view's
+/// committed objects, and the next numbers of generated keys in the place of those before. An
+/// object of an identity that is committed takes the place of the old one, whose pairs go with it.
+/// Where no object is to stand, the one that is committed goes, its row and its pairs.
 fn write_changes<R: RowSource, B: Behaviour>(
     alloc: Global,
     metamodel: &Metamodel,
@@ -91,52 +94,35 @@ fn write_changes<R: RowSource, B: Behaviour>(
         (entries_in objects.now) ≡ true }
     requires numbers { are_numbers metamodel.now next.now ≡ true }
     requires rising { each_fits nat_le before.now next.now ≡ true }
-    ensures ok { let world = world_of B.meaning metamodel.now registry.now in
-        OnOk result (R.holds source.old (rows_of world view.now.committed before.now)
-        → R.holds source.new (rows_of world
-        (set_after (entries_in objects.now) view.now.committed) next.now)) }
-    ensures err { OnErr result ((rows : Rows) → R.holds source.old rows →
-        R.holds source.new rows) }
+    ensures commits { let world = world_of B.meaning metamodel.now registry.now in
+        Commits R.RowSource (faults_after result) result
+        (rows_of world view.now.committed before.now)
+        (rows_of world (set_after (entries_in objects.now) view.now.committed) next.now)
+        source.old source.new }
     ensures cause { IfErr result
         (λ cause. (cause ≡ Cause.OutOfMemory) ⊎ (cause ≡ Cause.StoreFault)) }
-    ensures told { R.faults source.new ≡ faults_after result (R.faults source.old) }
-    ensures was_clean { R.clean source.new → R.clean source.old }
-    ensures schema { R.schema source.new ≡ R.schema source.old }
-    ensures unread { R.reads source.new ≡ R.reads source.old }
-    ensures crash { let world = world_of B.meaning metamodel.now registry.now in
-        R.holds source.old (rows_of world view.now.committed before.now)
-        → R.endures source.old source.new (λ left. left
-        ≡ rows_of world (set_after (entries_in objects.now) view.now.committed) next.now) }
-    ensures counted { let world = world_of B.meaning metamodel.now registry.now in
-        OnOk result (RunsDifference (rows_of world view.now.committed before.now)
-        (rows_of world (set_after (entries_in objects.now) view.now.committed) next.now)
-        (R.writes source.old) (R.writes source.new)) }
-    ensures bounded { let world = world_of B.meaning metamodel.now registry.now in
-        OnErr result ((source.new ≡ source.old)
-        ⊎ RunsAtMost (rows_of world view.now.committed before.now)
-        (rows_of world (set_after (entries_in objects.now) view.now.committed) next.now)
-        (R.writes source.old) (R.writes source.new)) }
-    ensures unchanged { let world = world_of B.meaning metamodel.now registry.now in
-        rows_of world view.now.committed before.now
-        ≡ rows_of world (set_after (entries_in objects.now) view.now.committed) next.now
-        → source.new ≡ source.old }
 {
     let changes = difference_of(alloc, metamodel, registry, view, before, objects, next)?;
     source.commit(changes.as_slice())
 }
 
-/// Writes what the manager sees under these identities, each once in rising order, where alone it sees other than what is committed, over the committed objects, which the store holds, and the next numbers of
-/// generated keys in the place of those before, none of which falls: all or nothing, as one transaction of the store (Jakarta
-/// Persistence 3.1, chapters 2.4, 2.10, 2.12, 3.2.3, 3.2.4 and 7.5).
+/// Writes what the manager sees under these identities, each once in rising order, where alone it
+/// sees other than what is committed, over the committed objects, which the store holds, and the
+/// next numbers of generated keys in the place of those before, none of which falls: all or
+/// nothing, as one transaction of the store (Jakarta Persistence 3.1, chapters 2.4, 2.10, 2.12,
+/// 3.2.3, 3.2.4 and 7.5).
 ///
-/// An object takes the place of the one that is committed under its identity, whose pairs go with it; one that was removed goes,
-/// its row and its pairs. What is written is exactly the difference of the rows: none that stands as it is to stand, so nothing
-/// where no row changes. The view says what stands, so nothing is read.
+/// An object takes the place of the one that is committed under its identity, whose pairs go with
+/// it; one that was removed goes, its row and its pairs. What is written is exactly the difference
+/// of the rows: none that stands as it is to stand, so nothing where no row changes. The view says
+/// what stands, so nothing is read.
 ///
-/// It refuses with `OutOfMemory`, and with `StoreFault` as the store does. Then the store holds what it held, and is as it was
-/// where no commit was tried; where one was, the statements that it ran are at most those of the difference.
+/// It refuses with `OutOfMemory`, and with `StoreFault` as the store does. Then the store holds
+/// what it held, and is as it was where no commit was tried; where one was, the statements that it
+/// ran are at most those of the difference.
 ///
-/// However it ends, a crash leaves what it could leave before, or the rows of what the transaction sees and the next numbers.
+/// However it ends, a crash leaves what it could leave before, or the rows of what the transaction
+/// sees and the next numbers.
 pub fn write<R: RowSource, B: Behaviour>(
     alloc: Global,
     metamodel: &Metamodel,
@@ -155,30 +141,12 @@ pub fn write<R: RowSource, B: Behaviour>(
     requires seen { CanBeHeld (world_of B.meaning metamodel.now registry.now)
         view.now.seen next.now }
     requires rising { each_fits nat_le before.now next.now ≡ true }
-    ensures ok { let world = world_of B.meaning metamodel.now registry.now in
-        OnOk result (R.holds source.old (rows_of world view.now.committed before.now)
-        → R.holds source.new (rows_of world view.now.seen next.now)) }
-    ensures err { OnErr result ((rows : Rows) → R.holds source.old rows →
-        R.holds source.new rows) }
+    ensures commits { let world = world_of B.meaning metamodel.now registry.now in
+        Commits R.RowSource (faults_after result) result
+        (rows_of world view.now.committed before.now) (rows_of world view.now.seen next.now)
+        source.old source.new }
     ensures cause { IfErr result
         (λ cause. (cause ≡ Cause.OutOfMemory) ⊎ (cause ≡ Cause.StoreFault)) }
-    ensures told { R.faults source.new ≡ faults_after result (R.faults source.old) }
-    ensures was_clean { R.clean source.new → R.clean source.old }
-    ensures schema { R.schema source.new ≡ R.schema source.old }
-    ensures unread { R.reads source.new ≡ R.reads source.old }
-    ensures crash { let world = world_of B.meaning metamodel.now registry.now in
-        R.holds source.old (rows_of world view.now.committed before.now) →
-        R.endures source.old source.new (λ left. left ≡ rows_of world view.now.seen next.now) }
-    ensures counted { let world = world_of B.meaning metamodel.now registry.now in
-        OnOk result (RunsDifference (rows_of world view.now.committed before.now)
-        (rows_of world view.now.seen next.now) (R.writes source.old) (R.writes source.new)) }
-    ensures bounded { let world = world_of B.meaning metamodel.now registry.now in
-        OnErr result ((source.new ≡ source.old)
-        ⊎ RunsAtMost (rows_of world view.now.committed before.now)
-        (rows_of world view.now.seen next.now) (R.writes source.old) (R.writes source.new)) }
-    ensures unchanged { let world = world_of B.meaning metamodel.now registry.now in
-        rows_of world view.now.committed before.now ≡ rows_of world view.now.seen next.now
-        → source.new ≡ source.old }
 {
     let objects = changes_of(alloc, view, ids)?;
     write_changes(

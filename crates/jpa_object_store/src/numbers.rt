@@ -33,7 +33,8 @@ fn put_number(overlay: &mut Overlay, alloc: Global, origin: &Origin, next: u64) 
     }
 }
 
-/// Puts the row of a root's next number, and notes the row of the one before. A number that is 1 has none.
+/// Puts the row of a root's next number, and notes the row of the one before. A number that is 1
+/// has none.
 fn change_number(
     overlay: &mut Overlay,
     stood: &mut Overlay,

@@ -8,8 +8,8 @@ use jpa_stored::Stored;
 use jpa_value::{Cause, Identity};
 use std::alloc::Global;
 
-/// What is to stand under an identity: an object, in the place of the one that is committed if there is one, or none, so that the
-/// one that is committed goes.
+/// What is to stand under an identity: an object, in the place of the one that is committed if
+/// there is one, or none, so that the one that is committed goes.
 #[derive(Clone, Copy)]
 pub(crate) struct ObjectChange<'a> {
     pub(crate) id: &'a Identity,

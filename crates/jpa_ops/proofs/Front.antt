@@ -38,7 +38,7 @@ use Rattle.jpa_cascade.specs.Waves.{waves}
 use Rattle.jpa_cascade.proofs.There.{waves_are_there}
 use Rattle.jpa_lifecycle.specs.Callbacks.{callback}
 use Rattle.jpa_lifecycle.proofs.Keeps.{happened}
-use Rattle.jpa_fetch.specs.Grown.{AreLinked, HasGrown, IsLinked, IsReady}
+use Rattle.jpa_fetch.specs.Grown.{AreLinked, HasGrown, IsLinked, IsReady, GoesOn}
 use Rattle.jpa_fetch.specs.Load.{base_loaded, load, made, object_loaded}
 use Rattle.jpa_fetch.proofs.Grown.{grown_happened, grown_on, placed_happened}
 use Rattle.jpa_fetch.proofs.Loaded.{loaded_links, loaded_shape}
@@ -47,7 +47,7 @@ use Rattle.jpa_ops.specs.States.{has_instance, remove, remove_live, remove_node,
 use Rattle.jpa_ops.proofs.Entered.{entered_apart, entered_names, named}
 use Rattle.jpa_ops.proofs.Going.{HoldsAfter, after_holds, holds_where, require_holds}
 use Rattle.jpa_ops.proofs.Names.{names_kept}
-use Rattle.jpa_ops.proofs.Ready.{IsFrom, from_itself, from_on, grown_base, grown_entered, grown_life, linked_within, placed_base, placed_entered, placed_life}
+use Rattle.jpa_ops.proofs.Ready.{from_itself, from_on, grown_base, grown_entered, grown_life, linked_within, placed_base, placed_entered, placed_life}
 
 -- the objects of the entries, and behind them others
 abbrev pub KeepsFront : Work → Work → Type 0
@@ -64,7 +64,7 @@ front_same w v same = ([], ap (λ es. map (λ (e : Entry). e.object) es) same �
 
 -- operations stand on a work that goes on from another, whose entries stay in front; of different identities if those were
 pub record IsOnward (m : PersistenceUnit) (u w : Work) : Type 0 where
-  pub from : IsFrom m u w
+  pub from : GoesOn m u w
   pub front : KeepsFront u w
   pub named : has_distinct_entries m u ≡ true → has_distinct_entries m w ≡ true
 

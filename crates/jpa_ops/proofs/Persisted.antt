@@ -28,7 +28,7 @@ use Rattle.jpa_cascade.specs.declared.Node.{Node}
 use Rattle.jpa_cascade.specs.There.{IsThere}
 use Rattle.jpa_lifecycle.specs.Callbacks.{callback}
 use Rattle.jpa_lifecycle.proofs.Keeps.{happened}
-use Rattle.jpa_fetch.specs.Grown.{HasGrown, IsReady}
+use Rattle.jpa_fetch.specs.Grown.{HasGrown, IsReady, GoesOn}
 use Rattle.jpa_fetch.specs.Orderly.{IsOrderly}
 use Rattle.jpa_ops.specs.Names.{has_distinct_entries}
 use Rattle.jpa_ops.specs.States.{become_managed, give_key, has_instance, last_number, number_part, persist_node, persist_one, pre_persist_if, with_key, with_number}
@@ -37,7 +37,7 @@ use Rattle.jpa_ops.proofs.Fitting.{each_fits_length}
 use Rattle.jpa_ops.proofs.Going.{HoldsAfter, after_holds, done_holds, holds_where, require_holds, require_holds_last}
 use Rattle.jpa_ops.proofs.Names.{names_kept}
 use Rattle.jpa_fetch.proofs.Grown.{grown_happened, grown_set, placed_happened}
-use Rattle.jpa_ops.proofs.Ready.{IsFrom, from_itself, from_on, grown_entered, grown_life, links_same, placed_entered, placed_life}
+use Rattle.jpa_ops.proofs.Ready.{from_itself, from_on, grown_entered, grown_life, links_same, placed_entered, placed_life}
 
 -- ---- a work whose object took a number as its key
 
@@ -88,7 +88,7 @@ numbered_places m w n k x y objects numbers orderly h l g unset own e set same =
 
 -- operations stand on a work that goes on from another, and its entries are of different identities if those were
 pub record IsNamedFrom (m : PersistenceUnit) (u w : Work) : Type 0 where
-  pub from : IsFrom m u w
+  pub from : GoesOn m u w
   pub named : has_distinct_entries m u ≡ true → has_distinct_entries m w ≡ true
 
 -- where the context is the same
@@ -96,7 +96,7 @@ named_on : (m : PersistenceUnit) (u w v : Work) → IsNamedFrom m u w → IsPlac
 named_on m u w v h placed grown same =
     record { from = from_on m u w v h.from placed grown; named = λ d. names_kept m w v h.from.ready.placed placed grown same ∙ h.named d }
 
-pub within_from : (m : PersistenceUnit) (u w : Work) (n : ℕ) → n < length u.objects → IsFrom m u w → n < length w.objects
+pub within_from : (m : PersistenceUnit) (u w : Work) (n : ℕ) → n < length u.objects → GoesOn m u w → n < length w.objects
 within_from m u w n l h = let more = h.grown.count in omega (arith, l, more)
 
 module _ (world : World) (orderly : IsOrderly world.model) (u : Work) where

@@ -21,18 +21,13 @@ use Rattle.jpa_context.specs.Undo.{IsKeyed, IsPlaced}
 use Rattle.jpa_context.specs.Work.{Work, object, entered, with_life_of, with_base}
 use Rattle.jpa_cascade.specs.declared.Node.{Node}
 use Rattle.jpa_cascade.specs.There.{HoldsWithin, IsThere, AreLinked as HoldWithin}
-use Rattle.jpa_fetch.specs.Grown.{AreLinked, HasGrown, IsLinked, IsReady, objects_held}
+use Rattle.jpa_fetch.specs.Grown.{AreLinked, HasGrown, IsLinked, IsReady, objects_held, GoesOn}
 use Rattle.jpa_fetch.proofs.Grown.{grown_map, grown_none, grown_on, grown_set, placed_map, placed_set, ready_on}
 
--- a work on which operations stand, that goes on from another
-pub record IsFrom (m : PersistenceUnit) (u w : Work) : Type 0 where
-  pub ready : IsReady m w
-  pub grown : HasGrown u w
-
-pub from_itself : (m : PersistenceUnit) (w : Work) → IsReady m w → IsFrom m w w
+pub from_itself : (m : PersistenceUnit) (w : Work) → IsReady m w → GoesOn m w w
 from_itself m w h = record { ready = h; grown = grown_none w }
 
-pub from_on : (m : PersistenceUnit) (u w v : Work) → IsFrom m u w → IsPlaced m v → HasGrown w v → IsFrom m u v
+pub from_on : (m : PersistenceUnit) (u w v : Work) → GoesOn m u w → IsPlaced m v → HasGrown w v → GoesOn m u v
 from_on m u w v h placed grown = record { ready = ready_on m w v h.ready placed grown; grown = grown_on u w v h.grown grown }
 
 -- ---- nodes of a cascade

@@ -1,4 +1,5 @@
 -- What refresh and remove do to a work: operations stand on it still.
+use Rattle.jpa_fetch.specs.Grown.{GoesOn}
 use Rattle.std.proofs.Common.{◌≡◌, ◌∙◌, ◌<◌, ℕ, Bool, true, false, length, refl, ap, sym, subst, Option, Some, None, Result}
 use Rattle.std.specs.Prelude.{◌==◌, if◌then◌else◌}
 use Rattle.std.proofs.lemmas.Bool.{eq-eqb, eqb-true}
@@ -26,7 +27,7 @@ use Rattle.jpa_ops.proofs.Going.{HoldsAfter, holds_where, require_holds}
 use Rattle.jpa_ops.proofs.Persisted.{within_from}
 use Rattle.jpa_fetch.proofs.Grown.{grown_happened, grown_set, placed_happened, placed_set}
 use Rattle.jpa_fetch.proofs.Loaded.{loaded_links, loaded_shape}
-use Rattle.jpa_ops.proofs.Ready.{IsFrom, from_on, grown_base, grown_life, placed_base, placed_life}
+use Rattle.jpa_ops.proofs.Ready.{from_on, grown_base, grown_life, placed_base, placed_life}
 
 -- where its row is there and of its class, the object is loaded again and PostLoad happens to it
 pub refreshes : (world : World) (n : ℕ) (id : Identity) (x : Stored) (w : Work) → identity_at world.model w n ≡ Some id → row w id ≡ Some x → (object w n).class ≡ x.class →
@@ -57,7 +58,7 @@ identity_key id own false e = absurd cc
 
 module _ (world : World) (u : Work) where
   abbrev Goes : Work → Type 0
-  Goes w = IsFrom world.model u w
+  Goes w = GoesOn world.model u w
 
   heard : (event : LifecycleEvent) (n : ℕ) (w : Work) → n < length u.objects → Goes w → HoldsAfter Goes (callback world event n w)
   heard event n w l h =

@@ -1,5 +1,5 @@
--- The entries of a context are of different identities (Jakarta Persistence 3.1, chapter 3.1: a context has one instance of a
--- persistent identity).
+-- The entries of a context are of different identities (Jakarta Persistence 3.1, chapter 3.1: a
+-- context has one instance of a persistent identity).
 use Rattle.std.specs.Prelude.{Bool}
 use Rattle.jpa_value.specs.declared.value.Identity.{Identity}
 use Rattle.jpa_value.specs.Value.{same_identity}
@@ -14,8 +14,10 @@ use Rattle.jpa_context.specs.Work.{Work, object}
 abbrev pub name_of : PersistenceUnit → LiveObject → Identity
 name_of m x = record { table = (root_of m x.class).table; key = x.key }
 
+-- whether two entries are of one identity
 abbrev pub are_one : PersistenceUnit → Work → Entry → Entry → Bool
 are_one m w a b = same_identity (name_of m (object w a.object)) (name_of m (object w b.object))
 
+-- no two entries of a context are of one identity
 abbrev pub has_distinct_entries : PersistenceUnit → Work → Bool
 has_distinct_entries m w = all_distinct (are_one m w) w.context

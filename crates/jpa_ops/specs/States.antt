@@ -1,5 +1,6 @@
--- persist, remove, refresh and detach, and what detaches objects (Jakarta Persistence 3.1, chapters 3.2.2 persist, 3.2.3 remove,
--- 3.2.5 refresh, 3.2.6 detach, 3.2.7 detached entities, 3.4.4 lock modes, 2.4 generated keys).
+-- persist, remove, refresh and detach, and what detaches objects (Jakarta Persistence 3.1, chapters
+-- 3.2.2 persist, 3.2.3 remove, 3.2.5 refresh, 3.2.6 detach, 3.2.7 detached entities, 3.4.4 lock
+-- modes, 2.4 generated keys).
 use Rattle.std.specs.Prelude.{ℕ, suc, pos, is_some, Bool, true, false, not, nat_lt, ◌==◌, List, [], ◌∷◌, slice_index_or, slice_set, Option, Some, None}
 use Rattle.std.specs.List.{list_all}
 use Rattle.jpa_value.specs.declared.value.Value.{Value}
@@ -28,7 +29,8 @@ use Rattle.jpa_cascade.specs.declared.Node.{Node}
 use Rattle.jpa_cascade.specs.Waves.{waves}
 use Rattle.jpa_fetch.specs.Load.{load, object_loaded, base_loaded}
 
--- each node of the cascade from the object, in order; the nodes are those of the work as the operation begins
+-- each node of the cascade from the object, in order; the nodes are those of the work as the
+-- operation begins
 abbrev pub cascaded : World → Operation → (Node → Op (Unit {0})) → ℕ → Op (Unit {0})
 cascaded world op visit n w = each visit (waves world.model op w n) w
 
@@ -38,12 +40,15 @@ cascaded world op visit n w = each visit (waves world.model op w n) w
 abbrev pub last_number : ℕ
 last_number = 9223372036854775807
 
+-- the key that a generated number is
 abbrev pub number_part : ℕ → List Value
 number_part k = Value.Int (pos k) ∷ []
 
+-- a work in which an object has this key
 abbrev pub with_key : ℕ → List Value → Work → Work
 with_key n key w = with_object n (record (object w n) { key = key }) w
 
+-- a work in which this is the next number of a hierarchy
 abbrev pub with_number : ℕ → ℕ → Work → Work
 with_number root k w = record w { numbers = slice_set w.numbers root k }
 
@@ -60,11 +65,13 @@ give_key world n true = do
   require (nat_lt k last_number) (Cause.Persistence Persist.Generator)
   change (λ w. with_number root (suc k) (with_key n (number_part k) w))
 
+-- whether the context has an instance of an identity
 abbrev pub has_instance : PersistenceUnit → Work → Option Identity → Bool
 has_instance m w None = false
 has_instance m w (Some id) = is_some (instance m w id)
 
--- a new object becomes managed: its key is whole or given, and no other object of the context has its identity
+-- a new object becomes managed: its key is whole or given, and no other object of the context has
+-- its identity
 abbrev pub become_managed : World → ℕ → Op (Unit {0})
 become_managed world n = do
   generated ← read (λ w. (root_of world.model (object w n).class).generated)
@@ -75,10 +82,13 @@ become_managed world n = do
 
 -- ---- persist
 
+-- PrePersist runs on an object that has no base
 abbrev pub pre_persist_if : World → ℕ → Option Base → Op (Unit {0})
 pre_persist_if world n None = callback world LifecycleEvent.PrePersist n
 pre_persist_if world n (Some b) = done
 
+-- persist by the object's state: new and removed ones become managed, detached ones are refused
+-- (chapter 3.2.2)
 abbrev pub persist_one : World → ℕ → EntityState → Op (Unit {0})
 persist_one world n EntityState.New = do
   become_managed world n
@@ -90,15 +100,18 @@ persist_one world n EntityState.Removed = do
   pre_persist_if world n b
 persist_one world n EntityState.Detached = refuse Cause.EntityExists
 
+-- persist of a node of its cascade
 abbrev pub persist_node : World → Node → Op (Unit {0})
 persist_node world (Node.Live n) w = persist_one world n (state_of w n) w
 persist_node world (Node.Bare id) w = Done tt w
 
+-- persist of an object and of all that its cascade reaches (chapter 3.2.2)
 abbrev pub persist : World → ℕ → Op (Unit {0})
 persist world n = cascaded world Operation.Persist (persist_node world) n
 
 -- ---- remove
 
+-- remove by the object's state: a managed one is removed, a detached one is refused (chapter 3.2.3)
 abbrev pub remove_one : World → ℕ → EntityState → Op (Unit {0})
 remove_one world n EntityState.New = done
 remove_one world n EntityState.Managed = do
@@ -107,6 +120,7 @@ remove_one world n EntityState.Managed = do
 remove_one world n EntityState.Removed = done
 remove_one world n EntityState.Detached = refuse (Cause.IllegalArgument Argument.State)
 
+-- remove of an object, by its state
 abbrev pub remove_live : World → ℕ → Op (Unit {0})
 remove_live world n w = remove_one world n (state_of w n) w
 
@@ -118,10 +132,12 @@ remove_under world id None (Some x) = do
   n ← load world id x
   remove_live world n
 
+-- remove of a node of its cascade
 abbrev pub remove_node : World → Node → Op (Unit {0})
 remove_node world (Node.Live n) w = remove_live world n w
 remove_node world (Node.Bare id) w = remove_under world id (instance world.model w id) (row w id) w
 
+-- remove of an object and of all that its cascade reaches (chapter 3.2.3)
 abbrev pub remove : World → ℕ → Op (Unit {0})
 remove world n = cascaded world Operation.Remove (remove_node world) n
 
@@ -141,19 +157,23 @@ refresh_row world n (Some id) (Some x) = do
   change (reloaded world n id x)
   callback world LifecycleEvent.PostLoad n
 
+-- a managed object is read again from its row
 abbrev pub refresh_managed : World → ℕ → Op (Unit {0})
 refresh_managed world n w = refresh_row world n (identity_at world.model w n) (row_at w (identity_at world.model w n)) w
 
+-- refresh by the object's state: all but a managed one are refused (chapter 3.2.5)
 abbrev pub refresh_one : World → ℕ → EntityState → Op (Unit {0})
 refresh_one world n EntityState.New = refuse (Cause.IllegalArgument Argument.State)
 refresh_one world n EntityState.Managed = refresh_managed world n
 refresh_one world n EntityState.Removed = refuse (Cause.IllegalArgument Argument.State)
 refresh_one world n EntityState.Detached = refuse (Cause.IllegalArgument Argument.State)
 
+-- refresh of a node of its cascade
 abbrev pub refresh_node : World → Node → Op (Unit {0})
 refresh_node world (Node.Live n) w = refresh_one world n (state_of w n) w
 refresh_node world (Node.Bare id) w = Done tt w
 
+-- refresh of an object and of all that its cascade reaches (chapter 3.2.5)
 abbrev pub refresh : World → ℕ → Op (Unit {0})
 refresh world n = cascaded world Operation.Refresh (refresh_node world) n
 
@@ -163,16 +183,19 @@ refresh world n = cascaded world Operation.Refresh (refresh_node world) n
 abbrev pub let_go : ℕ → Work → Work
 let_go n w = left n (with_life_of n Life.Detached w)
 
+-- detach by the object's state: managed and removed ones are let go (chapter 3.2.6)
 abbrev pub detach_one : ℕ → EntityState → Op (Unit {0})
 detach_one n EntityState.New = done
 detach_one n EntityState.Managed = change (let_go n)
 detach_one n EntityState.Removed = change (let_go n)
 detach_one n EntityState.Detached = done
 
+-- detach of a node of its cascade
 abbrev pub detach_node : Node → Op (Unit {0})
 detach_node (Node.Live n) w = detach_one n (state_of w n) w
 detach_node (Node.Bare id) w = Done tt w
 
+-- detach of an object and of all that its cascade reaches (chapter 3.2.6)
 abbrev pub detach : World → ℕ → Op (Unit {0})
 detach world n = cascaded world Operation.Detach detach_node n
 
@@ -191,6 +214,7 @@ locked Lock.Write Lock.Unlocked = Lock.Unlocked
 locked Lock.Read mode = mode
 locked Lock.Unlocked mode = mode
 
+-- the lock of an entry; without one there is none
 abbrev pub lock_in : Option Entry → Lock
 lock_in None = Lock.Unlocked
 lock_in (Some e) = e.lock

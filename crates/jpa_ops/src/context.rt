@@ -1,8 +1,9 @@
 //! What an operation reads of the persistence context, and the lives of objects.
 ghost use Rattle.std.specs.Prelude.{◌≡◌, ◌<◌, length, IfOk, IfErr, is_some, option_copied};
 ghost use Rattle.jpa_value.specs.declared.refusal.Cause.{Cause};
-ghost use Rattle.jpa_context.specs.Steps.{Meets, Done};
-ghost use Rattle.jpa_context.specs.Undo.{now, since, IsPlaced};
+ghost use Rattle.jpa_context.specs.Carries.{Carries};
+ghost use Rattle.jpa_context.specs.Steps.{change};
+ghost use Rattle.jpa_context.specs.Undo.{now, IsPlaced};
 ghost use Rattle.jpa_context.specs.Work as works;
 ghost use Rattle.jpa_ops.specs.States as states;
 
@@ -12,7 +13,8 @@ use jpa_heap::{Life, identity_of};
 use jpa_model::Metamodel;
 use jpa_value::{Cause, TryCopy};
 
-/// Whether an object of the context has the identity of this one. Fails for want of memory alone, with `OutOfMemory`.
+/// Whether an object of the context has the identity of this one. Fails for want of memory alone,
+/// with `OutOfMemory`.
 pub fn has_instance(metamodel: &Metamodel, work: &UnitOfWork, object: usize) -> Result<bool, Cause>
     requires placed { IsPlaced metamodel.now (now work.now) }
     requires object { object < length work.now.objects.now }
@@ -51,11 +53,8 @@ pub fn has_base(work: &UnitOfWork, object: usize) -> bool
 /// An object lives otherwise. Fails for want of memory alone, with `OutOfMemory`.
 pub fn set_life(work: &mut UnitOfWork, object: usize, life: Life) -> Result<(), Cause>
     requires { object < length work.old.objects.now }
-    ensures meets { Meets result (now work.new)
-        (Done tt (works.with_life_of object life (now work.old))) }
+    ensures carries { Carries (change (works.with_life_of object life)) result work.old work.new }
     ensures count { length work.new.objects.now ≡ length work.old.objects.now }
-    ensures view { work.new.view ≡ work.old.view }
-    ensures since { since work.new ≡ since work.old }
 {
     let mut live = work.objects.as_slice()[object].try_copy()?;
     live.life = life;

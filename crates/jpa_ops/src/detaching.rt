@@ -29,7 +29,8 @@ fn no_object(alloc: Global) -> LiveObject
     }
 }
 
-/// An object of the context is detached, with its state as it is, and its entry leaves. For good. Takes no memory.
+/// An object of the context is detached, with its state as it is, and its entry leaves. For good.
+/// Takes no memory.
 fn let_go(alloc: Global, work: &mut UnitOfWork, object: usize)
     requires { object < length work.old.objects.now }
     ensures gone { now work.new ≡ states.let_go object (now work.old) }
@@ -80,12 +81,14 @@ fn detach_node(alloc: Global, work: &mut UnitOfWork, node: &Node)
     }
 }
 
-/// Detaches an object, and those that it leads to along relations that cascade it: a managed or removed one leaves the context
-/// with its state as it is, and what was not written of it won't be; a new or detached one is ignored (Jakarta Persistence
-/// 3.1, chapter 3.2.6). The objects are those of the waves of the cascade as it begins.
+/// Detaches an object, and those that it leads to along relations that cascade it: a managed or
+/// removed one leaves the context with its state as it is, and what was not written of it won't be;
+/// a new or detached one is ignored (Jakarta Persistence 3.1, chapter 3.2.6). The objects are those
+/// of the waves of the cascade as it begins.
 ///
-/// `OutOfMemory` where there is no memory for the waves, before anything was changed; it is refused for nothing else. What it
-/// does can't be undone, nor can what was changed before; where all was kept before, all is kept afterwards.
+/// `OutOfMemory` where there is no memory for the waves, before anything was changed; it is refused
+/// for nothing else. What it does can't be undone, nor can what was changed before; where all was
+/// kept before, all is kept afterwards.
 pub fn detach(
     alloc: Global,
     metamodel: &Metamodel,

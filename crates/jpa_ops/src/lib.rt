@@ -1,7 +1,7 @@
 //! The operations of an entity manager on its objects.
 //!
-//! The definitions stand in `specs/`: `States` persists, removes, refreshes and detaches. The crate stands on loading, on
-//! cascades and on listeners.
+//! The definitions stand in `specs/`: `States` persists, removes, refreshes and detaches. The crate
+//! stands on loading, on cascades and on listeners.
 #![tactic(auto)]
 
 mod context;

@@ -13,7 +13,8 @@ use jpa_context::{EntityState, Lock, UnitOfWork, place_laws};
 use jpa_model::Metamodel;
 use jpa_value::{Argument, Cause, Persist, TryCopy};
 
-/// The lock of an object that is locked again: one that raises the version stays where one is asked that does not.
+/// The lock of an object that is locked again: one that raises the version stays where one is asked
+/// that does not.
 fn locked(lock: Lock, mode: Lock) -> Lock
     ensures { result ≡ states.locked lock mode }
 {
@@ -23,7 +24,8 @@ fn locked(lock: Lock, mode: Lock) -> Lock
     }
 }
 
-/// The object's entry is locked; without an entry nothing is. Fails for want of memory alone, with `OutOfMemory`.
+/// The object's entry is locked; without an entry nothing is. Fails for want of memory alone, with
+/// `OutOfMemory`.
 fn set_lock(work: &mut UnitOfWork, object: usize, mode: Lock) -> Result<(), Cause>
     requires distinct { AreDistinct work.old.context.now }
     ensures ok { let w = now work.old in
@@ -45,11 +47,12 @@ fn set_lock(work: &mut UnitOfWork, object: usize, mode: Lock) -> Result<(), Caus
     Ok(())
 }
 
-/// A managed object of an entity with a version is locked (Jakarta Persistence 3.1, chapter 3.4.4): a lock that raises the
-/// version stays where one is asked that does not.
+/// A managed object of an entity with a version is locked (Jakarta Persistence 3.1, chapter 3.4.4):
+/// a lock that raises the version stays where one is asked that does not.
 ///
-/// `IllegalArgument(state)` where the object is not managed; `Persistence(version)` where its entity has no version;
-/// `OutOfMemory`. What a refused call changed is undone by `UnitOfWork::undo`.
+/// `IllegalArgument(state)` where the object is not managed; `Persistence(version)` where its
+/// entity has no version; `OutOfMemory`. What a refused call changed is undone by
+/// `UnitOfWork::undo`.
 pub fn lock(
     metamodel: &Metamodel,
     work: &mut UnitOfWork,

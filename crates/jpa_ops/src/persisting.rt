@@ -8,12 +8,13 @@ ghost use Rattle.jpa_behaviour.specs.Behaviour.{World};
 ghost use Rattle.jpa_behaviour.specs.Served.{world_of_unit};
 ghost use Rattle.jpa_heap.specs.Shape.{HasShape};
 ghost use Rattle.jpa_heap.specs.declared.Life.{Life};
-ghost use Rattle.jpa_context.specs.Steps.{Meets, Done};
+ghost use Rattle.jpa_context.specs.Carries.{Carries};
+ghost use Rattle.jpa_context.specs.Steps.{Meets};
 ghost use Rattle.jpa_context.specs.Undo.{now, since, IsPlaced};
 ghost use Rattle.jpa_context.specs.Work as works;
 ghost use Rattle.jpa_context.specs.declared.EntityState.{EntityState};
 ghost use Rattle.jpa_cascade.specs.There.{IsThere};
-ghost use Rattle.jpa_fetch.specs.Grown.{HasGrown, IsReady};
+ghost use Rattle.jpa_fetch.specs.Grown.{GoesOn, IsReady};
 ghost use Rattle.jpa_fetch.specs.Orderly.{IsOrderly};
 ghost use Rattle.jpa_ops.specs.Names.{has_distinct_entries};
 ghost use Rattle.jpa_ops.specs.States as states;
@@ -56,8 +57,9 @@ fn with_number(alloc: Global, object: &LiveObject, number: u64) -> Result<LiveOb
     Ok(keyed)
 }
 
-/// The next number becomes the key of an object that has none (chapter 2.4). `Persistence(key)` where a part of its key
-/// is there, `Persistence(generator)` where no number is left, and `OutOfMemory`.
+/// The next number becomes the key of an object that has none (chapter 2.4). `Persistence(key)`
+/// where a part of its key is there, `Persistence(generator)` where no number is left, and
+/// `OutOfMemory`.
 fn give_number(
     alloc: Global,
     metamodel: &Metamodel,
@@ -91,8 +93,9 @@ fn give_number(
     Ok(())
 }
 
-/// An object gets its key where keys are generated; else its key is there. `Persistence(key)` where it isn't, or is
-/// where it would be generated; `Persistence(generator)` where no number is left; and `OutOfMemory`.
+/// An object gets its key where keys are generated; else its key is there. `Persistence(key)` where
+/// it isn't, or is where it would be generated; `Persistence(generator)` where no number is left;
+/// and `OutOfMemory`.
 fn give_key(
     alloc: Global,
     metamodel: &Metamodel,
@@ -121,10 +124,11 @@ fn give_key(
     Ok(())
 }
 
-/// A new object becomes managed: its key is there or given, and no other object of the context has its identity. No callback
-/// happens to it.
+/// A new object becomes managed: its key is there or given, and no other object of the context has
+/// its identity. No callback happens to it.
 ///
-/// `EntityExists`, `Persistence(key)`, `Persistence(generator)` and `OutOfMemory` as `persist`, which calls it.
+/// `EntityExists`, `Persistence(key)`, `Persistence(generator)` and `OutOfMemory` as `persist`,
+/// which calls it.
 pub fn become_managed(
     alloc: Global,
     metamodel: &Metamodel,
@@ -137,8 +141,7 @@ pub fn become_managed(
     ensures meets { (world : World) → Meets result (now work.new)
         (states.become_managed (record world { model = metamodel.now }) object (now work.old)) }
     ensures shape { OnOk result (HasShape metamodel.now (works.object (now work.new) object)) }
-    ensures ready { OnOk result (IsReady metamodel.now (now work.new)) }
-    ensures grown { OnOk result (HasGrown (now work.old) (now work.new)) }
+    ensures goes { OnOk result (GoesOn metamodel.now (now work.old) (now work.new)) }
     ensures named { has_distinct_entries metamodel.now (now work.old) ≡ true →
         OnOk result (has_distinct_entries metamodel.now (now work.new) ≡ true) }
     ensures count { length work.new.objects.now ≡ length work.old.objects.now }
@@ -160,7 +163,8 @@ pub fn become_managed(
     Ok(())
 }
 
-/// A new object becomes managed, and PrePersist happens to it (chapter 3.5.2). Refused as `persist` is.
+/// A new object becomes managed, and PrePersist happens to it (chapter 3.5.2). Refused as `persist`
+/// is.
 fn persist_new<B: Behaviour>(
     alloc: Global,
     unit: &ServedUnit<B>,
@@ -170,18 +174,15 @@ fn persist_new<B: Behaviour>(
     requires orderly { IsOrderly unit.now.metamodel }
     requires ready { IsReady unit.now.metamodel (now work.old) }
     requires object { object < length work.old.objects.now }
-    ensures meets { let world = world_of_unit B.meaning unit.now in
-        Meets result (now work.new)
-        (states.persist_one world object EntityState.New (now work.old)) }
-    ensures view { work.new.view ≡ work.old.view }
-    ensures since { since work.new ≡ since work.old }
+    ensures { let world = world_of_unit B.meaning unit.now in
+        Carries (states.persist_one world object EntityState.New) result work.old work.new }
 {
     become_managed(alloc, &unit.metamodel, work, object)?;
     callback(alloc, unit, work, LifecycleEvent::PrePersist, object)
 }
 
-/// A removed object is managed again, and PrePersist happens to it unless it is stored. Refused as a listener or
-/// callback refuses, and with `OutOfMemory`.
+/// A removed object is managed again, and PrePersist happens to it unless it is stored. Refused as
+/// a listener or callback refuses, and with `OutOfMemory`.
 fn persist_removed<B: Behaviour>(
     alloc: Global,
     unit: &ServedUnit<B>,
@@ -190,11 +191,8 @@ fn persist_removed<B: Behaviour>(
 ) -> Result<(), Cause>
     requires placed { IsPlaced unit.now.metamodel (now work.old) }
     requires object { object < length work.old.objects.now }
-    ensures meets { let world = world_of_unit B.meaning unit.now in
-        Meets result (now work.new)
-        (states.persist_one world object EntityState.Removed (now work.old)) }
-    ensures view { work.new.view ≡ work.old.view }
-    ensures since { since work.new ≡ since work.old }
+    ensures { let world = world_of_unit B.meaning unit.now in
+        Carries (states.persist_one world object EntityState.Removed) result work.old work.new }
 {
     set_life(work, object, Life::Managed(work.manager))?;
     if has_base(work, object) {
@@ -214,10 +212,8 @@ fn persist_one<B: Behaviour>(
     requires orderly { IsOrderly unit.now.metamodel }
     requires ready { IsReady unit.now.metamodel (now work.old) }
     requires object { object < length work.old.objects.now }
-    ensures meets { let world = world_of_unit B.meaning unit.now in
-        Meets result (now work.new) (states.persist_one world object state (now work.old)) }
-    ensures view { work.new.view ≡ work.old.view }
-    ensures since { since work.new ≡ since work.old }
+    ensures { let world = world_of_unit B.meaning unit.now in
+        Carries (states.persist_one world object state) result work.old work.new }
 {
     match state {
         EntityState::New => persist_new(alloc, unit, work, object),
@@ -227,7 +223,8 @@ fn persist_one<B: Behaviour>(
     }
 }
 
-/// A node of the cascade is persisted: an object; a row without an instance is stored already. Refused as `persist` is.
+/// A node of the cascade is persisted: an object; a row without an instance is stored already.
+/// Refused as `persist` is.
 fn persist_node<B: Behaviour>(
     alloc: Global,
     unit: &ServedUnit<B>,
@@ -237,10 +234,8 @@ fn persist_node<B: Behaviour>(
     requires orderly { IsOrderly unit.now.metamodel }
     requires ready { IsReady unit.now.metamodel (now work.old) }
     requires there { IsThere (now work.old) node.now }
-    ensures meets { let world = world_of_unit B.meaning unit.now in
-        Meets result (now work.new) (states.persist_node world node.now (now work.old)) }
-    ensures view { work.new.view ≡ work.old.view }
-    ensures since { since work.new ≡ since work.old }
+    ensures { let world = world_of_unit B.meaning unit.now in
+        Carries (states.persist_node world node.now) result work.old work.new }
 {
     match node {
         Node::Live(object) => {
@@ -251,15 +246,18 @@ fn persist_node<B: Behaviour>(
     }
 }
 
-/// Makes an object managed, and those that it leads to along relations that cascade it: a new one enters the persistence
-/// context, with the next number as its key where keys are generated; a removed one is managed again; a managed one stays as
-/// it is (Jakarta Persistence 3.1, chapters 3.2.2 and 2.4). PrePersist happens to an object that was not stored yet. The
-/// objects are those of the waves of the cascade as it begins, in their order.
+/// Makes an object managed, and those that it leads to along relations that cascade it: a new one
+/// enters the persistence context, with the next number as its key where keys are generated; a
+/// removed one is managed again; a managed one stays as it is (Jakarta Persistence 3.1, chapters
+/// 3.2.2 and 2.4). PrePersist happens to an object that was not stored yet. The objects are those
+/// of the waves of the cascade as it begins, in their order.
 ///
-/// `EntityExists` for a detached object, and where the context has another of the identity; `Persistence(key)` where a
-/// part of an assigned key is null, or a generated key is not; `Persistence(generator)` where no number is left; `Listener`
-/// with its text where a listener or callback throws, and `Persistence(callback)` where one assigns what is not allowed;
-/// `OutOfMemory` where a growth was refused. What a refused call changed is undone by `UnitOfWork::undo`.
+/// `EntityExists` for a detached object, and where the context has another of the identity;
+/// `Persistence(key)` where a part of an assigned key is null, or a generated key is not;
+/// `Persistence(generator)` where no number is left; `Listener` with its text where a listener or
+/// callback throws, and `Persistence(callback)` where one assigns what is not allowed;
+/// `OutOfMemory` where a growth was refused. What a refused call changed is undone by
+/// `UnitOfWork::undo`.
 pub fn persist<B: Behaviour>(
     alloc: Global,
     unit: &ServedUnit<B>,
@@ -269,14 +267,11 @@ pub fn persist<B: Behaviour>(
     requires orderly { IsOrderly unit.now.metamodel }
     requires ready { IsReady unit.now.metamodel (now work.old) }
     requires object { object < length work.old.objects.now }
-    ensures meets { let world = world_of_unit B.meaning unit.now in
-        Meets result (now work.new) (states.persist world object (now work.old)) }
-    ensures ready { OnOk result (IsReady unit.now.metamodel (now work.new)) }
-    ensures grown { OnOk result (HasGrown (now work.old) (now work.new)) }
+    ensures carries { let world = world_of_unit B.meaning unit.now in
+        Carries (states.persist world object) result work.old work.new }
+    ensures goes { OnOk result (GoesOn unit.now.metamodel (now work.old) (now work.new)) }
     ensures named { has_distinct_entries unit.now.metamodel (now work.old) ≡ true →
         OnOk result (has_distinct_entries unit.now.metamodel (now work.new) ≡ true) }
-    ensures view { work.new.view ≡ work.old.view }
-    ensures since { since work.new ≡ since work.old }
 {
     let nodes = waves(alloc, &unit.metamodel, work, Operation::Persist, object)?;
     for node in nodes.as_slice() {

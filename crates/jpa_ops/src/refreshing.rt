@@ -3,12 +3,13 @@ ghost use Rattle.std.specs.Prelude.{◌≡◌, ◌<◌, length, IfOk, IfErr, OnO
 ghost use Rattle.jpa_value.specs.declared.refusal.Cause.{Cause};
 ghost use Rattle.jpa_behaviour.specs.Behaviour.{World};
 ghost use Rattle.jpa_behaviour.specs.Served.{world_of_unit};
-ghost use Rattle.jpa_context.specs.Steps.{IsRefusedAs, Meets};
+ghost use Rattle.jpa_context.specs.Carries.{Carries};
+ghost use Rattle.jpa_context.specs.Steps.{IsRefusedAs};
 ghost use Rattle.jpa_context.specs.Undo.{now, since, IsPlaced};
 ghost use Rattle.jpa_context.specs.Work as works;
 ghost use Rattle.jpa_context.specs.declared.EntityState.{EntityState};
 ghost use Rattle.jpa_cascade.specs.There.{IsThere};
-ghost use Rattle.jpa_fetch.specs.Grown.{AreDistinct, HasGrown, IsReady};
+ghost use Rattle.jpa_fetch.specs.Grown.{AreDistinct, GoesOn, IsReady};
 ghost use Rattle.jpa_ops.specs.States as states;
 
 use jpa_behaviour::{Behaviour, ServedUnit};
@@ -44,8 +45,8 @@ fn set_base(work: &mut UnitOfWork, object: usize, base: Base) -> Result<(), Caus
     Ok(())
 }
 
-/// An object takes what its row has, with what it leads to unread; the row is its new base. Fails for want of memory alone, with
-/// `OutOfMemory`.
+/// An object takes what its row has, with what it leads to unread; the row is its new base. Fails
+/// for want of memory alone, with `OutOfMemory`.
 fn reload(
     alloc: Global,
     metamodel: &Metamodel,
@@ -69,8 +70,8 @@ fn reload(
     set_base(work, object, base)
 }
 
-/// A copy of the row under an object's identity. `EntityNotFound` where there is none, or one of another class; and
-/// `OutOfMemory`.
+/// A copy of the row under an object's identity. `EntityNotFound` where there is none, or one of
+/// another class; and `OutOfMemory`.
 fn row_of(work: &UnitOfWork, object: usize, id: &Identity) -> Result<Stored, Cause>
     requires { object < length work.now.objects.now }
     ensures row { IfOk result (λ row. works.row (now work.now) id.now ≡ Some row) }
@@ -88,7 +89,8 @@ fn row_of(work: &UnitOfWork, object: usize, id: &Identity) -> Result<Stored, Cau
     row.try_copy()
 }
 
-/// A managed object is loaded again, and PostLoad happens to it (chapter 3.5.2). Refused as `refresh` is.
+/// A managed object is loaded again, and PostLoad happens to it (chapter 3.5.2). Refused as
+/// `refresh` is.
 fn refresh_managed<B: Behaviour>(
     alloc: Global,
     unit: &ServedUnit<B>,
@@ -98,10 +100,8 @@ fn refresh_managed<B: Behaviour>(
     requires placed { IsPlaced unit.now.metamodel (now work.old) }
     requires object { object < length work.old.objects.now }
     requires distinct { AreDistinct work.old.context.now }
-    ensures meets { let world = world_of_unit B.meaning unit.now in
-        Meets result (now work.new) (states.refresh_managed world object (now work.old)) }
-    ensures view { work.new.view ≡ work.old.view }
-    ensures since { since work.new ≡ since work.old }
+    ensures { let world = world_of_unit B.meaning unit.now in
+        Carries (states.refresh_managed world object) result work.old work.new }
 {
     let Some(id) = identity_of(&unit.metamodel, &work.objects.as_slice()[object])? else {
         return Err(Cause::EntityNotFound);
@@ -122,10 +122,8 @@ fn refresh_one<B: Behaviour>(
     requires placed { IsPlaced unit.now.metamodel (now work.old) }
     requires object { object < length work.old.objects.now }
     requires distinct { AreDistinct work.old.context.now }
-    ensures meets { let world = world_of_unit B.meaning unit.now in
-        Meets result (now work.new) (states.refresh_one world object state (now work.old)) }
-    ensures view { work.new.view ≡ work.old.view }
-    ensures since { since work.new ≡ since work.old }
+    ensures { let world = world_of_unit B.meaning unit.now in
+        Carries (states.refresh_one world object state) result work.old work.new }
 {
     match state {
         EntityState::New => Err(Cause::IllegalArgument(Argument::State)),
@@ -135,7 +133,8 @@ fn refresh_one<B: Behaviour>(
     }
 }
 
-/// A node of the cascade is refreshed: an object; a row without an instance is as it is. Refused as `refresh` is.
+/// A node of the cascade is refreshed: an object; a row without an instance is as it is. Refused as
+/// `refresh` is.
 fn refresh_node<B: Behaviour>(
     alloc: Global,
     unit: &ServedUnit<B>,
@@ -145,10 +144,8 @@ fn refresh_node<B: Behaviour>(
     requires placed { IsPlaced unit.now.metamodel (now work.old) }
     requires distinct { AreDistinct work.old.context.now }
     requires there { IsThere (now work.old) node.now }
-    ensures meets { let world = world_of_unit B.meaning unit.now in
-        Meets result (now work.new) (states.refresh_node world node.now (now work.old)) }
-    ensures view { work.new.view ≡ work.old.view }
-    ensures since { since work.new ≡ since work.old }
+    ensures { let world = world_of_unit B.meaning unit.now in
+        Carries (states.refresh_node world node.now) result work.old work.new }
 {
     match node {
         Node::Live(object) => {
@@ -159,15 +156,17 @@ fn refresh_node<B: Behaviour>(
     }
 }
 
-/// Loads a managed object again, and those that it leads to along relations that cascade it: each takes the values and the
-/// version of its row, which is what it is compared with at the next flush, with what it leads to unread, and PostLoad happens
-/// to it (Jakarta Persistence 3.1, chapters 3.2.5 and 3.5.2). What was changed of it and not written is lost. The objects are
-/// those of the waves of the cascade as it begins, in their order.
+/// Loads a managed object again, and those that it leads to along relations that cascade it: each
+/// takes the values and the version of its row, which is what it is compared with at the next
+/// flush, with what it leads to unread, and PostLoad happens to it (Jakarta Persistence 3.1,
+/// chapters 3.2.5 and 3.5.2). What was changed of it and not written is lost. The objects are those
+/// of the waves of the cascade as it begins, in their order.
 ///
-/// `IllegalArgument(state)` for an object that is not managed; `EntityNotFound` where the manager sees no row under its
-/// identity, or one of another class; `Listener` with its text where a listener or callback throws, and
-/// `Persistence(callback)` where one assigns what is not allowed; `OutOfMemory` where a growth was refused. What a refused
-/// call changed is undone by `UnitOfWork::undo`.
+/// `IllegalArgument(state)` for an object that is not managed; `EntityNotFound` where the manager
+/// sees no row under its identity, or one of another class; `Listener` with its text where a
+/// listener or callback throws, and `Persistence(callback)` where one assigns what is not allowed;
+/// `OutOfMemory` where a growth was refused. What a refused call changed is undone by
+/// `UnitOfWork::undo`.
 pub fn refresh<B: Behaviour>(
     alloc: Global,
     unit: &ServedUnit<B>,
@@ -176,12 +175,9 @@ pub fn refresh<B: Behaviour>(
 ) -> Result<(), Cause>
     requires ready { IsReady unit.now.metamodel (now work.old) }
     requires object { object < length work.old.objects.now }
-    ensures meets { let world = world_of_unit B.meaning unit.now in
-        Meets result (now work.new) (states.refresh world object (now work.old)) }
-    ensures ready { OnOk result (IsReady unit.now.metamodel (now work.new)) }
-    ensures grown { OnOk result (HasGrown (now work.old) (now work.new)) }
-    ensures view { work.new.view ≡ work.old.view }
-    ensures since { since work.new ≡ since work.old }
+    ensures carries { let world = world_of_unit B.meaning unit.now in
+        Carries (states.refresh world object) result work.old work.new }
+    ensures goes { OnOk result (GoesOn unit.now.metamodel (now work.old) (now work.new)) }
 {
     let nodes = waves(alloc, &unit.metamodel, work, Operation::Refresh, object)?;
     for node in nodes.as_slice() {

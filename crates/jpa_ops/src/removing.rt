@@ -1,12 +1,12 @@
 //! Removing an object.
 ghost use Rattle.std.specs.Prelude.{◌≡◌, ◌<◌, length, OnOk};
 ghost use Rattle.jpa_behaviour.specs.Served.{world_of_unit};
-ghost use Rattle.jpa_context.specs.Steps.{Meets};
-ghost use Rattle.jpa_context.specs.Undo.{now, since, IsPlaced};
+ghost use Rattle.jpa_context.specs.Carries.{Carries};
+ghost use Rattle.jpa_context.specs.Undo.{now, IsPlaced};
 ghost use Rattle.jpa_context.specs.Work as works;
 ghost use Rattle.jpa_context.specs.declared.EntityState.{EntityState};
 ghost use Rattle.jpa_cascade.specs.There.{IsThere};
-ghost use Rattle.jpa_fetch.specs.Grown.{HasGrown, IsReady};
+ghost use Rattle.jpa_fetch.specs.Grown.{GoesOn, IsReady};
 ghost use Rattle.jpa_ops.specs.States as states;
 
 use crate::context::set_life;
@@ -19,8 +19,8 @@ use jpa_lifecycle::callback;
 use jpa_value::{Argument, Cause, Identity, LifecycleEvent, TryCopy};
 use std::alloc::Global;
 
-/// A managed object is removed, and PreRemove happens to it (chapter 3.5.2). Refused as a listener or callback refuses,
-/// and with `OutOfMemory`.
+/// A managed object is removed, and PreRemove happens to it (chapter 3.5.2). Refused as a listener
+/// or callback refuses, and with `OutOfMemory`.
 fn remove_managed<B: Behaviour>(
     alloc: Global,
     unit: &ServedUnit<B>,
@@ -29,11 +29,8 @@ fn remove_managed<B: Behaviour>(
 ) -> Result<(), Cause>
     requires placed { IsPlaced unit.now.metamodel (now work.old) }
     requires object { object < length work.old.objects.now }
-    ensures meets { let world = world_of_unit B.meaning unit.now in
-        Meets result (now work.new)
-        (states.remove_one world object EntityState.Managed (now work.old)) }
-    ensures view { work.new.view ≡ work.old.view }
-    ensures since { since work.new ≡ since work.old }
+    ensures { let world = world_of_unit B.meaning unit.now in
+        Carries (states.remove_one world object EntityState.Managed) result work.old work.new }
 {
     set_life(work, object, Life::Removed(work.manager))?;
     callback(alloc, unit, work, LifecycleEvent::PreRemove, object)
@@ -49,10 +46,8 @@ fn remove_one<B: Behaviour>(
 ) -> Result<(), Cause>
     requires placed { IsPlaced unit.now.metamodel (now work.old) }
     requires object { object < length work.old.objects.now }
-    ensures meets { let world = world_of_unit B.meaning unit.now in
-        Meets result (now work.new) (states.remove_one world object state (now work.old)) }
-    ensures view { work.new.view ≡ work.old.view }
-    ensures since { since work.new ≡ since work.old }
+    ensures { let world = world_of_unit B.meaning unit.now in
+        Carries (states.remove_one world object state) result work.old work.new }
 {
     match state {
         EntityState::New => Ok(()),
@@ -71,18 +66,16 @@ fn remove_live<B: Behaviour>(
 ) -> Result<(), Cause>
     requires ready { IsReady unit.now.metamodel (now work.old) }
     requires object { object < length work.old.objects.now }
-    ensures meets { let world = world_of_unit B.meaning unit.now in
-        Meets result (now work.new) (states.remove_live world object (now work.old)) }
-    ensures ready { OnOk result (IsReady unit.now.metamodel (now work.new)) }
-    ensures grown { OnOk result (HasGrown (now work.old) (now work.new)) }
-    ensures view { work.new.view ≡ work.old.view }
-    ensures since { since work.new ≡ since work.old }
+    ensures carries { let world = world_of_unit B.meaning unit.now in
+        Carries (states.remove_live world object) result work.old work.new }
+    ensures goes { OnOk result (GoesOn unit.now.metamodel (now work.old) (now work.new)) }
 {
     let state = state_of(work, object);
     remove_one(alloc, unit, work, object, state)
 }
 
-/// What an identity means by then is removed: its instance; without one its row, which is loaded first. Refused as `remove` is.
+/// What an identity means by then is removed: its instance; without one its row, which is loaded
+/// first. Refused as `remove` is.
 fn remove_under<B: Behaviour>(
     alloc: Global,
     unit: &ServedUnit<B>,
@@ -90,14 +83,12 @@ fn remove_under<B: Behaviour>(
     id: &Identity,
 ) -> Result<(), Cause>
     requires ready { IsReady unit.now.metamodel (now work.old) }
-    ensures meets { let world = world_of_unit B.meaning unit.now in
+    ensures carries { let world = world_of_unit B.meaning unit.now in
         let w = now work.old in
-        Meets result (now work.new) (states.remove_under world id.now
-        (works.instance unit.now.metamodel w id.now) (works.row w id.now) w) }
-    ensures ready { OnOk result (IsReady unit.now.metamodel (now work.new)) }
-    ensures grown { OnOk result (HasGrown (now work.old) (now work.new)) }
-    ensures view { work.new.view ≡ work.old.view }
-    ensures since { since work.new ≡ since work.old }
+        Carries (states.remove_under world id.now
+        (works.instance unit.now.metamodel w id.now) (works.row w id.now))
+        result work.old work.new }
+    ensures goes { OnOk result (GoesOn unit.now.metamodel (now work.old) (now work.new)) }
 {
     if let Some(object) = instance(&unit.metamodel, work, id) {
         return remove_live(alloc, unit, work, object);
@@ -119,12 +110,9 @@ fn remove_node<B: Behaviour>(
 ) -> Result<(), Cause>
     requires ready { IsReady unit.now.metamodel (now work.old) }
     requires there { IsThere (now work.old) node.now }
-    ensures meets { let world = world_of_unit B.meaning unit.now in
-        Meets result (now work.new) (states.remove_node world node.now (now work.old)) }
-    ensures ready { OnOk result (IsReady unit.now.metamodel (now work.new)) }
-    ensures grown { OnOk result (HasGrown (now work.old) (now work.new)) }
-    ensures view { work.new.view ≡ work.old.view }
-    ensures since { since work.new ≡ since work.old }
+    ensures carries { let world = world_of_unit B.meaning unit.now in
+        Carries (states.remove_node world node.now) result work.old work.new }
+    ensures goes { OnOk result (GoesOn unit.now.metamodel (now work.old) (now work.new)) }
 {
     match node {
         Node::Live(object) => remove_live(alloc, unit, work, *object),
@@ -132,14 +120,16 @@ fn remove_node<B: Behaviour>(
     }
 }
 
-/// Removes an object, and those that it leads to along relations that cascade it, unread ones too: a managed one is removed,
-/// and PreRemove happens to it; its row is dropped at the next flush, if it has one. A new one stays new, a removed one stays
-/// removed; what has a row and no instance is loaded first (Jakarta Persistence 3.1, chapters 3.2.3 and 3.5.2). The objects
-/// and rows are those of the waves of the cascade as it begins, in their order.
+/// Removes an object, and those that it leads to along relations that cascade it, unread ones too:
+/// a managed one is removed, and PreRemove happens to it; its row is dropped at the next flush, if
+/// it has one. A new one stays new, a removed one stays removed; what has a row and no instance is
+/// loaded first (Jakarta Persistence 3.1, chapters 3.2.3 and 3.5.2). The objects and rows are those
+/// of the waves of the cascade as it begins, in their order.
 ///
-/// `IllegalArgument(state)` for a detached object; what loading refuses; `Listener` with its text where a listener or callback
-/// throws, and `Persistence(callback)` where one assigns what is not allowed; `OutOfMemory` where a growth was refused. What a
-/// refused call changed is undone by `UnitOfWork::undo`.
+/// `IllegalArgument(state)` for a detached object; what loading refuses; `Listener` with its text
+/// where a listener or callback throws, and `Persistence(callback)` where one assigns what is not
+/// allowed; `OutOfMemory` where a growth was refused. What a refused call changed is undone by
+/// `UnitOfWork::undo`.
 pub fn remove<B: Behaviour>(
     alloc: Global,
     unit: &ServedUnit<B>,
@@ -148,12 +138,9 @@ pub fn remove<B: Behaviour>(
 ) -> Result<(), Cause>
     requires ready { IsReady unit.now.metamodel (now work.old) }
     requires object { object < length work.old.objects.now }
-    ensures meets { let world = world_of_unit B.meaning unit.now in
-        Meets result (now work.new) (states.remove world object (now work.old)) }
-    ensures ready { OnOk result (IsReady unit.now.metamodel (now work.new)) }
-    ensures grown { OnOk result (HasGrown (now work.old) (now work.new)) }
-    ensures view { work.new.view ≡ work.old.view }
-    ensures since { since work.new ≡ since work.old }
+    ensures carries { let world = world_of_unit B.meaning unit.now in
+        Carries (states.remove world object) result work.old work.new }
+    ensures goes { OnOk result (GoesOn unit.now.metamodel (now work.old) (now work.new)) }
 {
     let nodes = waves(alloc, &unit.metamodel, work, Operation::Remove, object)?;
     for node in nodes.as_slice() {

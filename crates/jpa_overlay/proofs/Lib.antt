@@ -6,3 +6,4 @@ pub mod Difference
 pub mod Statements
 pub mod Recalled
 pub mod Samples
+pub mod Merging

@@ -1,5 +1,5 @@
 -- A merge of rows with the changes over them, row by row; and the rows of one table alone.
-use Rattle.std.specs.Prelude.{◌≡◌, ℕ, ◌<◌, ◌≤◌, Bool, true, false, not, cond, ◌==◌, T, [], ◌∷◌, ◌++◌, Option, Some, None, Result, Ok, Err, IfOk}
+use Rattle.std.specs.Prelude.{◌≡◌, ℕ, ◌<◌, ◌≤◌, Bool, true, false, not, cond, ◌==◌, T, [], ◌∷◌, ◌++◌, Option, Some, None}
 use Rattle.std.proofs.Common.{refl, sym, ap, subst, ◌∙◌, arith, inl, inr, ltb, leb, get_or, take, drop, Less, Equal, Greater}
 use Rattle.std.proofs.lemmas.Bool.{cases_lt}
 use Rattle.std.proofs.lemmas.Bool.Decides.{nat_tests}
@@ -19,7 +19,7 @@ use Rattle.jpa_row_laws.specs.Changes.{over}
 use Rattle.jpa_row_laws.proofs.Facts.{is_equal, is_less, first_holds, second_holds, both_hold}
 use Rattle.jpa_row_laws.proofs.Maps.{same_answers}
 use Rattle.jpa_row_laws.proofs.Overlay.{found_seen, seen_rises, merge_row, merge_made, merge_gone}
-use Rattle.jpa_overlay.specs.Overlay.{Changes, rows_under, row_if, rows_put, stands_first}
+use Rattle.jpa_overlay.specs.Overlay.{Changes, rows_under, row_if, rows_put, row_unless, stands_first}
 use Rattle.jpa_overlay.proofs.Changes.{ids}
 use Rattle.jpa_rows.proofs.Splits.{all_then, front_passes, rest_fails, rest_rises, same_place}
 use Rattle.jpa_overlay.proofs.Splits.{below_less, all_front, all_both, passing, failing, passing_both}
@@ -63,9 +63,6 @@ not_less : (r : Ordering) → is_lt r ≡ false → is_eq r ≡ false → r ≡ 
 not_less Less e f = absurd (subst (λ b. T (not b)) (sym e) tt)
 not_less Equal e f = absurd (subst (λ b. T (not b)) (sym f) tt)
 not_less Greater e f = refl
-
-abbrev pub row_unless : Bool → RowId → Row → Rows
-row_unless b id row = cond b [] ((id, row) ∷ [])
 
 pub next_row : (id : RowId) (row : Row) (rows : Rows) → AreRising ((id, row) ∷ rows) → (cs : Changes) → T (is_sorted identity_cmp cs) → AllByRecursion (λ c. is_lt (identity_cmp c.0 id) ≡ false) cs
     → rows_under cs ((id, row) ∷ rows) ≡ row_unless (stands_first id cs) id row ++ rows_under cs rows
@@ -158,12 +155,3 @@ within_table cs from table before within e first second =
     let rest : filter own from ≡ take within from =
     ap (filter own) (sym (take-append-drop within from)) ∙ passing_both own (take within from) (drop within from) ∙ (λ i. middle i ++ end i) ∙ append-nil (take within from) in
     sym (ap (filter own) (sym (take-append-drop before cs)) ∙ passing_both own (take before cs) (drop before cs) ∙ (λ i. start i ++ filter own (sym e i)) ∙ rest)
-
-pub scanned : {E : Type 0} (r : Result Rows E) (table : ℕ) (cs part : Changes) (found : Rows) (Holds : Rows → Type 0)
-    → part ≡ where_key identity_cmp (λ id. id.table == table) cs → T (is_sorted identity_cmp part) → ((rows : Rows) → Holds rows → found ≡ table_rows table rows)
-    → IfOk r (λ merged. AreRising found → T (is_sorted identity_cmp part) → merged ≡ rows_under part found)
-    → IfOk r (λ merged. (rows : Rows) → AreRising rows → Holds rows → merged ≡ table_rows table (rows_under cs rows))
-scanned (Ok merged) table cs part found Holds own sorted is h = λ rows rise holds.
-    let found_is = is rows holds in
-    h (subst AreRising (sym found_is) (is_sorted-where_key identity_cmp _ rows rise)) sorted ∙ (λ i. rows_under (own i) (found_is i)) ∙ sym (of_one_table table rows cs rise)
-scanned (Err e) table cs part found Holds own sorted is h = tt

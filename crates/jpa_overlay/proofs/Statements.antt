@@ -1,5 +1,5 @@
 -- How many statements a loop runs that runs one at most for each entry.
-use Rattle.std.specs.Prelude.{◌≡◌, ◌⊎◌, ◌+◌, ◌≤◌, ℕ}
+use Rattle.std.specs.Prelude.{◌+◌, ◌≤◌, ℕ}
 use Rattle.std.proofs.Common.{◌∙◌, inl, inr, arith}
 use Rattle.jpa_rows.specs.Statements.{AreAtMost, IsAtMostOne}
 

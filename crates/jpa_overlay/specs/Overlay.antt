@@ -1,15 +1,17 @@
 -- Changes over rows, as an overlay has them.
-use Rattle.std.specs.Prelude.{◌≡◌, Bool, false, List, [], ◌∷◌, Option, Some, None, IsSome}
+use Rattle.std.specs.Prelude.{◌≡◌, Bool, false, cond, List, [], ◌∷◌, Option, Some, None, IsSome}
 use Rattle.std.specs.List.{flat_map}
 use Rattle.std.specs.FinMap.{find, put}
 use Rattle.jpa_value.specs.Value.{identity_cmp, same_identity}
 use Rattle.jpa_rows.specs.Rows.{RowId, Row, Rows}
 use Rattle.jpa_row_laws.specs.Changes.{changed, seen}
 
--- a finite map from row ids to the rows that are to stand there, or to none, as entries in rising order
+-- a finite map from row ids to the rows that are to stand there, or to none, as entries in rising
+-- order
 abbrev pub Changes : Type 0
 Changes = List (RowId × Option Row)
 
+-- changes with one more, in the place of an earlier one of the row
 abbrev pub with_change : RowId → Option Row → Changes → Changes
 with_change id row changes = put identity_cmp id row changes
 
@@ -27,6 +29,7 @@ Recalls stood changes rows = (id : RowId) → IsSome (find identity_cmp id chang
 
 -- ---- the changes alone
 
+-- a row under an id, where there is one
 abbrev pub row_if : RowId → Option Row → Rows
 row_if id None = []
 row_if id (Some row) = (id, row) ∷ []
@@ -35,6 +38,11 @@ row_if id (Some row) = (id, row) ∷ []
 abbrev pub rows_put : Changes → Rows
 rows_put = flat_map (λ c. row_if c.0 c.1)
 
+-- whether the first of the changes is of this row
 abbrev pub stands_first : RowId → Changes → Bool
 stands_first id [] = false
 stands_first id (c ∷ cs) = same_identity c.0 id
+
+-- the row under its id, or none where it is changed
+abbrev pub row_unless : Bool → RowId → Row → Rows
+row_unless changed id row = cond changed [] ((id, row) ∷ [])

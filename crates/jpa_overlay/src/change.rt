@@ -5,7 +5,8 @@ use jpa_rows::{Row, RowId};
 use std::alloc::{AllocError, Global};
 use std::marker::Model;
 
-/// A change on the heap, seen by contracts as the id of its row and the row that is to stand there, or none.
+/// A change on the heap, seen by contracts as the id of its row and the row that is to stand there,
+/// or none.
 #[derive(Drop)]
 pub struct Change {
     entry: Box<(RowId, Option<Row>)>,

@@ -1,11 +1,12 @@
 //! Changes over committed rows.
-ghost use Rattle.std.specs.Prelude.{◌≡◌, ◌⊎◌, ◌↔◌, ◌==◌, T, [], All, length, map, IsSome, IsTrue, OnOk, OnErr, IfOk, IfErr};
+ghost use Rattle.std.specs.Prelude.{◌≡◌, ◌⊎◌, ◌↔◌, ◌==◌, T, ⊤, [], All, length, map, IsSome, IsTrue, OnOk, OnErr, IfOk, IfErr};
 ghost use Rattle.std.specs.FinMap.{find, is_sorted};
 ghost use Rattle.std.specs.FinMap.Entries.{where_key};
 ghost use Rattle.jpa_value.specs.declared.refusal.Cause.{Cause};
 ghost use Rattle.jpa_value.specs.Value.{identity_cmp};
 ghost use Rattle.jpa_stored.specs.Places.{IsAt, IsGap};
-ghost use Rattle.jpa_rows.specs.Faults.{faults_after};
+ghost use Rattle.jpa_row_laws.specs.Handing.{Hands};
+ghost use Rattle.jpa_rows.specs.Faults.{IsStoreCause, faults_after};
 ghost use Rattle.jpa_rows.specs.Rows.{Rows, AreRising, table_rows, entry_of, rows_after};
 ghost use Rattle.jpa_rows.specs.Statements.{AreAtMost, IsAtMostOne};
 ghost use Rattle.jpa_row_laws.specs.Changes.{AreDifference};
@@ -13,21 +14,23 @@ ghost use Rattle.jpa_overlay.specs.Overlay.{Recalls, rows_under, with_change, wi
 ghost use Rattle.jpa_overlay.specs.Same.{same_row};
 
 use crate::change::Change;
-use crate::merge::merge;
+use crate::merge::each_under;
 use crate::same::is_same;
-use jpa_rows::{Row, RowChange, RowId, RowSource, copy_row};
+use jpa_rows::{Row, RowChange, RowId, RowReader, RowSink, copy_row};
 use jpa_value::{Cause, Seq, TryCopy, order_identities};
 use std::alloc::Global;
 use std::cmp::Ordering;
 use std::marker::Model;
 
-/// Changes over committed rows, seen by contracts as a finite map from row ids to the row that is to stand there, or to
-/// none where the row is dropped: its entries in rising order of the ids.
+/// Changes over committed rows, seen by contracts as a finite map from row ids to the row that is
+/// to stand there, or to none where the row is dropped: its entries in rising order of the ids.
 ///
-/// As with the store's own reads, what `get`, `scan` and `changes` answer is sure if the store is clean when they return:
-/// if what it stands on has given back what was written to it so far. Then it was clean before the call too.
+/// As with the store's own reads, what `get`, `each` and `changes` answer is sure if the store is
+/// clean when they return: if what it stands on has given back what was written to it so far. Then
+/// it was clean before the call too.
 ///
-/// With n changes a look-up takes O(log n) comparisons. A change takes as many, and moves at most n pointers.
+/// With n changes a look-up takes O(log n) comparisons. A change takes as many, and moves at most n
+/// pointers.
 #[derive(Drop)]
 pub struct Overlay {
     entries: Vec<Change>,
@@ -63,9 +66,10 @@ impl Overlay {
         self.entries.is_empty()
     }
 
-    /// The row under an id, as it is under the changes. A row that is changed here is answered without a look at the
-    /// store. It refuses with `OutOfMemory`, and as the store does where it looks there.
-    pub fn get<R: RowSource>(&self, source: &mut R, id: &RowId) -> Result<Option<Row>, Cause>
+    /// The row under an id, as it is under the changes. A row that is changed here is answered
+    /// without a look at the store. It refuses with `OutOfMemory`, and as the store does where it
+    /// looks there.
+    pub fn get<R: RowReader>(&self, source: &mut R, id: &RowId) -> Result<Option<Row>, Cause>
         ensures ok { R.clean source.new → IfOk result
             (λ row. (rows : Rows) → R.holds source.old rows → row
             ≡ find identity_cmp id.now (rows_under self.now rows)) }
@@ -78,7 +82,8 @@ impl Overlay {
             × IfErr result (λ cause. cause ≡ Cause.OutOfMemory) }
         ensures kept { (rows : Rows) → R.holds source.old rows → R.holds source.new rows }
         ensures told { R.faults source.new ≡ faults_after result (R.faults source.old) }
-        ensures read { IsAtMostOne (R.reads source.old) (R.reads source.new) }
+        ensures read { IsAtMostOne (R.row_selects source.old) (R.row_selects source.new) }
+        ensures tables { R.table_selects source.new ≡ R.table_selects source.old }
         ensures unwritten { R.writes source.new ≡ R.writes source.old }
         ensures crash { R.endures source.old source.new (λ _. ⊥) }
         ensures was_clean { R.clean source.new → R.clean source.old }
@@ -90,32 +95,38 @@ impl Overlay {
         }
     }
 
-    /// The rows of a table as they are under the changes, in the order of their ids. It looks through the table's rows in
-    /// the store once, and refuses with `OutOfMemory`, and as the store does.
-    pub fn scan<R: RowSource>(&self, source: &mut R, table: u64) -> Result<Seq<(RowId, Row)>, Cause>
-        ensures ok { R.clean source.new → IfOk result
-            (λ found. (rows : Rows) → AreRising rows → R.holds source.old rows → found
-            ≡ table_rows table (rows_under self.now rows)) }
-        ensures err { R.clean source.new → IfErr result
-            (λ cause. (rows : Rows) → R.holds source.old rows → (cause ≡ Cause.OutOfMemory)
-            ⊎ (cause ≡ Cause.StoreFault)) }
+    /// Hands the rows of a table on as they are under the changes, in the order of their ids:
+    /// `true` once all were taken and more are wanted, `false` after the first with which no more
+    /// are wanted. It looks through the table's rows in the store once. A refusal of the sink is
+    /// the answer; beside that it refuses with `OutOfMemory`, and as the store does.
+    pub fn each<R: RowReader, K: RowSink>(
+        &self,
+        source: &mut R,
+        table: u64,
+        sink: &mut K,
+    ) -> Result<bool, Cause>
+        ensures handed { R.clean source.new → (rows : Rows) → AreRising rows →
+            R.holds source.old rows → Hands K.takes IsStoreCause sink.old
+            (table_rows table (rows_under self.now rows)) result sink.new }
+        ensures any { (found : Rows) × Hands K.takes (λ _. ⊤) sink.old found result sink.new }
         ensures kept { (rows : Rows) → R.holds source.old rows → R.holds source.new rows }
         ensures told { R.faults source.new ≡ faults_after result (R.faults source.old) }
-        ensures read { IsAtMostOne (R.reads source.old) (R.reads source.new) }
+        ensures read { IsAtMostOne (R.table_selects source.old) (R.table_selects source.new) }
+        ensures rows { R.row_selects source.new ≡ R.row_selects source.old }
         ensures unwritten { R.writes source.new ≡ R.writes source.old }
         ensures crash { R.endures source.old source.new (λ _. ⊥) }
         ensures was_clean { R.clean source.new → R.clean source.old }
         ensures schema { R.schema source.new ≡ R.schema source.old }
     {
-        let rows = source.scan(table)?;
-        merge(self.allocator(), rows, self.of_table(table))
+        each_under(self.of_table(table), source, table, sink)
     }
 
-    /// The difference from the store: the changes in the order of their ids, without those that leave a row as it is there.
-    /// Made in the store, they give the rows that are seen here. They are in that order, and each is a change of these, whether
-    /// or not the store is clean. It reads each changed row of the store once, and refuses with `OutOfMemory`, and as the store
+    /// The difference from the store: the changes in the order of their ids, without those that
+    /// leave a row as it is there. Made in the store, they give the rows that are seen here. They
+    /// are in that order, and each is a change of these, whether or not the store is clean. It
+    /// reads each changed row of the store once, and refuses with `OutOfMemory`, and as the store
     /// does.
-    pub fn changes<R: RowSource>(&self, source: &mut R) -> Result<Seq<RowChange>, Cause>
+    pub fn changes<R: RowReader>(&self, source: &mut R) -> Result<Seq<RowChange>, Cause>
         ensures difference { R.clean source.new → IfOk result
             (λ changes. (rows : Rows) → R.holds source.old rows →
             AreDifference identity_cmp rows (map entry_of changes)) }
@@ -131,7 +142,9 @@ impl Overlay {
             ⊎ (cause ≡ Cause.StoreFault)) }
         ensures kept { (rows : Rows) → R.holds source.old rows → R.holds source.new rows }
         ensures told { R.faults source.new ≡ faults_after result (R.faults source.old) }
-        ensures read { AreAtMost (length self.now) (R.reads source.old) (R.reads source.new) }
+        ensures read { AreAtMost (length self.now) (R.row_selects source.old)
+            (R.row_selects source.new) }
+        ensures tables { R.table_selects source.new ≡ R.table_selects source.old }
         ensures unwritten { R.writes source.new ≡ R.writes source.old }
         ensures crash { R.endures source.old source.new (λ _. ⊥) }
         ensures was_clean { R.clean source.new → R.clean source.old }
@@ -152,9 +165,10 @@ impl Overlay {
         Ok(changes)
     }
 
-    /// The difference from rows of which `stood` says what stands under each id that is changed here: the changes in the order of
-    /// their ids, without those that leave a row as it stood. Made in a store of such rows, they give the rows that are seen here.
-    /// It reads no store and copies no row, and refuses with `OutOfMemory` alone.
+    /// The difference from rows of which `stood` says what stands under each id that is changed
+    /// here: the changes in the order of their ids, without those that leave a row as it stood.
+    /// Made in a store of such rows, they give the rows that are seen here. It reads no store and
+    /// copies no row, and refuses with `OutOfMemory` alone.
     pub fn into_difference(self, stood: &Overlay) -> Result<Seq<RowChange>, Cause>
         ensures difference { IfOk result (λ changes. (rows : Rows) →
             Recalls stood.now self rows →
@@ -178,8 +192,8 @@ impl Overlay {
         Ok(changes)
     }
 
-    /// Puts a row under an id. For want of memory, which is `OutOfMemory` and the only refusal, the overlay stays as it
-    /// was.
+    /// Puts a row under an id. For want of memory, which is `OutOfMemory` and the only refusal, the
+    /// overlay stays as it was.
     pub fn put(&mut self, id: RowId, row: Row) -> Result<(), Cause>
         ensures ok { OnOk result (self.new ≡ with_change id (Some row) self.old) }
         ensures seen { OnOk result ((base : Rows) → AreRising base → rows_under self.new base
@@ -190,8 +204,8 @@ impl Overlay {
         self.change(id, Some(row))
     }
 
-    /// Drops the row under an id, whether or not one stands there. For want of memory, which is `OutOfMemory` and the
-    /// only refusal, the overlay stays as it was.
+    /// Drops the row under an id, whether or not one stands there. For want of memory, which is
+    /// `OutOfMemory` and the only refusal, the overlay stays as it was.
     pub fn drop_row(&mut self, id: RowId) -> Result<(), Cause>
         ensures ok { OnOk result (self.new ≡ with_change id None self.old) }
         ensures seen { OnOk result ((base : Rows) → AreRising base → rows_under self.new base
@@ -225,7 +239,8 @@ impl Overlay {
         Ok(())
     }
 
-    /// Whether it puts this row, or none, under the id: whether it has the row, or no change of it where there is to be none.
+    /// Whether it puts this row, or none, under the id: whether it has the row, or no change of it
+    /// where there is to be none.
     fn puts(&self, id: &RowId, row: &Option<Row>) -> bool
         ensures { result ≡ same_row row.now (find identity_cmp id.now (rows_under self.now [])) }
     {

@@ -19,7 +19,8 @@ use Rattle.jpa_judgment.specs.Opened.{IsMigrated}
 abbrev pub no_rows : Tables
 no_rows t = []
 
--- a store that has run so many SELECTs of a table and none of a row, so many statements that write, and told no fault
+-- a store that has run so many SELECTs of a table and none of a row, so many statements that write,
+-- and told no fault
 abbrev pub having_opened : {S : Type 0} → Held S → ℕ → ℕ → ℕ → Stored S
 having_opened conn creates selects writes = record (new_store conn creates) { table_selects = up_to_greatest selects; writes = up_to_greatest writes }
 
@@ -28,7 +29,8 @@ module _ {S : Type 0} (g : Ghosts S) where
   abbrev pub IsFoundIn : Held S → Tables → Type 0
   IsFoundIn old found = (IsOpen g old × (tables_in g old ≡ found)) ⊎ (((state g old).now.schema ≡ no_schema) × (found ≡ no_rows))
 
-  -- the table was there, or it was made in an empty database, and by its counts the store has since run so many SELECTs of a table, so many statements that write, and no others
+  -- the table was there, or it was made in an empty database. By its counts the store has since run
+  -- so many SELECTs of a table and statements that write, and no others
   abbrev pub OpensWriting : Held S → Stored S → ℕ → ℕ → Type 0
   OpensWriting old store selects writes =
       ((store ≡ having_opened store.conn 0 selects writes) × HoldsTable g old)
@@ -53,7 +55,8 @@ module _ {S : Type 0} (g : Ghosts S) where
         (IsClean g new → IsOpen g new → IsOpen g old × (tables_in g new ≡ opened_tables world h (tables_in g old)))
         ⊎ (((state g old).now.schema ≡ no_schema) × (IsClean g new → IsOpen g new → tables_in g new ≡ opened_tables world h no_rows))
 
-    -- a crash leaves what it left before, the empty table, or the whole migration of what was found, where one was due
+    -- a crash leaves what it left before, the empty table, or the whole migration of what was
+    -- found, where one was due
     abbrev pub EnduresOpening : Held S → Held S → Type 0
     EnduresOpening old new = Endures g old new (λ tables. (tables ≡ no_rows) ⊎ ((found : Tables) × IsFoundIn old found × IsMigrated world h found tables))
 
@@ -64,7 +67,8 @@ module _ {S : Type 0} (g : Ghosts S) where
       pub first : world.model.revision ≡ 1 → writes ≡ 0
       pub due : IsClean g store.conn → (found : Tables) × IsFoundIn old found × (writes ≡ sum_by statements_of (changes_due world h found))
 
-    -- over a clean disk the connection is open, its cells stand for no set and next numbers as the unit opens them, and this is the place that is told of them
+    -- over a clean disk the connection is open. Its cells stand for no set and next numbers as the
+    -- unit opens them, and this is the place that is told
     abbrev pub IsDamage : Held S → Cause → Type 0
     IsDamage conn cause = (t : ℕ) × (bytes : List ℕ) × (cause ≡ Cause.Damaged t bytes) × (IsClean g conn → IsOpen g conn × AreDamagedAt world (opened_tables world h (tables_in g conn)) t bytes)
 

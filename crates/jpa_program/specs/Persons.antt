@@ -17,19 +17,24 @@ use Rattle.jpa_model.specs.Chains.{no_cascade}
 use Rattle.jpa_model.specs.declared.unit.Origin.{Origin}
 use Rattle.jpa_model.specs.declared.unit.PersistenceUnit.{PersistenceUnit}
 
+-- the key of a person: one integer, id
 abbrev pub key_parts : List Part
 key_parts = record { name = codes "id"; kind = Kind.Int } ∷ []
 
+-- the root of persons: table 1, generated keys, a version
 abbrev pub person_root : DraftRoot
 person_root = record { table = pos 1; key = key_parts; embedded = None; generated = true; version = Some (record { name = codes "version"; column = pos 1 }) }
 
+-- the attributes of a person: a name
 abbrev pub person_attributes : List DraftAttribute
 person_attributes = record { name = codes "name"; kind = Kind.Text; column = pos 2; required = false; converter = None } ∷ []
 
+-- the orders of a person, which go with the person
 abbrev pub orders_draft : DraftRelation
 orders_draft =
     record { name = codes "orders"; kind = RelationKind.OneToMany; target = codes "Order"; side = DraftSide.MappedBy (codes "person"); cascade = Cascade.All ∷ []; orphan_removal = true }
 
+-- the entity Person
 abbrev pub person_draft : DraftEntity
 person_draft =
     record {
@@ -44,12 +49,15 @@ person_draft =
       exclude_super = false;
     }
 
+-- the key of an order: one integer, number
 abbrev pub order_key : List Part
 order_key = record { name = codes "number"; kind = Kind.Int } ∷ []
 
+-- the attributes of an order: an amount
 abbrev pub order_attributes : List DraftAttribute
 order_attributes = record { name = codes "amount"; kind = Kind.Int; column = pos 1; required = false; converter = None } ∷ []
 
+-- the person of an order
 abbrev pub person_of_draft : DraftRelation
 person_of_draft =
     record {
@@ -61,6 +69,7 @@ person_of_draft =
       orphan_removal = false;
     }
 
+-- the entity Order
 abbrev pub order_draft : DraftEntity
 order_draft =
     record {
@@ -75,13 +84,16 @@ order_draft =
       exclude_super = false;
     }
 
+-- the description of persons and orders
 abbrev pub persons_draft : Draft
 persons_draft = record { revision = pos 1; listeners = []; entities = person_draft ∷ order_draft ∷ [] }
 
+-- all operations are cascaded
 abbrev pub all_cascades : Cascades
 all_cascades = record { persist = true; merge = true; remove = true; refresh = true; detach = true }
 
--- persons in table 1, with generated keys, versions and names, and their orders in table 2, which go with them
+-- persons in table 1, with generated keys, versions and names, and their orders in table 2, which
+-- go with them
 abbrev pub persons : PersistenceUnit
 persons =
     record {

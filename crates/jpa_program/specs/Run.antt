@@ -26,7 +26,7 @@ rows_over g =
     }
 
 module _ {S L C : Type 0} (g : Ghosts S) (meaning : Meaning L C) where
-  -- where the connection is open and its disk clean, the cells of the unit's tables are those of the committed set and of the
-  -- next numbers that were stored with it, and no others
+  -- where the connection is open and its disk clean, the unit's tables have the cells of the
+  -- committed set and of its stored next numbers, and no others
   abbrev pub HoldsCommitted : Provided (Space S) L C → Type 0
   HoldsCommitted p = HoldsCells g (world_in meaning p) (p.rows).store.conn (p.machine).committed (p.machine).stored_numbers

@@ -10,7 +10,6 @@ ghost use Rattle.jpa_cells_meaning.specs.Store.{IsClean, IsOpen, IsOrderedIfFoun
 ghost use Rattle.jpa_rowspace.specs.Space.{HoldsRows, IsStoreCause};
 ghost use Rattle.jpa_functions.specs.Known as known;
 ghost use Rattle.jpa_machine.specs.Machine.{opened};
-ghost use Rattle.jpa_history.specs.Condition.{IsHistoryOf};
 ghost use Rattle.jpa_migration.specs.Migration.{defaults_pass};
 ghost use Rattle.jpa_judgment.specs.Opened.{AllowsDue};
 ghost use Rattle.jpa_program.specs.Opening.{OpensCounting, Opened, KeepsOrMakes, EnduresMaking, EnduresOpening, HoldsCells, IsOpenCause};
@@ -78,15 +77,18 @@ fn check_functions<B: Behaviour>(unit: &ServedUnit<B>, history: &History) -> Res
     Ok(())
 }
 
-/// The rows of a metamodel over the cells of a database, and what they stand for. A database that is empty gets the table of
-/// cells, and is held to have no object. A store of revision 1 that a unit of revision 2 opens is migrated, in one commit. The
-/// store counts one SELECT for each table of the metamodel, the statements of that commit, no other statement and no fault.
-/// Refused, it hands the connection back, with the tables as they were.
+/// The rows of a metamodel over the cells of a database, and what they stand for. A database that
+/// is empty gets the table of cells, and is held to have no object. A store of revision 1 that a
+/// unit of revision 2 opens is migrated, in one commit. The store counts one SELECT for each table
+/// of the metamodel, the statements of that commit, no other statement and no fault. Refused, it
+/// hands the connection back, with the tables as they were.
 ///
-/// `Mapping(function)` where the metamodel names a listener, callback or converter that the registry lacks, and then where a
-/// converter throws for a default, before the store is looked at. Then `OutOfMemory` where a growth was refused, `StoreFault`
-/// where the database holds anything else than cells, where the connection is in a transaction and where the store fails, and
-/// `Damaged` with its place where the cells of the metamodel's tables, as they are to be, stand for no set of objects.
+/// `Mapping(function)` where the metamodel names a listener, callback or converter that the
+/// registry lacks, and then where a converter throws for a default, before the store is looked at.
+/// Then `OutOfMemory` where a growth was refused, `StoreFault` where the database holds anything
+/// else than cells, where the connection is in a transaction and where the store fails, and
+/// `Damaged` with its place where the cells of the metamodel's tables, as they are to be, stand for
+/// no set of objects.
 pub fn open_rows<S: Alter + Drop, B: Behaviour>(
     alloc: Global,
     conn: Connection<S>,
@@ -94,7 +96,6 @@ pub fn open_rows<S: Alter + Drop, B: Behaviour>(
     history: &History,
 ) -> Result<(RowSpace<S>, Committed), (Cause, Connection<S>)>
     requires ordered { IsOrderedIfFound S.Store conn }
-    requires history { IsHistoryOf unit.now.metamodel history.now }
     ensures schema { IfOk result (λ o. o.0.schema ≡ schema_of unit.now.metamodel) }
     ensures held { IfOk result (λ o. CanBeHeld (world_of_unit B.meaning unit.now) o.1.set
         o.1.numbers) }
@@ -142,16 +143,19 @@ pub fn open_rows<S: Alter + Drop, B: Behaviour>(
     }
 }
 
-/// A provider of a metamodel over the cells of a database, with what they stand for committed: no object lives and no manager
-/// was made. A database that is empty gets the table of cells, and is held to have no object. A store of revision 1 that a unit
-/// of revision 2 opens is migrated, in one commit. The store counts one SELECT for each table of the metamodel, the statements
-/// of that commit, no other statement and no fault. Refused, it hands the connection back, with the tables as they were, or as
-/// they were migrated where memory was refused after the commit.
+/// A provider of a metamodel over the cells of a database, with what they stand for committed: no
+/// object lives and no manager was made. A database that is empty gets the table of cells, and is
+/// held to have no object. A store of revision 1 that a unit of revision 2 opens is migrated, in
+/// one commit. The store counts one SELECT for each table of the metamodel, the statements of that
+/// commit, no other statement and no fault. Refused, it hands the connection back, with the tables
+/// as they were, or as they were migrated where memory was refused after the commit.
 ///
-/// `Mapping(function)` where the metamodel names a listener, callback or converter that the registry lacks, and then where a
-/// converter throws for a default, before the store is looked at. Then `OutOfMemory` where a growth was refused, `StoreFault`
-/// where the database holds anything else than cells, where the connection is in a transaction and where the store fails, and
-/// `Damaged` with its place where the cells of the metamodel's tables, as they are to be, stand for no set of objects.
+/// `Mapping(function)` where the metamodel names a listener, callback or converter that the
+/// registry lacks, and then where a converter throws for a default, before the store is looked at.
+/// Then `OutOfMemory` where a growth was refused, `StoreFault` where the database holds anything
+/// else than cells, where the connection is in a transaction and where the store fails, and
+/// `Damaged` with its place where the cells of the metamodel's tables, as they are to be, stand for
+/// no set of objects.
 pub fn open<S: Alter + Drop, B: Behaviour>(
     alloc: Global,
     conn: Connection<S>,
@@ -159,7 +163,6 @@ pub fn open<S: Alter + Drop, B: Behaviour>(
     history: &History,
 ) -> Result<Provider<RowSpace<S>, B>, (Cause, Connection<S>)>
     requires ordered { IsOrderedIfFound S.Store conn }
-    requires history { IsHistoryOf unit.metamodel history.now }
     ensures model { IfOk result (λ provider. provider.model ≡ unit.metamodel) }
     ensures registry { IfOk result (λ provider. provider.registry ≡ unit.registry) }
     ensures machine { IfOk result (λ provider. provider.machine

@@ -14,19 +14,20 @@ use sqlite::Alter;
 use std::alloc::Global;
 use std::io::{Read, Write};
 
-/// Answers each line of the input by a reply, until the input ends. The replies are those of steps of the machine, and the
-/// machine at the end is the one that the steps lead to.
+/// Answers each line of the input by a reply, until the input ends. The replies are those of steps
+/// of the machine, and the machine at the end is the one that the steps lead to.
 ///
-/// Where a fault ends the run, the lines before it are answered and their replies written, but for at most the last one,
-/// whose call is done: of its reply a front is written after `Write` and nothing after `Memory`. After `Read` all whole
-/// lines that were read are answered, and their replies written.
+/// Where a fault ends the run, the lines before it are answered and their replies written, but for
+/// at most the last one, whose call is done: of its reply a front is written after `Write` and
+/// nothing after `Memory`. After `Read` all whole lines that were read are answered, and their
+/// replies written.
 ///
-/// Each call between them keeps the promise of a call: only a commit that is accepted changes what is committed, and writes
-/// just what differs; a crash at any moment leaves what was committed before a call or after it; a fault of the store is told
-/// where there is one.
+/// Each call between them keeps the promise of a call: only a commit that is accepted changes what
+/// is committed, and writes just what differs; a crash at any moment leaves what was committed
+/// before a call or after it; a fault of the store is told where there is one.
 ///
-/// However it ends, the cells of the store are those of the objects that were committed last, and of the next numbers that
-/// were stored with them: no others, and all of them.
+/// However it ends, the cells of the store are those of the objects that were committed last, and
+/// of the next numbers that were stored with them: no others, and all of them.
 pub fn run<S: Alter, B: Behaviour, R: Read, W: Write>(
     alloc: Global,
     reader: &mut R,

@@ -186,8 +186,8 @@ pub(crate) fn description(alloc: Global) -> Result<Draft, Cause>
     })
 }
 
-/// The unit that is served without a mapping file: persons with generated keys, versions and names, and their orders, which go
-/// with them. `OutOfMemory` where a growth was refused.
+/// The unit that is served without a mapping file: persons with generated keys, versions and names,
+/// and their orders, which go with them. `OutOfMemory` where a growth was refused.
 pub fn first_unit(alloc: Global) -> Result<Metamodel, Cause>
     ensures unit { IfOk result (λ metamodel. metamodel ≡ persons) }
     ensures err { IfErr result (λ cause. cause ≡ Cause.OutOfMemory) }

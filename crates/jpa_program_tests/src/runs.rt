@@ -1,5 +1,5 @@
-//! Runs of the program over a store in memory: reads and writes that fail, and memory that is refused. Input that ends
-//! anywhere is tried over the built program (tests/input.py).
+//! Runs of the program over a store in memory: reads and writes that fail, and memory that is
+//! refused. Input that ends anywhere is tried over the built program (tests/input.py).
 ghost use Rattle.std.specs.Prelude.{◌≡◌};
 ghost use Rattle.jpa_cells_meaning.specs.Store.{IsOrderedIfFound};
 
@@ -123,7 +123,8 @@ fn joined(alloc: Global, lines: &[&str]) -> Result<String, AllocError> {
 
 // ---- the test
 
-/// The run over the whole input ends well and writes the replies; the statements that the store counts.
+/// The run over the whole input ends well and writes the replies; the statements that the store
+/// counts.
 fn see_run<S: Alter + Drop>(
     rt: &impl Abort,
     alloc: Global,
@@ -139,7 +140,8 @@ fn see_run<S: Alter + Drop>(
     Ok(())
 }
 
-// The opening makes the table and looks at three tables; the commit writes two rows, the person and the next number.
+// The opening makes the table and looks at three tables; the commit writes two rows, the person and
+// the next number.
 #[test]
 fn first_run(rt: HostRuntime) -> Result<(), Fail> {
     let a = rt.alloc();

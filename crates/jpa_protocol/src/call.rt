@@ -29,16 +29,16 @@ pub enum FlushMode {
     Commit,
 }
 
-/// A parameter of a statement, named as its text does: `x` for `:x`, and `1` for `?1` (Jakarta Persistence 3.1,
-/// chapter 4.6.4).
+/// A parameter of a statement, named as its text does: `x` for `:x`, and `1` for `?1` (Jakarta
+/// Persistence 3.1, chapter 4.6.4).
 #[derive(Drop)]
 pub struct Parameter {
     pub name: Text,
     pub value: Given,
 }
 
-/// A call. Managers and objects go by their numbers, from 1; a number that names none is refused when the call is
-/// served (Jakarta Persistence 3.1, chapter 3).
+/// A call. Managers and objects go by their numbers, from 1; a number that names none is refused
+/// when the call is served (Jakarta Persistence 3.1, chapter 3).
 #[derive(Drop)]
 pub enum Call {
     /// Makes an entity manager.
@@ -58,13 +58,15 @@ pub enum Call {
         object: i64,
         name: Text,
     },
-    /// Adds an object as the last member of a collection of another, by the relation's name (chapter 2.2).
+    /// Adds an object as the last member of a collection of another, by the relation's name
+    /// (chapter 2.2).
     Add {
         object: i64,
         name: Text,
         member: i64,
     },
-    /// Takes the first occurrence of an object out of a collection of another, by the relation's name (chapter 2.2).
+    /// Takes the first occurrence of an object out of a collection of another, by the relation's
+    /// name (chapter 2.2).
     TakeOut {
         object: i64,
         name: Text,
@@ -94,7 +96,8 @@ pub enum Call {
         em: i64,
         object: i64,
     },
-    /// Makes what an object and those that it leads to hold the state of managed objects (chapter 3.2.7.1).
+    /// Makes what an object and those that it leads to hold the state of managed objects (chapter
+    /// 3.2.7.1).
     Merge {
         em: i64,
         object: i64,
@@ -118,7 +121,8 @@ pub enum Call {
     Close {
         em: i64,
     },
-    /// Writes what a manager's objects differ in from the set that its transaction sees (chapter 3.2.4).
+    /// Writes what a manager's objects differ in from the set that its transaction sees (chapter
+    /// 3.2.4).
     Flush {
         em: i64,
     },
@@ -151,8 +155,8 @@ pub enum Call {
         entity: Text,
         key: Seq<Given>,
     },
-    /// Asks for the rows of a query: the first rows, `first` of them, are left out, and then at most `max` are answered
-    /// (chapter 3.10.1).
+    /// Asks for the rows of a query: the first rows, `first` of them, are left out, and then at
+    /// most `max` are answered (chapter 3.10.1).
     Query {
         em: i64,
         text: Text,
@@ -160,7 +164,8 @@ pub enum Call {
         first: Option<i64>,
         max: Option<i64>,
     },
-    /// Asks for the row of a query of which there must be one, among those that `Query` answers (chapter 3.10.1).
+    /// Asks for the row of a query of which there must be one, among those that `Query` answers
+    /// (chapter 3.10.1).
     QuerySingle {
         em: i64,
         text: Text,
@@ -168,7 +173,7 @@ pub enum Call {
         first: Option<i64>,
         max: Option<i64>,
     },
-    /// Executes an UPDATE or a DELETE in the manager's transaction (chapter 4.10).
+    /// Executes an UPDATE or a DELETE in the manager's transaction (chapter 4.11).
     ExecuteUpdate {
         em: i64,
         text: Text,

@@ -3,7 +3,7 @@
 use crate::event::Told;
 use jpa_value::{Refusal, Seq, Value};
 
-/// What stands in a row of a query's answer (Jakarta Persistence 3.1, section 4.8).
+/// What stands in a row of a query's answer (Jakarta Persistence 3.1, chapter 4.9).
 #[derive(Drop)]
 pub enum Item {
     Value(Value),
@@ -30,7 +30,8 @@ pub enum Answer {
     Rows(Seq<Seq<Item>>),
 }
 
-/// The reply to a call: the events in the order in which they were told, and the answer or the refusal.
+/// The reply to a call: the events in the order in which they were told, and the answer or the
+/// refusal.
 #[derive(Drop)]
 pub struct Reply {
     pub events: Seq<Told>,

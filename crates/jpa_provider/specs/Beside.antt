@@ -1,4 +1,5 @@
--- Other managers beside a commit: what is kept back for their transactions, so that these see what they saw.
+-- Other managers beside a commit: what is kept back for their transactions, so that these see what
+-- they saw.
 use Rattle.std.specs.Prelude.{◌≡◌, ◌≢◌, ◌<◌, ℕ, T, true, false, List, length}
 use Rattle.std.specs.FinMap.Entries.{is_sorted}
 use Rattle.jpa_value.specs.declared.value.Identity.{Identity}
@@ -13,7 +14,8 @@ use Rattle.jpa_provider.specs.Serving.{manager_in, is_begun_status}
 abbrev pub Rises : StoredSet → Type 0
 Rises s = T (is_sorted identity_cmp s)
 
--- a manager for whom something may be kept back: over what is committed then, its transaction is what it was
+-- a manager for whom something may be kept back: over what is committed then, its transaction is
+-- what it was
 pub record IsHeld (before : StoredSet) (old : EntityManager) (after : StoredSet) (new : EntityManager) : Type 0 where
   pub status : new.status ≡ old.status
   pub mode : new.mode ≡ old.mode
@@ -28,8 +30,8 @@ pub record AreHeld (before : StoredSet) (old : List EntityManager) (m : ℕ) (af
   pub own : manager_in new m ≡ manager_in old m
   pub count : length new ≡ length old
 
--- what stands under these identities is kept back for the manager at this place, if it's another one whose transaction
--- is open
+-- what stands under these identities is kept back for the manager at this place, if it's another
+-- one whose transaction is open
 abbrev pub IsTold : ℕ → List EntityManager → List Identity → ℕ → Type 0
 IsTold m managers ids k =
     k ≢ m → is_begun_status (manager_in managers k).status ≡ true → IsKeptBack ((manager_in managers k).layers).back ids
@@ -38,6 +40,7 @@ IsTold m managers ids k =
 abbrev pub AreTold : ℕ → List EntityManager → List Identity → Type 0
 AreTold m managers ids = (k : ℕ) → k < length managers → IsTold m managers ids k
 
--- over what the manager at work sees, the transactions of others are what they are over what is committed
+-- over what the manager at work sees, the transactions of others are what they are over what is
+-- committed
 abbrev pub IsBeside : ℕ → Session → Type 0
 IsBeside m s = AreHeld (s.work.view).committed s.managers.items m (s.work.view).seen s.managers.items

@@ -25,9 +25,11 @@ use Rattle.jpa_machine.specs.Invariant.{given_representable}
 abbrev pub on_numbered : ℤ → (World → ℕ → Op Answer) → World → Op Answer
 on_numbered number op world = object_numbered number >>= op world
 
+-- the call get of an object by its number
 abbrev pub get_numbered : ℤ → List ℕ → World → Op Answer
 get_numbered number name = on_numbered number (λ world. get_call world name)
 
+-- what an operation means
 abbrev pub operation_of : Operation → World → Op Answer
 operation_of (Operation.Get object name) = get_numbered object name
 operation_of (Operation.Set object name value) = on_numbered object (λ world. set_call world name value)
@@ -60,6 +62,7 @@ query_told rows.Told.Single q = query_single_call q.text q.parameters q.first q.
 
 -- ---- which refusals mark the transaction
 
+-- which refusals mark the transaction, by the rule of the call
 abbrev pub is_marked_by : Rule → Cause → Bool
 is_marked_by Rule.OfManager = marks
 is_marked_by Rule.OfObject = marks_if_callback
@@ -85,6 +88,7 @@ EndsSo rule M m o reply N = (ended (is_marked_by rule) M m o ≡ (reply, N)) ⊎
 
 -- ---- who holds an object
 
+-- the manager that holds an object, if one does
 abbrev pub manager_holding : Life → Option ℕ
 manager_holding Life.New = None
 manager_holding (Life.Managed m) = Some m

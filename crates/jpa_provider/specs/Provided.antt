@@ -7,7 +7,7 @@ use Rattle.jpa_stored.specs.Sets.{each_fits}
 use Rattle.jpa_object_rows.specs.Sets.{rows_of}
 use Rattle.jpa_rows.specs.Rows.{Rows}
 use Rattle.jpa_rows.specs.declared.source.RowSource.{Ghosts}
-use Rattle.jpa_object_store.specs.Written.{RunsAtMost, RunsDifference}
+use Rattle.jpa_rows.specs.Commits.{RunsAtMost, RunsDifference}
 use Rattle.jpa_protocol.specs.declared.call.Call.{Call}
 use Rattle.jpa_protocol.specs.declared.reply.Reply.{Reply}
 use Rattle.jpa_machine.specs.Machine.{Machine, IsStoredAs}
@@ -27,7 +27,8 @@ pub record Provided (R L C : Type 0) : Type 0 where
 abbrev pub world_in : {R L C : Type 0} → Meaning L C → Provided R L C → World
 world_in meaning p = world_of meaning p.model p.registry
 
--- a clean store holds the rows of the committed set, and of the next numbers that were stored with it, and no others
+-- a clean store holds the rows of the committed set, and of the next numbers that were stored with
+-- it, and no others
 abbrev pub Stands : {R L C : Type 0} → Meaning L C → (R → Type 0) → (R → Rows → Type 0) → Provided R L C → Type 0
 Stands meaning clean holds p =
     clean p.rows → holds p.rows (rows_of (world_in meaning p) (p.machine).committed (p.machine).stored_numbers)
@@ -40,13 +41,14 @@ rows_kept world M = rows_of world M.committed M.stored_numbers
 abbrev pub rows_made : World → Machine → Call → Rows
 rows_made world M call = rows_kept world (outcome world M call).1
 
--- from the first to the second the reply to the call is that of a step of the machine, and the store holds what is
--- committed then. Only a commit that is accepted changes what is committed. A refused call leaves all that lives as it
--- was but for marks; a rollback, also that of a refused commit, changes the states of live objects and never their
--- values; no next number falls, so that none is given again. A crash leaves what it could leave before the call, or
--- what the call commits; a call reads nothing of the store, and a commit alone writes to it: where it is accepted just
--- what changes, and where it is refused nothing, or, where it gave up, at most that; a fault of the store is told where
--- it is one more
+-- from the first to the second the reply to the call is that of a step of the machine, and the
+-- store holds what is committed then. Only a commit that is accepted changes what is committed. A
+-- refused call leaves all that lives as it was but for marks; a rollback, also that of a refused
+-- commit, changes the states of live objects and never their values; no next number falls, so that
+-- none is given again. A crash leaves what it could leave before the call, or what the call
+-- commits; a call reads nothing of the store, and a commit alone writes to it: where it is accepted
+-- just what changes, and where it is refused nothing, or, where it gave up, at most that; a fault
+-- of the store is told where it is one more
 pub record Steps {R L C : Type 0} (meaning : Meaning L C) (store : Ghosts R) (old : Provided R L C) (call : Call)
     (reply : Reply) (new : Provided R L C) : Type 0 where
   pub model : new.model ≡ old.model

@@ -1,5 +1,5 @@
--- The machine that live data stand for: managers, each with the layers of its open transaction over the committed set,
--- and one of them at work.
+-- The machine that live data stand for: managers, each with the layers of its open transaction over
+-- the committed set, and one of them at work.
 use Rattle.jpa_context.specs.Marks.{Marks, none_marked}
 use Rattle.std.specs.Prelude.{◌≡◌, ◌≢◌, ◌<◌, ◌+◌, ◌⊎◌, ℕ, ℤ, Bool, true, false, List, [], ◌∷◌, length, map, Option, Some, None, Ok, Err, slice_index_or, slice_set, if◌then◌else◌}
 use Rattle.std.specs.List.{filter}
@@ -43,6 +43,7 @@ transaction_in Status.Inactive begun seen = None
 transaction_in Status.Active begun seen = Some (record { begun = begun; view = seen; is_marked = false })
 transaction_in Status.RollbackOnly begun seen = Some (record { begun = begun; view = seen; is_marked = true })
 
+-- whether a manager is open
 abbrev pub is_open_status : Status → Bool
 is_open_status Status.Closed = false
 is_open_status Status.Inactive = true
@@ -76,6 +77,7 @@ nobody =
       layers = no_layers;
     }
 
+-- the manager at a place
 abbrev pub manager_in : List EntityManager → ℕ → EntityManager
 manager_in managers m = slice_index_or managers m nobody
 
@@ -84,6 +86,7 @@ abbrev pub if_named : List EntityManager → Option ℕ → Option ℕ
 if_named managers None = None
 if_named managers (Some m) = if is_open_status (manager_in managers m).status then Some m else None
 
+-- the open manager that a number names, if there is one
 abbrev pub named : Session → ℤ → Option ℕ
 named s em = if_named s.managers.items (place_of (length s.managers.items) em)
 
@@ -92,11 +95,13 @@ abbrev pub open_places : ℕ → List EntityManager → List ℕ
 open_places n [] = []
 open_places n (x ∷ xs) = if is_open_status x.status then n ∷ open_places (n + 1) xs else open_places (n + 1) xs
 
+-- the managers that aren't at work, over what is committed
 abbrev pub managers_of : StoredSet → List EntityManager → List Manager
 managers_of set managers = map (manager_of set) managers
 
 -- ---- the machine
 
+-- the machine that a session stands for
 abbrev pub machine_of : Session → Machine
 machine_of s =
     record {
@@ -151,8 +156,8 @@ Serves world old call reply new = Step world (machine_of old) call reply (machin
 
 -- ---- a manager at work
 
--- in a call of the machine's manager m, whose context is away, and its layers where its transaction is open: with it
--- put back, the session's managers are the machine's
+-- in a call of the machine's manager m, whose context is away, and its layers where its transaction
+-- is open: with it put back, the session's managers are the machine's
 pub record IsAway (M : Machine) (m : ℕ) (s : Session) : Type 0 where
   pub within : m < length s.managers.items
   pub committed : (s.work.view).committed ≡ M.committed
@@ -205,9 +210,11 @@ pub record IsCommitting (M : Machine) (m : ℕ) (s : Session) : Type 0 where
 abbrev pub rows_before : World → Session → Rows
 rows_before world s = rows_of world (s.work.view).committed s.stored
 
+-- the rows of what the manager at work sees
 abbrev pub rows_seen : World → Session → Rows
 rows_seen world s = rows_of world (s.work.view).seen s.work.numbers.now
 
+-- the status of a manager whose transaction, if it is open, can only roll back
 abbrev pub marked_status : Status → Status
 marked_status Status.Closed = Status.Closed
 marked_status Status.Inactive = Status.Inactive
@@ -222,18 +229,21 @@ gone_objects w = map (λ (e : Entry). e.object) (filter (is_gone w) w.context)
 abbrev pub detached_at : ℕ → List LiveObject → List LiveObject
 detached_at n objects = slice_set objects n (with_life (object_at objects n) Life.Detached)
 
+-- the objects at these places are detached
 abbrev pub detached_all : List ℕ → List LiveObject → List LiveObject
 detached_all [] objects = objects
 detached_all (n ∷ ns) objects = detached_all ns (detached_at n objects)
 
 -- ---- rolling back
 
+-- whether a cause is want of memory or a fault of the store
 abbrev pub gave_up : Cause → Bool
 gave_up Cause.OutOfMemory = true
 gave_up Cause.StoreFault = true
 gave_up _ = false
 
--- a commit whose flush was refused: nothing was done where code gave up, else the transaction rolled back
+-- a commit whose flush was refused: nothing was done where code gave up, else the transaction
+-- rolled back
 abbrev pub Refuses : Machine → ℕ → List Told → Cause → Reply → Machine → Type 0
 Refuses M m events r reply N =
     ((gave_up r ≡ true) × (reply ≡ gives_up r) × (N ≡ M))

@@ -12,7 +12,8 @@ pub record AreExchanged (layers : Away) (before : Opened) (away : Away) (after :
   pub kept : after.kept ≡ seen_over layers before.committed
   pub seen : after.seen ≡ after.kept
 
--- where the manager's transaction is open its layers and those at work changed places; else nothing changed
+-- where the manager's transaction is open its layers and those at work changed places; else nothing
+-- changed
 pub record HaveTurned (old : List EntityManager) (m : ℕ) (before : Opened) (new : List EntityManager)
     (after : Opened) : Type 0 where
   pub layers : Away

@@ -1,5 +1,5 @@
-//! A manager at work: while a call of it is served, its context stands in the session's unit of work, and so do the layers of its
-//! open transaction.
+//! A manager at work: while a call of it is served, its context stands in the session's unit of
+//! work, and so do the layers of its open transaction.
 ghost use Rattle.std.specs.Prelude.{◌≡◌, ◌≢◌, ◌<◌, ℕ, [], false, true, length, IfErr, IfSome, OnErr, OnOk};
 ghost use Rattle.jpa_context.specs.Marks.{all_marked};
 ghost use Rattle.jpa_context.specs.Undo.{now, since, IsKept};
@@ -54,7 +54,8 @@ pub(crate) fn take_work(session: &mut Session, manager: usize)
     session.work.manager = manager;
 }
 
-/// The manager's context and layers go back to it, and what its work changed is kept. Takes no memory.
+/// The manager's context and layers go back to it, and what its work changed is kept. Takes no
+/// memory.
 fn keep_work(session: &mut Session, manager: usize)
     requires within { manager < length session.old.managers.items }
     ensures kept { (M : Machine) → IsAway M manager session.old
@@ -71,7 +72,8 @@ fn keep_work(session: &mut Session, manager: usize)
     session.work.context.keep();
 }
 
-/// The manager's context and layers go back to it, and what its work changed is undone. Takes no memory.
+/// The manager's context and layers go back to it, and what its work changed is undone. Takes no
+/// memory.
 pub(crate) fn restore(alloc: Global, session: &mut Session, manager: usize)
     requires within { manager < length session.old.managers.items }
     ensures back { (M : Machine) → IsWorking M manager session.old → machine_of session.new
@@ -148,7 +150,8 @@ pub(crate) fn mark_unless(alloc: Global, session: &mut Session, stay: bool)
     }
 }
 
-/// What the manager's work changed is kept, and what it touched is marked. Takes no memory that a caller would see refused.
+/// What the manager's work changed is kept, and what it touched is marked. Takes no memory that a
+/// caller would see refused.
 fn keep_marked(alloc: Global, metamodel: &Metamodel, session: &mut Session, manager: usize)
     requires within { manager < length session.old.managers.items }
     requires ready { IsReady metamodel.now (now session.old.work) }

@@ -54,8 +54,9 @@ fn keep_back_if_begun(
     Ok(())
 }
 
-/// And for each manager but one whose transaction is open; the open managers stand at these places, and no other is looked at. For
-/// want of memory, which is the only refusal, all see what they saw too.
+/// And for each manager but one whose transaction is open; the open managers stand at these places,
+/// and no other is looked at. For want of memory, which is the only refusal, all see what they saw
+/// too.
 fn keep_back_others(
     managers: &mut Vec<EntityManager>,
     places: &[usize],
@@ -75,9 +76,9 @@ fn keep_back_others(
     Ok(())
 }
 
-/// Before what the manager at work sees is committed: what it changes is kept back for the others, and there is room for it.
-/// The open managers stand at these places. A commit takes no memory then, and the others see what they saw. `OutOfMemory` is the
-/// only refusal.
+/// Before what the manager at work sees is committed: what it changes is kept back for the others,
+/// and there is room for it. The open managers stand at these places. A commit takes no memory
+/// then, and the others see what they saw. `OutOfMemory` is the only refusal.
 pub(crate) fn make_room(
     managers: &mut Vec<EntityManager>,
     places: &[usize],

@@ -73,7 +73,8 @@ fn push_locked(
     Ok(())
 }
 
-/// The identities of the managed objects that are locked to be read; of the entries at other places than these none is.
+/// The identities of the managed objects that are locked to be read; of the entries at other places
+/// than these none is.
 fn locked_ids(
     alloc: Global,
     metamodel: &Metamodel,
@@ -94,9 +95,9 @@ fn locked_ids(
     Ok(locked)
 }
 
-/// Whether no other transaction committed, since this one's begin, what it changed, which is under these identities, or holds
-/// locked to be read (the first committer wins), and what it read under a lock has the version that it had then. It looks at the
-/// entries at these places alone.
+/// Whether no other transaction committed, since this one's begin, what it changed, which is under
+/// these identities, or holds locked to be read (the first committer wins), and what it read under
+/// a lock has the version that it had then. It looks at the entries at these places alone.
 fn is_current(
     alloc: Global,
     metamodel: &Metamodel,
@@ -153,9 +154,10 @@ fn changes_of<'a>(
     Ok(changes)
 }
 
-/// What others committed since the begin is seen too, but where the transaction changed something, which is under these
-/// identities; else `Persistence` with `Null`, `Reference` or `Unique` where that set isn't sound. With c changes and r
-/// references of these it is judged in O((c + r) log n) steps, and what was kept back for the transaction is walked once.
+/// What others committed since the begin is seen too, but where the transaction changed something,
+/// which is under these identities; else `Persistence` with `Null`, `Reference` or `Unique` where
+/// that set isn't sound. With c changes and r references of these it is judged in O((c + r) log n)
+/// steps, and what was kept back for the transaction is walked once.
 fn merge(
     alloc: Global,
     metamodel: &Metamodel,
@@ -179,17 +181,18 @@ fn merge(
     judge(metamodel, &work.view, changes.as_slice())
 }
 
-/// What a commit found before it stores: the identities under which the set that it sees differs from what is committed, rising,
-/// and the places of the entries that its end looks at.
+/// What a commit found before it stores: the identities under which the set that it sees differs
+/// from what is committed, rising, and the places of the entries that its end looks at.
 #[derive(Drop)]
 pub(crate) struct Found {
     pub ids: Seq<Identity>,
     pub looked: Looked,
 }
 
-/// What a commit does before it stores: the flush; then what the transaction changed, and what it holds locked to be read, is to
-/// be committed as it was at its begin, else `OptimisticLock` (chapter 3.4.4.1); then it sees what others committed since, too,
-/// and that set is to be sound, else `Persistence` with `Null`, `Reference` or `Unique`. Refused as the flush is, too.
+/// What a commit does before it stores: the flush; then what the transaction changed, and what it
+/// holds locked to be read, is to be committed as it was at its begin, else `OptimisticLock`
+/// (chapter 3.4.4.1); then it sees what others committed since, too, and that set is to be sound,
+/// else `Persistence` with `Null`, `Reference` or `Unique`. Refused as the flush is, too.
 ///
 /// Entries at other places than those that it answers are untouched.
 pub(crate) fn commit_work<B: Behaviour>(

@@ -13,7 +13,7 @@ ghost use Rattle.jpa_protocol.specs.declared.call.Call.{Call};
 ghost use Rattle.jpa_machine.specs.Faults.{is_store_fault, tells_fault, faults_after_reply};
 ghost use Rattle.jpa_machine.specs.Invariant.{IsMachine};
 ghost use Rattle.jpa_machine.specs.Machine.{Machine, committed_after, is_gone};
-ghost use Rattle.jpa_object_store.specs.Written.{RunsAtMost, RunsDifference};
+ghost use Rattle.jpa_rows.specs.Commits.{Commits, RunsAtMost, RunsDifference};
 ghost use Rattle.jpa_provider.specs.Provided.{rows_kept, rows_made};
 ghost use Rattle.jpa_machine.specs.Step.{IsGivenUp};
 ghost use Rattle.jpa_provider.specs.Beside.{IsBeside};
@@ -50,7 +50,8 @@ fn gave_up(cause: &Cause) -> bool
     matches!(cause, Cause::OutOfMemory | Cause::StoreFault)
 }
 
-/// Ends a commit that was refused before it stored: what it changed is undone, and the transaction rolls back, unless code gave up.
+/// Ends a commit that was refused before it stored: what it changed is undone, and the transaction
+/// rolls back, unless code gave up.
 fn refuse_commit(alloc: Global, session: &mut Session, manager: usize, cause: Cause) -> Reply
     requires within { manager < length session.old.managers.items }
     requires entries { All (λ e. e.object < length (since session.old.work).objects)
@@ -76,7 +77,8 @@ fn refuse_commit(alloc: Global, session: &mut Session, manager: usize, cause: Ca
     }
 }
 
-/// The objects of a context that are removed, in its order; those of the entries at other places than these are managed.
+/// The objects of a context that are removed, in its order; those of the entries at other places
+/// than these are managed.
 fn removed_of(alloc: Global, work: &UnitOfWork, places: &[usize]) -> Result<Seq<usize>, AllocError>
     requires entries { All (λ e. e.object < length work.now.objects.now) work.now.context.now }
     requires looked { AreLooked (λ e. is_managed (state_of (now work.now) e.object) ≡ true)
@@ -134,8 +136,9 @@ fn end_locks(alloc: Global, context: &mut PersistenceContext, places: &[usize])
     }
 }
 
-/// The context as a commit leaves it: its locks end, and the entries of the removed objects, which are these, leave. At other places
-/// than these there is no lock. Takes no memory, and looks at other entries only where an object is removed.
+/// The context as a commit leaves it: its locks end, and the entries of the removed objects, which
+/// are these, leave. At other places than these there is no lock. Takes no memory, and looks at
+/// other entries only where an object is removed.
 fn end_context(alloc: Global, work: &mut UnitOfWork, places: &[usize], gone: &[usize])
     requires looked { AreLooked (λ e. e.lock ≡ Lock.Unlocked)
         work.old.context.now places.now }
@@ -153,8 +156,9 @@ fn end_context(alloc: Global, work: &mut UnitOfWork, places: &[usize], gone: &[u
         .leave_removed(work.objects.as_slice(), work.manager);
 }
 
-/// Ends a commit that was stored: what the manager's work changed is kept, the removed objects are detached, its locks end,
-/// and its transaction is over. The transactions of others see what they saw. Takes no memory that could be refused.
+/// Ends a commit that was stored: what the manager's work changed is kept, the removed objects are
+/// detached, its locks end, and its transaction is over. The transactions of others see what they
+/// saw. Takes no memory that could be refused.
 fn end_commit(
     alloc: Global,
     metamodel: &Metamodel,
@@ -196,8 +200,9 @@ fn end_commit(
     mark_unless(alloc, session, stay);
 }
 
-/// Stores what the transaction changed, which stands under these identities alone, and the next numbers; the transaction is
-/// committed then. What it changed is kept back for others before, so that nothing is refused once it is stored.
+/// Stores what the transaction changed, which stands under these identities alone, and the next
+/// numbers; the transaction is committed then. What it changed is kept back for others before, so
+/// that nothing is refused once it is stored.
 #[tactic(auto, using(crate::proofs::Told::as_told))]
 fn store_commit<R: RowSource, B: Behaviour>(
     alloc: Global,
@@ -234,19 +239,9 @@ fn store_commit<R: RowSource, B: Behaviour>(
         → let world = world_of_unit B.meaning unit.now in
         R.holds rows.old (rows_kept world M)
         → R.holds rows.new (rows_kept world (machine_of session.new)) }
-    ensures was_clean { R.clean rows.new → R.clean rows.old }
-    ensures schema { R.schema rows.new ≡ R.schema rows.old }
-    ensures crash { let world = world_of_unit B.meaning unit.now in
-        R.holds rows.old (rows_before world session.old)
-        → R.endures rows.old rows.new (λ left. left ≡ rows_seen world session.old) }
-    ensures counted { let world = world_of_unit B.meaning unit.now in
-        OnOk result.answer (RunsDifference (rows_before world session.old)
-        (rows_seen world session.old) (R.writes rows.old) (R.writes rows.new)) }
-    ensures bounded { let world = world_of_unit B.meaning unit.now in IsErr result.answer →
-        (rows.new ≡ rows.old) ⊎ RunsAtMost (rows_before world session.old)
-        (rows_seen world session.old) (R.writes rows.old) (R.writes rows.new) }
-    ensures unread { R.reads rows.new ≡ R.reads rows.old }
-    ensures told { R.faults rows.new ≡ faults_after_reply result (R.faults rows.old) }
+    ensures commits { let world = world_of_unit B.meaning unit.now in
+        Commits R.RowSource (faults_after_reply result) result.answer
+        (rows_before world session.old) (rows_seen world session.old) rows.old rows.new }
     ensures refused { IsErr result.answer → IsGivenUp result }
 {
     let (next, gone) = match at_hand(alloc, &session.work, looked) {
@@ -290,8 +285,8 @@ fn store_commit<R: RowSource, B: Behaviour>(
     }
 }
 
-/// What the end of a commit needs, so that it takes no memory: the next numbers, and the objects that are removed; those of the
-/// entries at other places than these are managed.
+/// What the end of a commit needs, so that it takes no memory: the next numbers, and the objects
+/// that are removed; those of the entries at other places than these are managed.
 fn at_hand(
     alloc: Global,
     work: &UnitOfWork,

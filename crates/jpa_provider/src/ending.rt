@@ -47,8 +47,8 @@ fn detach_one(alloc: Global, objects: &mut UndoList<LiveObject>, place: usize)
     objects.put(place, object);
 }
 
-/// The objects of these entries are detached, with their state as it is (Jakarta Persistence 3.1, chapter 3.2.7). Takes no
-/// memory.
+/// The objects of these entries are detached, with their state as it is (Jakarta Persistence 3.1,
+/// chapter 3.2.7). Takes no memory.
 fn detach_each(alloc: Global, objects: &mut UndoList<LiveObject>, context: &[Entry])
     requires { All (λ e. e.object < length objects.old.now) context.now }
     ensures now { objects.new.now ≡ detach_each context.now objects.old.now }
@@ -120,8 +120,8 @@ pub(crate) fn clear_call<B: Behaviour>(
     accepted(alloc, Answer::Null)
 }
 
-/// The call close: the manager's objects are detached as they are, and its number names none from now on (chapter 7.2).
-/// `IllegalState(active)` where its transaction is open. Takes no memory.
+/// The call close: the manager's objects are detached as they are, and its number names none from
+/// now on (chapter 7.2). `IllegalState(active)` where its transaction is open. Takes no memory.
 #[tactic(auto, using(crate::proofs::Closing::close_alone, crate::proofs::Closing::close_active, crate::proofs::Closing::close_closes))]
 pub(crate) fn close_call<B: Behaviour>(
     alloc: Global,
@@ -174,8 +174,8 @@ fn shut(alloc: Global, session: &mut Session, manager: usize)
     leave(&mut session.open_places, manager);
 }
 
-/// Ends the manager's open transaction: its objects are detached as they are, and what it wrote goes with its layers. Takes no
-/// memory.
+/// Ends the manager's open transaction: its objects are detached as they are, and what it wrote
+/// goes with its layers. Takes no memory.
 pub(crate) fn release(alloc: Global, session: &mut Session, manager: usize)
     requires within { manager < length session.old.managers.items }
     requires entries { All (λ e. e.object < length session.old.work.objects.now)

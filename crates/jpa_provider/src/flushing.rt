@@ -45,8 +45,8 @@ fn flush_work<B: Behaviour>(
     Ok(Answer::Null)
 }
 
-/// The call flush: what the manager's objects differ in is written to the set that its transaction sees, and to no store.
-/// `TransactionRequired` where none is open.
+/// The call flush: what the manager's objects differ in is written to the set that its transaction
+/// sees, and to no store. `TransactionRequired` where none is open.
 #[tactic(auto, using(crate::proofs::Routed::flush_alone))]
 pub(crate) fn flush_call<B: Behaviour>(
     alloc: Global,

@@ -50,8 +50,8 @@ pub(crate) fn are_short(given: &[Given]) -> bool
     true
 }
 
-/// What is handed in as a value, in a heap of so many objects: `Limit` for a value that is too long, `NoSuchObject` for a
-/// number that names none.
+/// What is handed in as a value, in a heap of so many objects: `Limit` for a value that is too
+/// long, `NoSuchObject` for a number that names none.
 pub(crate) fn handed(count: usize, given: Given) -> Result<Handed, Cause>
     ensures meets { (w : Work) → length w.objects ≡ count →
         Meets result w (calls.handed given w) }
@@ -75,7 +75,8 @@ pub(crate) fn handed(count: usize, given: Given) -> Result<Handed, Cause>
     }
 }
 
-/// The value for a part of a key: of its kind and not null; else none. Fails for want of memory alone, with `OutOfMemory`.
+/// The value for a part of a key: of its kind and not null; else none. Fails for want of memory
+/// alone, with `OutOfMemory`.
 fn part_given(part: &Part, given: &Given) -> Result<Option<Value>, Cause>
     ensures ok { IfOk result (λ value. value ≡ calls.part_given part.now given.now) }
     ensures err { IfErr result (λ cause. cause ≡ Cause.OutOfMemory) }
@@ -92,8 +93,8 @@ fn part_given(part: &Part, given: &Given) -> Result<Option<Value>, Cause>
     }
 }
 
-/// A key of these parts from what is handed in: a value for each, of its kind and not null; else none. Fails for want of
-/// memory alone, with `OutOfMemory`.
+/// A key of these parts from what is handed in: a value for each, of its kind and not null; else
+/// none. Fails for want of memory alone, with `OutOfMemory`.
 pub(crate) fn whole_key(
     alloc: Global,
     parts: &[Part],

@@ -1,7 +1,9 @@
-//! The machine of a provider: live objects, the managers with their contexts and transactions, and what was committed.
+//! The machine of a provider: live objects, the managers with their contexts and transactions, and
+//! what was committed.
 //!
-//! Its model is the record `Machine` of `specs/Machine.antt`. `outcome` of `specs/Step.antt` gives the reply to a call
-//! and the machine after it, `Step` adds what a call may answer that gave up, and `Runs` is `Step` over lists of calls.
+//! Its model is the record `Machine` of `specs/Machine.antt`. `outcome` of `specs/Step.antt` gives
+//! the reply to a call and the machine after it, `Step` adds what a call may answer that gave up,
+//! and `Runs` is `Step` over lists of calls.
 #![tactic(auto)]
 
 mod asking;

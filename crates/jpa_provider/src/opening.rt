@@ -1,4 +1,5 @@
-//! Calls that make managers and objects, and begin transactions (Jakarta Persistence 3.1, chapters 3.1.1 and 7.5).
+//! Calls that make managers and objects, and begin transactions (Jakarta Persistence 3.1, chapters
+//! 3.1.1 and 7.5).
 ghost use Rattle.std.specs.Prelude.{◌≡◌, ◌++◌, ◌∷◌, [], false, is_ok, length, if◌then◌else◌};
 ghost use Rattle.jpa_behaviour.specs.Served.{world_of_unit};
 ghost use Rattle.jpa_model.specs.declared.unit.PersistenceUnit.{PersistenceUnit};
@@ -21,7 +22,8 @@ use std::alloc::{AllocError, Global};
 /// The most entity managers that one run makes.
 const MOST_MANAGERS: usize = 1_000_000;
 
-/// A manager stands behind the others, and is one of the open ones. For want of memory all stays as it is.
+/// A manager stands behind the others, and is one of the open ones. For want of memory all stays as
+/// it is.
 fn add_manager(
     managers: &mut Vec<EntityManager>,
     places: &mut Vec<usize>,

@@ -49,7 +49,8 @@ pub enum Operation {
         name: Text,
         member: i64,
     },
-    /// The first occurrence of an object is taken out of a collection of another, by the relation's name (chapter 2.2).
+    /// The first occurrence of an object is taken out of a collection of another, by the relation's
+    /// name (chapter 2.2).
     TakeOut {
         object: i64,
         name: Text,
@@ -104,7 +105,8 @@ fn value_answered(value: Value) -> Answer
     }
 }
 
-/// The numbers of the objects at these places, in a heap of so many. Fails for want of memory alone, with `OutOfMemory`.
+/// The numbers of the objects at these places, in a heap of so many. Fails for want of memory
+/// alone, with `OutOfMemory`.
 fn numbers_of(alloc: Global, _count: usize, places: &[usize]) -> Result<Seq<u64>, Cause>
     requires within { All (λ place. place < _count) places.now }
     ensures ok { IfOk result (λ numbers. numbers ≡ map suc places.now) }
@@ -117,8 +119,8 @@ fn numbers_of(alloc: Global, _count: usize, places: &[usize]) -> Result<Seq<u64>
     Ok(numbers)
 }
 
-/// What an object holds in a member, as it is answered, in a heap of so many objects. Fails for want of memory alone, with
-/// `OutOfMemory`.
+/// What an object holds in a member, as it is answered, in a heap of so many objects. Fails for
+/// want of memory alone, with `OutOfMemory`.
 fn answered(alloc: Global, count: usize, got: Got) -> Result<Answer, Cause>
     requires within { IsGotWithin count got }
     ensures ok { IfOk result (λ answer. answer ≡ calls.got got) }
@@ -179,7 +181,8 @@ fn add_numbered<B: Behaviour>(
     Ok(Answer::Null)
 }
 
-/// The first occurrence of an object is taken out of a collection of another, both by their numbers; whether it stood there.
+/// The first occurrence of an object is taken out of a collection of another, both by their
+/// numbers; whether it stood there.
 fn take_out_numbered<B: Behaviour>(
     alloc: Global,
     unit: &ServedUnit<B>,

@@ -18,7 +18,7 @@ ghost use Rattle.jpa_machine.specs.Left.{HoldsSameValues, LivesAsBefore};
 ghost use Rattle.jpa_machine.specs.Machine.{opened, IsStoredAs};
 ghost use Rattle.jpa_machine.specs.Step.{IsGivenUp};
 ghost use Rattle.jpa_machine.specs.Routes.{is_commit, is_rollback};
-ghost use Rattle.jpa_object_store.specs.Written.{RunsAtMost, RunsDifference};
+ghost use Rattle.jpa_rows.specs.Commits.{RunsAtMost, RunsDifference};
 ghost use Rattle.jpa_provider.specs.Provided.{rows_kept, rows_made, world_in, Stands};
 ghost use Rattle.jpa_machine.specs.Updating.{MakesRepresentable, is_bulk};
 ghost use Rattle.jpa_provider.specs.Serving.{machine_of, AreAllMarked, IsServing, IsSettled, Serves};
@@ -47,10 +47,12 @@ use jpa_value::{Cause, Seq};
 use std::alloc::{AllocError, Global};
 use std::marker::Model;
 
-/// A provider over a store of rows: it serves calls, one after another (Jakarta Persistence 3.1, chapters 3 and 7).
+/// A provider over a store of rows: it serves calls, one after another (Jakarta Persistence 3.1,
+/// chapters 3 and 7).
 ///
-/// Contracts see what the unit and its stored functions mean, the machine that the live data stand for, and the store, whose
-/// rows are those of the committed set and of the next numbers that were stored with it.
+/// Contracts see what the unit and its stored functions mean, the machine that the live data stand
+/// for, and the store, whose rows are those of the committed set and of the next numbers that were
+/// stored with it.
 pub struct Provider<R: RowSource, B: Behaviour> {
     alloc: Global,
     unit: ServedUnit<B>,
@@ -84,8 +86,9 @@ impl<R: RowSource, B: Behaviour> Model for Provider<R, B> {
 }
 
 impl<R: RowSource + Drop, B: Behaviour> Provider<R, B> {
-    /// A provider of a unit, over a store of the rows of these objects and next numbers: no object lives, and
-    /// no manager was made. For want of memory, which is `OutOfMemory` and the only refusal, it hands the store back.
+    /// A provider of a unit, over a store of the rows of these objects and next numbers: no object
+    /// lives, and no manager was made. For want of memory, which is `OutOfMemory` and the only
+    /// refusal, it hands the store back.
     pub fn new(
         alloc: Global,
         unit: ServedUnit<B>,
@@ -137,9 +140,10 @@ impl<R: RowSource + Drop, B: Behaviour> Provider<R, B> {
 }
 
 impl<R: RowSource, B: Behaviour> Provider<R, B> {
-    /// What stands between calls, for contracts to cite; it does nothing. The store is of the unit's schema; what was
-    /// committed can be held, and if the store is clean it holds the rows of just that. What lives is that of a machine, in which
-    /// each identity has one instance in a context, and a store could hold what each open transaction sees and what its begin saw. A
+    /// What stands between calls, for contracts to cite; it does nothing. The store is of the
+    /// unit's schema; what was committed can be held, and if the store is clean it holds the rows
+    /// of just that. What lives is that of a machine, in which each identity has one instance in a
+    /// context, and a store could hold what each open transaction sees and what its begin saw. A
     /// well-formed description describes the unit.
     pub fn stands(&self)
         ensures stands { Stands B.meaning R.clean R.holds self.now }

@@ -1,4 +1,5 @@
-//! The calls query, querySingle and executeUpdate (Jakarta Persistence 3.1, chapters 3.10 and 4.10).
+//! The calls query, querySingle and executeUpdate (Jakarta Persistence 3.1, chapters 3.10 and
+//! 4.11).
 ghost use Rattle.std.specs.Prelude.{◌≡◌, T, false, length, true, IfErr, IfOk, IfSome, OnOk};
 ghost use Rattle.std.specs.FinMap.Entries.{is_sorted};
 ghost use Rattle.jpa_behaviour.specs.Served.{world_of_unit};
@@ -41,8 +42,8 @@ use jpa_updates::execute_update;
 use jpa_value::{Cause, Seq, Text, TryCopy};
 use std::alloc::Global;
 
-/// What a call asks: a statement's text, what is bound to its parameters, how many rows are skipped, and how many are kept
-/// at most.
+/// What a call asks: a statement's text, what is bound to its parameters, how many rows are
+/// skipped, and how many are kept at most.
 #[derive(Drop)]
 pub struct Wanted {
     pub text: Text,
@@ -111,8 +112,8 @@ fn are_short(parameters: &[Parameter]) -> bool
     true
 }
 
-/// What is bound to a call's parameters: `NoSuchObject` where a number names no object, then `Limit` where a value is too long;
-/// `OutOfMemory`.
+/// What is bound to a call's parameters: `NoSuchObject` where a number names no object, then
+/// `Limit` where a value is too long; `OutOfMemory`.
 fn bound(alloc: Global, work: &UnitOfWork, parameters: &[Parameter]) -> Result<Seq<Binding>, Cause>
     ensures meets { Meets result (now work.now) (querying.bound parameters.now (now work.now)) }
     ensures within { IfOk result (AreInHeap work.now.objects.now) }
@@ -175,7 +176,8 @@ fn query_work<B: Behaviour>(
     }
 }
 
-/// Whether the manager's objects are flushed before a query: in an open transaction under the mode AUTO (chapter 3.10.8).
+/// Whether the manager's objects are flushed before a query: in an open transaction under the mode
+/// AUTO (chapter 3.10.8).
 fn flushes_first(status: Status, mode: FlushMode) -> bool
     ensures { result ≡ machine.flushes_in (is_begun_status status) mode }
 {
@@ -222,7 +224,8 @@ pub(crate) fn query_call<B: Behaviour>(
     )
 }
 
-/// An UPDATE or DELETE of a manager at work, and its answer. Refused as `bound` and `execute_update` are.
+/// An UPDATE or DELETE of a manager at work, and its answer. Refused as `bound` and
+/// `execute_update` are.
 fn update_work<B: Behaviour>(
     alloc: Global,
     unit: &ServedUnit<B>,
@@ -256,8 +259,8 @@ fn update_work<B: Behaviour>(
     Ok(Answer::Number(count as u64))
 }
 
-/// The call executeUpdate (chapter 4.10). `TransactionRequired` where the manager's transaction is not open, after what is
-/// refused of what the call hands in.
+/// The call executeUpdate (chapter 4.11). `TransactionRequired` where the manager's transaction is
+/// not open, after what is refused of what the call hands in.
 pub(crate) fn update_call<B: Behaviour>(
     alloc: Global,
     unit: &ServedUnit<B>,

@@ -43,8 +43,9 @@ impl Status {
     }
 }
 
-/// An entity manager: its transaction, its flush mode, its persistence context, and the layers of its transaction (chapters 7.2 and
-/// 3.10.8). While it is at work its context stands in the session's unit of work, and so do its layers where its transaction is open.
+/// An entity manager: its transaction, its flush mode, its persistence context, and the layers of
+/// its transaction (chapters 7.2 and 3.10.8). While it is at work its context stands in the
+/// session's unit of work, and so do its layers where its transaction is open.
 #[derive(Drop)]
 pub struct EntityManager {
     pub status: Status,
@@ -53,10 +54,11 @@ pub struct EntityManager {
     pub layers: TransactionLayers,
 }
 
-/// The managers, what they work on, and the next numbers that were last stored. Contracts see the machine that it stands for.
+/// The managers, what they work on, and the next numbers that were last stored. Contracts see the
+/// machine that it stands for.
 ///
-/// Each open manager may have a transaction open; the open ones stand at `open_places`, which rise. Between calls the view of the
-/// unit of work shows what is committed.
+/// Each open manager may have a transaction open; the open ones stand at `open_places`, which rise.
+/// Between calls the view of the unit of work shows what is committed.
 #[derive(Drop)]
 pub struct Session {
     pub managers: Vec<EntityManager>,
@@ -95,7 +97,8 @@ pub(crate) fn exchange(
     mem::swap(&mut managers[manager].context, context);
 }
 
-/// The manager's layers and those at work change places; what was written in the call is undone before. Takes no memory.
+/// The manager's layers and those at work change places; what was written in the call is undone
+/// before. Takes no memory.
 pub(crate) fn exchange_layers(managers: &mut Vec<EntityManager>, manager: usize, view: &mut OpenSet)
     requires { manager < length managers.old.items }
     ensures managers { (layers : Away) × (managers.new.items ≡ slice_set managers.old.items manager
@@ -112,7 +115,8 @@ pub(crate) fn exchange_layers(managers: &mut Vec<EntityManager>, manager: usize,
     view.exchange(&mut managers[manager].layers);
 }
 
-/// The same where the manager's transaction is open: one without a transaction works on what is committed. Takes no memory.
+/// The same where the manager's transaction is open: one without a transaction works on what is
+/// committed. Takes no memory.
 pub(crate) fn exchange_if_begun(
     managers: &mut Vec<EntityManager>,
     manager: usize,

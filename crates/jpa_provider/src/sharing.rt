@@ -1,4 +1,5 @@
-//! What was committed, with several owners for each object: a transaction keeps back what the commits of others replace.
+//! What was committed, with several owners for each object: a transaction keeps back what the
+//! commits of others replace.
 ghost use Rattle.std.specs.Prelude.{◌≡◌, T, IfOk, IfErr};
 ghost use Rattle.std.specs.FinMap.Entries.{is_sorted};
 ghost use Rattle.jpa_value.specs.Value.{identity_cmp};
@@ -38,7 +39,8 @@ fn shared_entries(
     Ok(list)
 }
 
-/// The set over which managers work, where nothing is written. For want of memory, which is the only refusal.
+/// The set over which managers work, where nothing is written. For want of memory, which is the
+/// only refusal.
 pub(crate) fn view_of(alloc: Global, committed: StoredSet) -> Result<OpenSet, Cause>
     ensures view { IfOk result (λ view. view ≡ unwritten committed) }
     ensures refused { IfErr result (λ cause. cause ≡ Cause.OutOfMemory) }

@@ -110,8 +110,9 @@ fn required_of(count: usize, object: i64) -> Cause
     }
 }
 
-/// The call lock: an object, by its number, is locked in the manager's open transaction (chapter 3.4.4). `NoSuchObject` where
-/// the number names none, then `TransactionRequired` where none is open.
+/// The call lock: an object, by its number, is locked in the manager's open transaction (chapter
+/// 3.4.4). `NoSuchObject` where the number names none, then `TransactionRequired` where none is
+/// open.
 #[tactic(auto, using(crate::proofs::Routed::lock_alone))]
 pub(crate) fn lock_call<B: Behaviour>(
     alloc: Global,

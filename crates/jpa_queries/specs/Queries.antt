@@ -1,5 +1,5 @@
--- query and querySingle of a manager (Jakarta Persistence 3.1, chapters 3.10.1, 3.10.8 flush mode, 4.2.1 SELECT statements, 4.8
--- results).
+-- query and querySingle of a manager (Jakarta Persistence 3.1, chapters 3.10.1, 3.10.8 flush mode,
+-- 4.2.1 SELECT statements, 4.9 SELECT clause).
 use Rattle.std.specs.Prelude.{suc, ℤ, pos, negsuc, Bool, true, false, List, [], ◌∷◌, take, drop, Option, Some, None, ◌&&◌}
 use Rattle.jpa_value.specs.declared.refusal.Cause.{Cause}
 use Rattle.jpa_value.specs.declared.refusal.Argument.{Argument}
@@ -26,11 +26,13 @@ is_count None = true
 is_count (Some (pos n)) = true
 is_count (Some (negsuc n)) = false
 
+-- rows without the first so many
 abbrev pub skipped : {A : Type 0} → Option ℤ → List A → List A
 skipped None rows = rows
 skipped (Some (pos n)) rows = drop n rows
 skipped (Some (negsuc n)) rows = rows
 
+-- at most so many rows
 abbrev pub limited : {A : Type 0} → Option ℤ → List A → List A
 limited None rows = rows
 limited (Some (pos n)) rows = take n rows
@@ -42,6 +44,7 @@ cut first max rows = limited max (skipped first rows)
 
 -- ---- the rows
 
+-- an answer is given, and Overflow is refused
 abbrev pub answer : {A : Type 0} → Answer A → Op A
 answer (gives x) = give x
 answer overflows = refuse Cause.Overflow
@@ -74,31 +77,37 @@ rows_asked world flushes call = do
 
 -- ---- the results
 
--- a value stands for itself; an entity is the context's instance in whatever state, else it is loaded
+-- a value stands for itself; an entity is the context's instance in whatever state, else it is
+-- loaded
 abbrev pub item_of : World → Datum → Op Item
 item_of world (Datum.Plain v) = give (Item.Value v)
 item_of world (Datum.Entity id) = do
   n ← reach world Cause.EntityNotFound id
   give (Item.Object (suc n))
 
+-- a row as it is answered
 abbrev pub row_of : World → List Datum → Op (List Item)
 row_of world = collect (item_of world)
 
+-- the rows that a SELECT gives, with objects for entities (chapter 3.10.1)
 abbrev pub query : World → Bool → Asked → Op (List (List Item))
 query world flushes call = do
   rows ← rows_asked world flushes call
   collect (row_of world) rows
 
+-- the one row; none is NoResult, more are NonUniqueResult (chapter 3.10.1)
 abbrev pub the_one : List (List Datum) → Op (List Datum)
 the_one [] = refuse Cause.NoResult
 the_one (row ∷ []) = give row
 the_one (row ∷ other ∷ rows) = refuse Cause.NonUniqueResult
 
+-- the one row, as it is answered
 abbrev pub single_row : World → List (List Datum) → Op (List Item)
 single_row world rows = do
   row ← the_one rows
   row_of world row
 
+-- the one row that a SELECT gives (chapter 3.10.1)
 abbrev pub query_single : World → Bool → Asked → Op (List Item)
 query_single world flushes call = do
   rows ← rows_asked world flushes call

@@ -79,8 +79,8 @@ fn rows_of(alloc: Global, table: &[Vec<Seen<'_>>]) -> Result<Seq<Seq<Datum>>, Ca
     Ok(rows)
 }
 
-/// The rows of a table without the first ones, and at most so many (Jakarta Persistence 3.1, chapter 3.10.3), as
-/// rows of their own. Fails for want of memory alone, with `OutOfMemory`.
+/// The rows of a table without the first ones, and at most so many (Jakarta Persistence 3.1,
+/// chapter 3.10.3), as rows of their own. Fails for want of memory alone, with `OutOfMemory`.
 pub(crate) fn cut(
     alloc: Global,
     first: Option<i64>,

@@ -30,8 +30,9 @@ use std::alloc::Global;
 
 /// The SELECT that is asked, with what stands for its parameters.
 ///
-/// `Limit` for a text over the limits; `IllegalArgument` with `Range` where a number of rows is negative, and as
-/// `statement_of` refuses; `IllegalState(statement)` for a statement that is no SELECT.
+/// `Limit` for a text over the limits; `IllegalArgument` with `Range` where a number of rows is
+/// negative, and as `statement_of` refuses; `IllegalState(statement)` for a statement that is no
+/// SELECT.
 fn judged(
     alloc: Global,
     metamodel: &Metamodel,
@@ -55,8 +56,8 @@ fn judged(
     }
 }
 
-/// The rows of a SELECT over the set that a manager sees, without the first ones, and at most so many. `Overflow`
-/// where an integer is outside 64 bits; `OutOfMemory` where a growth was refused.
+/// The rows of a SELECT over the set that a manager sees, without the first ones, and at most so
+/// many. `Overflow` where an integer is outside 64 bits; `OutOfMemory` where a growth was refused.
 fn rows_found(
     alloc: Global,
     metamodel: &Metamodel,
@@ -77,7 +78,8 @@ fn rows_found(
     }
 }
 
-/// The rows that are asked, with identities for entities. Refused as `query` is, before anything is loaded.
+/// The rows that are asked, with identities for entities. Refused as `query` is, before anything is
+/// loaded.
 fn rows_asked<B: Behaviour>(
     alloc: Global,
     unit: &ServedUnit<B>,
@@ -112,8 +114,8 @@ fn rows_asked<B: Behaviour>(
     )
 }
 
-/// The one of these rows. `NoResult` where there is none, `NonUniqueResult` where there are several; else refused
-/// as `row_of` is.
+/// The one of these rows. `NoResult` where there is none, `NonUniqueResult` where there are
+/// several; else refused as `row_of` is.
 fn single_row<B: Behaviour>(
     alloc: Global,
     unit: &ServedUnit<B>,
@@ -132,18 +134,19 @@ fn single_row<B: Behaviour>(
     }
 }
 
-/// The rows of a SELECT over the set that a manager sees (Jakarta Persistence 3.1, chapter 3.10.1), without
-/// the first ones, and at most so many as are asked. An entity in a row is the context's instance in whatever
-/// state, else it is loaded, in the order of the rows. Where `flushes`, as in a transaction under flush mode
-/// AUTO (chapter 3.10.8), the manager's objects are flushed before.
+/// The rows of a SELECT over the set that a manager sees (Jakarta Persistence 3.1, chapter 3.10.1),
+/// without the first ones, and at most so many as are asked. An entity in a row is the context's
+/// instance in whatever state, else it is loaded, in the order of the rows. Where `flushes`, as in
+/// a transaction under flush mode AUTO (chapter 3.10.8), the manager's objects are flushed before.
 ///
-/// In this order: `Limit` for a text that is too long, nests too deep or declares too many variables;
-/// `IllegalArgument` with `Range` where a number of rows is negative, `Syntax` for a text outside the grammar,
-/// `Typing` for an ill-typed one, `Parameter` where a parameter isn't bound, one is bound that isn't in the
-/// text, or an object is bound whose key isn't whole; `IllegalState(statement)` for a statement that is no
-/// SELECT; what `flush` refuses; `Overflow` for an integer outside 64 bits; `EntityNotFound` for an entity that
-/// is neither in the context nor in the set, and what `load` refuses. `OutOfMemory` where a growth was refused.
-/// What a refused call changed is undone by `UnitOfWork::undo`.
+/// In this order: `Limit` for a text that is too long, nests too deep or declares too many
+/// variables; `IllegalArgument` with `Range` where a number of rows is negative, `Syntax` for a
+/// text outside the grammar, `Typing` for an ill-typed one, `Parameter` where a parameter isn't
+/// bound, one is bound that isn't in the text, or an object is bound whose key isn't whole;
+/// `IllegalState(statement)` for a statement that is no SELECT; what `flush` refuses; `Overflow`
+/// for an integer outside 64 bits; `EntityNotFound` for an entity that is neither in the context
+/// nor in the set, and what `load` refuses. `OutOfMemory` where a growth was refused. What a
+/// refused call changed is undone by `UnitOfWork::undo`.
 pub fn query<B: Behaviour>(
     alloc: Global,
     unit: &ServedUnit<B>,
@@ -168,9 +171,9 @@ pub fn query<B: Behaviour>(
     rows_of(alloc, unit, work, rows.as_slice())
 }
 
-/// The one row of a SELECT, as `query` finds them and cuts them off. `NoResult` where there is none,
-/// `NonUniqueResult` where there are several (chapter 3.10.1), told before an entity is loaded; else refused
-/// as `query` is.
+/// The one row of a SELECT, as `query` finds them and cuts them off. `NoResult` where there is
+/// none, `NonUniqueResult` where there are several (chapter 3.10.1), told before an entity is
+/// loaded; else refused as `query` is.
 pub fn query_single<B: Behaviour>(
     alloc: Global,
     unit: &ServedUnit<B>,

@@ -15,8 +15,9 @@ use jpa_value::{Cause, Seq, TryCopy};
 use jpql_eval::Datum;
 use std::alloc::Global;
 
-/// An item of a row (Jakarta Persistence 3.1, chapter 4.8): a value, or the context's instance of an entity,
-/// loaded where there is none. `EntityNotFound` where it isn't in the set either, and what `load` refuses.
+/// An item of a row (Jakarta Persistence 3.1, chapter 4.9): a value, or the context's instance of
+/// an entity, loaded where there is none. `EntityNotFound` where it isn't in the set either, and
+/// what `load` refuses.
 fn item_of<B: Behaviour>(
     alloc: Global,
     unit: &ServedUnit<B>,

@@ -10,3 +10,5 @@ pub mod Each
 pub mod Parts
 -- ---- changes over rows
 pub mod Overlay
+-- ---- rows handed on
+pub mod Handing

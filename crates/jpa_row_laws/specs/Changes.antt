@@ -9,6 +9,7 @@ use Rattle.std.specs.declared.cmp.Ordering.{Ordering}
 abbrev pub dropped : {R C : Type 0} → (R → R → Ordering) → R → List (R × C) → List (R × C)
 dropped by_row r rows = where_key by_row (λ x. not (eq_by_cmp by_row r x)) rows
 
+-- the rows with one that is put, or dropped
 abbrev pub changed : {R C : Type 0} → (R → R → Ordering) → R → Option C → List (R × C) → List (R × C)
 changed by_row r None rows = dropped by_row r rows
 changed by_row r (Some c) rows = put by_row r c rows

@@ -9,6 +9,7 @@ abbrev pub read_by : {A B : Type 0} → (A → Option B) → Option A → Option
 read_by f None = None
 read_by f (Some a) = f a
 
+-- an entry put, where it has a value
 abbrev pub put_if : {K X : Type 0} → (K → K → Ordering) → K → Option X → List (K × X) → List (K × X)
 put_if by_key k None entries = entries
 put_if by_key k (Some x) entries = put by_key k x entries
@@ -18,8 +19,8 @@ abbrev pub entry_if : {K X : Type 0} → (K → K → Ordering) → Option K →
 entry_if by_key None value entries = entries
 entry_if by_key (Some k) value entries = put_if by_key k (value k) entries
 
--- key_at: the key that a row's id spells, if any; value: what the cells of a key's row stand for, if anything. A row for
--- which either is missing gives no entry
+-- key_at: the key that a row's id spells, if any; value: what the cells of a key's row stand for,
+-- if anything. A row for which either is missing gives no entry
 abbrev pub entries_of : {K R C X : Type 0} → (K → K → Ordering) → (R → Option K) → (K → C → Option X) → List (R × C) → List (K × X)
 entries_of by_key key_at value [] = []
 entries_of by_key key_at value (row ∷ rows) = entry_if by_key (key_at row.0) (λ k. value k row.1) (entries_of by_key key_at value rows)

@@ -5,10 +5,12 @@ use Rattle.std.specs.Ordering.{eq_by_cmp}
 use Rattle.std.specs.declared.cmp.Ordering.{Ordering}
 use Rattle.jpa_row_laws.specs.Entries.{put_if}
 
+-- the entries of the places that are not empty
 abbrev pub filled : {K X : Type 0} → (K → K → Ordering) → List (K × Option X) → List (K × X)
 filled by [] = []
 filled by (slot ∷ slots) = put_if by slot.0 slot.1 (filled by slots)
 
+-- whether no place has this key
 abbrev pub lacks : {K X : Type 0} → (K → K → Ordering) → K → List (K × X) → Bool
 lacks by k slots = not (list_any (λ slot. eq_by_cmp by k slot.0) slots)
 

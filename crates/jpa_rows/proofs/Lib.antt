@@ -1,4 +1,5 @@
 pub mod Classes
+pub mod Commits
 pub mod Contents
 pub mod Fields
 pub mod Found

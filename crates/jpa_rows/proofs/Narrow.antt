@@ -5,7 +5,6 @@ use Rattle.std.proofs.lemmas.Bool.Decides.{nat_tests}
 use Rattle.std.proofs.lemmas.List.{get_or-map, length-map}
 use Rattle.std.proofs.lemmas.List.Elements.{All-nil, All-cons}
 use Rattle.std.specs.List.{flat_map, list_all, range_with_len}
-use Rattle.std.specs.Ordering.{int_eq}
 use Rattle.jpa_model.specs.declared.draft.Draft.{Draft}
 use Rattle.jpa_model.specs.declared.draft.DraftAttribute.{DraftAttribute}
 use Rattle.jpa_model.specs.declared.draft.DraftEntity.{DraftEntity}

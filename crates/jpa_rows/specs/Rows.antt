@@ -20,9 +20,11 @@ use Rattle.jpa_rows.specs.declared.row.RowChange.{RowChange}
 use Rattle.jpa_row_laws.specs.Changes.{seen}
 use Rattle.jpa_rows.specs.Cells.{value_bytes, is_given}
 
+-- what names a row: its table and its key
 abbrev pub RowId : Type 0
 RowId = Identity
 
+-- a row: its columns with what they hold
 abbrev pub Row : Type 0
 Row = List Field
 
@@ -30,9 +32,11 @@ Row = List Field
 abbrev pub Rows : Type 0
 Rows = List (RowId × Row)
 
+-- the ids of rows rise
 abbrev pub AreRising : Rows → Type 0
 AreRising rows = T (is_sorted identity_cmp rows)
 
+-- the rows of a table
 abbrev pub table_rows : ℕ → Rows → Rows
 table_rows table rows = where_key identity_cmp (λ id. id.table == table) rows
 
@@ -43,23 +47,28 @@ abbrev pub content_bytes : Content → List ℕ
 content_bytes (Content.Value v) = unwrap_or (value_bytes v) []
 content_bytes (Content.Reference key) = 4 ∷ key_bytes key
 
+-- the cells of a row: columns with bytes
 abbrev pub cells_of : Row → List (ℤ × List ℕ)
 cells_of = map (λ f. (pos f.column, content_bytes f.content))
 
 -- ---- the rows of a table
 
+-- a key of these kinds, whose values are short enough
 abbrev pub is_key : List Kind → List Value → Bool
 is_key kinds key = is_key_of kinds key && list_all is_short key
 
+-- whether a column may hold a content: a value of its kind, any value, or a key
 abbrev pub may_hold : Holds → Content → Bool
 may_hold (Holds.Kind kind) (Content.Value v) = is_part_of kind v && is_short v
 may_hold Holds.Any (Content.Value v) = is_given v && (is_representable v && is_short v)
 may_hold (Holds.Reference kinds) (Content.Reference key) = is_key kinds key
 may_hold holds content = false
 
+-- the rule of a column, if the table has the column
 abbrev pub rule_of : TableRule → ℕ → Option ColumnRule
 rule_of table column = find (λ rule. rule.column == column) table.columns
 
+-- there is a rule, and by it the column may hold the content
 abbrev pub is_field_by : Content → Option ColumnRule → Bool
 is_field_by content None = false
 is_field_by content (Some rule) = may_hold rule.holds content
@@ -79,6 +88,7 @@ pub record SpellsId (table : TableRule) (bytes : List ℕ) (key : List Value) : 
   pub whole : is_key table.key key ≡ true
   pub same : key_bytes key ≡ bytes
 
+-- the rule of a table, if the schema has the table
 abbrev pub table_of : Schema → ℕ → Option TableRule
 table_of schema table = find (λ rule. rule.table == table) schema.tables
 
@@ -88,6 +98,7 @@ table_of schema table = find (λ rule. rule.table == table) schema.tables
 abbrev pub entry_of : RowChange → RowId × Option Row
 entry_of change = (change.id, change.row)
 
+-- the rows after changes
 abbrev pub rows_after : List RowChange → Rows → Rows
 rows_after changes rows = seen identity_cmp rows (map entry_of changes)
 
@@ -97,6 +108,7 @@ pub record IsChangeIn (table : TableRule) (change : RowChange) : Type 0 where
   pub whole : IfSome change.row (IsRowOf table)
   pub filled : IfSome change.row (λ row. row ≢ [])
 
+-- there is the table, and the change is of a row of it
 abbrev pub IsChangeBy : Option TableRule → RowChange → Type 0
 IsChangeBy None change = ⊥
 IsChangeBy (Some table) change = IsChangeIn table change

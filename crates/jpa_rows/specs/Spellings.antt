@@ -24,6 +24,7 @@ pub record SpellsContent (holds : Holds) (bytes : List ℕ) (content : Content) 
   pub whole : may_hold holds content ≡ true
   pub same : content_bytes content ≡ bytes
 
+-- the bytes are those of this value, which the column may hold
 abbrev pub SpellsValue : Holds → List ℕ → Value → Type 0
 SpellsValue holds bytes v = SpellsContent holds bytes (Content.Value v)
 

@@ -52,7 +52,8 @@ fn read_key(alloc: Global, kinds: &[Kind], bytes: &[u8]) -> Result<Option<Key>, 
     Ok(short_key(decode_key(alloc, kinds, bytes)?))
 }
 
-/// The key of a table's row that bytes spell: `None` exactly where they spell none, so each row has one spelling.
+/// The key of a table's row that bytes spell: `None` exactly where they spell none, so each row has
+/// one spelling.
 ///
 /// Fails for want of memory alone, with `OutOfMemory`.
 pub fn read_id(alloc: Global, table: &TableRule, bytes: &[u8]) -> Result<Option<Key>, Cause>
@@ -208,7 +209,8 @@ fn as_reference(found: Option<Key>) -> Option<Content>
     }
 }
 
-/// What bytes spell of what a column may hold: `None` exactly where they spell nothing of it, so each content has one spelling.
+/// What bytes spell of what a column may hold: `None` exactly where they spell nothing of it, so
+/// each content has one spelling.
 ///
 /// Fails for want of memory alone, with `OutOfMemory`.
 pub fn read_content(alloc: Global, holds: &Holds, bytes: &[u8]) -> Result<Option<Content>, Cause>
@@ -296,8 +298,8 @@ fn rising_row(found: Option<Row>) -> Option<Row>
     }
 }
 
-/// The row of a table that cells spell, as `spell_row` writes it: `None` exactly where they spell none, so each row has one
-/// spelling. The cells are numbered by columns.
+/// The row of a table that cells spell, as `spell_row` writes it: `None` exactly where they spell
+/// none, so each row has one spelling. The cells are numbered by columns.
 ///
 /// Fails for want of memory alone, with `OutOfMemory`.
 pub fn read_row(

@@ -44,7 +44,8 @@ fn spell_value(alloc: Global, value: &Value) -> Result<Bytes, Cause>
     }
 }
 
-/// The bytes of what a column holds: a tag, and after it the value's or the key's bytes. `read_content` reads them again.
+/// The bytes of what a column holds: a tag, and after it the value's or the key's bytes.
+/// `read_content` reads them again.
 ///
 /// Fails for want of memory alone, with `OutOfMemory`.
 pub fn spell_content(alloc: Global, content: &Content) -> Result<Bytes, Cause>
@@ -60,7 +61,8 @@ pub fn spell_content(alloc: Global, content: &Content) -> Result<Bytes, Cause>
     }
 }
 
-/// The cells of a row: for each of its columns the number and the bytes, in rising order. `read_row` reads them again.
+/// The cells of a row: for each of its columns the number and the bytes, in rising order.
+/// `read_row` reads them again.
 ///
 /// Fails for want of memory alone, with `OutOfMemory`.
 pub fn spell_row(alloc: Global, row: &Row) -> Result<Seq<(i64, Bytes)>, Cause>

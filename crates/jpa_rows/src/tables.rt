@@ -151,7 +151,8 @@ fn push_classes(
     Ok(())
 }
 
-/// The columns of a root's table: the discriminator's, the version's, and those of the hierarchy's classes.
+/// The columns of a root's table: the discriminator's, the version's, and those of the hierarchy's
+/// classes.
 fn rules_of(
     alloc: Global,
     metamodel: &Metamodel,
@@ -316,7 +317,8 @@ impl Schema {
     ghost use Rattle.jpa_value.specs.declared.refusal.Cause.{Cause};
     ghost use Rattle.jpa_rows.specs.Tables.{schema_of};
 
-    /// The tables that a unit names: table 0, those of its roots, and its join tables (chapters 2.10 to 2.12).
+    /// The tables that a unit names: table 0, those of its roots, and its join tables (chapters
+    /// 2.10 to 2.12).
     ///
     /// Fails for want of memory alone, with `OutOfMemory`.
     #[tactic(auto, using(crate::proofs::Classes::range_made))]

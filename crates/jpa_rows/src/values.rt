@@ -27,8 +27,8 @@ fn bytes_are_representable(bytes: &[u8])
     ensures { list_all (λ b. nat_lt b 256) bytes.now ≡ true }
 {}
 
-/// The law of values, for contracts to cite: each is null, an integer of 64 bits, a text in UTF-8, or bytes. It reads and does
-/// nothing.
+/// The law of values, for contracts to cite: each is null, an integer of 64 bits, a text in UTF-8,
+/// or bytes. It reads and does nothing.
 pub fn value_is_representable(value: &Value)
     ensures { is_representable value.now ≡ true }
 {

@@ -41,7 +41,8 @@ fn are_parts(kinds: &[Kind], key: &[Value]) -> bool
         .all(|(kind, part)| may_stand_as(*kind, part))
 }
 
-/// Whether a key has one part of each of these kinds, none of them over 65,535 bytes. Takes no memory.
+/// Whether a key has one part of each of these kinds, none of them over 65,535 bytes. Takes no
+/// memory.
 pub fn is_key(kinds: &[Kind], key: &Key) -> bool
     ensures { result ≡ rows.is_key kinds.now key.now }
 {
@@ -101,8 +102,8 @@ pub(crate) fn is_rising(row: &[Field]) -> bool
     true
 }
 
-/// Whether a row is one of a table's: its columns rise, and each is one of the table's that may hold what it holds. Takes no
-/// memory.
+/// Whether a row is one of a table's: its columns rise, and each is one of the table's that may
+/// hold what it holds. Takes no memory.
 pub fn is_row_of(table: &TableRule, row: &Row) -> bool
     ensures { IsTrue result ↔ rows.IsRowOf table.now row.now }
 {

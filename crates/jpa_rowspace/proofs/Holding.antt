@@ -1,6 +1,6 @@
 -- What a call leaves of the rows that a store holds, and what it answers while it holds them.
-use Rattle.std.proofs.Common.{◌≡◌, ◌∙◌, ◌⊎◌, ◌<◌, inl, inr, refl, sym, ap, subst, arith, ℕ, pos, true, false, cond, List, [], ◌∷◌, length, ◌==◌, T, eqb→eq}
-use Rattle.std.specs.Prelude.{⊤, Result, Ok, Err, OnOk, OnErr, IfOk, IfErr, Option, Some, None, IsSome, IfSome, is_some}
+use Rattle.std.proofs.Common.{◌≡◌, ◌∙◌, ◌⊎◌, ◌<◌, inl, inr, refl, sym, ap, subst, arith, ℕ, pos, Bool, true, false, cond, List, [], ◌∷◌, length, ◌==◌, T, eqb→eq}
+use Rattle.std.specs.Prelude.{⊤, Result, Ok, Err, OnOk, OnErr, IfOk, IfErr, Option, Some, None, IsErr, IsSome, IfSome, is_some}
 use Rattle.std.specs.List.{AllByRecursion}
 use Rattle.std.specs.FinMap.{find}
 use Rattle.sqlite_trees.specs.declared.store.Store.{Ghosts}
@@ -13,18 +13,22 @@ use Rattle.jpa_rows.specs.declared.row.RowChange.{RowChange}
 use Rattle.jpa_rows.specs.declared.schema.TableRule.{TableRule}
 use Rattle.jpa_rows.specs.declared.schema.Schema.{Schema}
 use Rattle.jpa_rows.specs.Rows.{RowId, Row, Rows, is_key, table_of, table_rows, rows_after, AreChanges}
+use Rattle.jpa_row_laws.specs.Handing.{Hands}
+use Rattle.jpa_row_laws.proofs.Handing.{hands_cut}
 use Rattle.jpa_row_laws.proofs.Facts.{some_none, value_in}
 use Rattle.jpa_cells_meaning.specs.declared.Cell.{Cell}
 use Rattle.jpa_cells_meaning.specs.declared.CellChange.{CellChange}
+use Rattle.jpa_cells_meaning.specs.declared.CellRow.{CellRow}
 use Rattle.jpa_cells_meaning.specs.Tables.{Tables, cells_at, tables_after}
 use Rattle.jpa_cells_meaning.specs.Store.{IsClean, IsOpen, tables_in, Keeps, Becomes, Endures}
 use Rattle.jpa_rowspace.specs.Stored.{cells_in, cell_changes, stored_rows, table_if, table_for, IsEntryBy, AreRowsOf, AreStored}
-use Rattle.jpa_rowspace.specs.Reading.{IsFound, IsIllFormed, AreRead}
+use Rattle.jpa_rowspace.specs.Reading.{IsFound, IsIllFormed, ReadsRow}
 use Rattle.jpa_rowspace.specs.Space.{HoldsRows, IsStoreCause}
 use Rattle.jpa_rowspace.specs.Enduring.{EnduresRows, endures_weaker}
 pub use Rattle.jpa_rowspace.specs.Enduring.{endures_self}
 use Rattle.jpa_rowspace.proofs.Ids.{numbered, in_table, sought, absent, cells_found, found_in}
-use Rattle.jpa_rowspace.proofs.Readings.{found_is, well_formed, entries_are, whole_read}
+use Rattle.jpa_rowspace.proofs.HandedRows.{whole, some_rows}
+use Rattle.jpa_rowspace.proofs.Readings.{found_is, well_formed}
 use Rattle.jpa_rowspace.proofs.After.{whole_after, stored_after}
 
 -- ---- the table of an id
@@ -123,40 +127,43 @@ module _ {S : Type 0} (g : Ghosts S) where
             let d = subst (λ o. IfSome o (λ table. IsOpen g old × IsOpen g new × IsIllFormed table (At (tables_in g old)))) is (damaged.1 clean) in
             absurd (not_ill_formed schema id old rows held rule is (before clean) d.0 d.2)
 
-  -- ---- scan
+  -- ---- rows one at a time
 
-  module _ (schema : Schema) (n : ℕ) (old new : Held S) where
-    at_table : (rows : Rows) → HoldsRows g schema old rows → (rule : TableRule) → table_of schema n ≡ Some rule → IsClean g old → IsOpen g old → tables_in g old (pos n) ≡ stored_rows n rows
-    at_table rows held rule is clean open_ = held.stored clean open_ n (ap is_some is)
+  module _ (schema : Schema) (n : ℕ) (old new : Held S) {K : Type 0} (Takes : K → RowId × Row → Result Bool Cause → K → Type 0) (a b : K) (r : Result Bool Cause) where
+    abbrev pub EachBy : TableRule → Type 0
+    EachBy rule = (stored : List CellRow) × (IsClean g new → (IsOpen g old × (stored ≡ tables_in g old (pos n))) ⊎ (IsErr r × (stored ≡ []))) × Hands (ReadsRow Takes rule) IsStoreCause a stored r b
 
-    pub scans : (r : Result Rows Cause) → (IsClean g new → IfOk r (λ found. IfSome (table_of schema n) (λ rule. AreRead rule (tables_in g old (pos n)) found None)))
-        → (table_of schema n ≡ None → r ≡ Ok []) → (IsClean g new → IsSome (table_of schema n) → OnOk r (IsOpen g old × IsOpen g new)) → (IsClean g new → IsClean g old)
-        → IsClean g new → IfOk r (λ found. (rows : Rows) → HoldsRows g schema old rows → found ≡ table_rows n rows)
-    scans (Err e) read unknown open_ before clean = tt
-    scans (Ok found) read unknown open_ before clean = λ rows held. by rows held (table_of schema n) refl
-      where
-        by : (rows : Rows) → HoldsRows g schema old rows → (o : Option TableRule) → table_of schema n ≡ o → found ≡ table_rows n rows
-        by rows held None is = ok_in (Ok found) found [] refl (unknown is) ∙ sym (none_in schema n is rows (held.whole (before clean)).each)
-        by rows held (Some rule) is =
-            let f = subst (λ o. IfSome o (λ rule. AreRead rule (tables_in g old (pos n)) found None)) is (read clean) in
-            entries_are rule (table_rows n rows) found (in_table schema n rule is rows (held.whole (before clean)).each)
-            (subst (λ stored. AreRead rule stored found None) (at_table rows held rule is (before clean) (open_ clean (ap is_some is)).0) f)
+    module _ {X : Type 0} (each : IfSome (table_of schema n) EachBy) (unknown : table_of schema n ≡ None → (r ≡ Ok true) × X × (b ≡ a)) where
+      pub each_some : (found : Rows) × Hands Takes (λ _. ⊤) a found r b
+      each_some = by (table_of schema n) refl
+        where
+          by : (o : Option TableRule) → table_of schema n ≡ o → (found : Rows) × Hands Takes (λ _. ⊤) a found r b
+          by None is = let none = unknown is in ([], (inl none.0, none.2))
+          by (Some rule) is = let h = subst (λ o. IfSome o EachBy) is each in some_rows Takes rule h.0 a r b h.2
 
-    pub scans_err : (r : Result Rows Cause)
-        → IfErr r (λ cause. IsStoreCause cause ⊎ ((bytes : List ℕ) × (cause ≡ Cause.Damaged n bytes)
-        × (IsClean g new → IfSome (table_of schema n) (λ rule. IsOpen g old × IsOpen g new × (before : Rows) × AreRead rule (tables_in g old (pos n)) before (Some bytes)))))
-        → (table_of schema n ≡ None → r ≡ Ok []) → (IsClean g new → IsClean g old)
-        → IsClean g new → IfErr r (λ cause. (rows : Rows) → HoldsRows g schema old rows → IsStoreCause cause)
-    scans_err (Ok found) refused unknown before clean = tt
-    scans_err (Err cause) (inl told) unknown before clean = λ rows held. told
-    scans_err (Err cause) (inr damaged) unknown before clean = λ rows held. by rows held (table_of schema n) refl
-      where
-        by : (rows : Rows) → HoldsRows g schema old rows → (o : Option TableRule) → table_of schema n ≡ o → IsStoreCause cause
-        by rows held None is = absurd (err_not (Err cause) cause [] refl (unknown is))
-        by rows held (Some rule) is =
-            let d = subst (λ o. IfSome o (λ rule. IsOpen g old × IsOpen g new × (front : Rows) × AreRead rule (tables_in g old (pos n)) front (Some damaged.0))) is (damaged.2 clean) in
-            absurd (whole_read rule (table_rows n rows) d.2 damaged.0 (in_table schema n rule is rows (held.whole (before clean)).each)
-            (subst (λ stored. AreRead rule stored d.2 (Some damaged.0)) (at_table rows held rule is (before clean) d.0) d.3))
+      pub each_held : (IsClean g new → IsClean g old) → IsClean g new → (rows : Rows) → HoldsRows g schema old rows → Hands Takes IsStoreCause a (table_rows n rows) r b
+      each_held before clean rows held = by (table_of schema n) refl
+        where
+          whole_rows : AllByRecursion (λ e. IsEntryBy (table_of schema (e.0).table) e) rows
+          whole_rows = (held.whole (before clean)).each
+
+          by : (o : Option TableRule) → table_of schema n ≡ o → Hands Takes IsStoreCause a (table_rows n rows) r b
+          by None is = let none = unknown is in subst (λ rs. Hands Takes IsStoreCause a rs r b) (sym (none_in schema n is rows whole_rows)) (inl none.0, none.2)
+          by (Some rule) is = go (h.1 clean)
+            where
+              h : EachBy rule
+              h = subst (λ o. IfSome o EachBy) is each
+
+              go : (IsOpen g old × (h.0 ≡ tables_in g old (pos n))) ⊎ (IsErr r × (h.0 ≡ [])) → Hands Takes IsStoreCause a (table_rows n rows) r b
+              go (inl live) =
+                  let stored = live.1 ∙ held.stored (before clean) live.0 n (ap is_some is) in
+                  whole Takes rule (table_rows n rows) (in_table schema n rule is rows whole_rows) a r b (subst (λ s. Hands (ReadsRow Takes rule) IsStoreCause a s r b) stored h.2)
+              go (inr shut) = cut r shut.0 (subst (λ s. Hands (ReadsRow Takes rule) IsStoreCause a s r b) shut.1 h.2)
+                where
+                  cut : (x : Result Bool Cause) → IsErr x → Hands (ReadsRow Takes rule) IsStoreCause a [] x b → Hands Takes IsStoreCause a (table_rows n rows) x b
+                  cut (Ok y) failed f = absurd (let x = failed in cc)
+                  cut (Err e) failed (inl all, same) = absurd (let y = all in cc)
+                  cut (Err e) failed (inr why, same) = hands_cut Takes IsStoreCause a (table_rows n rows) (Err e) b why same
 
   -- ---- commit
 

@@ -1,6 +1,7 @@
 pub mod Pairs
 pub mod Ids
 pub mod Readings
+pub mod HandedRows
 pub mod After
 pub mod Holding
 pub mod Answers

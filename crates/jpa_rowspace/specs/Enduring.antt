@@ -18,13 +18,16 @@ pub survives_self : (s : State) (Commits : Trees → Type 0) → Survives s s Co
 survives_self s Commits = record { clean = le_refl _; shield = λ is. is; counts = le_refl _; limit = refl; closes = λ _ is. inl is; crash = λ _ db left. inl left }
 
 module _ {S : Type 0} (g : Ghosts S) where
-  -- No fault is forgotten, and a crash leaves what it left before or tables of rows of which this holds.
+  -- No fault is forgotten, and a crash leaves what it left before or tables of rows of which this
+  -- holds.
   abbrev pub EnduresRows : Schema → Held S → Held S → (Rows → Type 0) → Type 0
   EnduresRows schema old new Holds = Endures g old new (λ tables. (rows : Rows) × AreStored schema tables rows × Holds rows)
 
+  -- a call that does nothing endures
   pub endures_self : (conn : Held S) (Commits : Tables → Type 0) → Endures g conn conn Commits
   endures_self conn Commits = survives_self (state g conn) (Leaves Commits)
 
+  -- what endures with tables of one sort does so with those of a wider one
   pub endures_weaker : (old new : Held S) (P Q : Tables → Type 0) → (IsClean g new → (tables : Tables) → P tables → Q tables) → Endures g old new P → Endures g old new Q
   endures_weaker old new P Q weaker e = record {
     clean = e.clean;
@@ -38,6 +41,7 @@ module _ {S : Type 0} (g : Ghosts S) where
     ];
   }
 
+  -- what endures with rows of one sort does so with those of a wider one
   pub rows_wider : (schema : Schema) (old new : Held S) (P Q : Rows → Type 0) → ((rows : Rows) → P rows → Q rows) → EnduresRows schema old new P → EnduresRows schema old new Q
   rows_wider schema old new P Q weaker =
       endures_weaker old new (λ tables. (rows : Rows) × AreStored schema tables rows × P rows) (λ tables. (rows : Rows) × AreStored schema tables rows × Q rows)

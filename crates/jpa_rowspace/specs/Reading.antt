@@ -1,5 +1,7 @@
 -- What is read of rows of cells: the rows that they spell, up to the first that spells none.
-use Rattle.std.specs.Prelude.{◌≡◌, ◌≢◌, ◌↔◌, ℕ, ℤ, pos, ⊤, List, [], ◌∷◌, ◌++◌, map, Option, Some, None, IsSome}
+use Rattle.std.specs.Prelude.{◌≡◌, ◌≢◌, ◌⊎◌, ◌↔◌, ℕ, ℤ, pos, ⊤, Bool, Result, Err, List, [], ◌∷◌, ◌++◌, map, Option, Some, None, IsSome}
+use Rattle.jpa_value.specs.declared.refusal.Cause.{Cause}
+use Rattle.jpa_value.specs.declared.refusal.Cause.TheVariants as cause
 use Rattle.jpa_rows.specs.declared.schema.TableRule.{TableRule}
 use Rattle.jpa_rows.specs.declared.schema.Schema.{Schema}
 use Rattle.jpa_rows.specs.Rows.{RowId, Row, Rows, AreRising, table_of, table_rows, SpellsId, SpellsRow}
@@ -8,9 +10,11 @@ use Rattle.jpa_cells_meaning.specs.declared.CellRow.{CellRow}
 use Rattle.jpa_cells_meaning.specs.Tables.{Tables, AreRows}
 use Rattle.jpa_rowspace.specs.Stored.{AreRowsOf, AreStored}
 
+-- cells as columns with bytes
 abbrev pub columns_of : List Cell → List (ℤ × List ℕ)
 columns_of = map (λ c. (c.column, c.value))
 
+-- columns with bytes as cells
 abbrev pub cells_from : List (ℤ × List ℕ) → List Cell
 cells_from = map (λ p. record { column = p.0; value = p.1 })
 
@@ -28,6 +32,7 @@ pub record IsIllFormed (table : TableRule) (cells : List Cell) : Type 0 where
 
 -- ---- a table
 
+-- a row of cells spells this id of the table and this row
 pub record SpellsEntry (table : TableRule) (stored : CellRow) (e : RowId × Row) : Type 0 where
   pub own : (e.0).table ≡ table.table
   pub named : SpellsId table stored.row (e.0).key
@@ -41,6 +46,7 @@ IsEntry table stored e = (f : RowId × Row) → (e ≡ f) ↔ SpellsEntry table 
 abbrev pub IsDamaged : TableRule → CellRow → Type 0
 IsDamaged table stored = (e : RowId × Row) → SpellsEntry table stored e → ⊥
 
+-- the rows of cells spell these rows, one by one
 abbrev pub AreEntries : TableRule → List CellRow → Rows → Type 0
 AreEntries table [] [] = ⊤
 AreEntries table (r ∷ stored) (e ∷ rows) = IsEntry table r e × AreEntries table stored rows
@@ -51,6 +57,12 @@ abbrev pub AreRead : TableRule → List CellRow → Rows → Option (List ℕ) �
 AreRead table stored rows None = AreEntries table stored rows
 AreRead table stored rows (Some bytes) =
     (before : List CellRow) × (r : CellRow) × (after : List CellRow) × (stored ≡ before ++ r ∷ after) × AreEntries table before rows × IsDamaged table r × (r.row ≡ bytes)
+
+-- A row of cells is handed on as the entry that it spells; where it spells none, that is the refusal. For want of memory none is.
+abbrev pub ReadsRow : {K : Type 0} → (K → RowId × Row → Result Bool Cause → K → Type 0) → TableRule → K → CellRow → Result Bool Cause → K → Type 0
+ReadsRow Takes table first stored out last =
+    ((e : RowId × Row) × IsEntry table stored e × Takes first e out last)
+    ⊎ (((out ≡ Err cause.OutOfMemory) ⊎ (IsDamaged table stored × (out ≡ Err (cause.Damaged table.table stored.row)))) × (last ≡ first))
 
 -- ---- all tables
 

@@ -1,9 +1,9 @@
 -- A store of the rows of a schema, and what it is to hold rows.
-use Rattle.std.specs.Prelude.{◌≡◌, ◌⊎◌, refl}
+use Rattle.std.specs.Prelude.{◌≡◌, refl}
 use Rattle.std.specs.Coded.{Coded, code_by, coded×}
 use Rattle.sqlite_trees.specs.declared.store.Store.{Ghosts}
 use Rattle.sqlite.specs.Held.{Held}
-use Rattle.jpa_value.specs.declared.refusal.Cause.{Cause}
+pub use Rattle.jpa_rows.specs.Faults.{IsStoreCause}
 use Rattle.jpa_rows.specs.declared.schema.Schema.{Schema}
 use Rattle.jpa_rows.specs.contracts.schema.Schema as schema
 use Rattle.jpa_rows.specs.Rows.{Rows}
@@ -15,16 +15,14 @@ pub record Space (S : Type 0) : Type 0 where
   pub schema : Schema
   pub store : Stored S
 
+-- a store of rows has a code where its connection has one
 abbrev pub space_code : {S : Type 0} → Coded S → Coded (Space S)
 space_code {S} store =
     code_by (Schema × Stored S) (coded× schema.the_row.coded (stored_code store)) (λ s. (s.schema, s.store)) (λ p. record { schema = p.0; store = p.1 }) (λ _. refl)
 
--- want of memory, or a fault of the store
-abbrev pub IsStoreCause : Cause → Type 0
-IsStoreCause cause = (cause ≡ Cause.OutOfMemory) ⊎ (cause ≡ Cause.StoreFault)
-
 module _ {S : Type 0} (g : Ghosts S) where
-  -- over a clean disk they are rows of the schema's tables, which an open connection has, and no other rows
+  -- over a clean disk they are rows of the schema's tables, which an open connection has, and no
+  -- other rows
   pub record HoldsRows (schema : Schema) (conn : Held S) (rows : Rows) : Type 0 where
     pub whole : IsClean g conn → AreRowsOf schema rows
     pub stored : IsClean g conn → IsOpen g conn → AreStored schema (tables_in g conn) rows

@@ -13,29 +13,36 @@ use Rattle.jpa_cells_meaning.specs.declared.CellRow.{CellRow}
 use Rattle.jpa_cells_meaning.specs.declared.CellChange.{CellChange}
 use Rattle.jpa_cells_meaning.specs.Tables.{Tables, row_of}
 
+-- the cell of a field
 abbrev pub cell_of : Field → Cell
 cell_of f = record { column = pos f.column; value = content_bytes f.content }
 
+-- the cells of a row, under the bytes of its key
 abbrev pub stored_row : RowId × Row → CellRow
 stored_row e = row_of (key_bytes (e.0).key) (map cell_of e.1)
 
+-- the rows of a table, as cells
 abbrev pub stored_rows : ℕ → Rows → List CellRow
 stored_rows table rows = map stored_row (table_rows table rows)
 
 -- ---- changes
 
+-- the cells of what is to stand under an id; none where the row is dropped
 abbrev pub cells_in : Option Row → List Cell
 cells_in None = []
 cells_in (Some row) = map cell_of row
 
+-- a change of a row, as a change of cells
 abbrev pub cell_change : RowChange → CellChange
 cell_change change = record { table = pos (change.id).table; row = key_bytes (change.id).key; cells = cells_in change.row }
 
+-- changes of rows, as changes of cells
 abbrev pub cell_changes : List RowChange → List CellChange
 cell_changes = map cell_change
 
 -- ---- the rows of a schema
 
+-- the table, where there is one and a row of it may have this key
 abbrev pub table_if : Option TableRule → List Value → Option TableRule
 table_if None key = None
 table_if (Some table) key = if is_key table.key key then Some table else None
@@ -50,6 +57,7 @@ pub record IsEntryIn (table : TableRule) (e : RowId × Row) : Type 0 where
   pub whole : IsRowOf table e.1
   pub filled : e.1 ≢ []
 
+-- there is the table, and the row is one of it
 abbrev pub IsEntryBy : Option TableRule → RowId × Row → Type 0
 IsEntryBy None e = ⊥
 IsEntryBy (Some table) e = IsEntryIn table e

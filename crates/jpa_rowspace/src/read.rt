@@ -53,7 +53,7 @@ pub(crate) fn found_row(
 }
 
 /// The id and the row that a row of cells spells, or its bytes where it is damaged.
-fn entry_of(
+pub(crate) fn entry_of(
     alloc: Global,
     table: &TableRule,
     stored: CellRow,

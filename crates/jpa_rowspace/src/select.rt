@@ -1,18 +1,18 @@
-//! The two SELECTs.
+//! The SELECT of one row.
 ghost use Rattle.std.specs.Prelude.{◌≡◌, ◌⊎◌, ◌+◌, pos, Err, IfOk, IfErr, OnOk};
 ghost use Rattle.jpa_value.specs.declared.refusal.Cause.{Cause};
 ghost use Rattle.jpa_key.specs.Keys.{key_bytes};
-ghost use Rattle.jpa_cells_meaning.specs.Tables.{AreRows, cells_at};
-ghost use Rattle.jpa_cells_meaning.specs.Store.{up_to_greatest, Tells, faults_after, IsClean, IsOpen, tables_in, Keeps, Endures, HasFault};
-ghost use Rattle.jpa_rowspace.specs.Reading.{IsFound, IsIllFormed, AreRead};
+ghost use Rattle.jpa_cells_meaning.specs.Tables.{cells_at};
+ghost use Rattle.jpa_cells_meaning.specs.Store.{up_to_greatest, faults_after, IsClean, IsOpen, tables_in, Keeps, Endures, HasFault};
+ghost use Rattle.jpa_rowspace.specs.Reading.{IsFound, IsIllFormed};
 ghost use Rattle.jpa_rowspace.specs.Space.{IsStoreCause};
 
-use crate::read::{found_row, rows_of};
+use crate::read::found_row;
 use crate::spell::number_of;
 use jpa_cells::CellStore;
 use jpa_key::encode_key;
-use jpa_rows::{Row, RowId, TableRule};
-use jpa_value::{Bytes, Cause, Key, Seq};
+use jpa_rows::{Row, TableRule};
+use jpa_value::{Cause, Key};
 use sqlite::Alter;
 use std::alloc::Global;
 
@@ -49,34 +49,4 @@ pub(crate) fn row_under<S: Alter>(
     let bytes = encode_key(alloc, key)?;
     let cells = store.row(number_of(table), bytes.as_slice())?;
     found_row(alloc, table, bytes, cells)
-}
-
-/// The rows of a table, up to the first that is damaged, and the bytes of that one.
-pub(crate) fn rows_under<S: Alter>(
-    alloc: Global,
-    store: &mut CellStore<S>,
-    table: &TableRule,
-) -> Result<(Seq<(RowId, Row)>, Option<Bytes>), Cause>
-    ensures read { IsClean S.Store store.new.conn →
-        IfOk result (λ read. AreRead table.now
-        (tables_in S.Store store.old.conn (pos table.now.table)) read.0 read.1) }
-    ensures rise { IsClean S.Store store.new.conn →
-        OnOk result (AreRows (tables_in S.Store store.old.conn (pos table.now.table))) }
-    ensures refused { IfErr result IsStoreCause }
-    ensures open { IsClean S.Store store.new.conn →
-        OnOk result (IsOpen S.Store store.old.conn × IsOpen S.Store store.new.conn) }
-    ensures kept { Keeps S.Store store.old.conn store.new.conn }
-    ensures counted { store.new.table_selects ≡ up_to_greatest (store.old.table_selects + 1) }
-    ensures told { Tells result store.old.faults store.new.faults }
-    ensures cause { IsClean S.Store store.new.conn → result ≡ Err Cause.StoreFault →
-        HasFault S.Store store.old.conn store.new.conn }
-    ensures others { store.new ≡ record store.old {
-      conn = store.new.conn;
-      table_selects = store.new.table_selects;
-      faults = store.new.faults;
-    } }
-    ensures crash { Endures S.Store store.old.conn store.new.conn (λ _. ⊥) }
-{
-    let rows = store.table(number_of(table))?;
-    rows_of(alloc, table, rows.into_vec())
 }

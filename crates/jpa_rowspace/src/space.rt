@@ -1,7 +1,9 @@
 //! The rows of a schema.
-ghost use Rattle.std.specs.Prelude.{◌≡◌, ◌≢◌, ◌⊎◌, ◌+◌, ◌<◌, [], pos, length, List, ℕ, Ok, Err, None, Some, IsSome, IfSome, IfOk, IfErr, OnOk, OnErr, sum_by};
+ghost use Rattle.std.specs.Prelude.{◌≡◌, ◌≢◌, ◌⊎◌, ◌+◌, ◌<◌, [], pos, length, List, Ok, Err, None, Some, true, IsErr, IsSome, IfSome, IfOk, IfErr, OnOk, OnErr, sum_by};
 ghost use Rattle.jpa_value.specs.declared.refusal.Cause.{Cause};
 ghost use Rattle.jpa_key.specs.Keys.{key_bytes};
+ghost use Rattle.jpa_row_laws.specs.Handing.{Hands};
+ghost use Rattle.jpa_cells_meaning.specs.declared.CellRow.{CellRow};
 ghost use Rattle.jpa_rows.specs.Rows.{Rows, AreRising, AreChanges, rows_after, table_of};
 ghost use Rattle.jpa_rows.specs.Statements.{statements_of};
 ghost use Rattle.sqlite.specs.Held.{state};
@@ -9,15 +11,16 @@ ghost use Rattle.jpa_cells_meaning.specs.Content.{KeepsContent};
 ghost use Rattle.jpa_cells_meaning.specs.Tables.{AreRows, cells_at, tables_after};
 ghost use Rattle.jpa_cells_meaning.specs.Store.{up_to_greatest, Counts, Tells, faults_after, IsClean, IsOpen, tables_in, Keeps, Becomes, Endures, Allows, HasFault, FaultHasCause, StaysOpen};
 ghost use Rattle.jpa_rowspace.specs.Stored as stored;
-ghost use Rattle.jpa_rowspace.specs.Reading.{IsFound, IsIllFormed, AreRead};
+ghost use Rattle.jpa_rowspace.specs.Reading.{IsFound, IsIllFormed, AreRead, ReadsRow};
 ghost use Rattle.jpa_rowspace.specs.Space.{HoldsRows, IsStoreCause};
 
+use crate::handing::each_under;
 use crate::read::rows_of;
-use crate::select::{row_under, rows_under};
+use crate::select::row_under;
 use crate::spell::{cell_changes, known_table, number_of};
 use jpa_cells::CellStore;
 use jpa_cells_meaning::CellRow;
-use jpa_rows::{Row, RowChange, RowId, RowSource, Schema, is_key};
+use jpa_rows::{Row, RowChange, RowId, RowReader, RowSink, RowSource, Schema, is_key};
 use jpa_value::{Bytes, Cause, Seq};
 use sqlite::Alter;
 use std::alloc::Global;
@@ -61,8 +64,9 @@ impl<S: Alter> RowSpace<S> {
         &self.schema
     }
 
-    /// The row under an id, by one SELECT; none where there is no such row, and without a SELECT where the id names none of
-    /// the schema's rows. Cells that spell no row of the table are `Damaged`.
+    /// The row under an id, by one SELECT; none where there is no such row, and without a SELECT
+    /// where the id names none of the schema's rows. Cells that spell no row of the table are
+    /// `Damaged`.
     pub fn get(&mut self, id: &RowId) -> Result<Option<Row>, Cause>
         ensures found { IsClean S.Store self.new.store.conn →
             IfOk result (λ found. IfSome (stored.table_for self.old.schema id.now)
@@ -112,46 +116,6 @@ impl<S: Alter> RowSpace<S> {
         }
     }
 
-    /// The rows of a table in the order of their ids, up to the first that is damaged, and the bytes of that one, by one
-    /// SELECT; none, and without a SELECT, where the table is none of the schema's.
-    pub fn read_table(&mut self, table: u64) -> Result<(Seq<(RowId, Row)>, Option<Bytes>), Cause>
-        ensures read { IsClean S.Store self.new.store.conn →
-            IfOk result (λ read. IfSome (table_of self.old.schema table)
-            (λ rule. AreRead rule (tables_in S.Store self.old.store.conn (pos table)) read.0
-            read.1)) }
-        ensures rise { IsClean S.Store self.new.store.conn →
-            OnOk result (IsSome (table_of self.old.schema table) →
-            AreRows (tables_in S.Store self.old.store.conn (pos table))) }
-        ensures rising { IsClean S.Store self.new.store.conn →
-            IfOk result (λ read. AreRising read.0) }
-        ensures unknown { table_of self.old.schema table ≡ None → (result ≡ Ok ([], None))
-            × (self.new ≡ self.old) }
-        ensures refused { IfErr result IsStoreCause }
-        ensures open { IsClean S.Store self.new.store.conn →
-            IsSome (table_of self.old.schema table) →
-            OnOk result (IsOpen S.Store self.old.store.conn × IsOpen S.Store self.new.store.conn) }
-        ensures kept { Keeps S.Store self.old.store.conn self.new.store.conn }
-        ensures counted { IsSome (table_of self.old.schema table) → self.new.store.table_selects
-            ≡ up_to_greatest (self.old.store.table_selects + 1) }
-        ensures told { Tells result self.old.store.faults self.new.store.faults }
-        ensures cause { IsClean S.Store self.new.store.conn → result ≡ Err Cause.StoreFault →
-            HasFault S.Store self.old.store.conn self.new.store.conn }
-        ensures others { self.new
-            ≡ record self.old {
-              store = record self.old.store {
-                conn = self.new.store.conn;
-                table_selects = self.new.store.table_selects;
-                faults = self.new.store.faults;
-              };
-            } }
-        ensures crash { Endures S.Store self.old.store.conn self.new.store.conn (λ _. ⊥) }
-    {
-        match self.schema.table(table) {
-            Some(rule) => rows_under(self.alloc, &mut self.store, rule),
-            None => Ok((Seq::new(self.alloc), None)),
-        }
-    }
-
     /// The rows of cells of one of the schema's tables, by one SELECT.
     pub fn cells(&mut self, table: u64) -> Result<Seq<CellRow>, Cause>
         requires { IsSome (table_of self.old.schema table) }
@@ -180,8 +144,8 @@ impl<S: Alter> RowSpace<S> {
         self.store.table(number)
     }
 
-    /// The rows that cells of one of the schema's tables spell, up to the first that is damaged, and the bytes of that one.
-    /// No statement is run.
+    /// The rows that cells of one of the schema's tables spell, up to the first that is damaged,
+    /// and the bytes of that one. No statement is run.
     pub fn entries(
         &self,
         table: u64,
@@ -199,32 +163,32 @@ impl<S: Alter> RowSpace<S> {
         rows_of(self.alloc, rule, stored)
     }
 
-    /// The rows of a table in the order of their ids, by one SELECT; none, and without a SELECT, where the table is none of
-    /// the schema's. The lowest row that is damaged is told by its bytes.
-    pub fn scan(&mut self, table: u64) -> Result<Seq<(RowId, Row)>, Cause>
-        ensures rows { IsClean S.Store self.new.store.conn →
-            IfOk result (λ rows. IfSome (table_of self.old.schema table)
-            (λ rule. AreRead rule (tables_in S.Store self.old.store.conn (pos table)) rows None)) }
+    /// Hands the rows of a table on, in the order of their ids, by one SELECT; none, and without a
+    /// SELECT, where the table is none of the schema's: `true` once all were taken and more are
+    /// wanted, `false` after the first with which no more are wanted. The lowest row that is
+    /// damaged is told by its bytes, once those before it were taken. A refusal of the sink is the
+    /// answer.
+    pub fn each<K: RowSink>(&mut self, table: u64, sink: &mut K) -> Result<bool, Cause>
+        ensures handed { IfSome (table_of self.old.schema table) (λ rule.
+            (stored : List CellRow) × (IsClean S.Store self.new.store.conn →
+            (IsOpen S.Store self.old.store.conn
+            × (stored ≡ tables_in S.Store self.old.store.conn (pos table)))
+            ⊎ (IsErr result × (stored ≡ []))) × Hands (ReadsRow K.takes rule) IsStoreCause sink.old
+            stored result sink.new) }
         ensures rise { IsClean S.Store self.new.store.conn →
             OnOk result (IsSome (table_of self.old.schema table) →
             AreRows (tables_in S.Store self.old.store.conn (pos table))) }
-        ensures rising { IsClean S.Store self.new.store.conn →
-            IfOk result (λ rows. AreRising rows) }
-        ensures unknown { table_of self.old.schema table ≡ None → (result ≡ Ok [])
-            × (self.new ≡ self.old) }
-        ensures refused { IfErr result (λ cause. IsStoreCause cause
-            ⊎ ((bytes : List ℕ) × (cause ≡ Cause.Damaged table bytes)
-            × (IsClean S.Store self.new.store.conn →
-            IfSome (table_of self.old.schema table)
-            (λ rule. IsOpen S.Store self.old.store.conn × IsOpen S.Store self.new.store.conn
-            × (before : Rows) × AreRead rule (tables_in S.Store self.old.store.conn (pos table))
-            before (Some bytes))))) }
+        ensures unknown { table_of self.old.schema table ≡ None → (result ≡ Ok true)
+            × (self.new ≡ self.old) × (sink.new ≡ sink.old) }
         ensures open { IsClean S.Store self.new.store.conn →
             IsSome (table_of self.old.schema table) →
             OnOk result (IsOpen S.Store self.old.store.conn × IsOpen S.Store self.new.store.conn) }
         ensures kept { Keeps S.Store self.old.store.conn self.new.store.conn }
         ensures counted { IsSome (table_of self.old.schema table) → self.new.store.table_selects
             ≡ up_to_greatest (self.old.store.table_selects + 1) }
+        ensures at_most_one { (self.new.store.table_selects ≡ self.old.store.table_selects)
+            ⊎ (self.new.store.table_selects
+            ≡ up_to_greatest (self.old.store.table_selects + 1)) }
         ensures told { self.new.store.faults ≡ faults_after result self.old.store.faults }
         ensures cause { IsClean S.Store self.new.store.conn → result ≡ Err Cause.StoreFault →
             HasFault S.Store self.old.store.conn self.new.store.conn }
@@ -238,15 +202,14 @@ impl<S: Alter> RowSpace<S> {
             } }
         ensures crash { Endures S.Store self.old.store.conn self.new.store.conn (λ _. ⊥) }
     {
-        let (rows, damaged) = self.read_table(table)?;
-        match damaged {
-            None => Ok(rows),
-            Some(bytes) => Err(Cause::Damaged(table, bytes)),
+        match self.schema.table(table) {
+            Some(rule) => each_under(self.alloc, &mut self.store, rule, sink),
+            None => Ok(true),
         }
     }
 
-    /// Makes these changes, all in one transaction or none: one DELETE for each change, and one INSERT for each column of its
-    /// new row. An empty list runs no statement.
+    /// Makes these changes, all in one transaction or none: one DELETE for each change, and one
+    /// INSERT for each column of its new row. An empty list runs no statement.
     pub fn commit(&mut self, changes: &[RowChange]) -> Result<(), Cause>
         requires { AreChanges self.old.schema changes.now }
         ensures applied { 0 < length changes.now → OnOk result
@@ -286,6 +249,43 @@ impl<S: Alter> RowSpace<S> {
     }
 }
 
+impl<S: Alter> RowReader for RowSpace<S> {
+    ghost use Rattle.std.proofs.Common.{subst};
+    ghost use Rattle.jpa_cells_meaning.specs.Store.{IsClean};
+    ghost use Rattle.jpa_rowspace.specs.Space.{HoldsRows};
+    ghost use Rattle.jpa_rowspace.specs.Enduring.{EnduresRows, survives_self, rows_then, rows_wider};
+
+    ghost schema = { λ space. space.schema };
+
+    ghost holds = { λ space rows. HoldsRows S.Store space.schema space.store.conn rows };
+
+    ghost clean = { λ space. IsClean S.Store space.store.conn };
+
+    ghost faults = { λ space. space.store.faults };
+
+    ghost row_selects = { λ space. space.store.row_selects };
+
+    ghost table_selects = { λ space. space.store.table_selects };
+
+    ghost writes = { λ space. space.store.writes };
+
+    ghost endures = { λ old new Holds. EnduresRows S.Store old.schema old.store.conn new.store.conn Holds };
+
+    ghost wider = { λ old new P Q weaker e. rows_wider S.Store old.schema old.store.conn new.store.conn P Q weaker e };
+
+    ghost then = { λ first second third P Q same a b. rows_then S.Store first.schema first.store.conn second.store.conn third.store.conn P Q a (subst (λ schema. EnduresRows S.Store schema second.store.conn third.store.conn Q) same b) };
+
+    fn get(&mut self, id: &RowId) -> Result<Option<Row>, Cause> {
+        RowSpace::get(self, id)
+    }
+
+    fn each<K: RowSink>(&mut self, table: u64, sink: &mut K) -> Result<bool, Cause> {
+        RowSpace::each(self, table, sink)
+    }
+
+    ghost still = { λ space. survives_self _ _ };
+}
+
 impl<S: Alter> RowSource for RowSpace<S> {
     ghost use Rattle.std.specs.Prelude.{◌+◌};
     ghost use Rattle.std.proofs.Common.{subst};
@@ -310,14 +310,6 @@ impl<S: Alter> RowSource for RowSpace<S> {
     ghost wider = { λ old new P Q weaker e. rows_wider S.Store old.schema old.store.conn new.store.conn P Q weaker e };
 
     ghost then = { λ first second third P Q same a b. rows_then S.Store first.schema first.store.conn second.store.conn third.store.conn P Q a (subst (λ schema. EnduresRows S.Store schema second.store.conn third.store.conn Q) same b) };
-
-    fn get(&mut self, id: &RowId) -> Result<Option<Row>, Cause> {
-        RowSpace::get(self, id)
-    }
-
-    fn scan(&mut self, table: u64) -> Result<Seq<(RowId, Row)>, Cause> {
-        RowSpace::scan(self, table)
-    }
 
     fn commit(&mut self, changes: &[RowChange]) -> Result<(), Cause> {
         RowSpace::commit(self, changes)

@@ -1,6 +1,7 @@
 //! How the program begins and ends: the words of its command line, and its exit statuses.
 //!
-//! `read_settings` reads the words by `clap`; `specs/Words` has the command, and `specs/Ending` the statuses.
+//! `read_settings` reads the words by `clap`; `specs/Words` has the command, and `specs/Ending` the
+//! statuses.
 #![tactic(auto)]
 
 mod settings;

@@ -72,12 +72,13 @@ fn copied(alloc: Global, value: Option<&str>) -> Result<Option<Text>, Stop>
     }
 }
 
-/// What the words of a command line say, of which the first is the program's own name: `--mapping FILE` and `--db FILE`, each
-/// at most once and in any order, as clap reads them.
+/// What the words of a command line say, of which the first is the program's own name:
+/// `--mapping FILE` and `--db FILE`, each at most once and in any order, as clap reads them.
 ///
-/// `Ok` only where clap finds no fault in the words. Where it finds one, that is the only one: `Shown` with the text that was
-/// asked for, where the fault is a request for the help or the version, and `Words` with what clap says of any other. For want
-/// of memory it is `Refused` with `OutOfMemory`, and so is each `Err` of words that clap takes.
+/// `Ok` only where clap finds no fault in the words. Where it finds one, that is the only one:
+/// `Shown` with the text that was asked for, where the fault is a request for the help or the
+/// version, and `Words` with what clap says of any other. For want of memory it is `Refused` with
+/// `OutOfMemory`, and so is each `Err` of words that clap takes.
 #[tactic(auto, using(crate::proofs::Found::value_read))]
 pub fn read_settings(alloc: Global, words: &[String]) -> Result<Settings, Stop>
     ensures mapping { IfOk result (λ s. s.mapping ≡ value_of (codes "mapping")

@@ -20,8 +20,9 @@ pub enum Stop {
     Run(RunFault),
 }
 
-/// The exit status: 0 at the end of the input and after the help or the version, 2 for a command line or a mapping that is
-/// refused, 3 for any other refusal before the first line, and 4 for a run that broke off.
+/// The exit status: 0 at the end of the input and after the help or the version, 2 for a command
+/// line or a mapping that is refused, 3 for any other refusal before the first line, and 4 for a
+/// run that broke off.
 pub fn status(stop: &Stop) -> u8
     ensures { result ≡ ending.status stop.now }
 {

@@ -1,6 +1,7 @@
-//! Cells over a store in memory: each call once, what a store refuses, and the statements that are counted.
+//! Cells over a store in memory: each call once, what a store refuses, and the statements that are
+//! counted.
 
-use jpa_cells::{Cell, CellChange, CellRow, CellStore, RowSink};
+use jpa_cells::{Cell, CellChange, CellRow, CellSink, CellStore};
 use jpa_value::{Bytes, Cause, Seq};
 use sqlite::{Alter, Connection, MemStore};
 use std::alloc::Global;
@@ -187,15 +188,11 @@ struct Kept {
     most: usize,
 }
 
-impl RowSink for Kept {
-    ghost use Rattle.std.specs.Prelude.{◌≡◌, ◌⊎◌, not, length, nat_lt};
+impl CellSink for Kept {
+    ghost use Rattle.std.specs.Prelude.{◌≡◌, ◌⊎◌, ◌++◌, ◌∷◌, [], length, nat_lt, MatchResult};
     ghost use Rattle.jpa_value.specs.declared.refusal.Cause.{Cause};
 
-    ghost refuses = { λ cause. (cause ≡ Cause.Limit) ⊎ (cause ≡ Cause.OutOfMemory) };
-
-    ghost taken = { λ kept. kept.rows.items };
-
-    ghost stops = { λ kept rows. not (nat_lt (length rows) kept.most) };
+    ghost takes = { λ kept row out after. (after.most ≡ kept.most) × MatchResult out (λ more. (after.rows.items ≡ kept.rows.items ++ row ∷ []) × (more ≡ nat_lt (length after.rows.items) kept.most)) (λ cause. (after.rows.items ≡ kept.rows.items) × ((cause ≡ Cause.Limit) ⊎ (cause ≡ Cause.OutOfMemory))) };
 
     fn row(&mut self, row: CellRow) -> Result<bool, Cause> {
         if self.most == 0 {

@@ -1,4 +1,5 @@
-//! Rows over cells, and changes over rows: example `removing-a-referenced-person`, person 1, to whom order 10 leads.
+//! Rows over cells, and changes over rows: example `removing-a-referenced-person`, person 1, to
+//! whom order 10 leads.
 ghost use Rattle.std.specs.Prelude.{◌≡◌, ◌∷◌, [], IfOk};
 ghost use Rattle.jpa_value.specs.declared.value.Kind.{Kind};
 ghost use Rattle.jpa_rows.specs.Tables as tables;
@@ -8,7 +9,7 @@ ghost use Rattle.jpa_store_tests.specs.Samples.{drops_person};
 use crate::cells::{Changed, Line, ONE, apply, in_memory, shows};
 use jpa_overlay::Overlay;
 use jpa_rows::{
-    ColumnRule, Content, Field, Holds, Row, RowChange, RowId, RowSource, Schema, TableRule,
+    ColumnRule, Content, Field, Holds, Row, RowChange, RowId, RowReader, RowSink, Schema, TableRule,
 };
 use jpa_rowspace::RowSpace;
 use jpa_value::{Cause, Key, Kind, Seq, TryCopy, Value, is_same_identity};
@@ -176,7 +177,7 @@ fn see_row(rt: &impl Abort, alloc: Global, row: &Option<Row>, words: &str) -> Re
 }
 
 /// A row of the space.
-fn row_of<R: RowSource>(
+fn row_of<R: RowReader>(
     alloc: Global,
     source: &mut R,
     table: u64,
@@ -186,36 +187,55 @@ fn row_of<R: RowSource>(
     source.get(&id)
 }
 
-/// How many rows a table has, by its scan.
-fn count<R: RowSource>(source: &mut R, table: u64) -> Result<usize, Cause> {
-    let rows = source.scan(table)?;
-    Ok(rows.len())
+/// Counts rows.
+#[derive(Drop)]
+struct Counted {
+    rows: usize,
+}
+
+impl RowSink for Counted {
+    ghost use Rattle.std.specs.Prelude.{◌≡◌, ◌+◌, true, MatchResult};
+    ghost use Rattle.jpa_value.specs.declared.refusal.Cause.{Cause};
+
+    ghost takes = { λ counted e out after. MatchResult out (λ more. (after.rows ≡ counted.rows + 1) × (more ≡ true)) (λ cause. (after.rows ≡ counted.rows) × (cause ≡ Cause.Limit)) };
+
+    fn row(&mut self, _id: RowId, _row: Row) -> Result<bool, Cause> {
+        match self.rows.checked_add(1) {
+            Some(rows) => {
+                self.rows = rows;
+                Ok(true)
+            }
+            None => Err(Cause::Limit),
+        }
+    }
+}
+
+/// How many rows a table has.
+fn count<R: RowReader>(source: &mut R, table: u64) -> Result<usize, Cause> {
+    let mut counted = Counted { rows: 0 };
+    source.each(table, &mut counted)?;
+    Ok(counted.rows)
 }
 
 /// The person and the order are seen.
-fn see_rows<R: RowSource>(rt: &impl Abort, alloc: Global, source: &mut R) -> Result<(), Fail> {
+fn see_rows<R: RowReader>(rt: &impl Abort, alloc: Global, source: &mut R) -> Result<(), Fail> {
     see_row(rt, alloc, &row_of(alloc, source, 1, 1)?, "0=Person;1=0;")?;
     see_row(rt, alloc, &row_of(alloc, source, 2, 10)?, "0=Order;2 to 1;")?;
     assert_eq!(rt; count(source, 1)?, 1);
     Ok(())
 }
 
-/// How many rows of a table stand before the first that is damaged.
-fn front<S: Alter>(space: &mut RowSpace<S>, table: u64) -> Result<usize, Cause> {
-    let (rows, _) = space.read_table(table)?;
-    Ok(rows.len())
-}
-
 // ---- changes over rows
 
 /// How many rows a table has under the changes.
-fn count_over<R: RowSource>(overlay: &Overlay, source: &mut R, table: u64) -> Result<usize, Cause> {
-    let rows = overlay.scan(source, table)?;
-    Ok(rows.len())
+fn count_over<R: RowReader>(overlay: &Overlay, source: &mut R, table: u64) -> Result<usize, Cause> {
+    let mut counted = Counted { rows: 0 };
+    overlay.each(source, table, &mut counted)?;
+    Ok(counted.rows)
 }
 
 /// The person under the changes.
-fn person_over<R: RowSource>(
+fn person_over<R: RowReader>(
     alloc: Global,
     overlay: &Overlay,
     source: &mut R,
@@ -235,7 +255,7 @@ fn see_drop(rt: &impl Abort, alloc: Global, changes: &[RowChange]) -> Result<(),
 }
 
 /// The rows are seen without the person, which is all that is to change.
-fn see_dropped<R: RowSource>(
+fn see_dropped<R: RowReader>(
     rt: &impl Abort,
     alloc: Global,
     overlay: &Overlay,
@@ -247,7 +267,7 @@ fn see_dropped<R: RowSource>(
 }
 
 /// The person as she stands, under her id.
-fn standing<R: RowSource>(alloc: Global, source: &mut R) -> Result<Overlay, Cause> {
+fn standing<R: RowReader>(alloc: Global, source: &mut R) -> Result<Overlay, Cause> {
     let mut stood = Overlay::new(alloc);
     if let Some(row) = row_of(alloc, source, 1, 1)? {
         stood.put(id(alloc, 1, 1)?, row)?;
@@ -267,7 +287,7 @@ fn see_copy(
 }
 
 /// The order's row is put under another id, and then all changes are discarded.
-fn see_put<R: RowSource>(
+fn see_put<R: RowReader>(
     rt: &impl Abort,
     alloc: Global,
     overlay: &mut Overlay,
@@ -283,7 +303,7 @@ fn see_put<R: RowSource>(
 }
 
 /// The person is dropped over the rows, which stay as they are.
-fn see_overlay<R: RowSource>(rt: &impl Abort, alloc: Global, source: &mut R) -> Result<(), Fail> {
+fn see_overlay<R: RowReader>(rt: &impl Abort, alloc: Global, source: &mut R) -> Result<(), Fail> {
     let mut overlay = Overlay::new(alloc);
     overlay.drop_row(id(alloc, 1, 1)?)?;
     see_dropped(rt, alloc, &overlay, source)?;
@@ -334,7 +354,7 @@ fn see_space<S: Alter>(
     space: &mut RowSpace<S>,
 ) -> Result<(), Fail> {
     assert_eq!(rt; space.schema().tables.len(), 3);
-    assert_eq!(rt; front(space, 2)?, 1);
+    assert_eq!(rt; count(space, 2)?, 1);
     see_rows(rt, alloc, space)?;
     see_overlay(rt, alloc, space)
 }

@@ -1,4 +1,5 @@
-//! Disks that stop at one of their calls: what stands then is what stood before a commit, or after it.
+//! Disks that stop at one of their calls: what stands then is what stood before a commit, or after
+//! it.
 ghost use Rattle.std.specs.Prelude.{IsTrue, IfOk};
 ghost use Rattle.sqlite_disk.specs.Memory.{memory_is_usable};
 ghost use Rattle.jpa_cells_meaning.specs.Store.{IsOrderedIfFound};
@@ -14,7 +15,8 @@ use std::test::Fail;
 
 type Device = Fuse<Memory>;
 
-/// How many steps of a run were acknowledged, whether the disk stopped, and the files that are left.
+/// How many steps of a run were acknowledged, whether the disk stopped, and the files that are
+/// left.
 #[derive(Drop)]
 struct Left<D: Disk> {
     acknowledged: usize,
@@ -53,7 +55,8 @@ fn closed<D: Disk + Drop>(
     }
 }
 
-/// Writes the first cells and then the second, until the disk stops, and answers how many steps were acknowledged.
+/// Writes the first cells and then the second, until the disk stops, and answers how many steps
+/// were acknowledged.
 fn write_steps<S: Alter>(alloc: Global, store: &mut CellStore<S>) -> Result<usize, Fail> {
     if is_refused(alloc, store, FIRST_CHANGES)? {
         return Ok(1);
@@ -137,7 +140,8 @@ fn stands<S: Alter>(store: &mut CellStore<S>, steps: usize) -> Result<bool, Caus
     shows(store, lines(steps.saturating_add(1)))
 }
 
-/// Opens the files again, and finds the cells of the last step that was acknowledged, or of the next one.
+/// Opens the files again, and finds the cells of the last step that was acknowledged, or of the
+/// next one.
 fn is_whole<D: Disk + Drop>(
     alloc: Global,
     acknowledged: usize,
@@ -167,7 +171,8 @@ fn is_whole_over<S: Alter + Drop>(
     Ok(stands(&mut store, acknowledged)?)
 }
 
-/// Whether a run that is stopped at these calls of the log and of the database was stopped; what it leaves is whole.
+/// Whether a run that is stopped at these calls of the log and of the database was stopped; what it
+/// leaves is whole.
 fn stops_whole(alloc: Global, log_calls: u64, db_calls: u64) -> Result<bool, Fail> {
     let files = Files {
         log: Fuse::new(Memory::new(alloc), log_calls),
@@ -181,7 +186,8 @@ fn stops_whole(alloc: Global, log_calls: u64, db_calls: u64) -> Result<bool, Fai
     Ok(left.stopped)
 }
 
-/// The number of calls of the log, or of the database, of a run that isn't stopped; each one before stops a run.
+/// The number of calls of the log, or of the database, of a run that isn't stopped; each one before
+/// stops a run.
 fn calls_of(alloc: Global, of_log: bool) -> Result<u64, Fail> {
     for calls in 0..1000 {
         let (log, db) = if of_log {

@@ -1,4 +1,5 @@
--- Sets of stored objects: a finite map from identities to stored objects, as its entries in rising order of the identities.
+-- Sets of stored objects: a finite map from identities to stored objects, as its entries in rising
+-- order of the identities.
 use Rattle.std.specs.Prelude.{◌≡◌, ℕ, ℤ, Bool, true, false, not, nat_lt, ◌&&◌, ◌==◌, List, [], ◌∷◌, length, map, slice_index_or, Option, Some, None, if◌then◌else◌}
 use Rattle.std.specs.List.{flat_map, filter, list_any, list_all, zip}
 use Rattle.std.specs.FinMap.Entries.{find, put, where_key}
@@ -19,6 +20,7 @@ use Rattle.jpa_model.specs.Chains.{attributes_of, relations_of, relation_at, is_
 use Rattle.jpa_stored.specs.declared.claims.Claim.{Claim}
 use Rattle.jpa_stored.specs.declared.stored.Stored.{Stored}
 
+-- a set of stored objects: identities, rising, each with its object
 abbrev pub StoredSet : Type 0
 StoredSet = List (Identity × Stored)
 
@@ -26,6 +28,7 @@ StoredSet = List (Identity × Stored)
 abbrev pub stored_at : StoredSet → Identity → Option Stored
 stored_at s id = find identity_cmp id s
 
+-- a set with an object put under an identity
 abbrev pub with_stored : Identity → Stored → StoredSet → StoredSet
 with_stored id x s = put identity_cmp id x s
 
@@ -34,9 +37,11 @@ abbrev pub put_all : List (Identity × Stored) → StoredSet → StoredSet
 put_all [] set = set
 put_all (e ∷ es) set = put_all es (with_stored e.0 e.1 set)
 
+-- a set without some identities
 abbrev pub without : List Identity → StoredSet → StoredSet
 without ids s = where_key identity_cmp (λ id. not (list_any (same_identity id) ids)) s
 
+-- the identities that an object owns in a relation
 abbrev pub owned_at : Stored → ℕ → List Identity
 owned_at x r = slice_index_or x.owned r []
 
@@ -49,16 +54,19 @@ abbrev pub members_by : PersistenceUnit → StoredSet → Identity → Stored �
 members_by m s id x r target None = owned_at x r
 members_by m s id x r target (Some owner) = leading_to m s target owner id
 
+-- the identities that an object holds in a relation of its class (chapter 2.9)
 abbrev pub members : PersistenceUnit → StoredSet → Identity → Stored → ℕ → List Identity
 members m s id x r = let relation = relation_at m x.class r in members_by m s id x r relation.target (owner_of relation.side)
 
--- what an identity holds in the relation at place r of the class; nothing where it is not in the set or of a class without that relation
+-- what an identity holds in the relation at place r of the class; nothing where it is not in the
+-- set or of a class without that relation
 abbrev pub members_of : PersistenceUnit → StoredSet → ℕ → Identity → Option Stored → ℕ → List Identity
 members_of m s class id None r = []
 members_of m s class id (Some x) r = if is_held_by m class r x.class then members m s id x r else []
 
 -- ---- soundness, in three parts
 
+-- whether there is a column, which is required
 abbrev pub is_required : Option Column → Bool
 is_required None = false
 is_required (Some c) = c.required
@@ -67,13 +75,16 @@ is_required (Some c) = c.required
 abbrev pub values_there : List (Attribute × Value) → Bool
 values_there = list_all (λ p. not ((p.0).required && is_null p.1))
 
+-- whether a list of identities is empty
 abbrev pub is_empty : List Identity → Bool
 is_empty [] = true
 is_empty (x ∷ xs) = false
 
+-- each required link leads to an identity
 abbrev pub links_there : List (Relation × List Identity) → Bool
 links_there = list_all (λ p. not (is_required (column_of (p.0).side) && is_empty p.1))
 
+-- no object of a set lacks a required value or link
 abbrev pub no_required_null : PersistenceUnit → StoredSet → Bool
 no_required_null m s =
     list_all (λ e. values_there (zip (attributes_of m (e.1).class) (e.1).values) && links_there (zip (relations_of m (e.1).class) (e.1).owned)) s
@@ -96,10 +107,12 @@ one_to_one_column (Side.OneToMany owner) = None
 one_to_one_column (Side.ManyToMany table) = None
 one_to_one_column (Side.ManyToManyInverse owner) = None
 
+-- the claims of a one-to-one relation with this column, one for each target
 abbrev pub claims_at : ℕ → Option ℕ → List Identity → List Claim
 claims_at table None ids = []
 claims_at table (Some column) ids = map (λ id. record { table = table; column = column; target = id }) ids
 
+-- the claims of a set: the targets that objects own in one-to-one relations (chapter 2.9)
 abbrev pub claims : PersistenceUnit → StoredSet → List Claim
 claims m s = flat_map (λ e. flat_map (λ p. claims_at (e.0).table (one_to_one_column (p.0).side) p.1) (zip (relations_of m (e.1).class) (e.1).owned)) s
 
@@ -107,9 +120,11 @@ claims m s = flat_map (λ e. flat_map (λ p. claims_at (e.0).table (one_to_one_c
 abbrev pub claim_cmp : Claim → Claim → Ordering
 claim_cmp a b = ordering_then (nat_cmp a.table b.table) (ordering_then (nat_cmp a.column b.column) (identity_cmp a.target b.target))
 
+-- whether two claims are the same
 abbrev pub same_claim : Claim → Claim → Bool
 same_claim a b = is_eq (claim_cmp a b)
 
+-- whether no two elements of a list are the same by a test
 abbrev pub all_distinct : {A : Type 0} → (A → A → Bool) → List A → Bool
 all_distinct eq [] = true
 all_distinct eq (x ∷ xs) = not (list_any (eq x) xs) && all_distinct eq xs
@@ -125,20 +140,25 @@ first_fault true false c = Some Persist.Reference
 first_fault true true false = Some Persist.Unique
 first_fault true true true = None
 
+-- the first part of soundness that fails, if one does
 abbrev pub fault_of : PersistenceUnit → StoredSet → Option Persist
 fault_of m s = first_fault (no_required_null m s) (all_lead m s) (no_shared_target m s)
 
+-- a set is sound: no part of soundness fails
 abbrev pub IsSound : PersistenceUnit → StoredSet → Type 0
 IsSound m s = fault_of m s ≡ None
 
--- ---- the shape of a stored object: what its class says of the lengths of its lists and of the kinds in them
+-- ---- the shape of a stored object: what its class says of the lengths of its lists and of the
+-- kinds in them
 
+-- whether two lists are of one length, and their elements fit in pairs
 abbrev pub each_fits : {A B : Type 0} → (A → B → Bool) → List A → List B → Bool
 each_fits ok [] [] = true
 each_fits ok [] (y ∷ ys) = false
 each_fits ok (x ∷ xs) [] = false
 each_fits ok (x ∷ xs) (y ∷ ys) = ok x y && each_fits ok xs ys
 
+-- a key has one value for each part, of its kind and not null (chapter 2.4)
 abbrev pub is_key_of : Root → List Value → Bool
 is_key_of root key = each_fits (λ part v. fits part.kind v && not (is_null v)) root.key key
 
@@ -146,6 +166,7 @@ is_key_of root key = each_fits (λ part v. fits part.kind v && not (is_null v)) 
 abbrev pub is_identity_of : Root → Identity → Bool
 is_identity_of root id = (id.table == root.table) && is_key_of root id.key
 
+-- whether there is at most one identity
 abbrev pub is_at_most_one : List Identity → Bool
 is_at_most_one [] = true
 is_at_most_one (x ∷ []) = true
@@ -156,10 +177,12 @@ abbrev pub is_below : Identity → List Identity → Bool
 is_below x [] = true
 is_below x (y ∷ ys) = is_lt (identity_cmp x y)
 
+-- whether identities rise strictly
 abbrev pub is_rising : List Identity → Bool
 is_rising [] = true
 is_rising (x ∷ xs) = is_below x xs && is_rising xs
 
+-- how many identities a side may own: at most one, a rising list, or none
 abbrev pub owns_as : Side → List Identity → Bool
 owns_as (Side.ManyToOne c) ids = is_at_most_one ids
 owns_as (Side.OneToOne c) ids = is_at_most_one ids
@@ -168,9 +191,11 @@ owns_as (Side.OneToMany owner) ids = is_empty ids
 owns_as (Side.ManyToMany table) ids = is_rising ids
 owns_as (Side.ManyToManyInverse owner) ids = is_empty ids
 
+-- what an object owns in a relation: as the side may, with keys of the target's hierarchy
 abbrev pub owns_well : PersistenceUnit → Relation → List Identity → Bool
 owns_well m r ids = owns_as r.side ids && list_all (is_identity_of (root_of m r.target)) ids
 
+-- there is a version just where the hierarchy has one
 abbrev pub version_there : Option VersionColumn → Option ℤ → Bool
 version_there None None = true
 version_there None (Some n) = false
@@ -186,5 +211,6 @@ is_shaped m id x =
     && (each_fits (λ a v. fits a.kind v) (attributes_of m x.class) x.values
     && each_fits (owns_well m) (relations_of m x.class) x.owned)))
 
+-- each object of a set has the shape of its class
 abbrev pub all_shaped : PersistenceUnit → StoredSet → Bool
 all_shaped m s = list_all (λ e. is_shaped m e.0 e.1) s

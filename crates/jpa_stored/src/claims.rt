@@ -16,8 +16,8 @@ use std::alloc::Global;
 use std::cmp::Ordering;
 use std::collections::BTreeSet;
 
-/// A target that an object owns in a one-to-one relation, with the table and the column that the relation is
-/// kept in.
+/// A target that an object owns in a one-to-one relation, with the table and the column that the
+/// relation is kept in.
 #[derive(Drop)]
 pub struct Claim {
     pub table: u64,

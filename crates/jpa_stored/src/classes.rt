@@ -1,5 +1,5 @@
-//! What a metamodel says of the class of a stored object, which may be a number that names none: then it declares
-//! nothing, and is a class of its own.
+//! What a metamodel says of the class of a stored object, which may be a number that names none:
+//! then it declares nothing, and is a class of its own.
 ghost use Rattle.std.specs.Prelude.{◌≡◌};
 ghost use Rattle.jpa_model.specs.Chains as chains;
 
@@ -46,8 +46,8 @@ pub fn is_kind_of(metamodel: &Metamodel, class: usize, above: usize) -> bool
     above < classes && metamodel.is_kind_of(class, above)
 }
 
-/// Whether objects of another class hold the relation that stands at a place of this one's chain; where none stands there,
-/// those of this class and below it do.
+/// Whether objects of another class hold the relation that stands at a place of this one's chain;
+/// where none stands there, those of this class and below it do.
 pub fn is_held_by(metamodel: &Metamodel, class: usize, relation: usize, other: usize) -> bool
     ensures { result ≡ chains.is_held_by metamodel.now class relation other }
 {

@@ -1,11 +1,14 @@
-//! Stored objects, sets of them, and whether a set is sound: the database as the operations see it (chapter 3).
+//! Stored objects, sets of them, and whether a set is sound: the database as the operations see it
+//! (chapter 3).
 //!
-//! A stored object has a class, a version, values and the identities that it owns in its relations; `StoredSet` is a
-//! finite map from identities to stored objects, seen by contracts as its entries in rising order. `members` tells what an object
-//! holds in a relation, owned or inverse; `integrity` tells whether a set is sound, and which part fails first.
+//! A stored object has a class, a version, values and the identities that it owns in its relations;
+//! `StoredSet` is a finite map from identities to stored objects, seen by contracts as its entries
+//! in rising order. `members` tells what an object holds in a relation, owned or inverse;
+//! `integrity` tells whether a set is sound, and which part fails first.
 //!
-//! `specs/Sets` defines all of this over the persistence unit. What a class says through its whole chain is looked up in
-//! the `Metamodel`, which keeps it. The crate stands on `jpa_value` and `jpa_model`.
+//! `specs/Sets` defines all of this over the persistence unit. What a class says through its whole
+//! chain is looked up in the `Metamodel`, which keeps it. The crate stands on `jpa_value` and
+//! `jpa_model`.
 #![tactic(auto)]
 
 mod claims;

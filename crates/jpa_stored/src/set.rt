@@ -13,11 +13,12 @@ use std::alloc::Global;
 use std::cmp::Ordering;
 use std::marker::Model;
 
-/// A finite map from identities to stored objects, seen by contracts as its entries in rising order of the
-/// identities: the database as the operations see it (chapter 3).
+/// A finite map from identities to stored objects, seen by contracts as its entries in rising order
+/// of the identities: the database as the operations see it (chapter 3).
 ///
-/// With n entries a look-up takes O(log n) comparisons. A change takes as many, and moves at most n pointers: none
-/// where the identity is above all others, so that a set is built in rising order at O(log n) for each object.
+/// With n entries a look-up takes O(log n) comparisons. A change takes as many, and moves at most n
+/// pointers: none where the identity is above all others, so that a set is built in rising order at
+/// O(log n) for each object.
 #[derive(Drop)]
 pub struct StoredSet {
     entries: Vec<Boxed<(Identity, Stored)>>,
@@ -84,8 +85,8 @@ impl StoredSet {
         }
     }
 
-    /// Puts an object under an identity, in place of the one that stood there, if any. For want of memory, which is
-    /// `OutOfMemory` and the only refusal, the set stays as it was.
+    /// Puts an object under an identity, in place of the one that stood there, if any. For want of
+    /// memory, which is `OutOfMemory` and the only refusal, the set stays as it was.
     pub fn put(&mut self, id: Identity, object: Stored) -> Result<(), Cause>
         ensures ok { OnOk result (self.new ≡ with_stored id object self.old) }
         ensures err { OnErr result (self.new ≡ self.old) }

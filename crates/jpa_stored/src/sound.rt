@@ -1,5 +1,5 @@
-//! Whether a set is sound: whether what is required is there, each link leads to an object of its class, and no
-//! two objects own the same target in a one-to-one relation.
+//! Whether a set is sound: whether what is required is there, each link leads to an object of its
+//! class, and no two objects own the same target in a one-to-one relation.
 ghost use Rattle.std.specs.Prelude.{◌≡◌, ◌⊎◌, ◌&&◌, not, None, Some, option_map, IfErr, OnOk};
 ghost use Rattle.std.specs.List.{list_all, zip};
 ghost use Rattle.jpa_model.specs.Chains as chains;
@@ -153,12 +153,13 @@ fn all_lead(metamodel: &Metamodel, set: &StoredSet) -> bool
     true
 }
 
-/// Whether a set is sound (chapters 2.9, 2.10 and 3.2.4): Ok where required values and links are there, each link
-/// and each pair leads to an object of the relation's target class or below it, and no two objects own the same
-/// target in one one-to-one relation.
+/// Whether a set is sound (chapters 2.9, 2.10 and 3.2.4): Ok where required values and links are
+/// there, each link and each pair leads to an object of the relation's target class or below it,
+/// and no two objects own the same target in one one-to-one relation.
 ///
-/// Else `Persistence` with the first part that fails over the whole set: `Null`, then `Reference`, then `Unique`.
-/// `OutOfMemory` for want of memory. With n links and objects it takes O(n log n) comparisons of identities.
+/// Else `Persistence` with the first part that fails over the whole set: `Null`, then `Reference`,
+/// then `Unique`. `OutOfMemory` for want of memory. With n links and objects it takes O(n log n)
+/// comparisons of identities.
 pub fn integrity(metamodel: &Metamodel, set: &StoredSet) -> Result<(), Cause>
     ensures sound { OnOk result (sets.IsSound metamodel.now set.now) }
     ensures fault { IfErr result (λ cause. (cause ≡ Cause.OutOfMemory)

@@ -1,6 +1,6 @@
-//! Tests of what neither a run of the program nor an example shows: readers and writers that fail, the names of all refusals, and
-//! some functions by themselves. They stand in a crate of their own, so that they are proved over the libraries and not with
-//! them once more.
+//! Tests of what neither a run of the program nor an example shows: readers and writers that fail,
+//! the names of all refusals, and some functions by themselves. They stand in a crate of their own,
+//! so that they are proved over the libraries and not with them once more.
 #![tactic(auto)]
 
 #[cfg(test)]

@@ -125,8 +125,8 @@ fn reads_fail(rt: HostRuntime) -> Result<(), Fail> {
     Ok(())
 }
 
-/// Each write and each flush fails in turn, of which each reply has nine, and a piece without the end of a line one: a front
-/// of the replies is written.
+/// Each write and each flush fails in turn, of which each reply has nine, and a piece without the
+/// end of a line one: a front of the replies is written.
 #[test]
 fn writes_fail(rt: HostRuntime) -> Result<(), Fail> {
     let wanted = REPLY.repeat(rt.alloc(), 3)?;

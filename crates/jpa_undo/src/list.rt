@@ -56,7 +56,8 @@ impl<T> UndoList<T> {
         self.items.len()
     }
 
-    /// How many items there were when the changes were last kept; those behind them were pushed since.
+    /// How many items there were when the changes were last kept; those behind them were pushed
+    /// since.
     pub fn kept_len(&self) -> usize
         ensures kept { result ≡ length self.now.since }
         ensures within { result ≤ length self.now.now }
@@ -64,8 +65,8 @@ impl<T> UndoList<T> {
         self.kept
     }
 
-    /// What was overwritten since the changes were last kept, each item with its place, in the order of the changes. Put back,
-    /// these give the items as they were then. Takes no memory.
+    /// What was overwritten since the changes were last kept, each item with its place, in the
+    /// order of the changes. Put back, these give the items as they were then. Takes no memory.
     pub fn overwritten(&self) -> &[(usize, T)]
         ensures back { self.now.since
             ≡ take (length self.now.since) (put_back self.now.now result.now) }
@@ -98,8 +99,8 @@ impl<T: Drop> UndoList<T> {
         Ok(())
     }
 
-    /// Another item at a place, counted from 0, for good: neither it nor a change before it can be undone. Answers what
-    /// stood there. Takes no memory.
+    /// Another item at a place, counted from 0, for good: neither it nor a change before it can be
+    /// undone. Answers what stood there. Takes no memory.
     pub fn put(&mut self, at: usize, item: T) -> T
         requires { at < length self.old.now }
         ensures now { self.new.now ≡ slice_set self.old.now at item }
@@ -111,8 +112,8 @@ impl<T: Drop> UndoList<T> {
         old
     }
 
-    /// Without the items at which a test answers false; the others stand in their order. For good: neither that nor a change before
-    /// it can be undone. Takes no memory.
+    /// Without the items at which a test answers false; the others stand in their order. For good:
+    /// neither that nor a change before it can be undone. Takes no memory.
     pub fn retain<F: FnMut(&T) -> bool>(&mut self, keep: F)
         requires { F.IsAlwaysCallable keep }
         ensures now { IsFiltered (CalledAt F.FnMut) keep self.old.now self.new.now }

@@ -17,6 +17,7 @@ AnswersAs view (Err r) wanted = wanted ≡ Err r
 
 -- ---- where a set is changed
 
+-- an identity, with the class of what stands there
 abbrev pub Place : Type 0
 Place = Identity × Option ℕ
 
@@ -24,6 +25,7 @@ Place = Identity × Option ℕ
 abbrev pub place_in : StoredSet → Identity → Place
 place_in s id = (id, class_at s id)
 
+-- where a change is, with the class of what stood there
 abbrev pub place_of : Change → Place
 place_of c = (c.id.now, c.class_before)
 
@@ -31,20 +33,24 @@ place_of c = (c.id.now, c.class_before)
 abbrev pub ArePlaces : StoredSet → List Identity → List Change → Type 0
 ArePlaces s ids changes = map place_of changes ≡ map (place_in s) ids
 
+-- the identity of an entry
 abbrev pub name_of : Identity × Stored → Identity
 name_of e = e.0
 
 -- ---- what is taken out, one after another
 
+-- a set without these identities, one after the other
 abbrev pub take_each : List Identity → StoredSet → StoredSet
 take_each [] s = s
 take_each (id ∷ ids) s = take_each ids (without (id ∷ []) s)
 
 -- ---- why nothing was computed
 
+-- the cause that a failure is told by
 abbrev pub failure_cause : Failure → Cause
 failure_cause Failure.Memory = Cause.OutOfMemory
 failure_cause Failure.Overflow = Cause.Overflow
 
+-- a thing as it is
 abbrev pub same : {A : Type 0} → A → A
 same a = a

@@ -1,4 +1,5 @@
--- What executeUpdate keeps (Jakarta Persistence 3.1, chapter 4.10): the set that is seen then is one that a store can hold.
+-- What executeUpdate keeps (Jakarta Persistence 3.1, chapter 4.11): the set that is seen then is
+-- one that a store can hold.
 use Rattle.std.specs.Prelude.{◌≡◌, ◌<◌, ℕ, Bool, true, List, length, Some, Ok}
 use Rattle.jpa_value.specs.Value.{fits}
 use Rattle.jpa_model.specs.declared.unit.PersistenceUnit.{PersistenceUnit}
@@ -23,7 +24,8 @@ use Rattle.jpa_asked.specs.Premises.{AreInHeap}
 use Rattle.jpa_flush.specs.Flush.{flush_if}
 use Rattle.jpa_updates.specs.Updates.{with_view, run_bulk, execute_update}
 
--- a statement that was checked for arguments of these sorts, asked of a work that sees a set which a store can hold
+-- a statement that was checked for arguments of these sorts, asked of a work that sees a set which
+-- a store can hold
 pub record IsAsked (world : World) (query : Query) (sorts : List (Text × Sort)) (typed : Typed) (arguments : List Datum) (w : Work) : Type 0 where
   pub convertible : AnswersConvertible world
   pub inherited : AreInherited world.model
@@ -40,8 +42,8 @@ pub record IsHeld (world : World) (w v : Work) : Type 0 where
 abbrev pub HaveKeys : PersistenceUnit → Work → Type 0
 HaveKeys m w = (n : ℕ) → n < length w.objects → each_fits (λ (part : Part) v. fits part.kind v) (root_of m (object w n).class).key (object w n).key ≡ true
 
--- What executeUpdate leaves, by what the flush before it left: a set that a store can hold, where it could hold that one
--- and the values are the program's; nothing else changed.
+-- What executeUpdate leaves, by what the flush before it left: a set that a store can hold, where
+-- it could hold that one and the values are the program's; nothing else changed.
 pub record IsExecuted (world : World) (flushes : Bool) (w v : Work) : Type 0 where
   pub flushed : Work
   pub flush : flush_if flushes world w ≡ Done tt flushed

@@ -1,4 +1,5 @@
--- executeUpdate of a manager (Jakarta Persistence 3.1, chapters 3.10.1 and 4.10 bulk UPDATE and DELETE).
+-- executeUpdate of a manager (Jakarta Persistence 3.1, chapters 3.10.1 and 4.11 bulk UPDATE and
+-- DELETE).
 use Rattle.std.specs.Prelude.{◌≡◌, ℕ, Bool, true, false, T, List, Result, Err}
 use Rattle.std.specs.FinMap.Entries.{is_sorted}
 use Rattle.jpa_value.specs.declared.refusal.Cause.{Cause}
@@ -22,6 +23,7 @@ use Rattle.jpa_flush.specs.Flush.{flush_if}
 
 -- ---- what is asked
 
+-- whether a statement is an UPDATE or a DELETE
 abbrev pub is_bulk : Typed → Bool
 is_bulk (Typed.Select q) = false
 is_bulk (Typed.Update class assignments filter) = true
@@ -38,12 +40,14 @@ judged_bulk m is_active text bindings = do
 
 -- ---- what it does
 
--- what a statement makes of the set that a manager sees, and how many objects it concerned; a SELECT makes nothing
+-- what a statement makes of the set that a manager sees, and how many objects it concerned; a
+-- SELECT makes nothing
 abbrev pub changed_by : World → Typed → List Datum → StoredSet → Result Changed Cause
 changed_by world (Typed.Select q) arguments s = Err (Cause.IllegalState State.Statement)
 changed_by world (Typed.Update class assignments filter) arguments s = updated world.model s arguments (throws_in world) class assignments filter
 changed_by world (Typed.Delete class is_named filter) arguments s = deleted world.model s arguments class is_named filter
 
+-- a work that sees this set
 abbrev pub with_view : StoredSet → Work → Work
 with_view s w = record w { view = s }
 
@@ -54,9 +58,11 @@ settle m c = do
   change (with_view c.0)
   give c.1
 
+-- the new set is seen, or the refusal is given
 abbrev pub settled : PersistenceUnit → Result Changed Cause → Op ℕ
 settled m r = given r >>= settle m
 
+-- the set that the statement makes is seen (chapter 4.11)
 abbrev pub run_bulk : World → Statement → Op ℕ
 run_bulk world q = read (λ w. changed_by world q.typed q.arguments w.view) >>= settled world.model
 

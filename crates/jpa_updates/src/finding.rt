@@ -33,11 +33,13 @@ fn cause_of(failure: Failure) -> Cause
     }
 }
 
-/// The objects that an UPDATE concerns as it makes them (Jakarta Persistence 3.1, chapter 4.10), in rising order.
+/// The objects that an UPDATE concerns as it makes them (Jakarta Persistence 3.1, chapter 4.11), in
+/// rising order.
 ///
-/// `Overflow` where some part is an integer outside 64 bits; then, object by object and assignment by assignment,
-/// `Limit` for a value that is too long, `Persistence` with `Converter` where an attribute's converter throws, and
-/// with `Null` where a version is set to null; `OutOfMemory` where a growth was refused.
+/// `Overflow` where some part is an integer outside 64 bits; then, object by object and assignment
+/// by assignment, `Limit` for a value that is too long, `Persistence` with `Converter` where an
+/// attribute's converter throws, and with `Null` where a version is set to null; `OutOfMemory`
+/// where a growth was refused.
 pub(crate) fn made_by_update<'a, B: Behaviour>(
     alloc: Global,
     unit: &'a ServedUnit<B>,
@@ -87,8 +89,8 @@ fn copies_of(alloc: Global, ids: &[&Identity]) -> Result<Seq<Identity>, Cause>
     Ok(copies)
 }
 
-/// The identities of the objects that a DELETE concerns (chapter 4.10), in rising order. `Overflow` where some part is
-/// an integer outside 64 bits; `OutOfMemory` where a growth was refused.
+/// The identities of the objects that a DELETE concerns (chapter 4.11), in rising order. `Overflow`
+/// where some part is an integer outside 64 bits; `OutOfMemory` where a growth was refused.
 pub(crate) fn taken_by_delete<'a>(
     alloc: Global,
     metamodel: &'a Metamodel,

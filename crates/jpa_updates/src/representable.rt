@@ -1,5 +1,5 @@
-//! What a statement writes are values of the program: integers of 64 bits, texts in UTF-8 and bytes. For contracts to
-//! cite; these functions read and do nothing.
+//! What a statement writes are values of the program: integers of 64 bits, texts in UTF-8 and
+//! bytes. For contracts to cite; these functions read and do nothing.
 ghost use Rattle.std.specs.Prelude.{◌≡◌, ◌&&◌, true};
 ghost use Rattle.std.specs.List.{list_all};
 ghost use Rattle.jpa_value.specs.Value.{is_representable};

@@ -18,8 +18,9 @@ use jpa_stored::Stored;
 use jpa_value::{Cause, Identity};
 use std::alloc::Global;
 
-/// Whether the set that a manager sees is sound (chapters 2.9, 2.10 and 3.2.4) after these changes of one that
-/// was so: else `Persistence` with the first part that fails, `Null`, `Reference` or `Unique`.
+/// Whether the set that a manager sees is sound (chapters 2.9, 2.10 and 3.2.4) after these changes
+/// of one that was so: else `Persistence` with the first part that fails, `Null`, `Reference` or
+/// `Unique`.
 fn judge_changes(
     metamodel: &Metamodel,
     work: &UnitOfWork,
@@ -33,8 +34,9 @@ fn judge_changes(
     judge(metamodel, &work.view, changes)
 }
 
-/// The set with objects put is seen where it is sound; how many they are. `Persistence` with the first part that
-/// fails, `Null`, `Reference` or `Unique`; `OutOfMemory` where a growth was refused.
+/// The set with objects put is seen where it is sound; how many they are. `Persistence` with the
+/// first part that fails, `Null`, `Reference` or `Unique`; `OutOfMemory` where a growth was
+/// refused.
 pub(crate) fn put_sound(
     alloc: Global,
     metamodel: &Metamodel,
@@ -53,8 +55,8 @@ pub(crate) fn put_sound(
     Ok(objects.len())
 }
 
-/// The set without what stands under identities is seen where it is sound; how many they are. Refused as
-/// `put_sound` is.
+/// The set without what stands under identities is seen where it is sound; how many they are.
+/// Refused as `put_sound` is.
 pub(crate) fn take_sound(
     alloc: Global,
     metamodel: &Metamodel,

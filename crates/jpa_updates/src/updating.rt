@@ -41,8 +41,8 @@ fn is_bulk(typed: &Typed) -> bool
 
 /// The UPDATE or DELETE that is asked, with what stands for its parameters.
 ///
-/// `Limit` for a text over the limits; `TransactionRequired` without a transaction; as `statement_of` refuses;
-/// `IllegalState(statement)` for a SELECT.
+/// `Limit` for a text over the limits; `TransactionRequired` without a transaction; as
+/// `statement_of` refuses; `IllegalState(statement)` for a SELECT.
 fn judged(
     alloc: Global,
     metamodel: &Metamodel,
@@ -167,19 +167,21 @@ fn run<B: Behaviour>(
     }
 }
 
-/// An UPDATE or DELETE over the set that a manager sees (Jakarta Persistence 3.1, chapters 3.10.1 and 4.10),
-/// without cascades, callbacks or checks of versions; the context stays as it is. It answers how many objects the
-/// statement concerned. Where `flushes`, as in a transaction under flush mode AUTO (chapter 3.10.8), the manager's
-/// objects are flushed before.
+/// An UPDATE or DELETE over the set that a manager sees (Jakarta Persistence 3.1, chapters 3.10.1
+/// and 4.11), without cascades, callbacks or checks of versions; the context stays as it is. It
+/// answers how many objects the statement concerned. Where `flushes`, as in a transaction under
+/// flush mode AUTO (chapter 3.10.8), the manager's objects are flushed before.
 ///
-/// In this order: `Limit` for a text that is too long, nests too deep or declares too many variables;
-/// `TransactionRequired` where no transaction `is_active`; `IllegalArgument` with `Syntax` for a text outside the
-/// grammar, `Typing` for an ill-typed one, `Parameter` where a parameter isn't bound, one is bound that isn't in the
-/// text, or an object is bound whose key isn't whole; `IllegalState(statement)` for a SELECT; what `flush` refuses;
-/// `Overflow` for an integer outside 64 bits; of an UPDATE, by object and assignment, `Limit` for a value that is
-/// too long, `Persistence(converter)` where a converter throws, `Persistence(null)` where a version is set to null;
-/// `Persistence` with `Null`, `Reference` or `Unique` where the new set would not be sound. `OutOfMemory` where a
-/// growth was refused. What a refused call changed is undone by `UnitOfWork::undo`.
+/// In this order: `Limit` for a text that is too long, nests too deep or declares too many
+/// variables; `TransactionRequired` where no transaction `is_active`; `IllegalArgument` with
+/// `Syntax` for a text outside the grammar, `Typing` for an ill-typed one, `Parameter` where a
+/// parameter isn't bound, one is bound that isn't in the text, or an object is bound whose key
+/// isn't whole; `IllegalState(statement)` for a SELECT; what `flush` refuses; `Overflow` for an
+/// integer outside 64 bits; of an UPDATE, by object and assignment, `Limit` for a value that is too
+/// long, `Persistence(converter)` where a converter throws, `Persistence(null)` where a version is
+/// set to null; `Persistence` with `Null`, `Reference` or `Unique` where the new set would not be
+/// sound. `OutOfMemory` where a growth was refused. What a refused call changed is undone by
+/// `UnitOfWork::undo`.
 pub fn execute_update<B: Behaviour>(
     alloc: Global,
     unit: &ServedUnit<B>,

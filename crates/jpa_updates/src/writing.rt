@@ -21,7 +21,8 @@ fn put(view: &mut OpenSet, object: &(Identity, Stored)) -> Result<(), Cause>
     view.put(object.0.try_copy()?, object.1.try_copy()?)
 }
 
-/// Puts copies of objects under their identities. What a refused call wrote is undone with the work.
+/// Puts copies of objects under their identities. What a refused call wrote is undone with the
+/// work.
 pub(crate) fn put_all(work: &mut UnitOfWork, objects: &[(Identity, Stored)]) -> Result<(), Cause>
     ensures ok { OnOk result (now work.new ≡ record (now work.old)
         { view = sets.put_all objects.now (now work.old).view }) }

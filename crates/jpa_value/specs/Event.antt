@@ -2,6 +2,7 @@
 use Rattle.std.specs.Prelude.{ℕ, List, codes}
 use Rattle.jpa_value.specs.declared.event.LifecycleEvent.{LifecycleEvent}
 
+-- the name of a life cycle event (chapter 3.5)
 abbrev pub event_name : LifecycleEvent → List ℕ
 event_name LifecycleEvent.PrePersist = codes "PrePersist"
 event_name LifecycleEvent.PostPersist = codes "PostPersist"

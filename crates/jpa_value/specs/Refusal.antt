@@ -8,6 +8,7 @@ use Rattle.jpa_value.specs.declared.refusal.MappingFault.{MappingFault}
 use Rattle.jpa_value.specs.declared.refusal.Cause.{Cause}
 use Rattle.jpa_value.specs.declared.refusal.Refusal.{Refusal}
 
+-- what is wrong with an argument, as IllegalArgument tells it
 abbrev pub argument_name : Argument → List ℕ
 argument_name Argument.Entity = codes "entity"
 argument_name Argument.Name = codes "name"
@@ -21,6 +22,7 @@ argument_name Argument.Typing = codes "typing"
 argument_name Argument.Parameter = codes "parameter"
 argument_name Argument.Second = codes "second"
 
+-- which state is wrong, as IllegalState tells it
 abbrev pub state_name : State → List ℕ
 state_name State.Active = codes "active"
 state_name State.Inactive = codes "inactive"
@@ -28,6 +30,7 @@ state_name State.Unfetched = codes "unfetched"
 state_name State.Reference = codes "reference"
 state_name State.Statement = codes "statement"
 
+-- what can't be stored, as Persistence tells it
 abbrev pub persist_name : Persist → List ℕ
 persist_name Persist.Key = codes "key"
 persist_name Persist.Null = codes "null"
@@ -38,12 +41,14 @@ persist_name Persist.Version = codes "version"
 persist_name Persist.Converter = codes "converter"
 persist_name Persist.Callback = codes "callback"
 
+-- what is wrong with a mapping, as Mapping tells it
 abbrev pub mapping_name : MappingFault → List ℕ
 mapping_name MappingFault.Json = codes "json"
 mapping_name MappingFault.Shape = codes "shape"
 mapping_name MappingFault.Model = codes "model"
 mapping_name MappingFault.Function = codes "function"
 
+-- the number of a cause; 14 is that of Rollback
 abbrev pub cause_number : Cause → ℕ
 cause_number Cause.OutOfMemory = 1
 cause_number Cause.StoreFault = 2
@@ -66,6 +71,7 @@ cause_number Cause.Limit = 19
 cause_number (Cause.Mapping fault) = 20
 cause_number (Cause.Damaged table row) = 21
 
+-- the name of a cause
 abbrev pub cause_name : Cause → List ℕ
 cause_name Cause.OutOfMemory = codes "OutOfMemory"
 cause_name Cause.StoreFault = codes "StoreFault"
@@ -107,14 +113,17 @@ abbrev pub with_detail : List ℕ → Option (List ℕ) → List ℕ
 with_detail name None = name
 with_detail name (Some detail) = name ++ codes "(" ++ detail ++ codes ")"
 
+-- the text of a cause: its name, and its detail if it has one
 abbrev pub cause_text : Cause → List ℕ
 cause_text cause = with_detail (cause_name cause) (cause_detail cause)
 
+-- the number of a refusal
 abbrev pub refusal_number : Refusal → ℕ
 refusal_number (Refusal.Because cause) = cause_number cause
 refusal_number Refusal.RollbackMarked = 14
 refusal_number (Refusal.Rollback cause) = 14
 
+-- the name of a refusal
 abbrev pub refusal_name : Refusal → List ℕ
 refusal_name (Refusal.Because cause) = cause_name cause
 refusal_name Refusal.RollbackMarked = codes "Rollback"
@@ -126,5 +135,6 @@ refusal_detail (Refusal.Because cause) = cause_detail cause
 refusal_detail Refusal.RollbackMarked = Some (codes "marked")
 refusal_detail (Refusal.Rollback cause) = Some (cause_text cause)
 
+-- the text of a refusal: its name, and its detail if it has one
 abbrev pub refusal_text : Refusal → List ℕ
 refusal_text refusal = with_detail (refusal_name refusal) (refusal_detail refusal)

@@ -10,6 +10,7 @@ use Rattle.jpa_value.specs.declared.value.Value.{Value}
 use Rattle.jpa_value.specs.declared.value.Kind.{Kind}
 use Rattle.jpa_value.specs.declared.value.Identity.{Identity}
 
+-- whether a value is null
 abbrev pub is_null : Value → Bool
 is_null Value.Null = true
 is_null _ = false
@@ -27,6 +28,7 @@ abbrev pub is_i64 : ℤ → Bool
 is_i64 (pos n) = nat_lt n 9223372036854775808
 is_i64 (negsuc n) = nat_lt n 9223372036854775808
 
+-- whether a value is one of the program: null, an integer of 64 bits, a text in UTF-8, or bytes
 abbrev pub is_representable : Value → Bool
 is_representable Value.Null = true
 is_representable (Value.Int n) = is_i64 n
@@ -40,18 +42,21 @@ rank (Value.Int n) = 1
 rank (Value.Text bytes) = 2
 rank (Value.Bytes bytes) = 3
 
+-- the number that a value is; 0 for one of another kind
 abbrev pub number_in : Value → ℤ
 number_in Value.Null = pos 0
 number_in (Value.Int n) = n
 number_in (Value.Text bytes) = pos 0
 number_in (Value.Bytes bytes) = pos 0
 
+-- the bytes of a text or a byte string; none for one of another kind
 abbrev pub bytes_in : Value → List ℕ
 bytes_in Value.Null = []
 bytes_in (Value.Int n) = []
 bytes_in (Value.Text bytes) = bytes
 bytes_in (Value.Bytes bytes) = bytes
 
+-- the order of values: by rank, then by number, then byte by byte
 abbrev pub value_cmp : Value → Value → Ordering
 value_cmp a b =
     ordering_then (nat_cmp (rank a) (rank b)) (ordering_then (int_cmp (number_in a) (number_in b)) (slice_cmp nat_cmp (bytes_in a) (bytes_in b)))
@@ -72,9 +77,11 @@ compare (Value.Text a) Value.Null = None
 compare (Value.Bytes a) Value.Null = None
 compare a b = Some (value_cmp a b)
 
+-- whether two values are equal in the order; null equals null
 abbrev pub same_value : Value → Value → Bool
 same_value a b = is_eq (value_cmp a b)
 
+-- whether two identities are equal in the order
 abbrev pub same_identity : Identity → Identity → Bool
 same_identity x y = is_eq (identity_cmp x y)
 

@@ -1,9 +1,9 @@
 //! Values, keys, identities and refusals: what every layer of the provider speaks of.
 //!
-//! Contracts see `Text` and `Bytes` as lists of bytes, `Seq` as the list of its items and `Boxed` as what it
-//! holds; the other types are plain data. The definitions that contracts cite stand in `specs/`: values and
-//! their order in `Value`, the texts of refusals in `Refusal`, the names of events in `Event`. The crate stands
-//! on `hex`.
+//! Contracts see `Text` and `Bytes` as lists of bytes, `Seq` as the list of its items and `Boxed`
+//! as what it holds; the other types are plain data. The definitions that contracts cite stand in
+//! `specs/`: values and their order in `Value`, the texts of refusals in `Refusal`, the names of
+//! events in `Event`. The crate stands on `hex`.
 #![tactic(auto)]
 
 mod boxed;

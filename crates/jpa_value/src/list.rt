@@ -108,7 +108,8 @@ impl<T> Seq<T> {
 impl<T: Drop> Seq<T> {
     ghost use Rattle.std.specs.Prelude.{◌≡◌, ◌<◌, [], ◌∷◌, ◌++◌, length, slice_set, OnOk, OnErr};
 
-    /// One more item, at the end; the first one takes the memory of one. For want of memory the list stays as it was.
+    /// One more item, at the end; the first one takes the memory of one. For want of memory the
+    /// list stays as it was.
     pub fn push(&mut self, item: T) -> Result<(), AllocError>
         ensures ok { OnOk result (self.new ≡ self.old ++ item ∷ []) }
         ensures err { OnErr result (self.new ≡ self.old) }

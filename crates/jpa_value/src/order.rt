@@ -1,7 +1,7 @@
 //! How values, keys and identities compare.
 //!
-//! Integers go by number, texts and byte strings by their bytes with a proper prefix first, keys part by part,
-//! identities by table and then by key. None of these functions takes memory.
+//! Integers go by number, texts and byte strings by their bytes with a proper prefix first, keys
+//! part by part, identities by table and then by key. None of these functions takes memory.
 ghost use Rattle.std.specs.Prelude.{◌≡◌};
 ghost use Rattle.std.specs.Cmp.{IsTotalOrder};
 ghost use Rattle.std.specs.FinMap.{IsAntisymmetric};
@@ -10,8 +10,8 @@ ghost use Rattle.jpa_value.specs.Value as values;
 use crate::value::{Identity, Value};
 use std::cmp::Ordering;
 
-/// How two values compare; unknown, which is `None`, where one of them is null (chapter 4.11: a comparison
-/// with null is unknown).
+/// How two values compare; unknown, which is `None`, where one of them is null (chapter 4.12: a
+/// comparison with null is unknown).
 pub fn compare(a: &Value, b: &Value) -> Option<Ordering>
     ensures { result ≡ values.compare a.now b.now }
 {
@@ -21,7 +21,8 @@ pub fn compare(a: &Value, b: &Value) -> Option<Ordering>
     }
 }
 
-/// Whether two values are equal; unknown, which is `None`, where one of them is null (chapter 4.11).
+/// Whether two values are equal; unknown, which is `None`, where one of them is null (chapter
+/// 4.12).
 pub fn equal3(a: &Value, b: &Value) -> Option<bool>
     ensures { result ≡ values.equal3 a.now b.now }
 {
@@ -31,7 +32,8 @@ pub fn equal3(a: &Value, b: &Value) -> Option<bool>
     }
 }
 
-/// The place of two values in one total order: nulls first, then integers, then texts, then byte strings.
+/// The place of two values in one total order: nulls first, then integers, then texts, then byte
+/// strings.
 #[tactic(auto, using(crate::proofs::Orders::then_equal))]
 pub fn order_values(a: &Value, b: &Value) -> Ordering
     ensures { result ≡ values.value_cmp a.now b.now }
@@ -87,8 +89,8 @@ pub fn is_same_identity(a: &Identity, b: &Identity) -> bool
     matches!(order_identities(a, b), Ordering::Equal)
 }
 
-/// The laws of these orders, for contracts to cite; it does nothing. Each order is total, which is reflexive,
-/// transitive and the same seen from both sides, and only equal values tie.
+/// The laws of these orders, for contracts to cite; it does nothing. Each order is total, which is
+/// reflexive, transitive and the same seen from both sides, and only equal values tie.
 pub fn order_laws()
     ensures values { IsTotalOrder values.value_cmp }
     ensures keys { IsTotalOrder values.key_cmp }

@@ -52,8 +52,8 @@ pub enum MappingFault {
     Function,
 }
 
-/// Why a call is refused, other than that its transaction rolled back. Each layer below the provider refuses
-/// with a cause, so that none can answer a Rollback.
+/// Why a call is refused, other than that its transaction rolled back. Each layer below the
+/// provider refuses with a cause, so that none can answer a Rollback.
 #[derive(Debug, Drop)]
 pub enum Cause {
     /// A growth was refused; nothing has changed.
@@ -94,8 +94,8 @@ pub enum Cause {
     Limit,
     /// The mapping can't be served.
     Mapping(MappingFault),
-    /// The store's cells stand for nothing: the table's number and the row's bytes, both zero and empty where
-    /// no single row is at fault.
+    /// The store's cells stand for nothing: the table's number and the row's bytes, both zero and
+    /// empty where no single row is at fault.
     Damaged(u64, Bytes),
 }
 

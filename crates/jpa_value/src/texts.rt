@@ -186,8 +186,8 @@ impl Refusal {
         }
     }
 
-    /// Its detail, where it has one: of a rollback `marked` or the text of what made the commit roll back;
-    /// `OutOfMemory` where a growth was refused.
+    /// Its detail, where it has one: of a rollback `marked` or the text of what made the commit
+    /// roll back; `OutOfMemory` where a growth was refused.
     pub fn detail(&self, alloc: Global) -> Result<Option<Text>, Cause>
         ensures ok { IfOk result (λ detail. detail ≡ refusals.refusal_detail self.now) }
         ensures refused { IfErr result (λ cause. cause ≡ Cause.OutOfMemory) }

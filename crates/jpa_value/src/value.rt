@@ -5,8 +5,8 @@ ghost use Rattle.jpa_value.specs.Value as values;
 use crate::limits::MOST_BYTES;
 use crate::list::{Bytes, Seq, Text};
 
-/// What an attribute, a key part or a parameter holds (chapter 2.2, in this profile: whole numbers, texts and
-/// bytes). A text or byte value of an entity has at most 65,535 bytes; `fits` tells.
+/// What an attribute, a key part or a parameter holds (chapter 2.2, in this profile: whole numbers,
+/// texts and bytes). A text or byte value of an entity has at most 65,535 bytes; `fits` tells.
 #[derive(Debug, Drop)]
 pub enum Value {
     /// No value.
@@ -39,8 +39,8 @@ pub struct Identity {
     pub key: Key,
 }
 
-/// Whether a value can stand in an attribute of this kind: null, or a value of the kind of at most 65,535
-/// bytes. Takes no memory.
+/// Whether a value can stand in an attribute of this kind: null, or a value of the kind of at most
+/// 65,535 bytes. Takes no memory.
 pub fn fits(kind: Kind, value: &Value) -> bool
     ensures { result ≡ values.fits kind value.now }
 {

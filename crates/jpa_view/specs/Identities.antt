@@ -1,5 +1,6 @@
--- Identities read off row ids: what is read off the bytes is a guess, which counts only where its own bytes are the given
--- ones. So each identity has one spelling, also among rows that no program wrote.
+-- Identities read off row ids: what is read off the bytes is a guess, which counts only where its
+-- own bytes are the given ones. So each identity has one spelling, also among rows that no program
+-- wrote.
 use Rattle.std.specs.Prelude.{ℕ, Bool, false, ◌==◌, ◌&&◌, not, is_some, List, ◌++◌, length, drop, find, Option, Some, None, option_map, if◌then◌else◌}
 use Rattle.std.specs.List.{list_any}
 use Rattle.jpa_value.specs.declared.value.Value.{Value}
@@ -19,6 +20,7 @@ use Rattle.jpa_rows.specs.Tables.{classes, kinds_of}
 
 -- ---- main rows
 
+-- whether an origin is a root with this table
 abbrev pub has_table : ℕ → Origin → Bool
 has_table table (Origin.Root root) = root.table == table
 has_table table (Origin.Extends parent) = false
@@ -27,12 +29,14 @@ has_table table (Origin.Extends parent) = false
 abbrev pub root_at : PersistenceUnit → ℕ → Option Root
 root_at m table = option_map (λ class. root_in (entity_at m class).origin) (find (λ class. has_table table (entity_at m class).origin) (classes m))
 
+-- the identity with a key that was read, where the row's bytes are the key's own
 abbrev pub identity_if : Root → RowId → Option (List Value) → Option Identity
 identity_if root r None = None
 identity_if root r (Some key) =
     let id : Identity = record { table = r.table; key = key } in
     if is_identity_of root id && (names_representable id && same_bytes (key_bytes key) r.row) then Some id else None
 
+-- the identity that a row's bytes spell by a root's key, if they spell one
 abbrev pub identity_in : Option Root → RowId → Option Identity
 identity_in None r = None
 identity_in (Some root) r = identity_if root r (key_in (kinds_of root) r.row)
@@ -47,9 +51,11 @@ IsSpelled m id = IsSpelledBy (identity_at m) row_of id
 
 -- ---- pairs: a row of a join table for each
 
+-- the id of a pair's row: the join table, and the bytes of both keys
 abbrev pub pair_row : ℕ → Identity → Identity → RowId
 pair_row join owner target = record { table = join; row = key_bytes owner.key ++ key_bytes target.key }
 
+-- whether an entity declares a relation with this join table
 abbrev pub declares : ℕ → Entity → Bool
 declares join e = list_any (λ r. list_any (λ t. t == join) (join_tables r.side)) e.relations
 
@@ -57,6 +63,7 @@ declares join e = list_any (λ r. list_any (λ t. t == join) (join_tables r.side
 abbrev pub declarer_at : PersistenceUnit → ℕ → Option ℕ
 declarer_at m join = find (λ class. declares join (entity_at m class)) (classes m)
 
+-- whether a class is there, and of the hierarchy with this table
 abbrev pub is_within : PersistenceUnit → ℕ → Option ℕ → Bool
 is_within m table None = false
 is_within m table (Some class) = (root_of m class).table == table
@@ -65,14 +72,16 @@ is_within m table (Some class) = (root_of m class).table == table
 abbrev pub is_join_of : PersistenceUnit → ℕ → ℕ → Bool
 is_join_of m join table = not (is_some (root_at m join)) && is_within m table (declarer_at m join)
 
+-- the target with a key that was read, where the row's bytes are those of the pair
 abbrev pub target_if : Root → Identity → RowId → Option (List Value) → Option Identity
 target_if root owner r None = None
 target_if root owner r (Some key) =
     let target : Identity = record { table = root.table; key = key } in
     if is_identity_of root target && (names_representable target && same_bytes (key_bytes owner.key ++ key_bytes key) r.row) then Some target else None
 
--- the target of this owner's pair, if the row is one: the owner's own bytes are cut off the front. The join table must be one
--- of the owner's hierarchy, so that a row is no pair of an identity of another one, whose key may begin with the same bytes
+-- the target of this owner's pair, if the row is one: the owner's own bytes are cut off the front.
+-- The join table must be one of the owner's hierarchy. Else a row could be a pair of an identity of
+-- another one, whose key begins with the same bytes
 abbrev pub target_at : PersistenceUnit → ℕ → Identity → ℕ → RowId → Option Identity
 target_at m target owner join r =
     let root = root_of m target in

@@ -20,21 +20,27 @@ row_cmp a b = ordering_then (nat_cmp a.table b.table) (slice_cmp nat_cmp a.row b
 abbrev pub Columns : Type 0
 Columns = List (ℤ × List ℕ)
 
+-- a row: its id and its columns
 abbrev pub Row : Type 0
 Row = RowId × Columns
 
+-- rows, by their ids
 abbrev pub Rows : Type 0
 Rows = List Row
 
+-- the ids of rows rise
 abbrev pub AreRising : Rows → Type 0
 AreRising rows = T (is_sorted row_cmp rows)
 
+-- the order of cells: by column, then by bytes
 abbrev pub column_cmp : ℤ × List ℕ → ℤ × List ℕ → Ordering
 column_cmp a b = ordering_then (int_cmp a.0 b.0) (slice_cmp nat_cmp a.1 b.1)
 
+-- whether two lists of bytes are the same
 abbrev pub same_bytes : List ℕ → List ℕ → Bool
 same_bytes a b = is_eq (slice_cmp nat_cmp a b)
 
+-- whether two rows have the same columns with the same bytes
 abbrev pub same_columns : Columns → Columns → Bool
 same_columns a b = is_eq (slice_cmp column_cmp a b)
 

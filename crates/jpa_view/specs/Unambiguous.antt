@@ -1,4 +1,5 @@
--- What the laws ask of a metamodel: tables, discriminators and columns tell roots, classes and what classes have apart.
+-- What the laws ask of a metamodel: tables, discriminators and columns tell roots, classes and what
+-- classes have apart.
 use Rattle.std.specs.Prelude.{◌≡◌, ℕ, pos, Bool, true, ◌==◌, ◌||◌, nat_lt, List, [], ◌∷◌, ◌++◌, map, length, Some, Option, None}
 use Rattle.std.specs.List.{flat_map, AllByRecursion}
 use Rattle.jpa_value.specs.Value.{is_i64}
@@ -13,21 +14,26 @@ use Rattle.jpa_view.specs.Identities.{root_at, is_join_of}
 use Rattle.jpa_view.specs.Written.{class_bytes}
 use Rattle.jpa_view.specs.View.{class_in}
 
+-- whether no number stands twice
 abbrev pub are_distinct_numbers : List ℕ → Bool
 are_distinct_numbers = all_distinct (λ a b. a == b)
 
+-- whether a number is the place of an entity
 abbrev pub is_class : PersistenceUnit → ℕ → Bool
 is_class m class = nat_lt class (length m.entities)
 
+-- the column of a version, where there is one
 abbrev pub version_columns : Option VersionColumn → List ℕ
 version_columns None = []
 version_columns (Some v) = v.column ∷ []
 
+-- the column of a link, where there is one
 abbrev pub link_columns : Option Column → List ℕ
 link_columns None = []
 link_columns (Some c) = c.column ∷ []
 
--- the columns of a class's rows: that of the discriminator, then those of version, attributes and links
+-- the columns of a class's rows: that of the discriminator, then those of version, attributes and
+-- links
 abbrev pub columns_along : PersistenceUnit → ℕ → List ℕ
 columns_along m class =
     0 ∷ version_columns (root_of m class).version
@@ -38,6 +44,7 @@ columns_along m class =
 abbrev pub joins_of : List Relation → List ℕ
 joins_of = flat_map (λ r. join_tables r.side)
 
+-- a unit whose tables, discriminators and columns tell apart what they stand for
 pub record IsUnambiguous (m : PersistenceUnit) : Type 0 where
   -- the row of the revision says 2, where there is one
   pub revision : (m.revision == 1 || m.revision == 2) ≡ true

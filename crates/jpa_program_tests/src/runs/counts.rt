@@ -1,5 +1,5 @@
-//! The statements that calls run over their store: what it counts after a run that has the call last, beside the
-//! same run without it.
+//! The statements that calls run over their store: what it counts after a run that has the call
+//! last, beside the same run without it.
 use super::{joined, opened};
 use jpa_program::run;
 use std::alloc::Global;
@@ -66,7 +66,8 @@ fn counted(alloc: Global, input: &str) -> Result<(u64, u64), Fail> {
     Ok((store.writes(), store.statements()))
 }
 
-/// After what was read before and these lines, the call runs so many statements, all of them writes.
+/// After what was read before and these lines, the call runs so many statements, all of them
+/// writes.
 fn see_call(
     rt: &impl Abort,
     alloc: Global,
@@ -93,9 +94,9 @@ fn see_call(
     Ok(())
 }
 
-// A commit runs a DELETE for each row that it makes, changes or drops, and an INSERT for each cell of a new row: two
-// rows with four cells are made, then one of three cells is changed, then nothing is. What is managed is found without
-// a statement.
+// A commit runs a DELETE for each row that it makes, changes or drops, and an INSERT for each cell
+// of a new row: two rows with four cells are made, then one of three cells is changed, then nothing
+// is. What is managed is found without a statement.
 #[test]
 fn statements_of_commits(rt: HostRuntime) -> Result<(), Fail> {
     let a = rt.alloc();

@@ -111,7 +111,8 @@ fn reads_fail(rt: HostRuntime) -> Result<(), Fail> {
     Ok(())
 }
 
-// Each write fails in turn: a front of the replies is written, and the cells are those of a front of the calls.
+// Each write fails in turn: a front of the replies is written, and the cells are those of a front
+// of the calls.
 #[test]
 fn writes_fail(rt: HostRuntime) -> Result<(), Fail> {
     let a = rt.alloc();

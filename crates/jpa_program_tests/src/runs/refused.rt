@@ -53,7 +53,8 @@ fn first_replies<P: PersistenceProvider>(
     Ok(replies)
 }
 
-// A call for which memory was refused changes nothing: made again, it is answered as if it were the first.
+// A call for which memory was refused changes nothing: made again, it is answered as if it were the
+// first.
 #[test]
 fn calls_made_again(rt: HostRuntime) -> Result<(), Fail> {
     let a = rt.alloc();

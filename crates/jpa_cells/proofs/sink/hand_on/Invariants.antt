@@ -1,11 +1,10 @@
-use Rattle.std.proofs.Common.{◌≡◌, ◌++◌}
-use Rattle.jpa_cells_meaning.specs.Tables.{wanted}
+use Rattle.std.specs.Prelude.{Bool, Result}
+use Rattle.jpa_value.specs.declared.refusal.Cause.{Cause}
+use Rattle.jpa_row_laws.specs.Handing.{Hands}
 use Rattle.jpa_cells.proofs.sink.hand_on.Given as goal
 
--- none of the rows so far made the sink stop: what it wants of all is these, and what it then wants of the rest
+-- what is handed on of the rows that are left goes on what was handed on
 abbrev pub invariant-rows : goal.invariant-rows
 invariant-rows g l =
-    let stops = g.K.RowSink.stops l.fn.sink in
-    let before = g.K.RowSink.taken l.fn.sink in
-    let after = g.K.RowSink.taken l.sink in
-    (after ≡ before ++ l.yielded) × (g.K.RowSink.stops l.sink ≡ stops) × (wanted stops before l.fn.rows.items ≡ l.yielded ++ wanted stops after l.row-iterator.rest.items)
+    let takes = g.K.CellSink.takes in
+    (r : Result Bool Cause) (last : g.row.K.Denot) → Hands takes (λ _. ⊥) l.sink l.row-iterator.rest.items r last → Hands takes (λ _. ⊥) l.fn.sink l.fn.rows.items r last

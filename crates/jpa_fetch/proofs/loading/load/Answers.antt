@@ -1,3 +1,4 @@
+use Rattle.std.proofs.Common.{rules}
 use Rattle.std.proofs.lemmas.Result.{err_from_is_err_and}
 use Rattle.jpa_behaviour.specs.Served.{world_of_unit}
 use Rattle.jpa_context.specs.Undo.{now}
@@ -23,8 +24,8 @@ callback-requires-clause-shape g c =
     entered_shape world id x w n u c.requires.placed c.requires.row entered
 
 -- who hears PostLoad refused
-pub returns-in_err-callback-clause-meets : goal.returns-in_err-callback-clause-meets
-returns-in_err-callback-clause-meets g c =
+pub returns-in_err-callback-clause-carries : goal.returns-in_err-callback-clause-carries
+returns-in_err-callback-clause-carries g c =
     let m = c.args.unit.now.metamodel in
     let world = world_of_unit g.B.Behaviour.meaning c.args.unit.now in
     let w = now c.args.work.now in
@@ -36,12 +37,16 @@ returns-in_err-callback-clause-meets g c =
     entered_by m id x w n c.in_ok-object.object c.in_ok-key.key c.in_ok-object.base c.push.new.self.now c.push-2.new.self.now c.len-place.ensures c.if-place-ge-MOST_OBJECTS.false c.in_ok-key.ensures.equal
     c.in_ok-object.ensures.object c.in_ok-object.ensures.base c.in_ok-push.ensures.pushed c.in_ok-push-2.ensures.pushed in
     let p = err_from_is_err_and c.from_residual-in_err-callback.result c.from_residual-in_err-callback.ensures.1 in
-    rw (p.1, p.2)
-    (load_refused world id x w n u c.in_err-callback.field-0.0 (now c.callback.new.work).events c.requires.placed entered c.in_err-callback.ensures.meets)
+    record {
+      meets = rw (p.1, p.2)
+          (load_refused world id x w n u c.in_err-callback.field-0.0 (now c.callback.new.work).events c.requires.placed entered c.in_err-callback.ensures.meets);
+      view = search rules;
+      since = search rules;
+    }
 
 -- or it was told
-pub returns-clause-meets : goal.returns-clause-meets
-returns-clause-meets g c =
+pub returns-clause-carries : goal.returns-clause-carries
+returns-clause-carries g c =
     let m = c.args.unit.now.metamodel in
     let world = world_of_unit g.B.Behaviour.meaning c.args.unit.now in
     let w = now c.args.work.now in
@@ -52,7 +57,11 @@ returns-clause-meets g c =
     let entered : IsEntered m id x w n u =
     entered_by m id x w n c.in_ok-object.object c.in_ok-key.key c.in_ok-object.base c.push.new.self.now c.push-2.new.self.now c.len-place.ensures c.if-place-ge-MOST_OBJECTS.false c.in_ok-key.ensures.equal
     c.in_ok-object.ensures.object c.in_ok-object.ensures.base c.in_ok-push.ensures.pushed c.in_ok-push-2.ensures.pushed in
-    load_done world id x w n u (now c.callback.new.work) c.requires.placed entered c.in_ok-callback.ensures.meets
+    record {
+      meets = load_done world id x w n u (now c.callback.new.work) c.requires.placed entered c.in_ok-callback.ensures.meets;
+      view = search rules;
+      since = search rules;
+    }
 
 pub returns-clause-within : goal.returns-clause-within
 returns-clause-within g c =

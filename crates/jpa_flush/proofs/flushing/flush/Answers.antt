@@ -23,7 +23,7 @@ pub returns-in_err-persist_looked-clause-meets : goal.returns-in_err-persist_loo
 returns-in_err-persist_looked-clause-meets g c =
     let world = world_of_unit g.B.Behaviour.meaning c.args.unit.now in
     let p = err_from_is_err_and c.from_residual.result c.from_residual.ensures.1 in
-    rw (p.1, p.2) (refused_after c.in_err-persist_looked.field-0.0 (now c.persist_looked.new.work).events (persist_reachable world (now c.args.work.now)) (λ _. orphaning world) c.in_err-persist_looked.ensures.meets)
+    rw (p.1, p.2) (refused_after c.in_err-persist_looked.field-0.0 (now c.persist_looked.new.work).events (persist_reachable world (now c.args.work.now)) (λ _. orphaning world) c.in_err-persist_looked.ensures.carries.meets)
 
 pub returns-in_err-remove_orphans_looked-clause-meets : goal.returns-in_err-remove_orphans_looked-clause-meets
 returns-in_err-remove_orphans_looked-clause-meets g c =
@@ -33,8 +33,8 @@ returns-in_err-remove_orphans_looked-clause-meets g c =
     let r = c.in_err-remove_orphans_looked.field-0.0 in
     let p = err_from_is_err_and c.from_residual-in_err-remove_orphans_looked.result c.from_residual-in_err-remove_orphans_looked.ensures.1 in
     rw (p.1, p.2)
-    (subst (IsRefusedAs r x.events) (sym (reached world (now c.args.work.now) w c.in_ok-persist_looked.ensures.meets))
-    (refused_after r x.events (remove_orphans world w) (λ _. linking world) c.in_err-remove_orphans_looked.ensures.meets))
+    (subst (IsRefusedAs r x.events) (sym (reached world (now c.args.work.now) w c.in_ok-persist_looked.ensures.carries.meets))
+    (refused_after r x.events (remove_orphans world w) (λ _. linking world) c.in_err-remove_orphans_looked.ensures.carries.meets))
 
 pub returns-in_err-check_links_looked-clause-meets : goal.returns-in_err-check_links_looked-clause-meets
 returns-in_err-check_links_looked-clause-meets g c =
@@ -44,7 +44,7 @@ returns-in_err-check_links_looked-clause-meets g c =
     let r = c.in_err-check_links_looked.field-0.0 in
     let p = err_from_is_err_and c.from_residual-in_err-check_links_looked.result c.from_residual-in_err-check_links_looked.ensures.1 in
     rw (p.1, p.2)
-    (subst (IsRefusedAs r x.events) (sym (orphaned world (now c.args.work.now) w x c.in_ok-persist_looked.ensures.meets c.in_ok-remove_orphans_looked.ensures.meets))
+    (subst (IsRefusedAs r x.events) (sym (orphaned world (now c.args.work.now) w x c.in_ok-persist_looked.ensures.carries.meets c.in_ok-remove_orphans_looked.ensures.carries.meets))
     (refused_after r x.events (check_links world x) (λ _. updating world) (c.in_err-check_links_looked.ensures.meets world)))
 
 pub returns-in_err-tell_updates_at-clause-meets : goal.returns-in_err-tell_updates_at-clause-meets
@@ -57,15 +57,15 @@ returns-in_err-tell_updates_at-clause-meets g c =
     let p = err_from_is_err_and c.from_residual-in_err-tell_updates_at.result c.from_residual-in_err-tell_updates_at.ensures.1 in
     rw (p.1, p.2)
     (subst (IsRefusedAs r v.events)
-    (sym (linked world (now c.args.work.now) w x c.in_ok-persist_looked.ensures.meets c.in_ok-remove_orphans_looked.ensures.meets (c.in_ok-check_links_looked.ensures.meets world)))
+    (sym (linked world (now c.args.work.now) w x c.in_ok-persist_looked.ensures.carries.meets c.in_ok-remove_orphans_looked.ensures.carries.meets (c.in_ok-check_links_looked.ensures.meets world)))
     (refused_after r v.events (pre_update world x) (λ _. writing world) c.in_err-tell_updates_at.ensures.meets))
 
 pub remove_orphans_looked-requires-clause-marked : goal.remove_orphans_looked-requires-clause-marked
-remove_orphans_looked-requires-clause-marked g c = marked_still c.args.unit.now.metamodel c.args.work.now c.persist_looked.new.work c.persist_looked.ensures.since c.requires.marked.before
+remove_orphans_looked-requires-clause-marked g c = marked_still c.args.unit.now.metamodel c.args.work.now c.persist_looked.new.work c.persist_looked.ensures.carries.since c.requires.marked.before
 
 pub looked-requires-clause-marked : goal.looked-requires-clause-marked
 looked-requires-clause-marked g c =
-    marked_still c.args.unit.now.metamodel c.args.work.now c.remove_orphans_looked.new.work (c.remove_orphans_looked.ensures.since ∙ c.persist_looked.ensures.since) c.requires.marked.before
+    marked_still c.args.unit.now.metamodel c.args.work.now c.remove_orphans_looked.new.work (c.remove_orphans_looked.ensures.carries.since ∙ c.persist_looked.ensures.carries.since) c.requires.marked.before
 
 pub tell_updates_at-requires-clause-looked : goal.tell_updates_at-requires-clause-looked
 tell_updates_at-requires-clause-looked g c =
@@ -82,9 +82,9 @@ write_changes-requires g c =
     let x = now c.remove_orphans_looked.new.work in
     let v = now c.tell_updates_at.new.work in
     let u = by_updates world x v c.in_ok-tell_updates_at.ensures.meets in
-    let set : v.view ≡ (now c.args.work.now).view = u.view ∙ ap opened.now (c.remove_orphans_looked.ensures.view ∙ c.persist_looked.ensures.view) in
+    let set : v.view ≡ (now c.args.work.now).view = u.view ∙ ap opened.now (c.remove_orphans_looked.ensures.carries.view ∙ c.persist_looked.ensures.carries.view) in
     record {
-      marked = marked_still m c.args.work.now c.tell_updates_at.new.work (c.tell_updates_at.ensures.since ∙ c.remove_orphans_looked.ensures.since ∙ c.persist_looked.ensures.since) c.requires.marked.before;
+      marked = marked_still m c.args.work.now c.tell_updates_at.new.work (c.tell_updates_at.ensures.since ∙ c.remove_orphans_looked.ensures.carries.since ∙ c.persist_looked.ensures.carries.since) c.requires.marked.before;
       looked = c.in_ok-tell_updates_at.ensures.still;
       writable =
           record {
@@ -102,4 +102,4 @@ returns-clause-meets g c =
     let x = now c.remove_orphans_looked.new.work in
     let v = now c.tell_updates_at.new.work in
     subst (Meets c.write_changes.result (now c.write_changes.new.work))
-    (sym (updated world (now c.args.work.now) w x v c.in_ok-persist_looked.ensures.meets c.in_ok-remove_orphans_looked.ensures.meets (c.in_ok-check_links_looked.ensures.meets world) c.in_ok-tell_updates_at.ensures.meets)) c.write_changes.ensures.meets
+    (sym (updated world (now c.args.work.now) w x v c.in_ok-persist_looked.ensures.carries.meets c.in_ok-remove_orphans_looked.ensures.carries.meets (c.in_ok-check_links_looked.ensures.meets world) c.in_ok-tell_updates_at.ensures.meets)) c.write_changes.ensures.meets

@@ -9,16 +9,20 @@ use Rattle.jpa_flush.specs.Flush.{persist_targets}
 use Rattle.jpa_flush.proofs.Reached.{past, turn_done, turn_refused}
 use Rattle.jpa_flush.proofs.reaching.persist_reachable.Goals as goal
 
-pub returns-then-i-len-clause-meets : goal.returns-then-i-len-clause-meets
-returns-then-i-len-clause-meets g c =
+pub returns-then-i-len-clause-carries : goal.returns-then-i-len-clause-carries
+returns-then-i-len-clause-carries g c =
     let world = world_of_unit g.B.Behaviour.meaning c.args.unit.now in
     let w = now c.loop-i.work in
     let bound = length (now c.args.work.now).objects in
     let ended : length w.context ≤ c.loop-i.i = omega (arith, c.if-i-len.true, c.len.ensures) in
-    sym c.loop-i.invariant.rest ∙ past world (bound - c.loop-i.i) c.loop-i.i w ended
+    record {
+      meets = sym c.loop-i.invariant.rest ∙ past world (bound - c.loop-i.i) c.loop-i.i w ended;
+      view = search rules;
+      since = search rules;
+    }
 
-pub returns-in_err-persist_targets-clause-meets : goal.returns-in_err-persist_targets-clause-meets
-returns-in_err-persist_targets-clause-meets g c =
+pub returns-in_err-persist_targets-clause-carries : goal.returns-in_err-persist_targets-clause-carries
+returns-in_err-persist_targets-clause-carries g c =
     let world = world_of_unit g.B.Behaviour.meaning c.args.unit.now in
     let w = now c.loop-i.work in
     let bound = length (now c.args.work.now).objects in
@@ -31,8 +35,12 @@ returns-in_err-persist_targets-clause-meets g c =
     let events = (now c.persist_targets.new.work).events in
     let refused : IsRefusedAs r events (persist_targets world e.object (state_of w e.object) w) = search rules in
     let p = err_from_is_err_and c.from_residual.result c.from_residual.ensures.1 in
-    rw (p.1, p.2)
-    (subst (IsRefusedAs r events) c.loop-i.invariant.rest (turn_refused world bound i w e less within is r events refused))
+    record {
+      meets = rw (p.1, p.2)
+          (subst (IsRefusedAs r events) c.loop-i.invariant.rest (turn_refused world bound i w e less within is r events refused));
+      view = search rules;
+      since = search rules;
+    }
 
 pub loop-i-preserved : goal.loop-i-preserved
 loop-i-preserved g c =
@@ -52,6 +60,6 @@ loop-i-preserved g c =
       rest = turn_done world bound i w e less within is w' done ∙ before.rest;
       ready = after.ready;
       named = λ h. after.named (before.named h);
-      view = c.persist_targets.ensures.view ∙ before.view;
-      since = c.persist_targets.ensures.since ∙ before.since;
+      view = c.persist_targets.ensures.carries.view ∙ before.view;
+      since = c.persist_targets.ensures.carries.since ∙ before.since;
     }

@@ -1,10 +1,14 @@
-use Rattle.std.proofs.Common.{◌∙◌, sym}
+use Rattle.std.proofs.Common.{◌∙◌, sym, rules}
 use Rattle.jpa_behaviour.specs.Served.{world_of_unit}
 use Rattle.jpa_context.specs.Undo.{now}
 use Rattle.jpa_flush.proofs.Unreached.{linked_none}
 use Rattle.jpa_flush.proofs.walking.persist_from_looked.Goals as goal
 
 -- where each is linked, there is nothing to be done
-pub returns-then-are_linked-clause-meets : goal.returns-then-are_linked-clause-meets
-returns-then-are_linked-clause-meets g c =
-    linked_none (world_of_unit g.B.Behaviour.meaning c.args.unit.now) (now c.args.work.now) c.requires.entered (sym c.are_linked.ensures ∙ c.if-are_linked.true)
+pub returns-then-are_linked-clause-carries : goal.returns-then-are_linked-clause-carries
+returns-then-are_linked-clause-carries g c =
+    record {
+      meets = linked_none (world_of_unit g.B.Behaviour.meaning c.args.unit.now) (now c.args.work.now) c.requires.entered (sym c.are_linked.ensures ∙ c.if-are_linked.true);
+      view = search rules;
+      since = search rules;
+    }

@@ -39,13 +39,13 @@ loop-relation-preserved g c =
       | then-takes+in_ok-copy_relation v ↦
           let u = now v.copy_relation.new.work in
           let taken : takes image x ≡ true = sym c.takes.ensures ∙ v.if-takes.true in
-          let copied : copy_relation world images image (i, x) w ≡ Done tt u = ap (λ b. (if b then copy_at world images image i else done) w) taken ∙ v.in_ok-copy_relation.ensures.meets in
+          let copied : copy_relation world images image (i, x) w ≡ Done tt u = ap (λ b. (if b then copy_at world images image i else done) w) taken ∙ v.in_ok-copy_relation.ensures.carries.meets in
           record {
             rest = ap (λ (z : UnitOfWork). each (copy_relation world images image) (enumerate_from (i + 1) (drop (i + 1) relations)) (now z)) v.work-is ∙ place_done (copy_relation world images image) relations i x w l read u copied ∙ before.rest;
-            ready = subst (λ (z : UnitOfWork). IsReady m (now z)) (sym v.work-is) v.in_ok-copy_relation.ensures.ready;
-            grown = subst (λ (z : UnitOfWork). HasGrown w0 (now z)) (sym v.work-is) (grown_on w0 w u before.grown v.in_ok-copy_relation.ensures.grown);
-            view = ap (λ (z : UnitOfWork). z.view) v.work-is ∙ v.copy_relation.ensures.view ∙ before.view;
-            since = ap (λ (z : UnitOfWork). since z) v.work-is ∙ v.copy_relation.ensures.since ∙ before.since;
+            ready = subst (λ (z : UnitOfWork). IsReady m (now z)) (sym v.work-is) v.in_ok-copy_relation.ensures.goes.ready;
+            grown = subst (λ (z : UnitOfWork). HasGrown w0 (now z)) (sym v.work-is) (grown_on w0 w u before.grown v.in_ok-copy_relation.ensures.goes.grown);
+            view = ap (λ (z : UnitOfWork). z.view) v.work-is ∙ v.copy_relation.ensures.carries.view ∙ before.view;
+            since = ap (λ (z : UnitOfWork). since z) v.work-is ∙ v.copy_relation.ensures.carries.since ∙ before.since;
           }
       | else-takes v ↦
           let passed : takes image x ≡ false = sym c.takes.ensures ∙ v.if-takes.false in

@@ -1,11 +1,15 @@
-use Rattle.std.proofs.Common.{◌∙◌, sym}
+use Rattle.std.proofs.Common.{◌∙◌, sym, rules}
 use Rattle.jpa_behaviour.specs.Served.{world_of_unit}
 use Rattle.jpa_context.specs.Undo.{now}
 use Rattle.jpa_merge.proofs.Sought.{copies}
 use Rattle.jpa_merge.proofs.copying.copy_to_other.Goals as goal
 
-pub returns-clause-meets : goal.returns-clause-meets
-returns-clause-meets g c =
+pub returns-clause-carries : goal.returns-clause-carries
+returns-clause-carries g c =
     let world = world_of_unit g.B.Behaviour.meaning c.args.unit.now in
-    copies world c.args.images.now c.args.image (now c.args.work.now) (now c.copy_values.new.work) (now c.copy_relations.new.work) c.copy_relations.result
-    (sym c.is_current.ensures ∙ c.if-not-is_current.false) c.in_ok-copy_values.ensures.ok c.copy_relations.ensures.meets
+    record {
+      meets = copies world c.args.images.now c.args.image (now c.args.work.now) (now c.copy_values.new.work) (now c.copy_relations.new.work) c.copy_relations.result
+          (sym c.is_current.ensures ∙ c.if-not-is_current.false) c.in_ok-copy_values.ensures.ok c.copy_relations.ensures.carries.meets;
+      view = search rules;
+      since = search rules;
+    }

@@ -1,4 +1,4 @@
-use Rattle.std.proofs.Common.{◌≡◌, ◌∙◌, List, ap, sym, subst, get_or}
+use Rattle.std.proofs.Common.{◌≡◌, ◌∙◌, List, ap, sym, subst, get_or, rules}
 use Rattle.std.specs.Prelude.{slice_set}
 use Rattle.std.proofs.lemmas.List.{get_or_default}
 use Rattle.jpa_heap.specs.declared.LiveObject.{LiveObject}
@@ -9,8 +9,8 @@ use Rattle.jpa_fetch.specs.Grown.{IsReady}
 use Rattle.jpa_merge.proofs.Kept.{values_ready}
 use Rattle.jpa_merge.proofs.copying.copy_values.Goals as goal
 
-pub returns-clause-ready : goal.returns-clause-ready
-returns-clause-ready c =
+pub returns-clause-goes : goal.returns-clause-goes
+returns-clause-goes c =
     let m = c.args._metamodel.now in
     let w = now c.args.work.now in
     let x = c.args.image in
@@ -23,4 +23,7 @@ returns-clause-ready c =
     let values : c.in_ok-live-2.field-0 ≡ (object w x.node).values = c.in_ok-live-2.ensures.equal ∙ ap (λ (o : LiveObject). o.values) node in
     let copied : live ≡ record (object w x.image) { values = (object w x.node).values } = λ i. record (own i) { values = values i } in
     let changed = c.in_ok-set.ensures.changed ∙ ap (slice_set w.objects x.image) copied in
-    subst (λ (os : List LiveObject). IsReady m (record w { objects = os })) (sym changed) (values_ready m w x c.requires.ready c.requires.imaged)
+    record {
+      ready = subst (λ (os : List LiveObject). IsReady m (record w { objects = os })) (sym changed) (values_ready m w x c.requires.ready c.requires.imaged);
+      grown = search rules;
+    }

@@ -29,12 +29,15 @@ returns-clause-meets c = λ world.
 
 pub returns-clause-imaged : goal.returns-clause-imaged
 returns-clause-imaged c =
-    fresh_imaged c.args.metamodel.now (now c.args.work.now) (now c.push_fresh.new.work) (now c.become_managed.new.work) c.args.node c.len-image.result c.requires.node c.len-image.ensures c.in_ok-push_fresh.ensures.ok c.in_ok-become_managed.ensures.grown
+    fresh_imaged c.args.metamodel.now (now c.args.work.now) (now c.push_fresh.new.work) (now c.become_managed.new.work) c.args.node c.len-image.result c.requires.node c.len-image.ensures c.in_ok-push_fresh.ensures.ok c.in_ok-become_managed.ensures.goes.grown
 
-pub returns-clause-grown : goal.returns-clause-grown
-returns-clause-grown c =
+pub returns-clause-goes : goal.returns-clause-goes
+returns-clause-goes c =
     let m = c.args.metamodel.now in
     let w = now c.args.work.now in
     let u = now c.push_fresh.new.work in
     let pushed = subst (HasGrown w) (sym c.in_ok-push_fresh.ensures.ok) (fresh_grown m w c.args.node c.requires.ready c.requires.node) in
-    grown_on w u (now c.become_managed.new.work) pushed c.in_ok-become_managed.ensures.grown
+    record {
+      ready = c.in_ok-become_managed.ensures.goes.ready;
+      grown = grown_on w u (now c.become_managed.new.work) pushed c.in_ok-become_managed.ensures.goes.grown;
+    }

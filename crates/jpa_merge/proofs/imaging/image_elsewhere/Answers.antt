@@ -1,4 +1,4 @@
-use Rattle.std.proofs.Common.{◌≡◌, ◌∙◌, List, ap, sym, get_or, None}
+use Rattle.std.proofs.Common.{◌≡◌, ◌∙◌, List, ap, sym, get_or, None, rules}
 use Rattle.std.proofs.lemmas.List.{get_or_default}
 use Rattle.jpa_behaviour.specs.Served.{world_of_unit}
 use Rattle.jpa_heap.specs.declared.LiveObject.{LiveObject}
@@ -8,8 +8,8 @@ use Rattle.jpa_context.specs.Work.{identity_at, object}
 use Rattle.jpa_merge.proofs.Sought.{images_unnamed}
 use Rattle.jpa_merge.proofs.imaging.image_elsewhere.Goals as goal
 
-pub returns-in-None-clause-meets : goal.returns-in-None-clause-meets
-returns-in-None-clause-meets g c =
+pub returns-in-None-clause-carries : goal.returns-in-None-clause-carries
+returns-in-None-clause-carries g c =
     let m = c.args.unit.now.metamodel in
     let world = world_of_unit g.B.Behaviour.meaning c.args.unit.now in
     let w = now c.args.work.now in
@@ -17,4 +17,8 @@ returns-in-None-clause-meets g c =
     let x = c.index-as_slice-node.result in
     let own : x ≡ object w n = c.index-as_slice-node.is ∙ ap (λ (os : List LiveObject). get_or os n x) c.as_slice.ensures ∙ get_or_default w.objects n x no_object c.requires.node in
     let unnamed : identity_at m w n ≡ None = ap (identity_of m) (sym own) ∙ sym c.in_ok-id.ensures.ok ∙ c.in-None.is in
-    images_unnamed world n w (now c.fresh_image.new.work) c.fresh_image.result unnamed (c.fresh_image.ensures.meets world)
+    record {
+      meets = images_unnamed world n w (now c.fresh_image.new.work) c.fresh_image.result unnamed (c.fresh_image.ensures.meets world);
+      view = search rules;
+      since = search rules;
+    }

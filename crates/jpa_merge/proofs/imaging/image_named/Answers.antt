@@ -4,13 +4,17 @@ use Rattle.jpa_context.specs.Undo.{now}
 use Rattle.jpa_merge.proofs.Sought.{images_row}
 use Rattle.jpa_merge.proofs.imaging.image_named.Goals as goal
 
-pub returns-in_default-get-clause-meets : goal.returns-in_default-get-clause-meets
-returns-in_default-get-clause-meets g c =
+pub returns-in_default-get-clause-carries : goal.returns-in_default-get-clause-carries
+returns-in_default-get-clause-carries g c =
     search (rules, c.fresh_image.ensures.meets (world_of_unit g.B.Behaviour.meaning c.args.unit.now))
 
 -- the row was loaded
-pub returns-clause-meets : goal.returns-clause-meets
-returns-clause-meets g c =
+pub returns-clause-carries : goal.returns-clause-carries
+returns-clause-carries g c =
     let world = world_of_unit g.B.Behaviour.meaning c.args.unit.now in
-    images_row world c.args.id.now c.in_ok-row.row c.in-Some-get.row.now (now c.args.work.now) (now c.image_of_row.new.work) (sym c.in_default.ensures.instance) (sym c.in-Some-get.ensures) c.in_ok-row.ensures.equal
-    c.args.node c.image_of_row.result c.image_of_row.ensures.meets
+    record {
+      meets = images_row world c.args.id.now c.in_ok-row.row c.in-Some-get.row.now (now c.args.work.now) (now c.image_of_row.new.work) (sym c.in_default.ensures.instance) (sym c.in-Some-get.ensures) c.in_ok-row.ensures.equal
+          c.args.node c.image_of_row.result c.image_of_row.ensures.carries.meets;
+      view = search rules;
+      since = search rules;
+    }

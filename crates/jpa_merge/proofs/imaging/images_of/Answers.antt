@@ -31,14 +31,14 @@ loop-node-preserved g c =
           let u = now v.image_of_node.new.work in
           let y = v.in_ok-image.image in
           let more : c.match-node.images ≡ so_far ++ y ∷ [] = v.images-is ∙ v.in_ok-push.ensures.ok in
-          let imaged : AreImaged u (so_far ++ y ∷ []) = All-push (IsImaged u) so_far y (are_imaged_on w u so_far v.in_ok-image.ensures.grown before.imaged) v.in_ok-image.ensures.imaged in
+          let imaged : AreImaged u (so_far ++ y ∷ []) = All-push (IsImaged u) so_far y (are_imaged_on w u so_far v.in_ok-image.ensures.goes.grown before.imaged) v.in_ok-image.ensures.imaged in
           record {
-            rest = (λ k. behind (more k) (collect image (live_nodes (drop (i + 1) nodes)) (now (v.work-is k)))) ∙ live_done image nodes i x c.loop-node-test.true c.node-item.is v.in-Live.object so_far y w u v.in-Live.is v.in_ok-image.ensures.meets ∙ before.rest;
+            rest = (λ k. behind (more k) (collect image (live_nodes (drop (i + 1) nodes)) (now (v.work-is k)))) ∙ live_done image nodes i x c.loop-node-test.true c.node-item.is v.in-Live.object so_far y w u v.in-Live.is v.in_ok-image.ensures.carries.meets ∙ before.rest;
             imaged = subst (λ (z : UnitOfWork). AreImaged (now z) c.match-node.images) (sym v.work-is) (subst (AreImaged u) (sym more) imaged);
-            ready = subst (λ (z : UnitOfWork). IsReady m (now z)) (sym v.work-is) v.in_ok-image.ensures.ready;
-            grown = subst (λ (z : UnitOfWork). HasGrown w0 (now z)) (sym v.work-is) (grown_on w0 w u before.grown v.in_ok-image.ensures.grown);
-            view = ap (λ (z : UnitOfWork). z.view) v.work-is ∙ v.image_of_node.ensures.view ∙ before.view;
-            since = ap (λ (z : UnitOfWork). since z) v.work-is ∙ v.image_of_node.ensures.since ∙ before.since;
+            ready = subst (λ (z : UnitOfWork). IsReady m (now z)) (sym v.work-is) v.in_ok-image.ensures.goes.ready;
+            grown = subst (λ (z : UnitOfWork). HasGrown w0 (now z)) (sym v.work-is) (grown_on w0 w u before.grown v.in_ok-image.ensures.goes.grown);
+            view = ap (λ (z : UnitOfWork). z.view) v.work-is ∙ v.image_of_node.ensures.carries.view ∙ before.view;
+            since = ap (λ (z : UnitOfWork). since z) v.work-is ∙ v.image_of_node.ensures.carries.since ∙ before.since;
           }
       | in_default v ↦
           record {

@@ -30,6 +30,6 @@ returns-clause-within g c =
     let v = now c.pre_persist_each.new.work in
     let list = c.in_ok-list.list in
     let same : c.first_image.result ≡ first_image n list = c.first_image.ensures ∙ ap (first_image n) (c.as_slice-3.ensures ∙ c.in_ok-images.ensures ∙ c.into_vec.ensures) in
-    let later = grown_on u t v c.in_ok-copy_nodes.ensures.grown c.in_ok-pre_persist_each.ensures.grown in
-    let start : n < length v.objects = let l = c.requires.object in let a = c.in_ok-list.ensures.grown.count in let b = later.count in omega (arith, l, a, b) in
+    let later = grown_on u t v c.in_ok-copy_nodes.ensures.goes.grown c.in_ok-pre_persist_each.ensures.goes.grown in
+    let start : n < length v.objects = let l = c.requires.object in let a = c.in_ok-list.ensures.goes.grown.count in let b = later.count in omega (arith, l, a, b) in
     subst (λ k. k < length v.objects) (sym same) (first_there v n list start (are_imaged_on u v list later c.in_ok-list.ensures.imaged))

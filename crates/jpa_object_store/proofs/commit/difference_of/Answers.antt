@@ -11,7 +11,8 @@ use Rattle.jpa_view.proofs.Described.{described_mapped}
 use Rattle.jpa_view.proofs.Rounds.{held_storable}
 use Rattle.jpa_object_rows.specs.Sets.{rows_of}
 use Rattle.jpa_overlay.specs.Overlay.{Changes, Recalls, rows_under}
-use Rattle.jpa_object_store.specs.Written.{IsDifference, entries_in, set_after}
+use Rattle.jpa_rows.specs.Commits.{IsDifference}
+use Rattle.jpa_object_store.specs.Written.{entries_in, set_after}
 use Rattle.jpa_object_store.specs.Shown.{Show, Recall}
 use Rattle.jpa_object_store.proofs.Commits.{begins, begins_noted, are_changes}
 use Rattle.jpa_object_store.proofs.commit.difference_of.Goals as goal

@@ -17,11 +17,8 @@ done c = search (rules, c.give_key.ensures.meets (without_functions c.args.metam
 goes : (c : goal.In_ok-push) → IsNamedFrom c.args.metamodel.now (now c.args.work.now) (now (after c))
 goes c = became (without_functions c.args.metamodel.now) c.args.object (now c.args.work.now) (now (after c)) c.requires.orderly c.requires.ready c.requires.object (done c)
 
-pub returns-clause-ready : goal.returns-clause-ready
-returns-clause-ready c = (goes c).from.ready
-
-pub returns-clause-grown : goal.returns-clause-grown
-returns-clause-grown c = (goes c).from.grown
+pub returns-clause-goes : goal.returns-clause-goes
+returns-clause-goes c = (goes c).from
 
 pub returns-clause-named : goal.returns-clause-named
 returns-clause-named c = (goes c).named

@@ -2,8 +2,10 @@ use Rattle.std.proofs.Common.{rules}
 use Rattle.jpa_behaviour.specs.Served.{world_of_unit}
 use Rattle.jpa_ops.proofs.persisting.persist_new.Goals as goal
 
-pub returns-in_err-become_managed-clause-meets : goal.returns-in_err-become_managed-clause-meets
-returns-in_err-become_managed-clause-meets g c = search (rules, c.become_managed.ensures.meets (world_of_unit g.B.Behaviour.meaning c.args.unit.now))
+pub returns-in_err-become_managed : goal.returns-in_err-become_managed
+returns-in_err-become_managed g c =
+    search (rules, c.become_managed.ensures.meets (world_of_unit g.B.Behaviour.meaning c.args.unit.now))
 
-pub returns-clause-meets : goal.returns-clause-meets
-returns-clause-meets g c = search (rules, c.become_managed.ensures.meets (world_of_unit g.B.Behaviour.meaning c.args.unit.now))
+pub returns : goal.returns
+returns g c =
+    search (rules, c.become_managed.ensures.meets (world_of_unit g.B.Behaviour.meaning c.args.unit.now))

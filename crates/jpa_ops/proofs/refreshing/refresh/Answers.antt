@@ -1,3 +1,4 @@
+use Rattle.jpa_fetch.specs.Grown.{GoesOn}
 use Rattle.std.proofs.Common.{◌∙◌, refl, ap}
 use Rattle.jpa_behaviour.specs.Served.{world_of_unit}
 use Rattle.jpa_open.specs.Opened as opened
@@ -7,7 +8,7 @@ use Rattle.jpa_cascade.specs.declared.Operation.{Operation}
 use Rattle.jpa_ops.specs.States.{refresh_node}
 use Rattle.jpa_ops.proofs.Going.{done_holds}
 use Rattle.jpa_ops.proofs.Refreshed.{refresh_node_goes}
-use Rattle.jpa_ops.proofs.Ready.{IsFrom, from_itself, there_still}
+use Rattle.jpa_ops.proofs.Ready.{from_itself, there_still}
 use Rattle.jpa_ops.proofs.Rounds.{next_done, node_there}
 use Rattle.jpa_ops.proofs.refreshing.refresh.Goals as goal
 
@@ -48,7 +49,7 @@ loop-node-preserved g c =
     (c.as_slice-node-items.ensures ∙ c.in_ok-nodes.ensures.waves) c.loop-node-test.true c.node-item.is in
     record {
       rest = next_done (refresh_node world) nodes c.loop-node.node-index x w w' c.loop-node-test.true c.node-item.is done ∙ c.loop-node.invariant.rest;
-      goes = done_holds (IsFrom m w0) (refresh_node world x w) tt w' done (refresh_node_goes world w0 x w first goes);
+      goes = done_holds (GoesOn m w0) (refresh_node world x w) tt w' done (refresh_node_goes world w0 x w first goes);
       view = c.refresh_node.ensures.view ∙ c.loop-node.invariant.view;
       since = c.refresh_node.ensures.since ∙ c.loop-node.invariant.since;
     }

@@ -42,10 +42,10 @@ loop-node-preserved g c =
     let x = c.node-item.result in
     let nodes = c.as_slice-node-items.result.now in
     let goes = c.loop-node.invariant.goes in
-    let done = c.in_ok-remove_node.ensures.meets in
+    let done = c.in_ok-remove_node.ensures.carries.meets in
     record {
       rest = next_done (remove_node world) nodes c.loop-node.node-index x w w' c.loop-node-test.true c.node-item.is done ∙ c.loop-node.invariant.rest;
-      goes = record { ready = c.in_ok-remove_node.ensures.ready; grown = grown_on w0 w w' goes.grown c.in_ok-remove_node.ensures.grown };
-      view = c.remove_node.ensures.view ∙ c.loop-node.invariant.view;
-      since = c.remove_node.ensures.since ∙ c.loop-node.invariant.since;
+      goes = record { ready = c.in_ok-remove_node.ensures.goes.ready; grown = grown_on w0 w w' goes.grown c.in_ok-remove_node.ensures.goes.grown };
+      view = c.remove_node.ensures.carries.view ∙ c.loop-node.invariant.view;
+      since = c.remove_node.ensures.carries.since ∙ c.loop-node.invariant.since;
     }

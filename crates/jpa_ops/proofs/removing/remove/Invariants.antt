@@ -1,9 +1,9 @@
+use Rattle.jpa_fetch.specs.Grown.{GoesOn}
 use Rattle.std.proofs.Common.{◌≡◌, drop}
 use Rattle.jpa_behaviour.specs.Served.{world_of_unit}
 use Rattle.jpa_context.specs.Steps.{each}
 use Rattle.jpa_context.specs.Undo.{now, since}
 use Rattle.jpa_ops.specs.States.{remove, remove_node}
-use Rattle.jpa_ops.proofs.Ready.{IsFrom}
 use Rattle.jpa_ops.proofs.removing.remove.Given as goal
 
 -- what is left gives what all was to give
@@ -11,7 +11,7 @@ abbrev pub invariant-loop-node : goal.invariant-loop-node
 invariant-loop-node g l = record {
   rest : each (remove_node (world_of_unit g.B.Behaviour.meaning l.unit)) (drop l.node-index l.node-items) (now l.work)
       ≡ remove (world_of_unit g.B.Behaviour.meaning l.unit) l.object (now l.fn.work);
-  goes : IsFrom l.unit.metamodel (now l.fn.work) (now l.work);
+  goes : GoesOn l.unit.metamodel (now l.fn.work) (now l.work);
   view : l.work.view ≡ l.fn.work.view;
   since : since l.work ≡ since l.fn.work;
 }

@@ -1,16 +1,16 @@
+use Rattle.jpa_fetch.specs.Grown.{GoesOn}
 use Rattle.std.proofs.Common.{subst}
-use Rattle.std.proofs.lemmas.Result.{on_ok_weaker}
 use Rattle.jpa_behaviour.specs.Served.{world_of_unit}
 use Rattle.jpa_context.specs.Steps.{Meets}
 use Rattle.jpa_context.specs.Undo.{now}
 use Rattle.jpa_ops.specs.States.{remove_live, remove_one}
 use Rattle.jpa_ops.proofs.Going.{met_holds}
-use Rattle.jpa_ops.proofs.Ready.{IsFrom, from_itself}
+use Rattle.jpa_ops.proofs.Ready.{from_itself}
 use Rattle.jpa_ops.proofs.Refreshed.{remove_live_goes}
 use Rattle.jpa_ops.proofs.removing.remove_live.Goals as goal
 
-pub returns-clause-ready : goal.returns-clause-ready
-returns-clause-ready g c =
+pub returns-clause-goes : goal.returns-clause-goes
+returns-clause-goes g c =
     let m = c.args.unit.now.metamodel in
     let world = world_of_unit g.B.Behaviour.meaning c.args.unit.now in
     let w = now c.args.work.now in
@@ -18,15 +18,4 @@ returns-clause-ready g c =
     let r = c.remove_one.result in
     let v = now c.remove_one.new.work in
     let met = subst (λ s. Meets r v (remove_one world n s w)) c.state_of-state.ensures c.remove_one.ensures.meets in
-    on_ok_weaker r (λ (h : IsFrom m w v). h.ready) (met_holds (IsFrom m w) r v (remove_live world n w) met (remove_live_goes world w n w c.requires.object (from_itself m w c.requires.ready)))
-
-pub returns-clause-grown : goal.returns-clause-grown
-returns-clause-grown g c =
-    let m = c.args.unit.now.metamodel in
-    let world = world_of_unit g.B.Behaviour.meaning c.args.unit.now in
-    let w = now c.args.work.now in
-    let n = c.args.object in
-    let r = c.remove_one.result in
-    let v = now c.remove_one.new.work in
-    let met = subst (λ s. Meets r v (remove_one world n s w)) c.state_of-state.ensures c.remove_one.ensures.meets in
-    on_ok_weaker r (λ (h : IsFrom m w v). h.grown) (met_holds (IsFrom m w) r v (remove_live world n w) met (remove_live_goes world w n w c.requires.object (from_itself m w c.requires.ready)))
+    met_holds (GoesOn m w) r v (remove_live world n w) met (remove_live_goes world w n w c.requires.object (from_itself m w c.requires.ready))

@@ -1,4 +1,4 @@
-use Rattle.std.proofs.Common.{sym}
+use Rattle.std.proofs.Common.{sym, rules}
 use Rattle.std.proofs.lemmas.Result.{err_from_is_err_and}
 use Rattle.jpa_behaviour.specs.Served.{world_of_unit}
 use Rattle.jpa_context.specs.Undo.{now}
@@ -6,17 +6,25 @@ use Rattle.jpa_ops.proofs.Refreshed.{removes_loaded, removes_refused}
 use Rattle.jpa_ops.proofs.removing.remove_under.Goals as goal
 
 -- the row was loaded
-pub returns-clause-meets : goal.returns-clause-meets
-returns-clause-meets g c =
+pub returns-clause-carries : goal.returns-clause-carries
+returns-clause-carries g c =
     let world = world_of_unit g.B.Behaviour.meaning c.args.unit.now in
-    removes_loaded world c.args.id.now c.in_ok-row.row c.in-Some-get.row.now c.in_ok-object.object (now c.args.work.now) (now c.load.new.work) (now c.remove_live-2.new.work) c.remove_live-2.result
-    (sym c.in_default.ensures.instance) (sym c.in-Some-get.ensures) c.in_ok-row.ensures.equal c.in_ok-object.ensures.meets c.remove_live-2.ensures.meets
+    record {
+      meets = removes_loaded world c.args.id.now c.in_ok-row.row c.in-Some-get.row.now c.in_ok-object.object (now c.args.work.now) (now c.load.new.work) (now c.remove_live-2.new.work) c.remove_live-2.result
+          (sym c.in_default.ensures.instance) (sym c.in-Some-get.ensures) c.in_ok-row.ensures.equal c.in_ok-object.ensures.carries.meets c.remove_live-2.ensures.carries.meets;
+      view = search rules;
+      since = search rules;
+    }
 
 -- it was not
-pub returns-in_err-object-clause-meets : goal.returns-in_err-object-clause-meets
-returns-in_err-object-clause-meets g c =
+pub returns-in_err-object-clause-carries : goal.returns-in_err-object-clause-carries
+returns-in_err-object-clause-carries g c =
     let world = world_of_unit g.B.Behaviour.meaning c.args.unit.now in
     let p = err_from_is_err_and c.from_residual-in_err-object.result c.from_residual-in_err-object.ensures.1 in
-    rw (p.1, p.2)
-    (removes_refused world c.args.id.now c.in_ok-row.row c.in-Some-get.row.now (now c.args.work.now) (now c.load.new.work) c.in_err-object.field-0.0
-    (sym c.in_default.ensures.instance) (sym c.in-Some-get.ensures) c.in_ok-row.ensures.equal c.in_err-object.ensures.meets)
+    record {
+      meets = rw (p.1, p.2)
+          (removes_refused world c.args.id.now c.in_ok-row.row c.in-Some-get.row.now (now c.args.work.now) (now c.load.new.work) c.in_err-object.field-0.0
+          (sym c.in_default.ensures.instance) (sym c.in-Some-get.ensures) c.in_ok-row.ensures.equal c.in_err-object.ensures.carries.meets);
+      view = search rules;
+      since = search rules;
+    }

@@ -14,7 +14,7 @@ use Rattle.jpa_queries.specs.Premises.{StaysReady}
 use Rattle.jpa_fetch.specs.Grown.{IsReady}
 use Rattle.jpa_ops.specs.Names.{has_distinct_entries}
 use Rattle.jpa_protocol.specs.declared.call.Call.{Call}
-use Rattle.jpa_object_store.specs.Written.{RunsAtMost, RunsDifference}
+use Rattle.jpa_rows.specs.Commits.{RunsAtMost, RunsDifference}
 use Rattle.jpa_provider.specs.Provided.{rows_made}
 use Rattle.jpa_provider.specs.Serving.{machine_of, is_begun_status}
 use Rattle.jpa_provider.specs.Beside.{Rises}
@@ -25,6 +25,7 @@ use Rattle.jpa_provider.proofs.Crashed.{made_by, not_accepted}
 use Rattle.jpa_machine.proofs.AtWork.{work_ready}
 use Rattle.jpa_provider.proofs.Marked.{still_marked, taken_marked}
 use Rattle.jpa_provider.proofs.Worked.{still_working}
+use Rattle.jpa_rows.proofs.Commits.{of_refusal}
 use Rattle.jpa_provider.proofs.committing.commit_active.Goals as goal
 
 pub commit_work-requires-clause-ready : goal.commit_work-requires-clause-ready
@@ -213,7 +214,7 @@ returns-in-Ok-clause-holds g c = λ clean.
     let s = c.args.session.now in
     let u = c.commit_work.new.work in
     let working = still_working c.take_work.new.session u c.take_work.ensures.working c.commit_work.ensures.since in
-    c.store_commit.ensures.holds (machine_of s) (committing s _ c.args.manager (ap is_begun_status c.requires.active) working) (c.requires.holds (c.store_commit.ensures.was_clean clean))
+    c.store_commit.ensures.holds (machine_of s) (committing s _ c.args.manager (ap is_begun_status c.requires.active) working) (c.requires.holds (c.store_commit.ensures.commits.makes.was_clean clean))
 
 pub returns-in-Ok-clause-crash : goal.returns-in-Ok-clause-crash
 returns-in-Ok-clause-crash g c = λ em named clean.
@@ -225,9 +226,9 @@ returns-in-Ok-clause-crash g c = λ em named clean.
     let away = (still_working c.take_work.new.session u c.take_work.ensures.working c.commit_work.ensures.since).away in
     let taken = committing s c.take_work.new.session m (ap is_begun_status c.requires.active) c.take_work.ensures.working in
     let done = sym (same_work c.take_work.new.session taken world c.take_work.ensures.work) ∙ c.in-Ok.ensures.meets in
-    let held = subst (g.R.RowSource.holds rows) (λ i. rows_of world (sym away.committed i) (sym away.stored i)) (c.requires.holds (c.store_commit.ensures.was_clean clean)) in
+    let held = subst (g.R.RowSource.holds rows) (λ i. rows_of world (sym away.committed i) (sym away.stored i)) (c.requires.holds (c.store_commit.ensures.commits.makes.was_clean clean)) in
     let made : rows_of world (u.view).seen u.numbers.now ≡ rows_made world (machine_of s) (Call.Commit em) = made_by world s em m named c.requires.active (now u) done in
-    subst (λ (stood : Rows). g.R.RowSource.endures rows c.store_commit.new.rows (λ left. left ≡ stood)) made (c.store_commit.ensures.crash held)
+    subst (λ (stood : Rows). g.R.RowSource.endures rows c.store_commit.new.rows (λ left. left ≡ stood)) made (c.store_commit.ensures.commits.makes.crash held)
 
 pub returns-in-Ok-clause-counted : goal.returns-in-Ok-clause-counted
 returns-in-Ok-clause-counted g c = λ em named.
@@ -240,7 +241,7 @@ returns-in-Ok-clause-counted g c = λ em named.
     let done = sym (same_work c.take_work.new.session taken world c.take_work.ensures.work) ∙ c.in-Ok.ensures.meets in
     let made : rows_of world (u.view).seen u.numbers.now ≡ rows_made world (machine_of s) (Call.Commit em) = made_by world s em m named c.requires.active (now u) done in
     subst (λ (p : Rows × Rows). OnOk c.store_commit.result.answer (RunsDifference p.0 p.1 (g.R.RowSource.writes c.args.rows.now) (g.R.RowSource.writes c.store_commit.new.rows)))
-    (λ i. (rows_of world (away.committed i) (away.stored i), made i)) c.store_commit.ensures.counted
+    (λ i. (rows_of world (away.committed i) (away.stored i), made i)) c.store_commit.ensures.commits.counted
 
 pub returns-in-Ok-clause-bounded : goal.returns-in-Ok-clause-bounded
 returns-in-Ok-clause-bounded g c = λ em named refused.
@@ -254,7 +255,7 @@ returns-in-Ok-clause-bounded g c = λ em named refused.
     let done = sym (same_work c.take_work.new.session taken world c.take_work.ensures.work) ∙ c.in-Ok.ensures.meets in
     let made : rows_of world (u.view).seen u.numbers.now ≡ rows_made world (machine_of s) (Call.Commit em) = made_by world s em m named c.requires.active (now u) done in
     subst (λ (p : Rows × Rows). (c.store_commit.new.rows ≡ rows) ⊎ RunsAtMost p.0 p.1 (g.R.RowSource.writes rows) (g.R.RowSource.writes c.store_commit.new.rows))
-    (λ i. (rows_of world (away.committed i) (away.stored i), made i)) (c.store_commit.ensures.bounded refused)
+    (λ i. (rows_of world (away.committed i) (away.stored i), made i)) (of_refusal c.store_commit.result.answer refused c.store_commit.ensures.commits.bounded)
 
 pub returns-in-Ok-clause-refused : goal.returns-in-Ok-clause-refused
 returns-in-Ok-clause-refused g c = λ refused. inl (c.store_commit.ensures.refused refused)

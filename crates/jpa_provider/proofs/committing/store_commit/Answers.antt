@@ -1,4 +1,4 @@
-use Rattle.std.proofs.Common.{◌≡◌, ◌⊎◌, inl, inr, refl, ap, sym, subst, ◌∙◌}
+use Rattle.std.proofs.Common.{◌≡◌, ◌⊎◌, inl, inr, refl, ap, sym, subst, ◌∙◌, rules}
 use Rattle.std.specs.Prelude.{Ok}
 use Rattle.jpa_behaviour.specs.Served.{world_of_unit}
 use Rattle.jpa_object_rows.specs.Sets.{rows_of}
@@ -14,12 +14,11 @@ use Rattle.jpa_provider.specs.Provided.{rows_kept}
 use Rattle.jpa_provider.proofs.Committed.{still_committing}
 use Rattle.jpa_provider.proofs.Ended.{away_beside}
 use Rattle.jpa_provider.proofs.Walks.{looked_as, ready_seen, untouched_managed, untouched_seen}
+use Rattle.jpa_rows.proofs.Commits.{none_tried}
 use Rattle.jpa_provider.proofs.committing.store_commit.Goals as goal
 
-pub returns-in-Err-clause-crash : goal.returns-in-Err-clause-crash
-returns-in-Err-clause-crash g c = λ held.
-    let rows = c.args.rows.now in
-    g.R.RowSource.wider rows rows _ _ (λ left none. absurd none) (g.met.R.RowSource.still rows)
+pub returns-in-Err-clause-commits : goal.returns-in-Err-clause-commits
+returns-in-Err-clause-commits g c = none_tried g.R.RowSource _ _ _ c.because.result.answer c.args.rows.now (search rules) (g.met.R.RowSource.still c.args.rows.now) (search rules)
 
 pub returns-in-Err-clause-marked : goal.returns-in-Err-clause-marked
 returns-in-Err-clause-marked g c = λ M h away. c.restore.ensures.marked c.args.unit.now.metamodel M h.working away
@@ -41,10 +40,8 @@ end_commit-requires-clause-looked g c =
 
 -- ---- there was no room
 
-pub returns-in-Err-room-clause-crash : goal.returns-in-Err-room-clause-crash
-returns-in-Err-room-clause-crash g c = λ held.
-    let rows = c.args.rows.now in
-    g.R.RowSource.wider rows rows _ _ (λ left none. absurd none) (g.met.R.RowSource.still rows)
+pub returns-in-Err-room-clause-commits : goal.returns-in-Err-room-clause-commits
+returns-in-Err-room-clause-commits g c = none_tried g.R.RowSource _ _ _ c.because-in-Err-room.result.answer c.args.rows.now (search rules) (g.met.R.RowSource.still c.args.rows.now) (search rules)
 
 pub returns-in-Err-room-clause-stores : goal.returns-in-Err-room-clause-stores
 returns-in-Err-room-clause-stores g c = λ M h.
@@ -116,7 +113,7 @@ returns-in-Err-stored-clause-holds g c = λ M h held.
     let room = c.make_room-room in
     let t : Session = record s { managers = room.new.managers; work = record s.work { view = room.new.view } } in
     let there = still_committing s t room.ensures.undone room.ensures.held refl refl refl refl refl h in
-    subst (λ (N : Machine). g.R.RowSource.holds c.write-stored.new.source (rows_kept world N)) (sym (c.restore-in-Err-stored.ensures.back M there.working)) (c.in-Err-stored.ensures.err (rows_kept world M) held)
+    subst (λ (N : Machine). g.R.RowSource.holds c.write-stored.new.source (rows_kept world N)) (sym (c.restore-in-Err-stored.ensures.back M there.working)) (c.in-Err-stored.ensures.commits.makes.kept (rows_kept world M) held)
 
 -- ---- it was stored
 
@@ -157,4 +154,4 @@ returns-clause-holds g c = λ M h held.
     let away = (there.working).away in
     let had = subst (g.R.RowSource.holds c.args.rows.now) (λ i. rows_of world (sym away.committed i) ((sym away.stored ∙ sym c.as_slice-2.ensures) i)) held in
     let made = ap (rows_of world (room.new.view).seen) (c.as_slice-3.ensures ∙ c.in-Ok.ensures.next) ∙ sym (ap (rows_kept world) (c.end_commit.ensures.ended M there)) in
-    subst (g.R.RowSource.holds c.write-stored.new.source) made (c.in_default-stored.ensures.ok had)
+    subst (g.R.RowSource.holds c.write-stored.new.source) made (c.in_default-stored.ensures.commits.makes.done had)

@@ -6,7 +6,7 @@ use Rattle.jpa_context.specs.Steps.{Op}
 use Rattle.jpa_protocol.specs.declared.reply.Answer.{Answer}
 use Rattle.jpa_machine.specs.Routes.{OfManager, OfObject, route, get_call, set_call, add_call, take_out_call, persist_call, remove_call, refresh_call, detach_call, find_call, get_reference_call}
 use Rattle.jpa_protocol.specs.declared.call.Call.{Call}
-use Rattle.jpa_object_store.specs.Written.{RunsAtMost}
+use Rattle.jpa_rows.specs.Commits.{RunsAtMost}
 use Rattle.jpa_provider.specs.Provided.{rows_kept, rows_made}
 use Rattle.jpa_provider.specs.Serving.{machine_of}
 use Rattle.jpa_provider.proofs.Serving.{entries_in}

@@ -19,18 +19,23 @@ use Rattle.jpa_value.specs.declared.list.Seq.TheView.{view, invariant}
 use Rattle.jpa_value.specs.contracts.list.Seq as C
 use Rattle.jpa_value.specs.contracts.list.Seq.TheInside as I
 
+-- what a `Seq` holds of the type that is left open: a list
 abbrev pub the_former : Former {0} → Former {0}
 the_former g = list g
 
+-- what can be weighed can be weighed in a `Seq`
 abbrev pub the_weighed : {g : Former {0}} → Weighed g → Weighed (the_former g)
 the_weighed w = w_list w
 
+-- a `Seq` without items
 pub the_empty : List ⊥
 the_empty = []
 
+-- the items of a `Seq`
 abbrev pub the_items : (X : Type 0) → List X → List X
 the_items X d = d
 
+-- what a `Seq` holds, as a list, is its items
 pub the_items_listed : (X : Type 0) (d : List X) → listed _ (children (the_former this) X d) ≡ the_items X d
 the_items_listed X d = list-listed X d
 
@@ -38,11 +43,13 @@ abbrev fields : Former {0}
 fields = via (vec.the_former this Global) Inside (λ X a. a.items) (λ X v. record { items = v }) (λ X a. refl) (λ X v. refl)
 
 module _ (R S : RattleType) (h : R.Denot → S.Denot) where
+  -- where two types are alike by a function, lists of them are
   pub the_places : Alike R S h → Alike (C.the_row R) (C.the_row S) ((the_former this).map R.Denot S.Denot h)
   the_places a = view_places fields (list this) view (λ X Y k u. refl) (λ X u. refl) R.Denot S.Denot h (C.the_row R).coded (C.the_row S).coded
       (invariant R.Denot) (invariant S.Denot) (λ u p q. refl) (λ u p q. refl) (λ u e. tt) (λ u e. tt)
       (over (I.the_row R)) (over (I.the_row S))
       (struct_places (I.the_type R) (I.the_type S) (vec.mapped h, tt) _ (λ d. refl) refl (laid _ _ _ (vec.the_places heap.the_row ghosts R S h a), tt))
 
+  -- where a function keeps the codes of a type, it does so in lists
   pub the_codes_placed : Recodes R S h → Recodes (C.the_row R) (C.the_row S) ((the_former this).map R.Denot S.Denot h)
   the_codes_placed e d = sym (code_map R.coded.code S.coded.code h (λ x. sym (e x)) d)

@@ -1,15 +1,22 @@
-use Rattle.std.proofs.Common.{◌≡◌, ◌∙◌, to_z-of_z}
-use Rattle.std.proofs.lemmas.Result.{IfErr-weaker}
-use Rattle.jpa_cells_meaning.specs.Tables.{HandsSome}
-use Rattle.jpa_cells_meaning.specs.Store.{tables_in}
+use Rattle.std.specs.Prelude.{◌≡◌, ◌⊎◌, [], IsErr, IsErrAnd}
+use Rattle.std.proofs.Common.{◌∙◌, inl, inr, refl, to_z-of_z, rules}
+use Rattle.jpa_value.specs.declared.refusal.Cause.{Cause}
+use Rattle.jpa_value.specs.declared.refusal.Cause.TheVariants as cause
+use Rattle.jpa_row_laws.proofs.Handing.{hands_weaker}
 use Rattle.jpa_cells.proofs.store.CellStore.each.Goals as goal
 
-pub returns-clause-taken : goal.returns-clause-taken
-returns-clause-taken g c clean =
-    let same : c.into_vec.result.items ≡ tables_in g.S.Store c.args.self.now.conn c.args.table = c.into_vec.ensures ∙ rw (to_z-of_z c.ranges.table) at (c.in_ok-rows.ensures.rows clean) in
-    rw same at c.hand_on.ensures.taken
+abbrev Fails : Cause → Type 0
+Fails e = (e ≡ cause.OutOfMemory) ⊎ (e ≡ cause.StoreFault)
 
-pub returns-clause-refused : goal.returns-clause-refused
-returns-clause-refused g c clean =
-    let same : c.into_vec.result.items ≡ tables_in g.S.Store c.args.self.now.conn c.args.table = c.into_vec.ensures ∙ rw (to_z-of_z c.ranges.table) at (c.in_ok-rows.ensures.rows clean) in
-    IfErr-weaker c.hand_on.result _ (λ _. HandsSome (g.K.RowSink.stops c.args.sink.now) (tables_in g.S.Store c.args.self.now.conn c.args.table) (g.K.RowSink.taken c.args.sink.now) (g.K.RowSink.taken c.hand_on.new.sink)) (λ e h. let it : HandsSome (g.K.RowSink.stops c.args.sink.now) c.into_vec.result.items (g.K.RowSink.taken c.args.sink.now) (g.K.RowSink.taken c.hand_on.new.sink) = h.0 in rw same at it) c.hand_on.ensures.refused
+pub returns-clause-handed : goal.returns-clause-handed
+returns-clause-handed g c = (
+  c.into_vec.result.items,
+  λ clean. inl ((c.in_ok-rows.ensures.open clean).0, c.into_vec.ensures ∙ rw (to_z-of_z c.ranges.table) at (c.in_ok-rows.ensures.rows clean)),
+  hands_weaker g.K.CellSink.takes (λ _. ⊥) Fails (λ e h. absurd h) c.args.sink.now c.into_vec.result.items c.hand_on.result c.hand_on.new.sink c.hand_on.ensures.handed,
+)
+
+pub returns-in_err-rows-clause-handed : goal.returns-in_err-rows-clause-handed
+returns-in_err-rows-clause-handed g c =
+    let cut : IsErrAnd c.from_residual.result Fails = search rules in
+    let failed : IsErr c.from_residual.result = search rules in
+    ([], λ _. inr (failed, refl), (inr cut, refl))

@@ -1,4 +1,4 @@
-use Rattle.std.specs.Prelude.{◌≡◌, ◌⊎◌, ◌+◌, ◌≤◌, Option, Some, T, All, length}
+use Rattle.std.specs.Prelude.{◌≡◌, ◌⊎◌, ◌+◌, Option, Some, T, All, length}
 use Rattle.std.proofs.Common.{sym, ap, subst, ◌∙◌, get_or, inl, inr, arith}
 use Rattle.std.proofs.lemmas.List.{take_all}
 use Rattle.std.proofs.lemmas.List.Elements.{All-push}
@@ -30,9 +30,10 @@ loop-entry-preserved g c =
       told = c.in_ok-there.ensures.told ∙ c.loop-entry.invariant.told;
       was_clean = λ clean. c.loop-entry.invariant.was_clean (c.get-in-loop-entry.ensures.was_clean clean);
       read = one_more c.loop-entry.entry-index _ _ _ c.loop-entry.invariant.read c.get-in-loop-entry.ensures.read;
+      tables = c.get-in-loop-entry.ensures.tables ∙ c.loop-entry.invariant.tables;
       unwritten = c.get-in-loop-entry.ensures.unwritten ∙ c.loop-entry.invariant.unwritten;
-      crash = g.R.RowSource.wider c.args.source.now c.get-in-loop-entry.new.self (λ _. ⊥ ⊎ ⊥) (λ _. ⊥) (λ rows none. elim none [ inl x ↦ x | inr x ↦ x ])
-          (g.R.RowSource.then c.args.source.now c.loop-entry.source c.get-in-loop-entry.new.self (λ _. ⊥) (λ _. ⊥) c.loop-entry.invariant.schema c.loop-entry.invariant.crash c.get-in-loop-entry.ensures.crash);
+      crash = g.R.RowReader.wider c.args.source.now c.get-in-loop-entry.new.self (λ _. ⊥ ⊎ ⊥) (λ _. ⊥) (λ rows none. elim none [ inl x ↦ x | inr x ↦ x ])
+          (g.R.RowReader.then c.args.source.now c.loop-entry.source c.get-in-loop-entry.new.self (λ _. ⊥) (λ _. ⊥) c.loop-entry.invariant.schema c.loop-entry.invariant.crash c.get-in-loop-entry.ensures.crash);
       real = λ clean rows holds.
           let so_far = c.loop-entry.invariant.real (c.get-in-loop-entry.ensures.was_clean clean) rows holds in
           let below = c.in_ok-there.ensures.ok clean rows (c.loop-entry.invariant.kept rows holds) in
@@ -89,13 +90,16 @@ returns-in_err-there-clause-read g c =
     within (c.loop-entry.entry-index + 1) (length c.args.self.now) _ _ (omega (arith, many, c.loop-entry-test.true))
     (one_more c.loop-entry.entry-index _ _ _ c.loop-entry.invariant.read c.get-in-loop-entry.ensures.read)
 
+pub returns-in_err-there-clause-tables : goal.returns-in_err-there-clause-tables
+returns-in_err-there-clause-tables g c = c.get-in-loop-entry.ensures.tables ∙ c.loop-entry.invariant.tables
+
 pub returns-in_err-there-clause-unwritten : goal.returns-in_err-there-clause-unwritten
 returns-in_err-there-clause-unwritten g c = c.get-in-loop-entry.ensures.unwritten ∙ c.loop-entry.invariant.unwritten
 
 pub returns-in_err-there-clause-crash : goal.returns-in_err-there-clause-crash
 returns-in_err-there-clause-crash g c =
-    g.R.RowSource.wider c.args.source.now c.get-in-loop-entry.new.self (λ _. ⊥ ⊎ ⊥) (λ _. ⊥) (λ rows none. elim none [ inl x ↦ x | inr x ↦ x ])
-    (g.R.RowSource.then c.args.source.now c.loop-entry.source c.get-in-loop-entry.new.self (λ _. ⊥) (λ _. ⊥) c.loop-entry.invariant.schema c.loop-entry.invariant.crash c.get-in-loop-entry.ensures.crash)
+    g.R.RowReader.wider c.args.source.now c.get-in-loop-entry.new.self (λ _. ⊥ ⊎ ⊥) (λ _. ⊥) (λ rows none. elim none [ inl x ↦ x | inr x ↦ x ])
+    (g.R.RowReader.then c.args.source.now c.loop-entry.source c.get-in-loop-entry.new.self (λ _. ⊥) (λ _. ⊥) c.loop-entry.invariant.schema c.loop-entry.invariant.crash c.get-in-loop-entry.ensures.crash)
 
 pub returns-in_err-try_copy-clause-read : goal.returns-in_err-try_copy-clause-read
 returns-in_err-try_copy-clause-read g c =
@@ -103,13 +107,16 @@ returns-in_err-try_copy-clause-read g c =
     within (c.loop-entry.entry-index + 1) (length c.args.self.now) _ _ (omega (arith, many, c.loop-entry-test.true))
     (one_more c.loop-entry.entry-index _ _ _ c.loop-entry.invariant.read c.get-in-loop-entry.ensures.read)
 
+pub returns-in_err-try_copy-clause-tables : goal.returns-in_err-try_copy-clause-tables
+returns-in_err-try_copy-clause-tables g c = c.get-in-loop-entry.ensures.tables ∙ c.loop-entry.invariant.tables
+
 pub returns-in_err-try_copy-clause-unwritten : goal.returns-in_err-try_copy-clause-unwritten
 returns-in_err-try_copy-clause-unwritten g c = c.get-in-loop-entry.ensures.unwritten ∙ c.loop-entry.invariant.unwritten
 
 pub returns-in_err-try_copy-clause-crash : goal.returns-in_err-try_copy-clause-crash
 returns-in_err-try_copy-clause-crash g c =
-    g.R.RowSource.wider c.args.source.now c.get-in-loop-entry.new.self (λ _. ⊥ ⊎ ⊥) (λ _. ⊥) (λ rows none. elim none [ inl x ↦ x | inr x ↦ x ])
-    (g.R.RowSource.then c.args.source.now c.loop-entry.source c.get-in-loop-entry.new.self (λ _. ⊥) (λ _. ⊥) c.loop-entry.invariant.schema c.loop-entry.invariant.crash c.get-in-loop-entry.ensures.crash)
+    g.R.RowReader.wider c.args.source.now c.get-in-loop-entry.new.self (λ _. ⊥ ⊎ ⊥) (λ _. ⊥) (λ rows none. elim none [ inl x ↦ x | inr x ↦ x ])
+    (g.R.RowReader.then c.args.source.now c.loop-entry.source c.get-in-loop-entry.new.self (λ _. ⊥) (λ _. ⊥) c.loop-entry.invariant.schema c.loop-entry.invariant.crash c.get-in-loop-entry.ensures.crash)
 
 pub returns-in_err-copy_row-clause-read : goal.returns-in_err-copy_row-clause-read
 returns-in_err-copy_row-clause-read g c =
@@ -117,13 +124,16 @@ returns-in_err-copy_row-clause-read g c =
     within (c.loop-entry.entry-index + 1) (length c.args.self.now) _ _ (omega (arith, many, c.loop-entry-test.true))
     (one_more c.loop-entry.entry-index _ _ _ c.loop-entry.invariant.read c.get-in-loop-entry.ensures.read)
 
+pub returns-in_err-copy_row-clause-tables : goal.returns-in_err-copy_row-clause-tables
+returns-in_err-copy_row-clause-tables g c = c.get-in-loop-entry.ensures.tables ∙ c.loop-entry.invariant.tables
+
 pub returns-in_err-copy_row-clause-unwritten : goal.returns-in_err-copy_row-clause-unwritten
 returns-in_err-copy_row-clause-unwritten g c = c.get-in-loop-entry.ensures.unwritten ∙ c.loop-entry.invariant.unwritten
 
 pub returns-in_err-copy_row-clause-crash : goal.returns-in_err-copy_row-clause-crash
 returns-in_err-copy_row-clause-crash g c =
-    g.R.RowSource.wider c.args.source.now c.get-in-loop-entry.new.self (λ _. ⊥ ⊎ ⊥) (λ _. ⊥) (λ rows none. elim none [ inl x ↦ x | inr x ↦ x ])
-    (g.R.RowSource.then c.args.source.now c.loop-entry.source c.get-in-loop-entry.new.self (λ _. ⊥) (λ _. ⊥) c.loop-entry.invariant.schema c.loop-entry.invariant.crash c.get-in-loop-entry.ensures.crash)
+    g.R.RowReader.wider c.args.source.now c.get-in-loop-entry.new.self (λ _. ⊥ ⊎ ⊥) (λ _. ⊥) (λ rows none. elim none [ inl x ↦ x | inr x ↦ x ])
+    (g.R.RowReader.then c.args.source.now c.loop-entry.source c.get-in-loop-entry.new.self (λ _. ⊥) (λ _. ⊥) c.loop-entry.invariant.schema c.loop-entry.invariant.crash c.get-in-loop-entry.ensures.crash)
 
 pub returns-in_err-push-clause-read : goal.returns-in_err-push-clause-read
 returns-in_err-push-clause-read g c =
@@ -131,13 +141,16 @@ returns-in_err-push-clause-read g c =
     within (c.loop-entry.entry-index + 1) (length c.args.self.now) _ _ (omega (arith, many, c.loop-entry-test.true))
     (one_more c.loop-entry.entry-index _ _ _ c.loop-entry.invariant.read c.get-in-loop-entry.ensures.read)
 
+pub returns-in_err-push-clause-tables : goal.returns-in_err-push-clause-tables
+returns-in_err-push-clause-tables g c = c.get-in-loop-entry.ensures.tables ∙ c.loop-entry.invariant.tables
+
 pub returns-in_err-push-clause-unwritten : goal.returns-in_err-push-clause-unwritten
 returns-in_err-push-clause-unwritten g c = c.get-in-loop-entry.ensures.unwritten ∙ c.loop-entry.invariant.unwritten
 
 pub returns-in_err-push-clause-crash : goal.returns-in_err-push-clause-crash
 returns-in_err-push-clause-crash g c =
-    g.R.RowSource.wider c.args.source.now c.get-in-loop-entry.new.self (λ _. ⊥ ⊎ ⊥) (λ _. ⊥) (λ rows none. elim none [ inl x ↦ x | inr x ↦ x ])
-    (g.R.RowSource.then c.args.source.now c.loop-entry.source c.get-in-loop-entry.new.self (λ _. ⊥) (λ _. ⊥) c.loop-entry.invariant.schema c.loop-entry.invariant.crash c.get-in-loop-entry.ensures.crash)
+    g.R.RowReader.wider c.args.source.now c.get-in-loop-entry.new.self (λ _. ⊥ ⊎ ⊥) (λ _. ⊥) (λ rows none. elim none [ inl x ↦ x | inr x ↦ x ])
+    (g.R.RowReader.then c.args.source.now c.loop-entry.source c.get-in-loop-entry.new.self (λ _. ⊥) (λ _. ⊥) c.loop-entry.invariant.schema c.loop-entry.invariant.crash c.get-in-loop-entry.ensures.crash)
 
 pub returns-clause-read : goal.returns-clause-read
 returns-clause-read g c =

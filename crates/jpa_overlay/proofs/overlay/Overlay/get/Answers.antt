@@ -16,13 +16,13 @@ returns-in-Ok-clause-ok g c = λ clean.
     let at = c.in-Ok.at in
     let entry = c.index.result.now in
     let there = ap (λ e. Some e.1) (c.get.ensures ∙ c.index.ensures ∙ ap (λ es. get_or es at entry) c.self.view_is) in
-    got_changed c.copy_row.result cs id c.get.result.now.1 (g.R.RowSource.holds c.args.source.now) (find_at identity_total cs id at entry sorted c.in-Ok.ensures.found ∙ sym there) c.copy_row.ensures.equal
+    got_changed c.copy_row.result cs id c.get.result.now.1 (g.R.RowReader.holds c.args.source.now) (find_at identity_total cs id at entry sorted c.in-Ok.ensures.found ∙ sym there) c.copy_row.ensures.equal
 
 pub returns-in-Err-clause-ok : goal.returns-in-Err-clause-ok
 returns-in-Err-clause-ok g c = λ clean.
     let cs = c.args.self.now in
     let id = c.args.id.now in
-    got_below c.get-in-Err.result cs id (g.R.RowSource.holds c.args.source.now) (find_gap identity_total cs id c.in-Err.field-0 c.in-Err.ensures.absent) (c.get-in-Err.ensures.ok clean)
+    got_below c.get-in-Err.result cs id (g.R.RowReader.holds c.args.source.now) (find_gap identity_total cs id c.in-Err.field-0 c.in-Err.ensures.absent) (c.get-in-Err.ensures.ok clean)
 
 pub returns-in-Err-clause-own : goal.returns-in-Err-clause-own
 returns-in-Err-clause-own g c = λ some. absurd (false≢true (subst IsSome (find_gap identity_total c.args.self.now c.args.id.now c.in-Err.field-0 c.in-Err.ensures.absent) some))

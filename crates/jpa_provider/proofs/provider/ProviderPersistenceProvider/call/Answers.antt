@@ -1,6 +1,6 @@
 use Rattle.std.proofs.Common.{rules, ◌≡◌, true, subst}
 use Rattle.std.specs.Prelude.{OnOk}
-use Rattle.jpa_object_store.specs.Written.{RunsDifference}
+use Rattle.jpa_rows.specs.Commits.{RunsDifference}
 use Rattle.jpa_machine.specs.Routes.{is_commit}
 use Rattle.jpa_provider.specs.Provided.{Provided, world_in, rows_kept, rows_made}
 use Rattle.jpa_provider.proofs.provider.ProviderPersistenceProvider.call.Goals as goal

@@ -1,0 +1,33 @@
+use Rattle.std.proofs.Common.{◌≡◌, sym, ap, subst}
+use Rattle.jpa_rows.specs.declared.schema.Schema.{Schema}
+use Rattle.jpa_rowspace.specs.Space.{Space, HoldsRows}
+use Rattle.jpa_rowspace.proofs.Holding.{clean_before, keeps_rows, gets, gets_err, crash_none}
+use Rattle.jpa_rowspace.proofs.Told.{counted}
+use Rattle.jpa_rowspace.proofs.space.RowSpaceRowReader.get.Goals as goal
+
+pub returns-clause-ok : goal.returns-clause-ok
+returns-clause-ok g c clean =
+    let old = c.args.self.now.store.conn in
+    let new = c.get.new.self.store.conn in
+    gets g.S.Store c.args.self.now.schema c.args.id.now old new c.get.result c.get.ensures.found (λ is. (c.get.ensures.unknown is).0) c.get.ensures.open
+    (clean_before g.S.Store old new (λ _. ⊥) c.get.ensures.crash) clean
+
+pub returns-clause-err : goal.returns-clause-err
+returns-clause-err g c clean =
+    let old = c.args.self.now.store.conn in
+    let new = c.get.new.self.store.conn in
+    gets_err g.S.Store c.args.self.now.schema c.args.id.now old new c.get.result c.get.ensures.refused (λ is. (c.get.ensures.unknown is).0)
+    (clean_before g.S.Store old new (λ _. ⊥) c.get.ensures.crash) clean
+
+pub returns-clause-kept : goal.returns-clause-kept
+returns-clause-kept g c rows held =
+    let old = c.args.self.now.store.conn in
+    let new = c.get.new.self.store.conn in
+    let same : c.get.new.self.schema ≡ c.args.self.now.schema = ap (λ (s : Space g.row.S.Denot). s.schema) c.get.ensures.others in
+    subst (λ (schema : Schema). HoldsRows g.S.Store schema new rows) (sym same) (keeps_rows g.S.Store c.args.self.now.schema old new (λ _. ⊥) c.get.ensures.kept c.get.ensures.crash rows held)
+
+pub returns-clause-told : goal.returns-clause-told
+returns-clause-told g c = counted c.args.self.now.store.faults c.get.new.self.store.faults c.get.result c.get.ensures.told
+
+pub returns-clause-crash : goal.returns-clause-crash
+returns-clause-crash g c = crash_none g.S.Store c.args.self.now.schema c.args.self.now.store.conn c.get.new.self.store.conn c.get.ensures.crash

@@ -1,0 +1,78 @@
+//! From rows of cells to rows, one at a time.
+ghost use Rattle.std.specs.Prelude.{◌≡◌, ◌≢◌, ◌⊎◌, ◌+◌, [], pos, List, Err, IsErr, OnOk};
+ghost use Rattle.jpa_value.specs.declared.refusal.Cause.{Cause};
+ghost use Rattle.jpa_row_laws.specs.Handing.{Hands};
+ghost use Rattle.jpa_cells_meaning.specs.declared.CellRow.{CellRow};
+ghost use Rattle.jpa_cells_meaning.specs.Tables.{AreRows};
+ghost use Rattle.jpa_cells_meaning.specs.Store.{up_to_greatest, faults_after, IsClean, IsOpen, tables_in, Keeps, Endures, HasFault};
+ghost use Rattle.jpa_rowspace.specs.Reading.{ReadsRow};
+ghost use Rattle.jpa_rowspace.specs.Space.{IsStoreCause};
+
+use crate::read::entry_of;
+use crate::spell::number_of;
+use jpa_cells::{CellSink, CellStore};
+use jpa_cells_meaning::CellRow;
+use jpa_rows::{RowSink, TableRule};
+use jpa_value::Cause;
+use sqlite::Alter;
+use std::alloc::Global;
+
+/// Hands rows of cells on as the rows of a table that they spell.
+#[derive(Drop)]
+struct Reading<'l, 's, K: RowSink> {
+    alloc: Global,
+    table: &'l TableRule,
+    sink: &'s mut K,
+}
+
+impl<K: RowSink> CellSink for Reading<'_, '_, K> {
+    ghost use Rattle.std.specs.Prelude.{◌≡◌};
+    ghost use Rattle.jpa_rowspace.specs.Reading.{ReadsRow};
+
+    ghost takes = { λ s stored out t. (t.sink.ghost_name ≡ s.sink.ghost_name) × (t.table.now ≡ s.table.now) × ReadsRow K.takes s.table.now s.sink.now stored out t.sink.now };
+
+    fn row(&mut self, row: CellRow) -> Result<bool, Cause> {
+        match entry_of(self.alloc, self.table, row)? {
+            Ok((id, fields)) => self.sink.row(id, fields),
+            Err(bytes) => Err(Cause::Damaged(u64::from(self.table.table), bytes)),
+        }
+    }
+}
+
+/// Hands the rows of a table on, by one SELECT.
+pub(crate) fn each_under<'l, 's, S: Alter, K: RowSink>(
+    alloc: Global,
+    store: &mut CellStore<S>,
+    table: &'l TableRule,
+    sink: &'s mut K,
+) -> Result<bool, Cause>
+    ensures handed { (stored : List CellRow) × (IsClean S.Store store.new.conn →
+        (IsOpen S.Store store.old.conn
+        × (stored ≡ tables_in S.Store store.old.conn (pos table.now.table)))
+        ⊎ (IsErr result × (stored ≡ []))) × Hands (ReadsRow K.takes table.now) IsStoreCause
+        sink.old stored result sink.new }
+    ensures rise { IsClean S.Store store.new.conn →
+        OnOk result (AreRows (tables_in S.Store store.old.conn (pos table.now.table))) }
+    ensures open { IsClean S.Store store.new.conn →
+        OnOk result (IsOpen S.Store store.old.conn × IsOpen S.Store store.new.conn) }
+    ensures kept { Keeps S.Store store.old.conn store.new.conn }
+    ensures counted { store.new.table_selects ≡ up_to_greatest (store.old.table_selects + 1) }
+    ensures told { store.new.faults ≡ faults_after result store.old.faults }
+    ensures cause { IsClean S.Store store.new.conn → result ≡ Err Cause.StoreFault →
+        HasFault S.Store store.old.conn store.new.conn }
+    ensures others { store.new ≡ record store.old {
+      conn = store.new.conn;
+      table_selects = store.new.table_selects;
+      faults = store.new.faults;
+    } }
+    ensures crash { Endures S.Store store.old.conn store.new.conn (λ _. ⊥) }
+{
+    let mut reading = Reading { alloc, table, sink };
+    let answer = store.each(number_of(table), &mut reading);
+    let Reading {
+        alloc: _,
+        table: _,
+        sink: _,
+    } = reading;
+    answer
+}
