@@ -24,6 +24,7 @@ from .refusals import (
     Persistence, ProgramEnded, ProgramNotFound, Refused, Restarted, Rollback, StoreFault,
     StoreInMemory, TransactionRequired,
 )
+from .tally import Statistics
 from .transactions import Attempt, EntityTransaction
 
 __version__ = "0.1.0"
@@ -32,7 +33,7 @@ __version__ = "0.1.0"
 # too, as `open`, or that its `typing` has, as `Mapping`.
 __all__ = [
     "Attempt", "EmbeddedId", "Entity", "EntityManager", "EntityManagerFactory", "EntityTransaction",
-    "Event", "FlushModeType", "LifecycleEvent", "LockModeType", "refusals",
+    "Event", "FlushModeType", "LifecycleEvent", "LockModeType", "Statistics", "refusals",
     "BadLine", "Busy", "Damaged", "EntityExists", "EntityNotFound", "GivenUp",
     "IllegalArgument", "IllegalState", "KarzhoulError", "Limit", "Listener", "NoResult",
     "NoSuchManager", "NoSuchObject", "NonUniqueResult", "NotServed", "OptimisticLock",

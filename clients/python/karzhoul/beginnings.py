@@ -96,7 +96,7 @@ with karzhoul.open(HERE / "mapping.json", HERE / "app.db") as app:
         with manager.transaction():
             manager.persist(Book(copies=1))
     except karzhoul.Rollback as refused:
-        print("refused:", refused)
+        print("refused:", refused, "-", refused.explain())
 '''
 _PAGE = """\
 # A first mapping and program
@@ -127,6 +127,7 @@ _TRIES = (
     ("python3 first.py", "run the program"),
     ("{word} check mapping.json", "is the mapping good, and where not?"),
     ("{word} show app.db", "what is stored, as tables"),
+    ('{word} query mapping.json app.db "SELECT b.title FROM Book b"', "what a query finds"),
     ("{word} load app.db books.csv --csv Book", "store the rows of a CSV"),
     ("{word} shell app.db", "a prompt; try: SELECT b FROM Book b"),
     ("{word} dump app.db -o dump.jsonl", "what is stored, as JSON lines"),

@@ -3,7 +3,6 @@
 from __future__ import annotations
 
 from contextlib import AbstractContextManager
-from types import TracebackType
 from typing import TYPE_CHECKING, Optional, Type
 
 from .interrupts import begin_of_block, end_of_block
@@ -34,16 +33,11 @@ class Begun(AbstractContextManager["EntityManager"]):
         return manager
 
     @end_of_block
-    def __exit__(
-        self,
-        kind: Optional[Type[BaseException]],
-        fault: Optional[BaseException],
-        trace: Optional[TracebackType],
-    ) -> None:
+    def __exit__(self, kind: Optional[Type[BaseException]], *_: object) -> None:
         try:
             # (No call of another function comes first, which could be interrupted.)
             if self._manager is not None:
-                self._manager._transaction.__exit__(kind, fault, trace)
+                self._manager._transaction.__exit__(kind)
         except BaseException as refused:
             kind = refused.__class__
             raise

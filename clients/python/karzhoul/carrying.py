@@ -11,6 +11,7 @@ from contextlib import contextmanager
 from pathlib import Path
 from typing import Any, Callable, Dict, Iterator, List, Mapping, Optional, TextIO
 
+from .arguments import meant
 from .asked import Statement, mistakes_in
 from .dumping import Stored
 from .factory import EntityManagerFactory
@@ -37,11 +38,13 @@ stops at the first row that can't be stored, with its line and the reason; what 
 stays."""
 
 
-def add_commands(commands: Any, over: argparse.ArgumentParser, opened: Opener) -> None:
-    """Adds the commands to those of `karzhoul`."""
+def add_commands(
+    commands: Any, over: List[argparse.ArgumentParser], stored: argparse.ArgumentParser,
+    opened: Opener,
+) -> None:
+    """Adds the commands to those of `karzhoul`, over a mapping, and a store that is there."""
     word = "write what is stored as JSON lines or CSV"
-    dump = commands.add_parser("dump", parents=[over], help=word, description=_DUMP)
-    dump.add_argument("db", help="the database file")
+    dump = commands.add_parser("dump", parents=[*over, stored], help=word, description=_DUMP)
     dump.add_argument("-o", "--output", metavar="FILE", help="the file (else standard output)")
     dump.add_argument("--csv", metavar="ENTITY", help="the objects of this entity, as CSV")
     dump.add_argument("--query", metavar="JPQL", help="the objects that a query finds alone")
@@ -49,7 +52,7 @@ def add_commands(commands: Any, over: argparse.ArgumentParser, opened: Opener) -
     dump.set_defaults(run=lambda said: run_dump(said, opened))
 
     word = "store what a file of JSON lines or CSV has"
-    load = commands.add_parser("load", parents=[over], help=word, description=_LOAD)
+    load = commands.add_parser("load", parents=over, help=word, description=_LOAD)
     load.add_argument("db", help="the database file, which is made where there is none")
     load.add_argument("file", help="the file; - is standard input")
     load.add_argument("--csv", metavar="ENTITY", help="the file is a CSV of this entity's objects")
@@ -92,7 +95,8 @@ def _mapping_of(said: argparse.Namespace) -> Optional[Dict[str, Any]]:
 
 def _known(name: Optional[str], shapes: Mapping[str, Shape]) -> None:
     if name is not None and name not in shapes:
-        raise ValueError(f"there is no entity {name!r}; there are {', '.join(shapes)}")
+        near = meant(name, shapes) or f"; there are {', '.join(shapes)}"
+        raise ValueError(f"there is no entity {name!r}{near}")
 
 
 # ---- dump

@@ -12,6 +12,7 @@ import json
 from typing import Any, Dict, List, Mapping, Optional, Sequence, Set, Tuple, Type
 
 from .entities import Entity
+from .tally import without_marks
 
 
 def marks_of(mapping: Mapping[str, Any]) -> Dict[str, str]:
@@ -66,11 +67,15 @@ def marked_text(data: bytes) -> bytes:
         return data
 
 
+_LOADED, _CLASS = 0x80, 0x7F
+
+
 class Classes:
     """The classes of objects by their numbers, of which none is given twice.
 
-    It is a byte each, as there are 64 classes at most. It is kept when no one holds the object any
-    more, since the program may tell its number again.
+    It is a byte each, as there are 64 classes at most, whose highest bit says that the object was
+    loaded. It is kept when no one holds the object any more, since the program may tell its number
+    again.
     """
 
     def __init__(self, named: Mapping[str, Type[Entity]], marks: Mapping[str, str]) -> None:
@@ -78,28 +83,43 @@ class Classes:
         self._bytes = {kind: place for place, kind in enumerate(named.values(), 1)}
         self._marks = {mark: named[name] for mark, name in marks.items()}
         self._places = bytearray(1000)
+        # The highest number of an object that was told: so many have been made.
+        self.made = 0
 
     def __getitem__(self, number: int) -> Optional[Type[Entity]]:
         """The class of an object; None where it wasn't told."""
-        return self._classes[self._places[number]] if number < len(self._places) else None
+        return self._classes[self._places[number] & _CLASS] if number < len(self._places) else None
+
+    def was_loaded(self, number: int) -> bool:
+        """Whether an object was told to be loaded: it stood in the store then."""
+        return number < len(self._places) and self._places[number] & _LOADED != 0
 
     def settled(self, number: int, kind: Optional[Type[Entity]]) -> Optional[Type[Entity]]:
         """The class of an object, which is this one from now on where it wasn't told."""
         try:
-            place = self._places[number]
+            place = self._places[number] & _CLASS
         except IndexError:
             self._places.extend(bytes(number + 1000))
             place = 0
         if place or kind is None:
             return self._classes[place]
         self._places[number] = self._bytes[kind]
+        if number > self.made:
+            self.made = number
         return kind
 
-    def learn(self, number: int, ran: Sequence[str]) -> None:
-        """Takes the class of an object, where it isn't known, from what ran at an event."""
+    def learn(self, number: int, ran: Sequence[str], is_load: bool) -> None:
+        """Takes the class of an object, where it isn't known, from what ran at an event, be that a
+        load or not."""
         marks = [name for name in ran if name in self._marks]
         if marks:
             self.settled(number, self._marks[marks[-1]])
+            if is_load:
+                self._places[number] |= _LOADED
+
+    def unmarked(self, reply: bytes) -> bytes:
+        """A reply as it would be without marks."""
+        return without_marks(reply, self._marks)
 
     def without_marks(self, ran: Sequence[str]) -> Tuple[str, ...]:
         """What ran, but for marks."""

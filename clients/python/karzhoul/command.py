@@ -1,4 +1,4 @@
-"""The command `karzhoul`: check, stubs, migrate, show, shell, dump, load, new and schema."""
+"""The command `karzhoul`: its parts and their words."""
 
 from __future__ import annotations
 
@@ -11,17 +11,19 @@ import sys
 import tempfile
 from contextlib import closing
 from pathlib import Path
-from typing import Any, List, Mapping, Optional, Union
+from typing import Any, List, Mapping, Optional, Sequence, Union
 
-from . import beginnings, carrying, factory, migration, show, stubs
+from . import beginnings, carrying, factory, migration, selecting, show, stubs
 from .finding import find_program
 from .linter import lint
-from .refusals import Damaged, KarzhoulError, StoreFault
+from .opening import why_unopened
+from .refusals import Damaged, KarzhoulError
 from .refusals import Mapping as MappingRefused
 from .schema import mapping_schema
 from .unit import entities_of
 
 WRONG, MISSAID, REFUSED, FAILED, INTERRUPTED = 1, 2, 3, 4, 130
+Parsers = Sequence[argparse.ArgumentParser]
 
 
 def main(words: Optional[List[str]] = None) -> int:
@@ -60,43 +62,57 @@ def _parser() -> argparse.ArgumentParser:
         help="tell the versions of the client and of the program, and end",
     )
     commands = parser.add_subparsers(required=True, metavar="COMMAND")
-    common = argparse.ArgumentParser(add_help=False)
-    common.add_argument(
-        "--program", help="the program to start (else the one of the client, else KARZHOUL_PROGRAM)"
-    )
-
     began = commands.add_parser(
         "new", help="write a first mapping, with comments, and a first program"
     )
     began.add_argument("folder", help="the folder to write them to, which is made")
     began.set_defaults(run=run_new)
-
-    check = commands.add_parser(
-        "check", parents=[common], help="tell what is wrong with a mapping, and where"
+    # What several take.
+    common, named, over, stored = (argparse.ArgumentParser(add_help=False) for _ in range(4))
+    common.add_argument(
+        "--program", help="the program to start (else the one of the client, else KARZHOUL_PROGRAM)"
     )
-    check.add_argument("mapping", help="the mapping file, or a pipe")
+    named.add_argument("mapping", help="the mapping file, or a pipe")
+    over.add_argument("--mapping", default="mapping.json", help="the mapping file (%(default)s)")
+    stored.add_argument("db", help="the database file")
+    _add_check(commands, [common, named])
+    _add_stubs(commands, [named])
+    _add_show(commands, [common, over, stored])
+    selecting.add_command(commands, [common, named, stored])
+    _add_migrate(commands, [common, over, stored])
+    _add_shell(commands, [common, over])
+    carrying.add_commands(commands, [common, over], stored, _opened_over)
+    told = commands.add_parser(
+        "schema", help="print the JSON Schema of mappings, by which editors complete and check them"
+    )
+    told.set_defaults(run=run_schema)
+    return parser
+
+
+def _add_check(commands: Any, takes: Parsers) -> None:
+    check = commands.add_parser(
+        "check", parents=takes, help="tell what is wrong with a mapping, and where"
+    )
     check.add_argument(
-        "--with-program",
-        action="store_true",
+        "--with-program", action="store_true",
         help="ask the program too, which --program says as well",
     )
     check.set_defaults(run=run_check)
 
+
+def _add_stubs(commands: Any, takes: Parsers) -> None:
     typed = commands.add_parser(
-        "stubs",
+        "stubs", parents=takes,
         help="write a module of typed classes of the entities, for type checkers and editors",
     )
-    typed.add_argument("mapping", help="the mapping file, or a pipe")
     typed.add_argument(
         "-o", "--output", metavar="FILE", help="write to this file, and not to standard output"
     )
     typed.set_defaults(run=run_stubs)
 
-    over = argparse.ArgumentParser(add_help=False, parents=[common])
-    over.add_argument("--mapping", default="mapping.json", help="the mapping file (%(default)s)")
 
-    shown = commands.add_parser("show", parents=[over], help="show what is stored, as tables")
-    shown.add_argument("db")
+def _add_show(commands: Any, takes: Parsers) -> None:
+    shown = commands.add_parser("show", parents=takes, help="show what is stored, as tables")
     shown.add_argument("--html", metavar="FILE", help="write one page to this file")
     keys = "a key to look for where it isn't generated: 7, 1..100, or [1,\"a\"]"
     shown.add_argument("--key", action="append", default=[], metavar="ENTITY=KEY", help=keys)
@@ -106,40 +122,37 @@ def _parser() -> argparse.ArgumentParser:
     )
     shown.set_defaults(run=run_show)
 
+
+def _add_migrate(commands: Any, takes: Parsers) -> None:
     migrated = commands.add_parser(
-        "migrate",
-        parents=[over],
+        "migrate", parents=takes,
         help="tell what an opening with another mapping changes in a database file",
     )
-    migrated.add_argument("db")
     way = migrated.add_mutually_exclusive_group(required=True)
     way.add_argument("--dry-run", action="store_true", help="only tell, and write nothing")
     way.add_argument(
-        "--copy",
-        metavar="FILE",
+        "--copy", metavar="FILE",
         help="copy the database to this new file, and then open it, which changes it",
     )
     asked = "in a dry run, ask the program too, over a copy, which --program says as well"
     migrated.add_argument("--with-program", action="store_true", help=asked)
     migrated.set_defaults(run=run_migrate)
 
-    shell = commands.add_parser("shell", parents=[over], help="a prompt for queries and calls")
+
+def _add_shell(commands: Any, takes: Parsers) -> None:
+    shell = commands.add_parser("shell", parents=takes, help="a prompt for queries and calls")
     shell.add_argument(
         "db", nargs="?", help="the database file; without one the store is in memory"
     )
     shell.add_argument(
-        "--stop",
-        action="store_true",
+        "--stop", action="store_true",
         help="end at the first line that is refused or not understood",
     )
-    shell.set_defaults(run=run_shell)
-    carrying.add_commands(commands, over, _opened_over)
-
-    told = commands.add_parser(
-        "schema", help="print the JSON Schema of mappings, by which editors complete and check them"
+    shell.add_argument(
+        "--echo", action="store_true",
+        help="tell each line that goes to the program, its reply and its time",
     )
-    told.set_defaults(run=run_schema)
-    return parser
+    shell.set_defaults(run=run_shell)
 
 
 class _Version(argparse.Action):
@@ -251,7 +264,7 @@ def run_migrate(said: argparse.Namespace) -> int:
             _tried(mapping, db, said) if said.dry_run and (said.with_program or said.program) else 0
         )
     except sqlite3.Error as fault:
-        raise KarzhoulError(f"{said.db} can't be read ({fault}): {_why_unopened(db)}") from fault
+        raise KarzhoulError(f"{said.db} can't be read ({fault}): {why_unopened(db)}") from fault
 
 
 def _migrated(mapping: Any, db: Path, said: argparse.Namespace) -> int:
@@ -296,12 +309,7 @@ def _opened_over(
     said: argparse.Namespace, mapping: Union[str, Mapping[str, Any]], db: Optional[str]
 ) -> factory.EntityManagerFactory:
     """The unit over a mapping and a database."""
-    try:
-        return factory.open(mapping, db, program=said.program)
-    except StoreFault as fault:
-        raise KarzhoulError(
-            f"{said.db} can't be opened ({fault}): {_why_unopened(Path(said.db))}"
-        ) from fault
+    return factory.open(mapping, db, program=said.program)
 
 
 def _there(db: str) -> Path:
@@ -309,20 +317,6 @@ def _there(db: str) -> Path:
     if not Path(db).is_file():
         raise FileNotFoundError(f"there is no file {db}")
     return Path(db)
-
-
-def _why_unopened(db: Path) -> str:
-    if db.is_dir():
-        return "it is a folder, and a database is a file"
-    if not os.access(db, os.R_OK | os.W_OK):
-        return "it may not be read and written by you"
-    with db.open("rb") as file:
-        if file.read(16) not in (b"", b"SQLite format 3\0"):
-            return "it is no database of SQLite"
-    return (
-        "it seems that another program has it open; end that one first, since one at a time has a "
-        "file"
-    )
 
 
 def run_show(said: argparse.Namespace) -> int:
@@ -351,6 +345,7 @@ def run_shell(said: argparse.Namespace) -> int:
     from .shell import Shell
 
     with _opened(said) as app:
+        app.echo = said.echo
         shell = Shell(app)
         shell.run(said.stop)
     if shell.ended is not None:

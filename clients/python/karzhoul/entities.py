@@ -57,6 +57,11 @@ class Entity:
     def __repr__(self) -> str:
         return _named(self, self._karzhoul_factory.key_at_hand(self))
 
+    def _repr_html_(self) -> str:
+        from .notebook import object_html
+
+        return object_html(self)
+
 
 def _named(entity: Entity, key: Optional[Sequence[Any]]) -> str:
     """An object with its key, or with its number where the key isn't at hand."""
@@ -269,6 +274,13 @@ class Collection(MutableSequence[E]):
 
     def __repr__(self) -> str:
         return f"<{self._name} of {self._entity!r}>"
+
+    def _repr_html_(self) -> Optional[str]:
+        from .notebook import rows_html
+
+        # In a pipeline nothing is asked.
+        is_quiet = self._entity._karzhoul_factory.turn is None
+        return None if is_quiet else rows_html(self._members(), [self._name], f"{self!r}")
 
 
 class Attribute(property):

@@ -1,41 +1,106 @@
 """What can be told of a refusal beside its name: what is wrong with the query, the entity or the
-member that its line names."""
+member that its line names, and which objects a refused flush was about."""
 
 from __future__ import annotations
 
 import json
-from typing import TYPE_CHECKING, Any, Dict, List, Mapping, Optional
+from itertools import islice
+from typing import TYPE_CHECKING, Any, Dict, Iterable, Iterator, List, Mapping, Optional
 
 from .arguments import meant
+from .culprits import Culprits
+from .entities import Entity
 from .jpql_check import BYTES, INT, TEXT, Kind, check
-from .unit import entities_of
+from .line_check import faults_of_line
+from .refusals import BadLine, KarzhoulError
+from .unit import MemberKind, entities_of
 
 if TYPE_CHECKING:
     from .factory import EntityManagerFactory
     from .refusals import Refused
 
+# So many lines are told.
+_MOST = 10
+_KINDS = {"int": "a whole number", "text": "a text", "bytes": "bytes"}
+
 
 def explained(refused: Refused, factory: Optional[EntityManagerFactory]) -> str:
     """What can be told of a refusal: at the least what it means."""
-    told = _told(refused, factory) if factory is not None else []
+    told = list(islice(_told(refused, factory), _MOST + 1))
+    if len(told) > _MOST:
+        told[_MOST:] = ["and so on"]
     return "\n".join(told) or " ".join((type(refused).__doc__ or "").split())
 
 
-def _told(refused: Refused, factory: EntityManagerFactory) -> List[str]:
-    said = _said(refused.line)
-    if "text" in said:
+def _told(refused: Refused, factory: Optional[EntityManagerFactory]) -> Iterator[str]:
+    if isinstance(refused, BadLine):
+        yield from faults_of_line(refused.line)
+    elif factory is not None:
+        said = _said(refused.line)
+        yield from _of_query(said, factory)
+        if refused.name == "IllegalArgument":
+            yield from _of_argument(refused.detail, said, factory)
+        elif factory.turn is not None:  # Else nothing can be asked.
+            yield from _of_objects(refused, said, factory)
+
+
+def _of_query(said: Mapping[str, Any], factory: EntityManagerFactory) -> Iterator[str]:
+    if isinstance(said.get("text"), str):
         entities = entities_of(factory.mapping)
-        return [str(each) for each in check(said["text"], entities, _kinds(said, factory))]
-    if refused.name == "IllegalArgument" and refused.detail == "entity":
-        name = str(said.get("entity"))
-        return [f"there is no entity {name!r}{meant(name, factory._classes)}"]
-    if refused.name == "IllegalArgument" and refused.detail == "name":
-        kind, name = factory._kinds[said.get("object", 0)], str(said.get("name"))
-        members = entities_of(factory.mapping)[kind.__name__].members if kind else ()
-        names = [member.name for member in members]
-        near = meant(name, names) or f"; it has {', '.join(names)}"
-        return [f"{kind.__name__} has no member {name!r} of that sort{near}"] if kind else []
-    return []
+        for each in check(said["text"], entities, _kinds(said, factory)):
+            yield str(each)
+
+
+def _of_argument(
+    detail: Optional[str], said: Mapping[str, Any], factory: EntityManagerFactory
+) -> Iterator[str]:
+    """What is wrong with what a line hands in."""
+    name = str(said.get("entity" if detail == "entity" else "name"))
+    if detail == "entity":
+        yield f"there is no entity {name!r}{meant(name, factory._classes)}"
+    kind = factory._kinds[said.get("object", 0)]
+    if kind is None:
+        return
+    members = {it.name: it for it in entities_of(factory.mapping)[kind.__name__].members}
+    if detail == "name":
+        near = meant(name, members) or f"; it has {', '.join(members)}"
+        yield f"{kind.__name__} has no member {name!r} of that sort{near}"
+    elif detail == "type" and name in members and members[name].kind is not MemberKind.COLLECTION:
+        wanted = members[name].type
+        word = _KINDS.get(wanted, f"a {wanted}")
+        yield f"{kind.__name__}.{name} is {word}, and not {_given(said.get('value'), factory)}"
+
+
+def _given(value: Any, factory: EntityManagerFactory) -> str:
+    if isinstance(value, dict) and "object" in value:
+        kind = factory._kinds[value["object"]]
+        return f"a {kind.__name__}" if kind else "another object"
+    if isinstance(value, dict):
+        return f"bytes ({value.get('hex')})"
+    return repr(value)
+
+
+def _of_objects(
+    refused: Refused, said: Mapping[str, Any], factory: EntityManagerFactory
+) -> Iterable[str]:
+    """The objects that a refusal is about."""
+    culprits = Culprits(factory, refused)
+    number = said.get("object")
+    ways: Dict[Optional[str], Any] = {
+        "Persistence(null)": culprits.null,
+        "Persistence(reference)": culprits.reference,
+        "Persistence(unique)": culprits.unique,
+        "IllegalState(reference)": culprits.unpersisted,
+        "OptimisticLock": culprits.stale,
+        "EntityExists": culprits.exists,
+    }
+    way = ways.get(str(refused))
+    try:
+        if refused.name == "EntityExists" and factory._kinds[number or 0] is not None:
+            return list(culprits.persisted(factory._object(int(str(number)))))
+        return list(way()) if way is not None else []
+    except (KarzhoulError, LookupError):  # As where 16 managers are open.
+        return []
 
 
 def _said(line: str) -> Mapping[str, Any]:

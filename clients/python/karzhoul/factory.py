@@ -4,11 +4,13 @@ from __future__ import annotations
 
 import json
 import os
+import re
 import tempfile
 import threading
 from collections import deque
 from contextlib import AbstractContextManager, closing, contextmanager, nullcontext, suppress
 from pathlib import Path
+from time import perf_counter
 from typing import (
     Any, Callable, Deque, Dict, FrozenSet, Iterable, Iterator, List, Mapping, Optional, Sequence,
     Tuple, Type, TypeVar, Union, overload,
@@ -23,8 +25,11 @@ from .finding import find_program
 from .lines import LifecycleEvent, line_of, spelled, text_spelled
 from .managers import EntityManager
 from .program import Exchange, Program, Words
-from .refusals import REFUSALS, BadLine, KarzhoulError, NotServed, Refused, Restarted, StoreInMemory
+from .refusals import (
+    MARKING, REFUSALS, BadLine, KarzhoulError, NotServed, Refused, Restarted, StoreFault, StoreInMemory,
+)
 from .refusals import Mapping as MappingRefused
+from .tally import Statistics, Tally
 
 T = TypeVar("T")
 
@@ -37,6 +42,7 @@ _BETWEEN = b'}}\n{"events":[],"ok":{"object":'
 _FRONT = _BETWEEN[3:]
 _NULL, _NULL_END = [b'{"events":[],"ok":null}'], b',"ok":null}'
 _LOADED = b'["PostLoad",'
+_MANAGER = re.compile(rb'"em":([0-9]+)')
 _set_number = Entity.__dict__["_karzhoul_number"].__set__
 
 
@@ -71,35 +77,47 @@ def _numbers(replies: List[bytes]) -> Optional[List[int]]:
 
 def open(
     mapping: Union[Words, Mapping[str, Any]], db: Optional[Words] = None, *,
-    program: Optional[Words] = None
+    program: Optional[Words] = None, echo: bool = False
 ) -> EntityManagerFactory:
     """Starts the program over a mapping (a file, a pipe, or what such a file says) and a database
     file; without one the store is in memory.
 
     A mapping that is refused is a `refusals.Mapping` that says where it is wrong, a store a
-    `Damaged` or a `StoreFault`. `program` names the program to start (`finding.find_program` tells
-    where it is looked for else).
+    `Damaged`, or a `StoreFault` that says what is in the way. `program` names the program to start
+    (`finding.find_program` tells where it is looked for else). With `echo` each line, its reply
+    and its time are told on standard error; the logger `karzhoul` hears them at DEBUG.
     """
     said: Optional[bytes] = None
+    faults: Tuple[str, ...] = ()
     if isinstance(mapping, Mapping):
         said = json.dumps(mapping).encode()
     else:
-        with suppress(OSError):  # An empty file is refused in its place.
+        try:
             said = Path(mapping).read_bytes()
+        except OSError as unread:  # An empty file is refused in its place.
+            faults = (f"{os.fspath(mapping)} can't be read: {unread.strerror}",)
     with _as_file(said or b"") as file:
         words: List[Words] = [find_program(program), "--mapping", file]
         # A restart finds the store again wherever the process has gone.
         running = Program(words + (["--db", os.path.abspath(db)] if db is not None else []))
         try:
             running.start()
-            return EntityManagerFactory(running, json.loads(said or b""))
+            return EntityManagerFactory(running, json.loads(said or b""), echo)
         except BaseException as fault:
             running.kill()
-            if isinstance(fault, MappingRefused) and said is not None:
+            if isinstance(fault, MappingRefused):
                 from .linter import lint
 
-                fault.faults = tuple(map(str, lint(said).findings))
+                fault.faults = faults or tuple(map(str, lint(said or b"").findings))
+            if isinstance(fault, StoreFault) and db is not None:
+                fault.why = _why_unopened(db)
             raise
+
+
+def _why_unopened(db: Words) -> str:
+    from .opening import why_unopened
+
+    return f"{os.fspath(db)} can't be opened: {why_unopened(Path(os.path.abspath(db)))}"
 
 
 @contextmanager
@@ -114,7 +132,7 @@ class _Calls(Exchange):
     """Lines, what their answers are taken for, and the events of their replies that aren't queued
     to be told."""
 
-    __slots__ = ("entity", "bad_line", "are_kept", "untold")
+    __slots__ = ("entity", "bad_line", "are_kept", "untold", "are_noted")
 
     def __init__(
         self, lines: Sequence[bytes], entity: str, bad_line: Type[BadLine], are_kept: bool
@@ -129,13 +147,15 @@ class _Calls(Exchange):
         # Whether they were told in a pipeline, so that their refusals are still to be raised.
         self.are_kept = are_kept
         self.untold: Optional[Iterator[Tuple[Callable[[Event], None], Event]]] = None
+        # Whether they were counted, which they are once, whatever is interrupted.
+        self.are_noted = False
 
 
 class EntityManagerFactory(AbstractContextManager["EntityManagerFactory"]):
     """A running unit. A context manager that ends the program; threads may share it, and each call
     is done as a whole."""
 
-    def __init__(self, program: Program, mapping: Mapping[str, Any]) -> None:
+    def __init__(self, program: Program, mapping: Mapping[str, Any], echo: bool = False) -> None:
         self.program, self.mapping = program, mapping
         self._classes = classes_of(self, mapping)
         # Those without subclasses: what an answer is of that can be of no other class.
@@ -143,6 +163,9 @@ class EntityManagerFactory(AbstractContextManager["EntityManagerFactory"]):
             name: kind for name, kind in self._classes.items() if not kind.__subclasses__()
         }
         self._kinds = Classes(self._classes, marks_of(mapping))
+        # The first refusal of each manager's transaction that marked it, by the manager's number.
+        self._marked: Dict[int, Tuple[str, str]] = {}
+        self._tally = Tally(echo, self._kinds.unmarked)
         self._objects: Dict[int, ref[Entity]] = {}
         self._most_objects = 1000
         self._lock = threading.RLock()
@@ -191,16 +214,19 @@ class EntityManagerFactory(AbstractContextManager["EntityManagerFactory"]):
                 entity = held()
                 if entity is not None:
                     object.__setattr__(entity, "_karzhoul_number", -abs(entity._karzhoul_number))
-            self._objects, self._calls = {}, None
+            self._objects, self._calls, self._marked = {}, None, {}
             self._kinds = Classes(self._classes, marks_of(self.mapping))
+            self._tally.unmarked = self._kinds.unmarked
             self._untold.clear()
             with _as_file(json.dumps(self.mapping).encode()) as file:
                 running = Program([program, mapping, file, *rest])
                 try:
                     running.start()
                     self.program = running
-                except BaseException:
+                except BaseException as fault:
                     running.kill()
+                    if isinstance(fault, StoreFault):
+                        fault.why = _why_unopened(rest[-1])
                     raise
 
     @overload
@@ -243,6 +269,25 @@ class EntityManagerFactory(AbstractContextManager["EntityManagerFactory"]):
             except Refused as refused:
                 if most == 0 or not is_too_late(refused):
                     raise
+
+    def _repr_html_(self) -> str:
+        from .notebook import mapping_html
+
+        return mapping_html(self.mapping)
+
+    @property
+    def echo(self) -> bool:
+        """Whether each line, its reply and its time are told on standard error."""
+        return self._tally.echo
+
+    @echo.setter
+    def echo(self, echoes: bool) -> None:
+        self._tally.echo = echoes
+
+    def statistics(self) -> Statistics:
+        """How many calls there were of each name, how long they took, what was refused, and how
+        many objects were loaded, inserted, changed and removed, since the opening."""
+        return self._tally.statistics(self._kinds.made)
 
     def listen(self, callback: Callable[[Event], None], *events: LifecycleEvent) -> None:
         """Hands the events of these kinds, or without any all events, to a callback, in the order
@@ -459,7 +504,7 @@ class EntityManagerFactory(AbstractContextManager["EntityManagerFactory"]):
         """The answers to calls, which are over with it. Their events are told first, and then the
         first refusal is raised."""
         self._turn += 1
-        replies = self.program.replies(calls, timeout)
+        replies = self._replies(calls, timeout)
         kind = None
         try:
             # What most calls answer: an object each and no event, or null.
@@ -492,12 +537,26 @@ class EntityManagerFactory(AbstractContextManager["EntityManagerFactory"]):
         self._untold.extend(calls.untold)
         self._calls = None
         refused = [answer for answer, _ in heard if isinstance(answer, Refused)]
+        self._tally.refused(refused)
         raised = [*refused, *self._tell_events()] if refused or self._untold else []
         if refused:
             refused[0].later = tuple(refused[1:])
         if raised:
             raise raised[0]
         return [answer for answer, _ in heard]
+
+    def _replies(self, calls: _Calls, timeout: Optional[float]) -> List[bytes]:
+        """The replies to calls, which are noted once."""
+        began = perf_counter()
+        try:
+            replies = self.program.replies(calls, timeout)
+        except KarzhoulError as fault:
+            self._tally.tell_fault(calls.lines, fault)
+            raise
+        if not calls.are_noted:
+            calls.are_noted = True
+            self._tally.note(calls.lines, replies, perf_counter() - began)
+        return replies
 
     def _answer(
         self, line: bytes, reply: bytes, kind: Optional[Type[Entity]], bad_line: Type[BadLine]
@@ -507,8 +566,8 @@ class EntityManagerFactory(AbstractContextManager["EntityManagerFactory"]):
         is_done = "ok" in said
         if is_done:
             # A call that is refused gives up the objects that it loaded, and their numbers.
-            for _, number, *ran in said["events"]:
-                self._kinds.learn(number, ran)
+            for kind_of_event, number, *ran in said["events"]:
+                self._kinds.learn(number, ran, kind_of_event == "PostLoad")
         answer = self._found(said.get("ok"), kind, line)
         events = tuple([self._event(*told) for told in said["events"]])
         if is_done:
@@ -520,6 +579,13 @@ class EntityManagerFactory(AbstractContextManager["EntityManagerFactory"]):
             why, events, line.decode(errors="replace")
         )
         made._factory = self
+        if found := _MANAGER.search(line):
+            manager = int(found[1])
+            made._before = self._marked.get(manager)
+            if made.name in MARKING:
+                self._marked.setdefault(manager, (str(made), made.line))
+        # Which a traceback of Python 3.11 and later tells.
+        vars(made)["__notes__"] = ["its explain() says more"]
         return made, events
 
     def _event(self, name: str, number: int, *ran: str) -> Event:

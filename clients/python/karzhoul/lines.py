@@ -5,7 +5,7 @@ from __future__ import annotations
 
 import enum
 import json
-from typing import Any, Callable, Mapping
+from typing import Any, Callable, Dict, Mapping, Sequence
 
 
 class FlushModeType(str, enum.Enum):
@@ -36,6 +36,38 @@ class LifecycleEvent(str, enum.Enum):
     POST_UPDATE = "PostUpdate"
     POST_LOAD = "PostLoad"
 
+
+CALLS: Dict[str, Sequence[str]] = {
+    "createEntityManager": (),
+    "close": ("em",),
+    "begin": ("em",),
+    "commit": ("em",),
+    "rollback": ("em",),
+    "setRollbackOnly": ("em",),
+    "clear": ("em",),
+    "flush": ("em",),
+    "setFlushMode": ("em", "mode"),
+    "new": ("entity",),
+    "get": ("object", "name"),
+    "set": ("object", "name", "value"),
+    "add": ("object", "name", "member"),
+    "takeOut": ("object", "name", "member"),
+    "find": ("em", "entity", "key"),
+    "getReference": ("em", "entity", "key"),
+    "persist": ("em", "object"),
+    "remove": ("em", "object"),
+    "refresh": ("em", "object"),
+    "detach": ("em", "object"),
+    "merge": ("em", "object"),
+    "contains": ("em", "object"),
+    "lock": ("em", "object", "mode"),
+    "query": ("em", "text", "params", "first", "max"),
+    "querySingle": ("em", "text", "params", "first", "max"),
+    "executeUpdate": ("em", "text", "params"),
+}
+"""The calls with their members."""
+OPTIONAL = {"params", "first", "max"}
+"""The members that may be left out."""
 
 # A text as JSON.
 text_spelled: Callable[[str], str] = getattr(json.encoder, "encode_basestring")

@@ -7,12 +7,13 @@ from typing import (
     TYPE_CHECKING, Any, Iterable, Iterator, List, Mapping, Optional, Type, Union, overload,
 )
 
+from .concern import Concern
 from .entities import E, EmbeddedId, Entity
 from .fetching import fetched
 from .interrupts import begin_of_block, carried_out, end_of_block, guard, unguard
 from .lines import FlushModeType, LockModeType, line_of, spelled, text_spelled
 from .queries import Queries
-from .refusals import KarzhoulError, ProgramEnded, Restarted
+from .refusals import KarzhoulError, ProgramEnded, Refused, Restarted
 from .transactions import Attempt, EntityTransaction, attempts
 
 if TYPE_CHECKING:
@@ -27,6 +28,7 @@ class EntityManager(Queries, AbstractContextManager["EntityManager"]):
         self.factory, self.number = factory, number
         self._program, self._number = factory.program, str(number)
         self._transaction = EntityTransaction(self)
+        self._concern = Concern(factory._kinds.made)
 
     @property
     def _em(self) -> str:
@@ -132,16 +134,20 @@ class EntityManager(Queries, AbstractContextManager["EntityManager"]):
     def persist(self, entity: Entity) -> None:
         """Makes a new object managed; a commit stores it."""
         self._tell_on("persist", entity)
+        self._concern.persisted.append(entity._karzhoul_number)
 
     def persist_all(self, objects: Iterable[Entity]) -> None:
         """Makes new objects managed, as `persist` each of them, sent together. The first refusal is
         raised, with the others as its `later`."""
         front, number = f'{{"call":"persist","em":{self._em},"object":', self.factory.number
-        self.factory.tell_all([f"{front}{number(entity)}}}".encode() for entity in objects])
+        numbers = [number(entity) for entity in objects]
+        self.factory.tell_all([f"{front}{each}}}".encode() for each in numbers])
+        self._concern.persisted += map(int, numbers)
 
     def remove(self, entity: Entity) -> None:
         """Removes an object; a commit drops it."""
         self._tell_on("remove", entity)
+        self._concern.removed.append(entity._karzhoul_number)
 
     def refresh(self, entity: Entity) -> None:
         """Loads an object again."""
@@ -187,14 +193,20 @@ class EntityManager(Queries, AbstractContextManager["EntityManager"]):
         at the commit that it still stands as it was read, WRITE raises its version at the next
         flush."""
         self._tell_on("lock", entity, f',"mode":{text_spelled(LockModeType(mode))}')
+        self._concern.locked.append(entity._karzhoul_number)
 
     def clear(self) -> None:
         """Takes all objects out of the context."""
         self.factory.tell(line_of("clear", {"em": self._em}))
+        self._concern = Concern(self.factory._kinds.made)
 
     def flush(self) -> None:
         """Writes what has changed into the transaction."""
-        self.factory.ask("flush", em=self._em)
+        try:
+            self.factory.ask("flush", em=self._em)
+        except Refused as refused:
+            refused._concern = self._concern
+            raise
 
     def set_flush_mode(self, mode: FlushModeType) -> None:
         """Says when a query in a transaction flushes first."""

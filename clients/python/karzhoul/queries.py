@@ -6,10 +6,11 @@ from typing import TYPE_CHECKING, Any, Dict, Iterator, List, Mapping, NamedTuple
 from typing import Type, Union
 
 from .arguments import check_query, item_class, parameter_name
+from .concern import Concern
 from .lines import line_of, spelled, text_spelled
-from .refusals import NoResult
+from .refusals import NoResult, Refused
 from .rewriting import ByKey, by_key, counting, with_lists
-from .rows import Names, Page, Row, Rows, as_row
+from .rows import Names, Page, Row, Rows, as_row, as_rows
 
 if TYPE_CHECKING:
     from .factory import EntityManagerFactory
@@ -31,6 +32,7 @@ class Queries:
     """
 
     factory: EntityManagerFactory
+    _concern: Concern
 
     if TYPE_CHECKING:
 
@@ -141,7 +143,7 @@ class Queries:
         if total:
             count = more[0][0] if counted else len(more[0])
         names = Names(text)
-        return Page([as_row(row, names) for row in found], names, number, size, count)
+        return Page(as_rows(found, names), names, number, size, count)
 
     def iterate(
         self,
@@ -223,7 +225,11 @@ class _Asked(NamedTuple):
 
     def answers(self, lines: List[bytes], is_one: bool = False) -> List[Any]:
         """The answers to its lines: the first has rows, or one, with an item of its class."""
-        answers = self.manager.factory.ask_lines(lines, timeout=self.timeout)
+        try:
+            answers = self.manager.factory.ask_lines(lines, timeout=self.timeout)
+        except Refused as refused:  # It may be that of the flush before a query.
+            refused._concern = self.manager._concern
+            raise
         if self.wanted is not None:
             for row in [answers[0]] if is_one else answers[0]:
                 _require_class(row, self.wanted)
@@ -233,7 +239,7 @@ class _Asked(NamedTuple):
         """Its rows, from the first on and at most so many."""
         names = Names(self.text)
         found = self.answers([self.line("query", first, most)])[0]
-        return Rows([as_row(row, names) for row in found], names)
+        return Rows(as_rows(found, names), names)
 
 
 def _iterated(asked: _Asked, query: ByKey, size: int) -> Iterator[Any]:

@@ -7,6 +7,7 @@ import re
 from typing import TYPE_CHECKING, ClassVar, Dict, Optional, Tuple, Type
 
 if TYPE_CHECKING:
+    from .concern import Concern
     from .entities import Event
     from .factory import EntityManagerFactory
 
@@ -60,8 +61,12 @@ class StoreInMemory(KarzhoulError):
     """A restart was refused, since it would lose the store, which is in memory."""
 
 
-# The refusals by name.
+# The refusals by name, and those after which a transaction can only roll back.
 REFUSALS: Dict[str, Type[Refused]] = {}
+MARKING = {
+    "IllegalArgument", "EntityExists", "EntityNotFound", "IllegalState", "OptimisticLock",
+    "Persistence", "Listener", "Limit", "Overflow",
+}
 
 
 class Refused(KarzhoulError):
@@ -73,8 +78,11 @@ class Refused(KarzhoulError):
     """
 
     number: ClassVar[int] = 0
-    # The factory whose call it is.
+    # The factory whose call it is, and what its manager was told in the transaction.
     _factory: Optional[EntityManagerFactory] = None
+    _concern: Optional[Concern] = None
+    # What marked its manager's transaction before, as its text and its line.
+    _before: Optional[Tuple[str, str]] = None
 
     def __init__(
         self, detail: Optional[str] = None, events: Tuple[Event, ...] = (), line: str = ""
@@ -94,7 +102,8 @@ class Refused(KarzhoulError):
 
     def explain(self) -> str:
         """What can be told of it: of a query each mistake with its line, column and word, of an
-        entity or a member which one is meant, and else what the refusal means."""
+        entity or a member which one is meant, of a refused flush or commit the objects and members
+        that it is about, as they stand now, and else what the refusal means."""
         from .explaining import explained
 
         return explained(self, self._factory)
@@ -105,7 +114,16 @@ class OutOfMemory(Refused, number=1):
 
 
 class StoreFault(Refused, number=2):
-    """The store can't be opened, or a commit could not be written; its transaction stays open."""
+    """The store can't be opened, or a commit could not be written; its transaction stays open.
+    `why` says of an opening what is in the way, as far as that can be told."""
+
+    why: str = ""
+
+    def __str__(self) -> str:
+        return f"{super().__str__()}: {self.why}" if self.why else super().__str__()
+
+    def explain(self) -> str:
+        return self.why or super().explain()
 
 
 class BadLine(Refused, number=3):
@@ -168,11 +186,24 @@ class Rollback(Refused, number=14):
     @property
     def cause(self) -> Optional[Refused]:
         """What made the commit roll back; None where the transaction could only roll back."""
-        return (
-            None
-            if self.detail is None or self.detail == "marked"
-            else refusal_of(self.detail, self.events, self.line)
-        )
+        if self.detail is None or self.detail == "marked":
+            return None
+        cause = refusal_of(self.detail, self.events, self.line)
+        cause._factory, cause._concern = self._factory, self._concern
+        return cause
+
+    def explain(self) -> str:
+        cause = self.cause
+        if cause is not None:
+            return cause.explain()
+        if self._before is None:
+            return super().explain()
+        return f"the transaction could only roll back, since this was refused: {self._told()}"
+
+    def _told(self) -> str:
+        """The refusal before, with its line."""
+        name, line = self._before or ("", "")
+        return f"{name} of {line if len(line) < 200 else f'{line[:200]}..'}"
 
 
 class NoResult(Refused, number=15):

@@ -101,6 +101,11 @@ class Row(List[Any]):
     def _fields(self) -> Tuple[str, ...]:
         return self._names.fields
 
+    def _repr_html_(self) -> str:
+        from .notebook import row_html
+
+        return row_html(self, self._fields)
+
     def _asdict(self) -> Dict[str, Any]:
         return dict(zip(self._fields, self))
 
@@ -157,6 +162,15 @@ class Rows(List[Any]):
         """The names of the items of each row."""
         return self._names.fields
 
+    def _repr_html_(self) -> str:
+        from .notebook import rows_html
+
+        return rows_html(self, self._fields, self._note())
+
+    def _note(self) -> str:
+        """What is told of the rows beside their number."""
+        return ""
+
     def all(self) -> List[Any]:
         """The rows."""
         return self
@@ -197,6 +211,9 @@ class Page(Rows):
     def __reduce__(self) -> Tuple[Any, ...]:
         return list, (list(self),)
 
+    def _note(self) -> str:
+        return f"page {self.number}" + (f" of {self.pages}" if self.pages is not None else "")
+
     @property
     def has_previous(self) -> bool:
         """Whether there are pages before."""
@@ -211,3 +228,8 @@ class Page(Rows):
 def as_row(row: Any, names: Names) -> Any:
     """A row of a reply: with names, where it has several items."""
     return Row(row, names) if isinstance(row, list) else row
+
+
+def as_rows(rows: Sequence[Any], names: Names) -> List[Any]:
+    """The rows of a reply."""
+    return [as_row(row, names) for row in rows]

@@ -11,44 +11,16 @@ from pathlib import Path
 from typing import Any, Callable, Dict, Iterable, Iterator, List, Optional, Sequence, Tuple
 
 from .asked import STATEMENTS, Statement, Teller, mistakes_in, statement_of, words_within
+from .concern import Concern
 from .entities import Entity, Event
 from .factory import EntityManagerFactory
-from .lines import FlushModeType, LifecycleEvent, LockModeType, spelled, text_spelled
-from .refusals import KarzhoulError, ProgramEnded, Refused, TransactionRequired
+from .lines import CALLS, FlushModeType, LifecycleEvent, LockModeType, spelled, text_spelled
+from .refusals import KarzhoulError, ProgramEnded, Refused, Rollback, TransactionRequired
 from .show import value_text
 from .unit import MemberKind, entities_of
 
 HISTORY = Path.home() / ".karzhoul_history"
 COMMANDS = ("help", "entities", "show", "history", "manager", "quit")
-CALLS: Dict[str, Sequence[str]] = {
-    "createEntityManager": (),
-    "close": ("em",),
-    "begin": ("em",),
-    "commit": ("em",),
-    "rollback": ("em",),
-    "setRollbackOnly": ("em",),
-    "clear": ("em",),
-    "flush": ("em",),
-    "setFlushMode": ("em", "mode"),
-    "new": ("entity",),
-    "get": ("object", "name"),
-    "set": ("object", "name", "value"),
-    "add": ("object", "name", "member"),
-    "takeOut": ("object", "name", "member"),
-    "find": ("em", "entity", "key"),
-    "getReference": ("em", "entity", "key"),
-    "persist": ("em", "object"),
-    "remove": ("em", "object"),
-    "refresh": ("em", "object"),
-    "detach": ("em", "object"),
-    "merge": ("em", "object"),
-    "contains": ("em", "object"),
-    "lock": ("em", "object", "mode"),
-    "query": ("em", "text", "params", "first", "max"),
-    "querySingle": ("em", "text", "params", "first", "max"),
-    "executeUpdate": ("em", "text", "params"),
-}
-"""The calls with their members."""
 SPEAKING = {
     "createEntityManager", "new", "get", "takeOut", "find", "getReference", "merge", "contains",
 }
@@ -85,6 +57,7 @@ class Shell:
         self._is_silent = False
         self._typed: List[str] = []
         self._teller = Teller(app, self._described)
+        self._concerns: Dict[int, Concern] = {}
         # How many lines were refused or not understood, and why the program ended.
         self.refused = 0
         self.ended: Optional[ProgramEnded] = None
@@ -138,10 +111,12 @@ class Shell:
         try:
             self._do(said.strip())
         except Refused as refused:
-            meaning = " ".join((type(refused).__doc__ or "").split())
+            refused._concern = self._concern
             statement = statement_of(said)
             found = mistakes_in(statement, self._described) if statement is not None else []
-            self._refuse("\n  ".join([f"refused: {refused}", *(found or [meaning])]))
+            told = found or refused.explain().splitlines()
+            self._refuse("\n  ".join([f"refused: {refused}", *told]))
+            self._end_of(refused)
         except ProgramEnded as ended:
             self._refuse(str(ended))
             self._ends, self.ended = True, ended
@@ -181,9 +156,24 @@ class Shell:
         else:
             raise Misread(f"{words[0]!r} is no call: 'help' lists them")
 
+    @property
+    def _concern(self) -> Concern:
+        """What the manager at the prompt was told since its last transaction."""
+        fresh = Concern(self._app._kinds.made)
+        return self._concerns.setdefault(self._manager, fresh)
+
+    def _end_of(self, refused: Optional[Refused] = None) -> None:
+        """After the end of a transaction: what was told before is over."""
+        if refused is None or isinstance(refused, Rollback):
+            self._concerns.pop(self._manager, None)
+
     def _call(self, call: str, words: List[str]) -> None:
-        members = members_of(call, words, self._manager)
+        members, concern = members_of(call, words, self._manager), self._concern
         answer = self._app.ask(call, json.loads(members.get("entity", '""')), **members)
+        if call in ("persist", "remove", "lock"):
+            concern.of(call).append(int(members["object"]))
+        elif call in ("commit", "rollback", "clear"):
+            self._end_of()
         if call == "createEntityManager":
             self._manager = answer
         self._answer(answer, call in SPEAKING)

@@ -56,7 +56,7 @@ def _said_record(record: Record, shape: Shape) -> Dict[str, Any]:
     if record.version is not None:
         said["version"] = record.version
     if shape.values:
-        said["values"] = {name: _said_value(value) for name, value in record.values.items()}
+        said["values"] = {name: said_value(value) for name, value in record.values.items()}
     if shape.links:
         said["links"] = {name: key and _said_key(key) for name, key in record.links.items()}
     if shape.pairs:
@@ -64,12 +64,12 @@ def _said_record(record: Record, shape: Shape) -> Dict[str, Any]:
     return said
 
 
-def _said_value(value: Value) -> Any:
+def said_value(value: Value) -> Any:
     return {"hex": value.hex()} if isinstance(value, bytes) else value
 
 
 def _said_key(key: Key) -> List[Any]:
-    return [_said_value(part) for part in key]
+    return [said_value(part) for part in key]
 
 
 def item_of_line(line: str, shapes: Shapes) -> Item:
@@ -215,17 +215,17 @@ def cells_of(record: Record, columns: Sequence[Column]) -> List[Cell]:
 def _cell_of(record: Record, column: Column) -> Cell:
     if column.sort == "pairs":
         keys = record.pairs.get(column.member, [])
-        said = [_said_key(key) if len(key) > 1 else _said_value(key[0]) for key in keys]
+        said = [_said_key(key) if len(key) > 1 else said_value(key[0]) for key in keys]
         return json.dumps(said, ensure_ascii=False) if said else None
     if column.sort == "version":
-        return _cell(record.version)
+        return value_cell(record.version)
     if column.sort == "value":
-        return _cell(record.values.get(column.member))
+        return value_cell(record.values.get(column.member))
     key = record.key if column.sort == "key" else record.links.get(column.member)
-    return None if key is None else _cell(key[column.place])
+    return None if key is None else value_cell(key[column.place])
 
 
-def _cell(value: Value) -> Cell:
+def value_cell(value: Value) -> Cell:
     if value is None:
         return None
     return value.hex() if isinstance(value, bytes) else str(value)

@@ -6,6 +6,7 @@ from contextlib import suppress
 from types import TracebackType
 from typing import TYPE_CHECKING, Iterator, Optional, Type
 
+from .concern import Concern
 from .interrupts import begin_of_block, carried_out, end_of_block, guard, unguard
 from .lines import line_of
 from .refusals import IllegalState, KarzhoulError, OptimisticLock, ProgramEnded, Restarted, Rollback
@@ -31,6 +32,7 @@ class EntityTransaction:
             # Before it is, so that no interrupt leaves one open that isn't known to be.
             self.is_active = True
             self._ask("begin")
+            self._manager.factory._marked.pop(self._manager.number, None)
         except KarzhoulError:
             self.is_active = was_active
             raise
@@ -41,19 +43,24 @@ class EntityTransaction:
         rolled back."""
         try:
             self._ask("commit")
-        except Rollback:
-            self.is_active = False
+        except Rollback as refused:
+            refused._concern = self._manager._concern
+            self._end()
             raise
-        self.is_active = False
+        self._end()
 
     def rollback(self) -> None:
         """Gives up what isn't committed; the manager's objects are detached as they are."""
         try:
             self._ask("rollback")
         except (IllegalState, ProgramEnded, Restarted):  # It is over already.
-            self.is_active = False
+            self._end()
             raise
+        self._end()
+
+    def _end(self) -> None:
         self.is_active = False
+        self._manager._concern = Concern(self._manager.factory._kinds.made)
 
     def set_rollback_only(self) -> None:
         """Leaves it able only to roll back."""

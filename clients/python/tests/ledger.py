@@ -7,6 +7,7 @@ import json
 import os
 import sys
 import time
+from typing import Any, Dict, List, Tuple
 
 IDLE = {"error": {"name": "IllegalState", "no": 7, "why": "inactive"}, "events": []}
 OPEN = {"error": {"name": "IllegalState", "no": 7, "why": "active"}, "events": []}
@@ -15,10 +16,13 @@ BAD_LINE = {"error": {"name": "BadLine", "no": 3}, "events": []}
 
 class Ledger:
     def __init__(self) -> None:
-        self.objects, self.managers, self.values, self.is_open = 0, 0, {}, False
+        self.objects, self.managers, self.is_open = 0, 0, False
+        self.values: Dict[Tuple[int, str], Any] = {}
 
-    def reply(self, said: dict) -> dict:
-        call, answer, events = said["call"], None, []
+    def reply(self, said: Dict[str, Any]) -> Dict[str, Any]:
+        call = said["call"]
+        answer: Any = None
+        events: List[Any] = []
         if call == "begin" and self.is_open or call in ("commit", "rollback") and not self.is_open:
             return OPEN if self.is_open else IDLE
         if call == "close" and self.is_open:

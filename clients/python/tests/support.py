@@ -119,6 +119,13 @@ class ProgramTest(unittest.TestCase):
         return person
 
 
+def present(manager: karzhoul.EntityManager, entity: Any, key: Any) -> Any:
+    """The object of a key, which is found."""
+    found = manager.find(entity, key)
+    assert found is not None, f"there is no {entity} {key}"
+    return found
+
+
 @contextlib.contextmanager
 def counted(app: karzhoul.EntityManagerFactory) -> Iterator[List[bytes]]:
     """The lines that are sent in the block."""

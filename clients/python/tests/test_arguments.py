@@ -8,7 +8,7 @@ import tempfile
 import threading
 import unittest
 from pathlib import Path
-from typing import Any, List
+from typing import Any, List, Type
 
 import karzhoul
 from .support import PERSONS, PROGRAM, ProgramTest, needs_program, played
@@ -19,7 +19,7 @@ MANAGER = '> {"call":"createEntityManager"}\n< {"events":[],"ok":1}\n'
 class Played(unittest.TestCase):
     """What is refused here is never sent: the stub takes no call but the manager's."""
 
-    def refused(self, kind: type, words: str, call: Any) -> None:
+    def refused(self, kind: Type[Exception], words: str, call: Any) -> None:
         with played(MANAGER, PERSONS) as app:
             manager = app.create_entity_manager()
             with self.assertRaises(kind) as caught:

@@ -8,6 +8,7 @@ import io
 import json
 import os
 import re
+import shlex
 import subprocess
 import sys
 import tempfile
@@ -120,7 +121,7 @@ class Schema(unittest.TestCase):
 
     @unittest.skipUnless(importlib.util.find_spec("jsonschema"), "there is no package jsonschema")
     def test_it_is_a_schema_of_draft_7_and_takes_what_it_takes_here(self) -> None:
-        import jsonschema  # type: ignore[import]
+        jsonschema = importlib.import_module("jsonschema")
 
         schema = mapping_schema()
         jsonschema.Draft7Validator.check_schema(schema)
@@ -182,15 +183,16 @@ class New(unittest.TestCase):
         page = (self.folder / "README.md").read_text(encoding="utf-8")
         tried = page.partition("##")[2].partition("## The")[0]
         lines = re.findall("^    (?!#)(.*)$", tried, re.MULTILINE)
-        self.assertEqual(len(lines), 7)
+        self.assertEqual(len(lines), 8)
         told = []
         for line in lines:
-            given = [sys.executable if word == "python3" else word for word in line.split()]
+            given = [sys.executable if word == "python3" else word for word in shlex.split(line)]
             ran = subprocess.run(given, cwd=self.folder, env=env, input=b"", capture_output=True)
             self.assertEqual((ran.returncode, ran.stderr), (0, b""), line)
             told.append(ran.stdout.decode())
         wanted = ["stored: <Book id=1> with [<Loan number=1>]", "version 1 has copies: 1"]
-        wanted += ["Emma was lent 1 times", "refused: Rollback(Persistence(null))"]
+        told_of = "the new Book 2: title is null, and is required"
+        wanted += ["Emma was lent 1 times", f"refused: Rollback(Persistence(null)) - {told_of}"]
         self.assertEqual(told[0].splitlines(), wanted)
         self.assertEqual(told[1], "mapping.json: good\n")
         self.assertIn("Book: 1 object (all that are stored)", told[2])

@@ -11,7 +11,7 @@ from typing import Any, List
 import karzhoul
 from karzhoul import LifecycleEvent
 
-from .support import FLAT, PERSONS, PROGRAM, ProgramTest, counted, needs_program
+from .support import FLAT, PERSONS, PROGRAM, ProgramTest, counted, needs_program, present
 
 
 @needs_program
@@ -34,7 +34,7 @@ class Objects(ProgramTest):
                 with em.transaction():
                     em.persist(app.new("Order", number=10, amount=-5))
             with karzhoul.open(FLAT, db, program=PROGRAM) as app:
-                order = app.create_entity_manager().find("Order", 10)
+                order = present(app.create_entity_manager(), "Order", 10)
                 self.assertEqual((order.number, order.amount), (10, -5))
 
     def test_values_of_each_type(self) -> None:
@@ -69,12 +69,13 @@ class Objects(ProgramTest):
         self.assertIsNone(order.amount)
 
     def test_an_embedded_id_is_read_and_set_by_its_parts(self) -> None:
-        place = self.Place()
+        place: Any = self.Place()
         place.at = (1, "a", b"")
-        place.at.row = 2
+        at: Any = place.at
+        at.row = 2
         self.assertEqual(place.at, (2, "a", b""))
         with self.assertRaises(AttributeError):
-            place.at.colour
+            at.colour
 
     def test_an_embedded_id_takes_exactly_its_parts(self) -> None:
         place = self.Place(at=(1, "a", b""))
@@ -211,7 +212,7 @@ class Transactions(ProgramTest):
         with self.em.transaction() as transaction:
             self.em.persist(self.Person(name="Bob"))
             transaction.commit()
-        self.assertEqual(self.em.find(self.Person, 2).name, "Bob")
+        self.assertEqual(present(self.em, self.Person, 2).name, "Bob")
 
     def test_a_transaction_that_can_only_roll_back(self) -> None:
         with self.assertRaises(karzhoul.Rollback) as raised:
@@ -223,7 +224,7 @@ class Transactions(ProgramTest):
     def test_a_stale_commit_and_its_retry(self) -> None:
         first = self.committed(name="Ada")
         other = self.app.create_entity_manager()
-        second = other.find(self.Person, 1)
+        second = present(other, self.Person, 1)
         self.assertIsNot(second, first)
         second.name = "Bob"
         with other.transaction():
@@ -239,7 +240,7 @@ class Transactions(ProgramTest):
             [(LifecycleEvent.PRE_UPDATE, first)],
         )
         self.assertEqual(str(refused), "Rollback(OptimisticLock)")
-        again = self.em.find(self.Person, 1)
+        again = present(self.em, self.Person, 1)
         self.assertIsNot(again, first)
         self.assertEqual((again.name, first.name), ("Bob", "Cy"))
         again.name = first.name
@@ -258,7 +259,7 @@ class Removal(ProgramTest):
             self.assertFalse(self.em.contains(person))
             self.em.flush()
             self.assertIsNone(self.em.find(self.Person, 1))
-            self.assertEqual(other.find(self.Person, 1).name, "Ada")
+            self.assertEqual(present(other, self.Person, 1).name, "Ada")
         self.assertIsNone(self.app.create_entity_manager().find(self.Person, 1))
         with self.assertRaises(karzhoul.IllegalArgument) as raised:
             self.em.remove(person)
@@ -282,7 +283,7 @@ class Removal(ProgramTest):
         self.em.flush()
         transaction.rollback()
         self.assertEqual((person.name, person.version), ("Bob", 1))
-        self.assertEqual(self.em.find(self.Person, 1).name, "Ada")
+        self.assertEqual(present(self.em, self.Person, 1).name, "Ada")
         with self.assertRaises(karzhoul.TransactionRequired):
             self.em.flush()
 
@@ -298,7 +299,7 @@ class Removal(ProgramTest):
     def test_a_closed_manager(self) -> None:
         person = self.committed(name="Ada")
         with self.app.create_entity_manager() as other:
-            found = other.find(self.Person, 1)
+            found = present(other, self.Person, 1)
         self.assertIsNot(found, person)
         self.assertEqual(found.name, "Ada")
         with self.assertRaises(karzhoul.NoSuchManager):

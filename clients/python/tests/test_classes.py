@@ -14,7 +14,7 @@ from karzhoul import Collection, LifecycleEvent
 from karzhoul.classes import marked, marked_text, marks_of
 from karzhoul.shell import Shell
 
-from .support import PROGRAM, TOP, counted, needs_program, played
+from .support import PROGRAM, TOP, counted, needs_program, played, present
 
 DESK: Dict[str, Any] = {
     "revision": 1,
@@ -118,7 +118,7 @@ class Found(DeskTest):
             other.lines = [self.Line(at=(11, 1), order=other)]
         again = self.app.create_entity_manager()
         self.assertEqual(
-            [tuple(line.at) for line in again.find(self.Order, 10).lines],
+            [tuple(line.at) for line in present(again, self.Order, 10).lines],
             [(10, 1), (10, 2), (10, 3)],
         )
         with again.transaction():
@@ -135,7 +135,8 @@ class Found(DeskTest):
         )
         self.stored()
         with counted(self.app) as sent:
-            company, friend, customer = self.em.find_many(self.Customer, (1, 2, 3))
+            found: List[Any] = self.em.find_many(self.Customer, (1, 2, 3))
+        company, friend, customer = found
         self.assertEqual(len(sent), 3)
         self.assertEqual(self.types((company, friend, customer)), ["Company", "Friend", "Customer"])
         self.assertIsInstance(company, self.Customer)
@@ -180,12 +181,12 @@ class Found(DeskTest):
 
     def test_what_relations_lead_to(self) -> None:
         self.stored()
-        order = self.em.find(self.Order, 10)
+        order = present(self.em, self.Order, 10)
         self.assertEqual(
             self.types([order.customer, *order.lines, *order.customer.orders]),
             ["Company", "Line", "Gift", "Order", "Order"],
         )
-        friend = self.em.find(self.Order, 12).customer
+        friend = present(self.em, self.Order, 12).customer
         self.em.detach(friend)
         self.assertEqual((type(friend), friend.name), (self.Friend, "Bob"))
 
@@ -202,7 +203,7 @@ class Found(DeskTest):
 
     def test_members_that_are_read_and_set_send_a_line_each(self) -> None:
         self.stored()
-        company = self.em.find(self.Customer, 1)
+        company = present(self.em, self.Customer, 1)
         with counted(self.app) as sent:
             company.name, company.vat
             self.assertFalse(hasattr(company, "nmae"))
@@ -219,7 +220,7 @@ class States(DeskTest):
     def test_what_an_event_tells_first(self) -> None:
         self.stored()
         told = self.heard(LifecycleEvent.POST_LOAD)
-        company = self.em.find(self.Customer, 1)
+        company = present(self.em, self.Customer, 1)
         self.em.find(self.Customer, 2)
         with self.em.transaction():
             self.em.remove(company)
@@ -232,7 +233,7 @@ class States(DeskTest):
     def test_a_removed_object_keeps_its_class(self) -> None:
         self.stored()
         told = self.heard(LifecycleEvent.PRE_REMOVE)
-        order = self.em.find(self.Order, 10)
+        order = present(self.em, self.Order, 10)
         self.em.transaction().begin()
         self.em.remove(order)
         line, gift = order.lines
@@ -244,7 +245,7 @@ class States(DeskTest):
 
     def test_what_a_removal_loads_is_known_without_a_callback_too(self) -> None:
         self.stored()
-        order = self.em.find(self.Order, 10)
+        order = present(self.em, self.Order, 10)
         with self.em.transaction():
             self.em.remove(order)
             self.assertEqual(self.types(order.lines), ["Line", "Gift"])
@@ -274,7 +275,7 @@ class States(DeskTest):
     def test_after_a_rollback_and_a_clear(self) -> None:
         self.stored()
         transaction = self.em.transaction().begin()
-        first = self.em.find(self.Customer, 1)
+        first = present(self.em, self.Customer, 1)
         new = self.Friend(name="Eve")
         self.em.persist(new)
         self.em.flush()
@@ -289,7 +290,7 @@ class States(DeskTest):
 
     def test_objects_that_a_refused_call_gave_up(self) -> None:
         self.stored()
-        friend = self.em.find(self.Friend, 2)
+        friend = present(self.em, self.Friend, 2)
         friend.name = None
         with self.em.transaction():
             pass
@@ -368,7 +369,7 @@ class Marks(unittest.TestCase):
             entity["name"]: entity["listeners"][0]["events"] for entity in marked(DESK)["entities"]
         }
         self.assertEqual(set(map(tuple, heard.values())), {("PostLoad", "PrePersist")})
-        flat = {**DESK, "entities": [{**entity, "relations": []} for entity in DESK["entities"]]}
+        flat: Any = {**DESK, "entities": [{**entity, "relations": []} for entity in DESK["entities"]]}
         self.assertEqual(
             [entity["listeners"][0]["events"] for entity in marked(flat)["entities"]],
             [["PostLoad"]] * 6,
@@ -387,7 +388,8 @@ class Marks(unittest.TestCase):
     @needs_program
     def test_the_image_of_an_object_is_of_its_class(self) -> None:
         with karzhoul.open(TOP / "tests" / "mappings" / "sub.json", program=PROGRAM) as app:
-            em, told = app.create_entity_manager(), []
+            told: List[karzhoul.Event] = []
+            em = app.create_entity_manager()
             app.listen(told.append)
             order, note = app.new("Order", at=(1, "a")), app.new("Note", at=(1, "b"))
             images = [em.merge(order), em.merge(note)]
@@ -402,7 +404,7 @@ class Marks(unittest.TestCase):
     @needs_program
     def test_the_program_refuses_the_mapping_that_was_given(self) -> None:
         person = {"name": "Person", "table": 1, "key": [{"name": "id", "type": "int"}]}
-        refused = {
+        refused: Dict[str, Any] = {
             "function": {
                 "revision": 1,
                 "entities": [{**person, "listeners": [{"name": "class0", "events": ["PostLoad"]}]}],
@@ -419,7 +421,8 @@ class Marks(unittest.TestCase):
             path = Path(place, "mapping.json")
             with self.assertRaises(karzhoul.Mapping) as raised:
                 karzhoul.open(path, program=PROGRAM)
-            self.assertEqual((raised.exception.detail, raised.exception.faults), ("json", ()))
+            self.assertEqual(raised.exception.detail, "json")
+            self.assertIn("mapping.json can't be read: No such file", raised.exception.faults[0])
             path.write_text(
                 "\ufeff" + json.dumps({"revision": 1, "entities": [person]}), encoding="utf-8"
             )

@@ -156,7 +156,7 @@ class Show(WithStore):
     def test_the_page_in_a_browser(self) -> None:
         page = self.place / "page.html"
         self.over("show", self.db, "--html", str(page))
-        browser = next(found for found in map(shutil.which, BROWSERS) if found)
+        browser = str(next(found for found in map(shutil.which, BROWSERS) if found))
         shot = self.place / "page.png"
         words = (
             ["--headless", "--screenshot", str(shot)]
@@ -174,8 +174,7 @@ class Show(WithStore):
                 status, out, err = self.over(command, self.db)
                 self.assertEqual((status, out), (4, ""))
                 self.assertIn(
-                    f"karzhoul: {self.db} can't be opened (StoreFault): it seems that another "
-                    f"program has it open",
+                    f"karzhoul: StoreFault: {self.db} can't be opened: another program has it open",
                     err,
                 )
 

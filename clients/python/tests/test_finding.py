@@ -10,7 +10,7 @@ import shutil
 import tempfile
 import unittest
 from pathlib import Path
-from typing import Optional, Tuple
+from typing import Any, Optional, Tuple
 from unittest import mock
 
 import karzhoul
@@ -33,7 +33,9 @@ class Finding(unittest.TestCase):
         place = tempfile.TemporaryDirectory()
         self.addCleanup(place.cleanup)
         self.place = Path(place.name).resolve()
-        for patch in (mock.patch("karzhoul.finding._said", set()), mock.patch.dict(os.environ)):
+        said: Any = mock.patch("karzhoul.finding._said", set())
+        env: Any = mock.patch.dict(os.environ)
+        for patch in (said, env):
             patch.start()
             self.addCleanup(patch.stop)
         os.environ.pop("KARZHOUL_PROGRAM", None)

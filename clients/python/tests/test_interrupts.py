@@ -17,12 +17,12 @@ import threading
 import time
 import unittest
 from pathlib import Path
-from typing import Any, Callable, Iterator, List, Optional
+from typing import Any, Callable, Iterator, List, Optional, Set
 from unittest import mock
 
 import karzhoul
 
-from .support import FLAT, HERE, PERSONS, PROGRAM, ProgramTest, needs_program
+from .support import FLAT, HERE, PERSONS, PROGRAM, ProgramTest, needs_program, present
 from .test_program import PACKAGE, lives
 
 LEDGER = HERE / "ledger.py"
@@ -102,7 +102,7 @@ class AtRandom(Interrupted):
 
         def find() -> None:
             key = next(keys)
-            self.assertEqual(self.em.find("Order", key)._karzhoul_number, key)
+            self.assertEqual(present(self.em, "Order", key)._karzhoul_number, key)
 
         self.interrupt_often(find)
 
@@ -203,7 +203,8 @@ class AtEachStep(Interrupted):
             self.assertEqual((shelf, tag), (str(row), {"hex": bytes(row).hex()}))
 
     def test_events(self) -> None:
-        orders, heard = self.app.new_many("Order", [{}] * 500), []
+        heard: List[karzhoul.Event] = []
+        orders = self.app.new_many("Order", [{}] * 500)
         self.app.listen(heard.append)  # (a callback's own steps may be interrupted)
         self.each_step(lambda number: self.em.persist(orders[number]))
         # Each once, of its own object, and in their order.
@@ -339,7 +340,8 @@ class WhileItWaits(Interrupted):
         self.assertGreater(time.monotonic() - start, 0.4)
 
     def test_the_events_of_an_interrupted_call_are_told_by_the_next(self) -> None:
-        order, heard = self.app.new("Order"), []
+        heard: List[karzhoul.Event] = []
+        order = self.app.new("Order")
         self.app.listen(heard.append)
         os.kill(self.app.program.pid, signal.SIGSTOP)
         interrupt_at(0.1, lambda: self.em.persist(order))
@@ -509,7 +511,7 @@ class AtRandomOverTheProgram(ProgramTest):
             self.assertIsNone(self.app.program.fault)
         self.em.transaction().commit()
         self.em.clear()
-        found = self.em.find("Order", 1)
+        found = present(self.em, "Order", 1)
         self.assertIsNot(found, self.order)
         self.assertEqual(found.amount, self.amount)
 
@@ -549,7 +551,8 @@ class TransactionsAtRandom(ProgramTest):
             signal.signal, signal.SIGINT, signal.signal(signal.SIGINT, signal.default_int_handler)
         )
         self.addCleanup(signal.signal, signal.SIGALRM, signal.signal(signal.SIGALRM, self.press))
-        self.keys, self.committed_keys = iter(range(1, 10**9)), set()
+        self.keys = iter(range(1, 10**9))
+        self.committed_keys: Set[int] = set()
 
     def press(self, _: int, frame: Any) -> None:
         """Does what Ctrl-C does."""
@@ -620,11 +623,11 @@ class OfTheProgram(ProgramTest):
                 with self.assertRaises(karzhoul.Restarted) as raised:
                     call()
                 self.assertIn("before a restart", str(raised.exception))
-            self.assertEqual([again.find(Person, 1).name, again.find(Person, 2)], ["Ada", None])
+            self.assertEqual([present(again, Person, 1).name, again.find(Person, 2)], ["Ada", None])
             self.assertEqual(heard, [karzhoul.LifecycleEvent.POST_LOAD])
             # A program that runs is ended.
             app.restart()
-            self.assertEqual(app.create_entity_manager().find("Person", 1).name, "Ada")
+            self.assertEqual(present(app.create_entity_manager(), "Person", 1).name, "Ada")
 
     def test_a_store_in_memory_is_not_restarted(self) -> None:
         ada = self.committed(name="Ada")

@@ -41,6 +41,10 @@ def verdict(text: str) -> Optional[str]:
     return found.value if found else None
 
 
+# A change of a mapping.
+Change = Callable[[Any], object]
+
+
 class Examples(unittest.TestCase):
     def test_mappings_and_limits(self) -> None:
         count = 0
@@ -93,16 +97,16 @@ class Examples(unittest.TestCase):
 
 
 class Places(unittest.TestCase):
-    def told(self, change: Callable[[Any], None]) -> List[Tuple[str, str]]:
+    def told(self, change: Change) -> List[Tuple[str, str]]:
         mapping = copy.deepcopy(PERSONS)
         change(mapping)
         return [
-            (finding.fault.value, finding.path)
+            (finding.fault.value if finding.fault else "", finding.path)
             for finding in lint(json.dumps(mapping).encode()).findings
         ]
 
     def test_each_rule_names_its_place(self) -> None:
-        changes: List[Tuple[str, Callable[[Any], None], str, str]] = [
+        changes: List[Tuple[str, Change, str, str]] = [
             ("revision", lambda m: m.update(revision=3), "model", "$.revision"),
             (
                 "a member too many",
@@ -188,7 +192,7 @@ class Places(unittest.TestCase):
         self.assertEqual(self.told(lambda m: None), [])
 
     def test_each_rule_of_revision_2_names_its_place(self) -> None:
-        def new(**members: Any) -> Callable[[Any], None]:
+        def new(**members: Any) -> Change:
             """A change that adds an attribute to persons, of which column 2 is taken."""
             return lambda m: (
                 m.update(revision=2),
@@ -197,17 +201,17 @@ class Places(unittest.TestCase):
                 ),
             )
 
-        def dropped(*columns: Any) -> Callable[[Any], None]:
+        def dropped(*columns: Any) -> Change:
             return lambda m: (m.update(revision=2), m["entities"][0].update(dropped=list(columns)))
 
-        def converted(default: Any) -> Callable[[Any], None]:
+        def converted(default: Any) -> Change:
             return lambda m: (
                 m.update(revision=2),
                 m["entities"][1]["attributes"][2].update(since=2, default=default),
             )
 
         place, root = "$.entities[0].attributes[1]", "$.entities[0].dropped"
-        rules: List[Tuple[Callable[[Any], None], List[Tuple[str, str]]]] = [
+        rules: List[Tuple[Change, List[Tuple[str, str]]]] = [
             (new(), []),
             (new(since=2), []),
             (new(since=2, default=0, required=True), []),

@@ -108,7 +108,8 @@ class Answers(unittest.TestCase):
             for key in (97, 98)
         )
         with played(MANAGER + "".join(script[:99]) + asked + script[99], PERSONS) as app:
-            em, told = app.create_entity_manager(), []
+            told: List[karzhoul.Event] = []
+            em = app.create_entity_manager()
             app.listen(told.append)
             found = em.find_many("Order", range(99))
             self.assertIsNone(found[50])

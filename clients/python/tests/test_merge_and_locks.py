@@ -4,12 +4,12 @@ with them and are removed as orphans."""
 from __future__ import annotations
 
 import unittest
-from typing import Any, Callable, List, Type
+from typing import Any, Callable, List, Type, cast
 
 import karzhoul
 from karzhoul import LifecycleEvent, LockModeType
 
-from .support import PROGRAM, TOP, needs_program
+from .support import PROGRAM, TOP, needs_program, present
 
 
 @needs_program
@@ -49,7 +49,7 @@ class Merge(MergeAndLocksTest):
         person = self.committed()
         self.em.detach(person)
         person.name = "Eve"
-        managed = self.em.find(self.Person, person.id)
+        managed = present(self.em, self.Person, person.id)
         with self.em.transaction():
             self.assertIs(self.em.merge(person), managed)
         self.assertEqual((managed.name, managed.version, person.version), ("Eve", 1, 0))
@@ -111,7 +111,7 @@ class Locks(MergeAndLocksTest):
         other = self.app.create_entity_manager()
         for mode in (LockModeType.READ, LockModeType.OPTIMISTIC):
             with other.transaction():
-                other.find(self.Person, 1).name = mode.value
+                present(other, self.Person, 1).name = mode.value
             self.em.transaction().begin()
             self.em.lock(person, mode)
             self.refuses(karzhoul.Rollback, "OptimisticLock", self.em.transaction().commit)
@@ -126,7 +126,7 @@ class Locks(MergeAndLocksTest):
             (LockModeType.WRITE, LockModeType.OPTIMISTIC_FORCE_INCREMENT, "WRITE"), 1
         ):
             with self.em.transaction():
-                self.em.lock(person, mode)
+                self.em.lock(person, cast(Any, mode))
                 self.em.flush()
                 self.em.flush()
             self.assertEqual(person.version, version)
@@ -146,7 +146,7 @@ class Locks(MergeAndLocksTest):
         )
         self.refuses(karzhoul.Rollback, "marked", transaction.commit)
         with self.assertRaises(ValueError):
-            self.em.lock(person, "PESSIMISTIC_READ")
+            self.em.lock(person, cast(Any, "PESSIMISTIC_READ"))
 
 
 if __name__ == "__main__":

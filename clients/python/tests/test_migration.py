@@ -336,7 +336,7 @@ class Locked(WithStore):
         with karzhoul.open(PERSONS, self.db, program=PROGRAM):
             status, told, err = self.told("--dry-run")
         self.assertEqual((status, told), (4, []))
-        self.assertIn("it seems that another program has it open", err)
+        self.assertIn("another program has it open", err)
         self.assertEqual(self.told("--dry-run")[0], 0)
 
 

@@ -22,7 +22,7 @@ from unittest import mock
 import karzhoul
 from karzhoul import LifecycleEvent
 
-from .support import PROGRAM, TOP, needs_program, package_elsewhere
+from .support import PROGRAM, TOP, needs_program, package_elsewhere, present
 
 DESK = TOP / "examples" / "order-desk"
 sys.path.insert(1, str(DESK))
@@ -250,7 +250,7 @@ class Orders(DeskTest):
     def test_a_company_found_as_a_customer_is_a_company(self) -> None:
         Customer, Company = self.app.entity("Customer"), self.app.entity("Company")
         self.assertTrue(issubclass(Company, Customer))
-        company, person = self.manager.find(Customer, 2), self.manager.find(Customer, 1)
+        company, person = present(self.manager, Customer, 2), present(self.manager, Customer, 1)
         self.assertEqual((type(company), type(person)), (Company, Customer))
         self.assertTrue(isinstance(company, Customer))
         with self.assertRaises(AttributeError):
@@ -320,7 +320,8 @@ class Orders(DeskTest):
                 new.at = parts
             self.assertEqual(tuple(new.at), (None, None))
         new.at = (7, 8)
-        self.assertEqual((new.at.order, new.at.line), (7, 8))
+        part: Any = new.at
+        self.assertEqual((part.order, part.line), (7, 8))
 
     def test_an_order_that_another_clerk_changed_meanwhile(self) -> None:
         orders.place_order(self.manager, 1, [("P1", 1)], "2026-01-05")

@@ -9,12 +9,15 @@ import sqlite3
 import tempfile
 import unittest
 from pathlib import Path
+from typing import Callable, Type, TypeVar
 
 import karzhoul
 from karzhoul import refusals
 from karzhoul.refusals import REFUSALS, refusal_of
 
-from .support import FLAT, PERSONS, PROGRAM, TOP, ProgramTest, needs_program, played
+from .support import FLAT, PERSONS, PROGRAM, TOP, ProgramTest, needs_program, played, present
+
+R = TypeVar("R", bound=karzhoul.Refused)
 
 
 class Table(unittest.TestCase):
@@ -45,9 +48,10 @@ class Table(unittest.TestCase):
         ):
             self.assertEqual(str(refusal_of(text)), text)
         rollback = refusal_of("Rollback(Listener(a (b)))")
-        self.assertIsInstance(rollback, karzhoul.Rollback)
+        assert isinstance(rollback, karzhoul.Rollback)
         self.assertEqual(str(rollback.cause), "Listener(a (b))")
         damaged = refusal_of("Damaged(7:0a0b)")
+        assert isinstance(damaged, karzhoul.Damaged)
         self.assertEqual((damaged.table, damaged.row), (7, b"\x0a\x0b"))
         self.assertIs(type(refusal_of("Unheard(of)")), karzhoul.Refused)
 
@@ -100,9 +104,11 @@ class Table(unittest.TestCase):
 
 @needs_program
 class OfTheProgram(ProgramTest):
-    def refuses(self, kind: type, detail: object, call: object, *given: object) -> karzhoul.Refused:
+    def refuses(
+        self, kind: Type[R], detail: object, call: Callable[..., object], *given: object
+    ) -> R:
         with self.assertRaises(kind) as raised:
-            call(*given)  # type: ignore[operator]
+            call(*given)
         self.assertEqual(raised.exception.detail, detail)
         return raised.exception
 
@@ -145,12 +151,12 @@ class OfTheProgram(ProgramTest):
         theirs.begin()
         person.name = "A1"
         ours.commit()
-        found = second.find("Person", person.id)
+        found = present(second, "Person", person.id)
         self.assertEqual(found.name, "Ada")  # As it was at the begin.
         found.name = "B"
         refused = self.refuses(refusals.Rollback, "OptimisticLock", theirs.commit)
         self.assertIsInstance(refused.cause, refusals.OptimisticLock)
-        self.assertEqual(second.find("Person", person.id).name, "A1")
+        self.assertEqual(present(second, "Person", person.id).name, "A1")
 
     def test_objects(self) -> None:
         order = self.Order(number=1)
@@ -170,6 +176,7 @@ class OfTheProgram(ProgramTest):
         self.em.persist(place)
         refused = self.refuses(refusals.Rollback, "Persistence(null)", self.em.transaction().commit)
         self.assertIsInstance(refused.cause, karzhoul.Persistence)
+        assert refused.cause is not None
         self.assertEqual(refused.cause.detail, "null")
         self.em.transaction().begin()
         self.em.persist(self.Place(at=(2, "a", b""), label="x", mood="angry"))

@@ -11,7 +11,7 @@ from typing import Any, Callable, List, Tuple
 import karzhoul
 from karzhoul import LifecycleEvent
 
-from .support import PROGRAM, TOP, counted, needs_program
+from .support import PROGRAM, TOP, counted, needs_program, present
 
 LINKED = TOP / "tests" / "mappings" / "linked.json"
 ORPHANS = TOP / "tests" / "mappings" / "persons.json"
@@ -62,7 +62,7 @@ class Links(RelationsTest):
         loaded: List[Any] = []
         self.app.listen(lambda event: loaded.append(event.object), LifecycleEvent.POST_LOAD)
         self.em.clear()
-        order = self.em.find(self.Order, 1)
+        order = present(self.em, self.Order, 1)
         self.assertEqual(loaded, [order])
         person = order.person
         self.assertEqual(loaded, [order, person])
@@ -74,7 +74,7 @@ class Links(RelationsTest):
     def test_what_was_not_read_of_a_detached_object(self) -> None:
         self.family()
         self.em.clear()
-        order = self.em.find(self.Order, 1)
+        order = present(self.em, self.Order, 1)
         self.em.detach(order)
         self.assertEqual(self.refuses(karzhoul.IllegalState, lambda: order.person), "unfetched")
         self.assertEqual(self.refuses(karzhoul.IllegalState, lambda: len(order.items)), "unfetched")
@@ -228,7 +228,7 @@ class Lists(RelationsTest):
                     em.persist(order)
                 self.assertEqual(order.items, [*items, items[0]])
             with karzhoul.open(LINKED, db, program=PROGRAM) as app:
-                order = app.create_entity_manager().find("Order", 1)
+                order = present(app.create_entity_manager(), "Order", 1)
                 self.assertEqual(
                     [tuple(item.at) for item in order.items], [(1, "a"), (1, "b"), (2, "a")]
                 )
@@ -238,7 +238,7 @@ class Lists(RelationsTest):
         person, orders = self.family(100)
         self.assertEqual(self.app.get_many(orders, "person"), [person] * 100)
         self.em.clear()
-        found = self.em.find(self.Person, person.id)
+        found = present(self.em, self.Person, person.id)
         self.assertEqual([order.number for order in found.orders], list(range(1, 101)))
         with self.app.pipeline():
             for order in found.orders[:50]:
@@ -268,7 +268,7 @@ class Cascades(RelationsTest):
     def test_a_removal_reaches_what_was_not_read(self) -> None:
         self.family()
         self.em.clear()
-        person = self.em.find(self.Person, 1)
+        person = present(self.em, self.Person, 1)
         with self.em.transaction():
             self.em.remove(person)
         self.assertEqual(self.em.find_many(self.Order, (1, 2)), [None, None])
@@ -318,7 +318,7 @@ class Orphans(unittest.TestCase):
                 pass
             self.assertEqual(em.find_many(Order, (1, 2, 3)), [None, None, third])
             em.clear()
-            person = em.find(Person, 1)
+            person = present(em, Person, 1)
             person.orders.clear()
             with em.transaction():
                 pass

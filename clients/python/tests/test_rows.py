@@ -5,7 +5,7 @@ from __future__ import annotations
 import copy
 import pickle
 import unittest
-from typing import Any, List
+from typing import Any, Callable, List
 from unittest import mock
 
 import karzhoul
@@ -284,7 +284,8 @@ class Asked(unittest.TestCase):
         self.assertIsNone(self.em.one_or_none(text, id=9))
         with self.assertRaises(karzhoul.NoResult):
             self.em.one(text, id=9)
-        for call in (self.em.one, self.em.one_or_none):
+        calls: List[Callable[[str], Any]] = [self.em.one, self.em.one_or_none]
+        for call in calls:
             with self.assertRaises(karzhoul.NonUniqueResult):
                 call("SELECT o FROM Order o")
 

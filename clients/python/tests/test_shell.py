@@ -169,6 +169,13 @@ class Status(unittest.TestCase):
         status, out = self.session("frob\nbegin\n", "--stop")
         self.assertEqual((status, out), (3, "'frob' is no call: 'help' lists them\n"))
 
+    def test_its_lines_are_told(self) -> None:
+        err = io.StringIO()
+        with contextlib.redirect_stderr(err):
+            self.assertEqual(self.session("begin\n", "--echo"), (0, "done\n"))
+        told = 'karzhoul: {"call":"begin","em":1} -> {"events":[],"ok":null} ('
+        self.assertIn(told, err.getvalue())
+
     def test_of_a_terminal(self) -> None:
         with mock.patch.object(Shell, "_with_history"), mock.patch("sys.stdin") as stdin:
             stdin.isatty.return_value = True

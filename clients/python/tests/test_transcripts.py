@@ -13,9 +13,9 @@ from typing import Any, Callable, Dict, Type
 
 import karzhoul
 from karzhoul import FlushModeType, LockModeType
-from karzhoul.shell import CALLS
+from karzhoul.lines import CALLS
 
-from .support import HERE, examples, played
+from .support import HERE, examples, played, present
 
 Factory = karzhoul.EntityManagerFactory
 
@@ -150,7 +150,7 @@ class Transcripts(unittest.TestCase):
                 em.persist(two)
                 em.persist(one)
             em.clear()
-            found = em.find(B, (2, "a"))
+            found = present(em, B, (2, "a"))
             owner = found.a
             self.assertIs(type(owner), A)
             self.assertEqual(found.owners, [owner])
@@ -204,7 +204,7 @@ class Transcripts(unittest.TestCase):
             app.listen(
                 lambda event: removed.append(event.object), karzhoul.LifecycleEvent.POST_REMOVE
             )
-            again = em.find(Person, 1)
+            again = present(em, Person, 1)
             with em.transaction():
                 em.remove(again)
             self.assertIs(removed[0], again)
@@ -231,7 +231,9 @@ class Transcripts(unittest.TestCase):
             with app.create_entity_manager() as em:
                 person = Person()
                 self.assertEqual(em.execute_update(text, params={"n": b"\0\xff", "p": person}), 1)
-                rows = em.query("SELECT p, p.name FROM Person p", Person, params={}, first=0, max=2)
+                params: Dict[str, Any] = {}
+                text = "SELECT p, p.name FROM Person p"
+                rows = em.query(text, Person, params=params, first=0, max=2)
                 self.assertEqual(rows[1], [None, b"\x0a"])
                 self.assertIs(rows[0][0], person)
                 self.assertEqual(rows[0][1], "Ada")

@@ -16,9 +16,9 @@ from . import test_tutorial
 from .support import TOP
 
 
-def ran(*words: str, **how: str) -> str:
+def ran(*words: str) -> str:
     """What a command prints, which must end well."""
-    done = subprocess.run(words, capture_output=True, text=True, timeout=100, **how)
+    done = subprocess.run(words, capture_output=True, text=True, timeout=100)
     if done.returncode:
         raise AssertionError(f"{words}: {done.stderr}")
     return done.stdout

@@ -1,0 +1,131 @@
+"""Why a store can't be opened, told from its file: who has it open, or what else is in the way."""
+
+from __future__ import annotations
+
+import os
+import sqlite3
+from contextlib import suppress
+from pathlib import Path
+from typing import Optional, Set
+
+from .migration import opened_to_read
+
+_HELD = "another program has it open, and one at a time has a file"
+_COLUMNS = ["t", "r", "c", "v"]
+_PROCESSES, _LOCKS = Path("/proc"), Path("/proc/locks")
+
+
+def why_unopened(db: Path) -> str:
+    """What is in the way of an opening, as far as that can be told."""
+    if not db.parent.is_dir():
+        return f"there is no folder {db.parent}"
+    if db.is_dir():
+        return "it is a folder, and a database is a file"
+    if not os.access(db.parent, os.W_OK | os.X_OK):
+        return f"its folder {db.parent} may not be written by you, where its log is to stand"
+    for file in (db, db.with_name(f"{db.name}-wal")):
+        if file.exists() and not os.access(file, os.R_OK | os.W_OK):
+            word = "it" if file == db else f"its log {file.name}"
+            return f"{word} may not be read and written by you"
+    if not db.exists():
+        return "it can't be made" + _of_room(db.parent)
+    if not db.is_file():
+        return "it is no file, but a device or the like"
+    return _of_lock(db) or _of_content(db) or f"it can't be told why{_of_room(db.parent)}"
+
+
+def _of_room(folder: Path) -> str:
+    room = os.statvfs(folder)
+    is_full = room.f_blocks > 0 and room.f_bavail * room.f_frsize < 1 << 20
+    return ": the disk has no room left" if is_full else ""
+
+
+# ---- who has it open
+
+
+def _of_lock(db: Path) -> Optional[str]:
+    """Who holds a lock on a file; None where nobody is known to."""
+    pids = _lockers(db)
+    if not pids:
+        return None
+    # A lock of an open file, as the program's, is no process's. Then those that have it open are
+    # looked for.
+    names = [_process(pid) for pid in sorted({pid for pid in pids if pid > 0} or _openers(db))]
+    return f"{_HELD}: {', '.join(names)}" if names else _HELD
+
+
+def _lockers(db: Path) -> Set[int]:
+    """The processes of the locks on a file that the system lists; -1 where one is no process's."""
+    with suppress(OSError, ValueError):
+        inode = str(db.stat().st_ino)
+        lines = [line.split() for line in _LOCKS.read_text().splitlines()]
+        return {
+            int(words[4]) for words in lines
+            if len(words) > 5 and words[5].rpartition(":")[2] == inode
+        }
+    return set()
+
+
+def _openers(db: Path) -> Set[int]:
+    """The processes that have a file open, as far as they may be looked at."""
+    found = db.stat()
+    pids = (int(each.name) for each in _PROCESSES.iterdir() if each.name.isdigit())
+    return {pid for pid in pids if _has_open(pid, found)}
+
+
+def _has_open(pid: int, file: os.stat_result) -> bool:
+    with suppress(OSError):
+        for each in (_PROCESSES / str(pid) / "fd").iterdir():
+            with suppress(OSError):
+                held = each.stat()
+                if (held.st_dev, held.st_ino) == (file.st_dev, file.st_ino):
+                    return True
+    return False
+
+
+def _process(pid: int) -> str:
+    """A process in words, with the one that started it."""
+    if pid == os.getpid():
+        return "this process itself"
+    word, parent = f"{_command(pid)} (process {pid})", _parent(pid)
+    if parent == os.getpid():
+        return f"{word}, which this process started"
+    return word if parent <= 1 else f"{word}, started by {_command(parent)} (process {parent})"
+
+
+def _command(pid: int) -> str:
+    with suppress(OSError):
+        return (_PROCESSES / str(pid) / "comm").read_text().strip()
+    return "a program"
+
+
+def _parent(pid: int) -> int:
+    with suppress(OSError, ValueError, IndexError):
+        # The name, which stands in brackets, may have any character.
+        rest = (_PROCESSES / str(pid) / "stat").read_text().rpartition(")")[2].split()
+        return int(rest[1])
+    return 0
+
+
+# ---- what it has
+
+
+def _of_content(db: Path) -> Optional[str]:
+    with db.open("rb") as file:
+        head = file.read(16)
+    if head not in (b"", b"SQLite format 3\0"):
+        return "it is no database of SQLite"
+    try:
+        with opened_to_read(db) as database:
+            asked = "SELECT name FROM sqlite_master WHERE type = 'table' ORDER BY name"
+            names = [str(name) for (name,) in database.execute(asked)]
+            columns = [str(row[1]) for row in database.execute("PRAGMA table_info(cell)")]
+    except sqlite3.Error as fault:
+        return _HELD if "locked" in str(fault) else f"SQLite can't read it ({fault})"
+    if names and "cell" not in names:
+        told = ", ".join(names[:5])
+        return f"it is no store of this program: it has no table of cells, and has {told}"
+    if columns not in ([], _COLUMNS):
+        told = ", ".join(columns[:5])
+        return f"it is no store of this program: its table of cells has the columns {told}"
+    return None

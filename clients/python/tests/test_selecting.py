@@ -1,0 +1,197 @@
+"""The command `query`, over a stub that takes a query in its words, and over the program."""
+
+from __future__ import annotations
+
+import contextlib
+import io
+import json
+import os
+import subprocess
+import sys
+import tempfile
+import unittest
+from pathlib import Path
+from typing import Any, Dict, List, Tuple
+from unittest import mock
+
+import karzhoul
+from karzhoul.command import main
+
+from .support import HERE, PERSONS, PROGRAM, needs_program
+
+ALL = "SELECT p, p.name AS called, o.amount FROM Person p, Order o WHERE p.id < 3 ORDER BY p.id"
+PLACES = "SELECT e FROM Place e"
+NAMED = "SELECT p.id FROM Person p WHERE p.name = :name"
+NONE = "SELECT p.name, p.id FROM Person p WHERE p.id = 9"
+SCANS = "SELECT e.scan, e.label FROM Place e WHERE e.scan = ?1"
+ADA = '[{"entity":"Person","key":[1]},"Ada",-3]'
+PLACE = '{"entity":"Place","key":[1,"a",{"hex":"0a"}]}'
+CASES: List[Dict[str, Any]] = [
+    {"words": ["--query", ALL], "lines": [ADA, '[{"entity":"Person","key":[2]},null,-3]']},
+    {"words": ["--query", PLACES], "lines": [PLACE]},
+    {"words": ["--query", NAMED, "--param", 'name="Ada"'], "lines": ["1"]},
+    {"words": ["--query", NAMED, "--param", 'name="7"'], "lines": ["3"]},
+    {"words": ["--query", NONE]},
+    {"words": ["--query", SCANS, "--param", '1={"hex":"ff"}'], "lines": ['[{"hex":"ff"},"x"]']},
+    {
+        "words": ["--query", "SELECT p FORM Person p"],
+        "told": "jpa: IllegalArgument(syntax)",
+        "status": 3,
+    },
+    {
+        "words": ["--query", NAMED, "--param", "name=7"],
+        "told": "jpa: IllegalArgument(typing)",
+        "status": 3,
+    },
+    {
+        "words": ["--query", NAMED],
+        "told": "jpa: IllegalArgument(parameter)",
+        "status": 3,
+    },
+    {
+        "words": ["--query", "SELECT p.id * 9223372036854775807 FROM Person p"],
+        "told": "jpa: Overflow",
+        "lines": ["9223372036854775807"],
+        "status": 3,
+    },
+]
+
+
+class Ways(unittest.TestCase):
+    """What is printed is the same by the program's own words and by its calls."""
+
+    stub = HERE / "query_stub.py"
+
+    def setUp(self) -> None:
+        place = tempfile.TemporaryDirectory()
+        self.addCleanup(place.cleanup)
+        self.place = Path(place.name)
+        self.mapping, self.db = self.place / "mapping.json", self.place / "app.db"
+        self.mapping.write_text(json.dumps(PERSONS), encoding="utf-8")
+
+    def fill(self, program: object) -> None:
+        with karzhoul.open(self.mapping, self.db, program=str(program)) as app, app.begin() as em:
+            em.persist_all([app.new("Person", name=name) for name in ("Ada", None, "7")])
+            em.persist(app.new("Order", number=7, amount=-3))
+            em.persist(app.new("Place", at=(1, "a", b"\x0a"), label="x", scan=b"\xff"))
+
+    def ran(self, program: object, *words: str) -> Tuple[int, str, str]:
+        out, err = io.StringIO(), io.StringIO()
+        command = ["query", "--program", str(program), str(self.mapping), str(self.db), *words]
+        with contextlib.redirect_stdout(out), contextlib.redirect_stderr(err):
+            status = main(command)
+        return status, out.getvalue(), err.getvalue()
+
+    def played(self, cases: List[Dict[str, Any]], *words: str) -> Tuple[int, str, str]:
+        """The same over the stub, with a file that is there."""
+        self.db.touch()
+        path = self.place / "queries.json"
+        path.write_text(json.dumps(cases), encoding="utf-8")
+        with mock.patch.dict(os.environ, KARZHOUL_QUERIES=str(path)):
+            return self.ran(self.stub, *words)
+
+    def prints(self, words: List[str], *lines: str) -> None:
+        wanted = (0, "".join(f"{line}\n" for line in lines), "")
+        self.assertEqual(self.played(CASES, *words), wanted)
+        if PROGRAM:
+            if not self.db.stat().st_size:
+                self.fill(PROGRAM)
+            self.assertEqual(self.ran(PROGRAM, *words), wanted)
+
+    def fails(self, words: List[str], status: int, *lines: str) -> None:
+        wanted = (status, "".join(f"{line}\n" for line in lines))
+        found = self.played(CASES, *words)
+        self.assertEqual((found[0], found[2]), wanted)
+        if PROGRAM:
+            if not self.db.stat().st_size:
+                self.fill(PROGRAM)
+            found = self.ran(PROGRAM, *words)
+            self.assertEqual((found[0], found[2]), wanted)
+
+    def test_a_table(self) -> None:
+        self.prints(
+            [ALL],
+            "p        | called | amount",
+            "---------+--------+-------",
+            "Person 1 | Ada    |     -3",
+            "Person 2 | null   |     -3",
+            "2 rows",
+        )
+        self.prints([PLACES], "e", "-----------------", "Place 1, a, x'0a'", "1 row")
+        self.prints([NONE], "no rows")
+
+    def test_json(self) -> None:
+        self.prints([ALL, "--json"], ADA, '[{"entity":"Person","key":[2]},null,-3]')
+        self.prints([PLACES, "--json"], PLACE)
+        self.prints([NONE, "--json"])
+
+    def test_csv(self) -> None:
+        self.prints([ALL, "--csv"], "p,called,amount", "Person 1,Ada,-3", "Person 2,,-3")
+        self.prints([NONE, "--csv"], "name,id")
+
+    def test_parameters(self) -> None:
+        self.prints([NAMED, "--param", "name=Ada", "--json"], "1")
+        self.prints([NAMED, "--param", 'name="7"', "--json"], "3")
+        self.prints([NAMED, "--param", ':name="Ada"', "--json"], "1")
+        self.prints([SCANS, "--param", '?1={"hex":"ff"}', "--csv"], "scan,label", "ff,x")
+        status, _, err = self.played(CASES, NAMED, "--param", "name")
+        self.assertEqual((status, err), (4, "karzhoul: 'name' is no parameter: write NAME=VALUE\n"))
+
+    def test_what_is_refused(self) -> None:
+        self.fails(
+            ["SELECT p FORM Person p"], 3, "karzhoul: IllegalArgument(syntax)",
+            "  1:10: FORM: did you mean FROM? [IllegalArgument(syntax)]",
+        )
+        self.fails(
+            [NAMED, "--param", "name=7"], 3, "karzhoul: IllegalArgument(typing)",
+            "  1:42: :name: p.name is a text, and :name is a whole number "
+            "[IllegalArgument(typing)]",
+        )
+        self.fails(
+            [NAMED], 3, "karzhoul: IllegalArgument(parameter)",
+            "  1:42: :name: the parameter 'name' isn't given [IllegalArgument(parameter)]",
+        )
+        self.fails(
+            ["SELECT p.id * 9223372036854775807 FROM Person p", "--json"], 3, "karzhoul: Overflow",
+            "  A whole number in a query lies outside 64 bits.",
+        )
+
+    def test_a_plan(self) -> None:
+        cases = [{"words": ["--query", PLACES, "--explain"], "lines": ["walks over Place"]}]
+        found = self.played(cases, PLACES, "--explain")
+        self.assertEqual(found, (0, "walks over Place\n", ""))
+
+    def test_what_goes_wrong(self) -> None:
+        for told, status, wanted in (
+            ("jpa: StoreFault", 3, "karzhoul: StoreFault: {db} can't be opened: it can't be told"),
+            ("jpa: Mapping(model)", 2, "karzhoul: Mapping(model)"),
+            ("jpa: Damaged(1:07)", 3, "karzhoul: Damaged(1:07)"),
+            ("error: no", 2, "karzhoul: the program ended with status 2: error: no"),
+        ):
+            cases = [{"words": ["--query", PLACES], "told": told, "status": status}]
+            found = self.played(cases, PLACES)
+            self.assertNotEqual(found[0], 0)
+            self.assertTrue(found[2].startswith(wanted.format(db=self.db)), found[2])
+
+    def test_files(self) -> None:
+        found = self.ran(self.stub, PLACES)
+        self.assertEqual(found, (4, "", f"karzhoul: there is no file {self.db}\n"))
+        self.mapping.write_text("{}", encoding="utf-8")
+        status, _, err = self.ran(self.stub, PLACES)
+        self.assertEqual(status, 1)
+        self.assertIn("mapping.json:1:1: ", err)
+
+    @needs_program
+    def test_a_mapping_from_a_pipe_and_a_reader_that_has_enough(self) -> None:
+        self.fill(PROGRAM)
+        command = (
+            f"cat {self.mapping} | {sys.executable} -m karzhoul query --program {PROGRAM} "
+            f"/dev/stdin {self.db} '{PLACES}' --json | head -1"
+        )
+        env = {**os.environ, "PYTHONPATH": str(HERE.parent), "PYTHONDONTWRITEBYTECODE": "1"}
+        ran = subprocess.run(["bash", "-c", command], capture_output=True, text=True, env=env)
+        self.assertEqual((ran.stdout, ran.stderr), (f"{PLACE}\n", ""))
+
+
+if __name__ == "__main__":
+    unittest.main()
