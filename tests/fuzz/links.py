@@ -135,19 +135,33 @@ class LinkPlots:
         yield from self.beginning(em)
         return made
 
+    def stored_at_work(self, wanted: Callable[..., Any] = lambda relation: True) -> Plot:
+        """The same by a manager at work: the manager, the objects and the relation."""
+        em = yield from self.at_work()
+        made = em and (yield from self.stored(em, wanted))
+        return (em, *made) if made else None
+
+    def owner_found(self, wanted: Callable[..., Any]) -> Plot:
+        """The same, and the call that finds the first of them, which has the relation: the manager,
+        its instance, the others and the relation."""
+        made = yield from self.stored_at_work(wanted)
+        if made is None:
+            return None
+        em, (first, *others), relation = made
+        live = yield from self.found(em, first)
+        if live is None or not live.entity.has(relation):
+            return None
+        return em, live, others, relation
+
     # -- plots
 
     def family(self) -> Plot:
         """Objects that lead to one another are stored, found and read again, and their relations
         changed."""
-        em = yield from self.at_work()
-        made = em and (yield from self.stored(em, cascading("PERSIST")))
-        if not made:
+        made = yield from self.owner_found(cascading("PERSIST"))
+        if made is None:
             return
-        (first, *others), relation = made
-        live = yield from self.found(em, first)
-        if live is None or not live.entity.has(relation):
-            return
+        em, live, others, relation = made
         yield from self.reading(live)
         for _ in range(self.random.randint(1, 4)):
             word = self.random.choice(["add", "takeOut", "set", "flush", "get", "other"])
@@ -174,14 +188,10 @@ class LinkPlots:
     def orphaned(self) -> Plot:
         """What leaves a relation is an orphan or not, and moves, is let go, removed or persisted
         before and after the flush."""
-        em = yield from self.at_work()
-        made = em and (yield from self.stored(em, lambda relation: relation.removes_orphans))
-        if not made:
+        made = yield from self.owner_found(lambda relation: relation.removes_orphans)
+        if made is None:
             return
-        (first, *others), relation = made
-        live = yield from self.found(em, first)
-        if live is None or not live.entity.has(relation):
-            return
+        em, live, _, relation = made
         if relation.is_many or self.random.random() < 0.5:
             yield "get", {"object": live.number, "name": relation.name}
         held = live.read_of(relation)
@@ -268,11 +278,10 @@ class LinkPlots:
     def one_found(self, operation: str) -> Plot:
         """Calls that store related objects along a cascade of the operation and find one of them:
         the manager, it, all and the relation."""
-        em = yield from self.at_work()
-        made = em and (yield from self.stored(em, cascading(operation)))
-        if not made:
+        made = yield from self.stored_at_work(cascading(operation))
+        if made is None:
             return None
-        lives, relation = made
+        em, lives, relation = made
         live = yield from self.found(
             em, lives[0] if self.random.random() < 0.7 else self.random.choice(lives)
         )
@@ -318,11 +327,11 @@ class LinkPlots:
 
     def read_apart(self) -> Plot:
         """What was not read of an object that its manager let go is asked for, and changed."""
-        em = yield from self.at_work()
-        made = em and (yield from self.stored(em, cascading("DETACH")))
-        if not made:
+        made = yield from self.stored_at_work(cascading("DETACH"))
+        if made is None:
             return
-        live = yield from self.found(em, made[0][0])
+        em, lives, _ = made
+        live = yield from self.found(em, lives[0])
         if live is None or not live.entity.relations:
             return
         if self.random.random() < 0.5:
@@ -384,15 +393,13 @@ class LinkPlots:
     def handed_over(self) -> Plot:
         """An object of another manager is linked to, added and taken out."""
         managers = self.open_ones()
-        if len(managers) < 2:
+        made = (yield from self.stored_at_work()) if len(managers) > 1 else None
+        if made is None:
             return
-        em = yield from self.at_work()
-        made = em and (yield from self.stored(em))
-        if not made:
-            return
+        em, lives, _ = made
         other_em = self.random.choice([each for each in managers if each != em])
-        theirs = yield from self.found(other_em, self.random.choice(made[0]))
-        live = yield from self.found(em, made[0][0])
+        theirs = yield from self.found(other_em, self.random.choice(lives))
+        live = yield from self.found(em, lives[0])
         if theirs is None or live is None:
             return
         if self.random.random() < 0.5:
@@ -420,13 +427,10 @@ class LinkPlots:
         managers = self.open_ones()
         if len(managers) < 2:
             return
-        em = yield from self.at_work()
-        made = em and (
-            yield from self.stored(em, lambda relation: relation.owns and relation.is_many)
-        )
-        if not made:
+        made = yield from self.stored_at_work(lambda each: each.owns and each.is_many)
+        if made is None:
             return
-        (first, *others), relation = made
+        em, (first, *_), relation = made
         yield "commit", {"em": em}
         live = yield from self.found(em, first)
         if live is None or not live.entity.has(relation):

@@ -56,6 +56,10 @@ class Queries:
     def setFlushMode(self, events: Events, em: int, mode: str) -> None:
         self.manager(em).flush_mode = mode
 
+    def querySingle(self, *given: Any) -> Any:
+        """The one row that `query` finds of the same."""
+        return self.query(*given, is_single=True)
+
     def query(
         self,
         events: Events,
@@ -64,30 +68,9 @@ class Queries:
         params: dict[str, Number | Value],
         first: int | None,
         most: int | None,
-    ) -> list[Any]:
-        return self.selected(events, em, text, params, first, most, False)
-
-    def querySingle(
-        self,
-        events: Events,
-        em: int,
-        text: str,
-        params: dict[str, Number | Value],
-        first: int | None,
-        most: int | None,
+        is_single: bool = False,
     ) -> Any:
-        return self.selected(events, em, text, params, first, most, True)
-
-    def selected(
-        self,
-        events: Events,
-        em: int,
-        text: str,
-        params: dict[str, Number | Value],
-        first: int | None,
-        most: int | None,
-        is_single: bool,
-    ) -> Any:
+        """The rows that a statement finds, or the one row."""
         manager, given = self.manager(em), Given(self, params)
         statement = statement_of(text)
         if any(number is not None and number < 0 for number in (first, most)):
