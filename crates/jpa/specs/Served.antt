@@ -32,7 +32,8 @@ abbrev pub unit_in : List ℕ → Result (ProgramUnit × History) Cause
 unit_in bytes =
     and_then (mapping_of bytes) (λ mapping.
     and_then (functions_in bytes) (λ functions.
-    and_then (registered functions) (λ registry. Ok (record { metamodel = mapping.metamodel; registry = registry }, mapping.history))))
+    and_then (registered functions)
+    (λ registry. Ok (record { metamodel = mapping.metamodel; registry = registry }, mapping.history))))
 
 -- the unit that is served without a mapping: the program's own persons with their orders, and no
 -- function
@@ -47,7 +48,8 @@ unit_from None = Ok (own_unit, unchanged)
 
 -- where the unit can't be made the first that is wrong is told, unless memory ran out
 abbrev pub RefusesUnit : {T : Type 0} → Option (List ℕ) → Result T Cause → Type 0
-RefusesUnit mapping result = (cause : Cause) → unit_from mapping ≡ Err cause → IsErrAnd result (λ told. (told ≡ Cause.OutOfMemory) ⊎ (told ≡ cause))
+RefusesUnit mapping result = (cause : Cause) → unit_from mapping ≡ Err cause →
+    IsErrAnd result (λ told. (told ≡ Cause.OutOfMemory) ⊎ (told ≡ cause))
 
 -- want of memory, or a fault of the mapping
 abbrev pub IsMappingCause : Cause → Type 0
@@ -55,7 +57,8 @@ IsMappingCause cause = (cause ≡ Cause.OutOfMemory) ⊎ ((fault : MappingFault)
 
 -- each function that the unit names is registered, and no converter throws for a default
 abbrev pub is_servable : ProgramUnit → History → Bool
-is_servable unit history = names_are_known unit.registry unit.metamodel && defaults_pass (world_of_unit meaning unit) history
+is_servable unit history =
+    names_are_known unit.registry unit.metamodel && defaults_pass (world_of_unit meaning unit) history
 
 -- the unit can be served
 abbrev pub IsServable : ProgramUnit → History → Type 0
@@ -63,10 +66,12 @@ IsServable unit history = is_servable unit history ≡ true
 
 -- the unit of these bytes, or of none, can be served
 abbrev pub GivesServable : Option (List ℕ) → Type 0
-GivesServable mapping = (unit : ProgramUnit) × (history : History) × (unit_from mapping ≡ Ok (unit, history)) × IsServable unit history
+GivesServable mapping =
+    (unit : ProgramUnit) × (history : History) × (unit_from mapping ≡ Ok (unit, history)) × IsServable unit history
 
 module _ {S : Type 0} (g : Ghosts S) where
   -- the cells of the unit's tables are those of a set of its objects and of next numbers, and no
   -- others
   abbrev pub HoldsUnit : ProgramUnit → Held S → Type 0
-  HoldsUnit unit conn = (set : StoredSet) × (numbers : List ℕ) × HoldsCells g (world_of_unit meaning unit) conn set numbers
+  HoldsUnit unit conn =
+      (set : StoredSet) × (numbers : List ℕ) × HoldsCells g (world_of_unit meaning unit) conn set numbers

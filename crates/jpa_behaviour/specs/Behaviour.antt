@@ -62,7 +62,8 @@ answers_representable (Heard.Throw text) = true
 
 -- a listener that sees values of the program alone assigns such alone
 abbrev pub HearsRepresentable : World → Type 0
-HearsRepresentable world = (name : List ℕ) (image : Image) → sees_representable image ≡ true → answers_representable (world.heard name image) ≡ true
+HearsRepresentable world = (name : List ℕ) (image : Image) → sees_representable image ≡ true →
+    answers_representable (world.heard name image) ≡ true
 
 -- all three
 pub record IsRegular (world : World) : Type 0 where
@@ -72,4 +73,5 @@ pub record IsRegular (world : World) : Type 0 where
 
 -- the world of a unit that names no stored function: nobody is heard, and no converter answers
 abbrev pub without_functions : PersistenceUnit → World
-without_functions m = record { model = m; heard = λ name image. Heard.Assign []; column = λ name v. None; attribute = λ name v. None }
+without_functions m =
+    record { model = m; heard = λ name image. Heard.Assign []; column = λ name v. None; attribute = λ name v. None }

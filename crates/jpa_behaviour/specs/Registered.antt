@@ -1,6 +1,7 @@
 -- What is registered under names, and the world that it makes (Jakarta Persistence 3.1, chapters
 -- 3.5 listeners and callbacks, 3.8 converters).
-use Rattle.std.specs.Prelude.{◌≡◌, ◌↔◌, ⊤, ℕ, Bool, true, List, [], ◌∷◌, ◌++◌, find, is_some, if◌then◌else◌, Option, Some, None, option_map, Result, Ok, Err}
+use Rattle.std.specs.Prelude.{◌≡◌, ◌↔◌, ⊤, ℕ, Bool, true, List, [], ◌∷◌, ◌++◌, find, is_some, if◌then◌else◌, Option}
+use Rattle.std.specs.Prelude.{Some, None, option_map, Result, Ok, Err}
 use Rattle.jpa_value.specs.declared.value.Value.{Value}
 use Rattle.jpa_value.specs.declared.refusal.Argument.{Argument}
 use Rattle.jpa_value.specs.declared.refusal.Persist.{Persist}
@@ -50,7 +51,8 @@ pub record Registered (L C : Type 0) : Type 0 where
 
 -- no name of a sort stands twice
 abbrev pub AreNamedOnce : {L C : Type 0} → Registered L C → Type 0
-AreNamedOnce r = (are_distinct_by (λ k. k.name) r.listeners ≡ true) × (are_distinct_by (λ k. k.name) r.converters ≡ true)
+AreNamedOnce r = (are_distinct_by (λ k. k.name) r.listeners ≡ true)
+    × (are_distinct_by (λ k. k.name) r.converters ≡ true)
 
 -- ---- what listeners and converters mean
 
@@ -65,7 +67,8 @@ pub record Meaning (L C : Type 0) : Type 0 where
 -- the two directions of each converter are inverse
 abbrev pub ConvertersAreInverse : {L C : Type 0} → Meaning L C → Type 0
 ConvertersAreInverse {L} {C} f =
-    (c : C) (v d : Value) → is_convertible v ≡ true → is_convertible d ≡ true → (f.column c v ≡ Some d) ↔ (f.attribute c d ≡ Some v)
+    (c : C) (v d : Value) → is_convertible v ≡ true → is_convertible d ≡ true →
+    (f.column c v ≡ Some d) ↔ (f.attribute c d ≡ Some v)
 
 -- each listener answers values of the program when it sees such
 abbrev pub ListenersAnswerRepresentable : {L C : Type 0} → Meaning L C → Type 0

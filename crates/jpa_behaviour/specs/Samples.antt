@@ -27,7 +27,8 @@ flip (Value.Bytes bytes) = None
 -- ---- their laws
 
 -- a text in UTF-8 that is set is a value of the program
-pub sets_representable : (attribute text : List ℕ) → is_utf8 text ≡ true → answers_representable (sets attribute text) ≡ true
+pub sets_representable : (attribute text : List ℕ) → is_utf8 text ≡ true → answers_representable (sets attribute text)
+    ≡ true
 sets_representable attribute text h = ap (λ b. b && true) h
 
 twice : (n : ℤ) → flipped (flipped n) ≡ n
@@ -36,7 +37,8 @@ twice (negsuc n) = refl
 
 turned_back : (v d : Value) → flip v ≡ Some d → flip d ≡ Some v
 turned_back Value.Null d e = absurd (none-some d e)
-turned_back (Value.Int n) d e = ap flip (sym (same_Some (Value.Int (flipped n)) d e)) ∙ ap (λ m. Some (Value.Int m)) (twice n)
+turned_back (Value.Int n) d e =
+    ap flip (sym (same_Some (Value.Int (flipped n)) d e)) ∙ ap (λ m. Some (Value.Int m)) (twice n)
 turned_back (Value.Text bytes) d e = absurd (none-some d e)
 turned_back (Value.Bytes bytes) d e = absurd (none-some d e)
 

@@ -22,7 +22,7 @@ pub trait Behaviour {
     /// What a listener answers to an image; `OutOfMemory` where a growth was refused.
     fn hear(alloc: Global, listener: &Self::Listener, image: &Image) -> Result<Heard, Cause>
         ensures heard { IfOk result (λ heard. heard ≡ meaning.heard listener.now image.now) }
-        ensures refused { IfErr result (λ cause. cause ≡ Cause.OutOfMemory) };
+        ensures err { IfErr result (λ cause. cause ≡ Cause.OutOfMemory) };
 
     /// What a converter makes of an attribute's value for its column, nothing where it throws;
     /// `OutOfMemory` where a growth was refused.
@@ -33,7 +33,7 @@ pub trait Behaviour {
     ) -> Result<Option<Value>, Cause>
         ensures column { IfOk result (λ answer. answer
             ≡ meaning.column converter.now value.now) }
-        ensures refused { IfErr result (λ cause. cause ≡ Cause.OutOfMemory) };
+        ensures err { IfErr result (λ cause. cause ≡ Cause.OutOfMemory) };
 
     /// What a converter makes of a column's value for its attribute, nothing where it throws;
     /// `OutOfMemory` where a growth was refused.
@@ -44,7 +44,7 @@ pub trait Behaviour {
     ) -> Result<Option<Value>, Cause>
         ensures attribute { IfOk result (λ answer. answer
             ≡ meaning.attribute converter.now value.now) }
-        ensures refused { IfErr result (λ cause. cause ≡ Cause.OutOfMemory) };
+        ensures err { IfErr result (λ cause. cause ≡ Cause.OutOfMemory) };
 
     // The two directions of a converter are inverse.
     ghost inverse: { ConvertersAreInverse meaning };

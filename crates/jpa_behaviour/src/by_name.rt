@@ -67,7 +67,7 @@ impl<W: Drop> ByName<W> {
         ensures put { OnOk result (self.new ≡ self.old
             ++ (record { name = string_bytes name; what = what }) ∷ []) }
         ensures kept { OnErr result (self.new ≡ self.old) }
-        ensures refused { IfErr result (λ cause. cause ≡ Cause.OutOfMemory) }
+        ensures err { IfErr result (λ cause. cause ≡ Cause.OutOfMemory) }
     {
         self.known.insert(name, what)?;
         Ok(())

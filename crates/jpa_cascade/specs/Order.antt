@@ -39,11 +39,13 @@ name (Node.Live n) = record { table = 0; key = [] }
 name (Node.Bare id) = id
 
 by_parts : Node → Node → Ordering
-by_parts a b = ordering_then (nat_cmp (rank a) (rank b)) (ordering_then (nat_cmp (place a) (place b)) (identity_cmp (name a) (name b)))
+by_parts a b = ordering_then (nat_cmp (rank a) (rank b))
+    (ordering_then (nat_cmp (place a) (place b)) (identity_cmp (name a) (name b)))
 
 parts_total : IsTotalOrder by_parts
 unfolding by_parts
-parts_total = then_total (on_total rank nat_cmp_total) (then_total (on_total place nat_cmp_total) (on_total name identity_total))
+parts_total = then_total (on_total rank nat_cmp_total)
+    (then_total (on_total place nat_cmp_total) (on_total name identity_total))
 
 same_order : (a b : Node) → by_parts a b ≡ node_cmp a b
 unfolding by_parts rank place name

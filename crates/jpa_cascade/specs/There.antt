@@ -32,5 +32,6 @@ IsThere w (Node.Bare id) = IsSome (row w id)
 -- the heap too
 abbrev pub WavesAreThere : Type 0
 WavesAreThere =
-    (m : PersistenceUnit) (op : Operation) (w : Work) (start : ℕ) → AreLinked w.objects → All (λ e. e.object < length w.objects) w.context → start < length w.objects →
+    (m : PersistenceUnit) (op : Operation) (w : Work) (start : ℕ) → AreLinked w.objects →
+    All (λ e. e.object < length w.objects) w.context → start < length w.objects →
     All (IsThere w) (waves m op w start)

@@ -1,6 +1,7 @@
 -- The targets of a node and the waves of a cascade (Jakarta Persistence 3.1, chapter 3.2; the order
 -- of the waves is this provider's own).
-use Rattle.std.specs.Prelude.{ℕ, zero, suc, ◌+◌, Bool, true, false, ◌||◌, ◌==◌, List, [], ◌∷◌, ◌++◌, map, length, Option, Some, None, if◌then◌else◌}
+use Rattle.std.specs.Prelude.{ℕ, zero, suc, ◌+◌, Bool, true, false, ◌||◌, ◌==◌, List, [], ◌∷◌, ◌++◌, map, length}
+use Rattle.std.specs.Prelude.{Option, Some, None, if◌then◌else◌}
 use Rattle.std.specs.List.{flat_map, list_any, enumerate_from}
 use Rattle.jpa_value.specs.declared.value.Identity.{Identity}
 use Rattle.jpa_value.specs.Value.{same_identity}
@@ -73,7 +74,8 @@ nodes_held m w false n r (Held.Many Collection.Unfetched) = []
 
 -- along one relation, which stands at place r
 abbrev pub live_targets_along : PersistenceUnit → Operation → Work → ℕ → ℕ × Relation → List Node
-live_targets_along m op w n p = if goes_along op p.1 then nodes_held m w (reaches_unread op) n p.0 (held_at (object w n) p.0) else []
+live_targets_along m op w n p =
+    if goes_along op p.1 then nodes_held m w (reaches_unread op) n p.0 (held_at (object w n) p.0) else []
 
 -- where a row leads along a relation, if the operation goes along it
 abbrev pub bare_targets_along : PersistenceUnit → Operation → Work → Identity → Stored → ℕ × Relation → List Node
@@ -87,7 +89,8 @@ bare_targets m op w id (Some x) = flat_map (bare_targets_along m op w id x) (enu
 -- the targets of a node, relations in declared order, those of superclasses first
 abbrev pub targets : PersistenceUnit → Operation → Work → Node → List Node
 targets m op w (Node.Live n) =
-    if goes_from op (state_of w n) then flat_map (live_targets_along m op w n) (enumerate_from 0 (relations_of m (object w n).class)) else []
+    if goes_from op (state_of w n) then flat_map (live_targets_along m op w n)
+    (enumerate_from 0 (relations_of m (object w n).class)) else []
 targets m op w (Node.Bare id) = bare_targets m op w id (row w id)
 
 -- whether two nodes are the same object or the same identity

@@ -250,7 +250,7 @@ pub fn live_targets(
     requires placed { IsPlaced metamodel.now (now work.now) }
     ensures ok { IfOk result (λ objects. objects ≡ waves.live_nodes
         (waves.targets metamodel.now operation (now work.now) (Node.Live object))) }
-    ensures refused { IfErr result (λ cause. cause ≡ Cause.OutOfMemory) }
+    ensures err { IfErr result (λ cause. cause ≡ Cause.OutOfMemory) }
 {
     let mut found = Vec::new(alloc);
     push_live_targets(metamodel, work, operation, object, &mut found)?;

@@ -39,7 +39,7 @@ pub fn members(
     requires class { object.now.class < length metamodel.now.entities }
     ensures ok { IfOk result (λ ids. ids ≡ sets.members metamodel.now (opened.now view.now)
         id.now object.now relation) }
-    ensures refused { IfErr result (λ cause. cause ≡ Cause.OutOfMemory) }
+    ensures err { IfErr result (λ cause. cause ≡ Cause.OutOfMemory) }
 {
     let Some(declared) = metamodel.relations_of(object.class).get(relation) else {
         return owned(view, object, relation);
@@ -65,7 +65,7 @@ pub fn members_now(
         < length (relations_of metamodel.now (object_at work.now.objects.now object).class) }
     ensures ok { IfOk result
         (λ ids. ids ≡ waves.members_now metamodel.now (now work.now) object relation) }
-    ensures refused { IfErr result (λ cause. cause ≡ Cause.OutOfMemory) }
+    ensures err { IfErr result (λ cause. cause ≡ Cause.OutOfMemory) }
 {
     let live = &work.objects.as_slice()[object];
     let none = Seq::new(work.view.allocator());

@@ -70,7 +70,7 @@ pub fn waves(
     requires placed { IsPlaced metamodel.now (now work.now) }
     ensures waves { IfOk result
         (λ nodes. nodes ≡ spec.waves metamodel.now operation (now work.now) start) }
-    ensures refused { IfErr result (λ cause. cause ≡ Cause.OutOfMemory) }
+    ensures err { IfErr result (λ cause. cause ≡ Cause.OutOfMemory) }
 {
     let mut nodes = Vec::new(alloc);
     let mut seen = BTreeSet::new(alloc);

@@ -1,6 +1,7 @@
 -- How the rows of the one table of the database stand for tables of rows of cells, and what a
 -- connection over it keeps.
-use Rattle.std.specs.Prelude.{◌≡◌, ◌⊎◌, ◌&&◌, ℕ, ◌+◌, ◌≤◌, ℤ, pos, ◌+ℤ◌, Bool, true, false, IsTrue, IsSome, List, [], ◌∷◌, ◌++◌, length, sum_by, map, filter, if◌then◌else◌}
+use Rattle.std.specs.Prelude.{◌≡◌, ◌⊎◌, ◌&&◌, ℕ, ◌+◌, ◌≤◌, ℤ, pos, ◌+ℤ◌, Bool, true, false, IsTrue, IsSome, List, []}
+use Rattle.std.specs.Prelude.{◌∷◌, ◌++◌, length, sum_by, map, filter, if◌then◌else◌}
 use Rattle.std.specs.List.{All, AllByRecursion}
 use Rattle.std.specs.declared.cmp.Ordering.{Ordering}
 use Rattle.std.specs.Ordering.{on, then_cmp, is_eq, nat_cmp, int_cmp}
@@ -22,7 +23,8 @@ use Rattle.sqlite.specs.declared.error.ErrorCode.TheVariants as code
 use Rattle.jpa_cells_meaning.specs.declared.Cell.{Cell}
 use Rattle.jpa_cells_meaning.specs.declared.CellRow.{CellRow}
 use Rattle.jpa_cells_meaning.specs.declared.CellChange.{CellChange}
-use Rattle.jpa_cells_meaning.specs.Tables.{Tables, AreRows, row_of, cells_at, cell_cmp, placed, tables_after, ColumnsDiffer, NameColumnsOnce, AreShort}
+use Rattle.jpa_cells_meaning.specs.Tables.{Tables, AreRows, row_of, cells_at, cell_cmp, placed, tables_after}
+use Rattle.jpa_cells_meaning.specs.Tables.{ColumnsDiffer, NameColumnsOnce, AreShort}
 use Rattle.jpa_cells_meaning.specs.Schema.{cell_schema}
 
 -- the number, and 0 at a value of another kind
@@ -97,7 +99,8 @@ entries_of table rows = sort_by entry_cmp (map entry_in (filter (is_in table) ro
 -- one more entry before rows: in the first, where that has its key, else in a row of its own
 abbrev pub joined : Entry → List CellRow → List CellRow
 joined e [] = row_of e.0 (e.1 ∷ []) ∷ []
-joined e (r ∷ rs) = if is_eq (slice_cmp nat_cmp e.0 r.row) then row_of e.0 (e.1 ∷ r.cells) ∷ rs else row_of e.0 (e.1 ∷ []) ∷ r ∷ rs
+joined e (r ∷ rs) = if is_eq (slice_cmp nat_cmp e.0 r.row) then row_of e.0 (e.1 ∷ r.cells) ∷ rs
+    else row_of e.0 (e.1 ∷ []) ∷ r ∷ rs
 
 -- the entries, with those of one key in a row
 abbrev pub grouped : List Entry → List CellRow
@@ -107,7 +110,8 @@ grouped (e ∷ es) = joined e (grouped es)
 -- one more entry, after those that the rows have
 abbrev pub added : List CellRow → Entry → List CellRow
 added [] e = row_of e.0 (e.1 ∷ []) ∷ []
-added (r ∷ []) e = if is_eq (slice_cmp nat_cmp r.row e.0) then row_of r.row (r.cells ++ e.1 ∷ []) ∷ [] else r ∷ row_of e.0 (e.1 ∷ []) ∷ []
+added (r ∷ []) e = if is_eq (slice_cmp nat_cmp r.row e.0) then row_of r.row (r.cells ++ e.1 ∷ []) ∷ []
+    else r ∷ row_of e.0 (e.1 ∷ []) ∷ []
 added (r ∷ s ∷ rs) e = r ∷ added (s ∷ rs) e
 
 -- what the database stands for
@@ -185,11 +189,14 @@ KeepsContent old new = HasCleanDisk new → IsTrue new.is_open → IsTrue old.is
 
 -- the open connection shows these, and is as it was
 abbrev pub ShowsCells : State → State → ℤ → List ℕ → List Row → Type 0
-ShowsCells old new table key rows = (IsTrue old.is_open × IsTrue new.is_open × (new.now ≡ old.now)) × (map shown_cell rows ≡ cells_at key (tables_of old.now table)) × All IsShownCell rows
+ShowsCells old new table key rows = (IsTrue old.is_open × IsTrue new.is_open × (new.now ≡ old.now))
+    × (map shown_cell rows ≡ cells_at key (tables_of old.now table)) × All IsShownCell rows
 
 -- the open connection shows the table's cells, and is as it was
 abbrev pub ShowsTable : State → State → ℤ → List Row → Type 0
-ShowsTable old new table rows = (IsTrue old.is_open × IsTrue new.is_open × (new.now ≡ old.now)) × (grouped (map shown_entry rows) ≡ tables_of old.now table) × AreRows (tables_of old.now table) × All IsShownEntry rows
+ShowsTable old new table rows = (IsTrue old.is_open × IsTrue new.is_open × (new.now ≡ old.now))
+    × (grouped (map shown_entry rows) ≡ tables_of old.now table) × AreRows (tables_of old.now table)
+    × All IsShownEntry rows
 
 -- a step within a transaction: the content is changed, and nothing is committed
 pub record Steps (old new : State) (step : Contents → Contents) : Type 0 where

@@ -29,7 +29,14 @@ stored_code {S} store =
     code_by (Held S × (ℕ × (ℕ × (ℕ × (ℕ × ℕ)))))
     (coded× (held_code store) (coded× coded_ℕ (coded× coded_ℕ (coded× coded_ℕ (coded× coded_ℕ coded_ℕ)))))
     (λ s. (s.conn, (s.row_selects, (s.table_selects, (s.writes, (s.creates, s.faults))))))
-    (λ p. record { conn = p.0; row_selects = p.1.0; table_selects = p.1.1.0; writes = p.1.1.1.0; creates = p.1.1.1.1.0; faults = p.1.1.1.1.1 })
+    (λ p. record {
+      conn = p.0;
+      row_selects = p.1.0;
+      table_selects = p.1.1.0;
+      writes = p.1.1.1.0;
+      creates = p.1.1.1.1.0;
+      faults = p.1.1.1.1.1;
+    })
     (λ _. refl)
 
 -- a count in 64 bits, which stays at its greatest value
@@ -38,7 +45,8 @@ up_to_greatest n = min n (2 ^ 64 - 1)
 
 -- all of so many statements ran, or on a refusal some of them
 abbrev pub Counts : {T E : Type 0} → Result T E → ℕ → ℕ → ℕ → Type 0
-Counts r old new statements = OnOk r (new ≡ up_to_greatest (old + statements)) × (old ≤ new) × (new ≤ up_to_greatest (old + statements))
+Counts r old new statements =
+    OnOk r (new ≡ up_to_greatest (old + statements)) × (old ≤ new) × (new ≤ up_to_greatest (old + statements))
 
 -- want of memory, or a fault of the store, which alone is counted
 abbrev pub TellsOf : Cause → ℕ → ℕ → Type 0
@@ -53,7 +61,8 @@ Tells (Err e) old new = TellsOf e old new
 
 -- a store that has run none of its four statements
 abbrev pub new_store : {S : Type 0} → Held S → ℕ → Stored S
-new_store conn creates = record { conn = conn; row_selects = 0; table_selects = 0; writes = 0; creates = creates; faults = 0 }
+new_store conn creates =
+    record { conn = conn; row_selects = 0; table_selects = 0; writes = 0; creates = creates; faults = 0 }
 
 -- a fault of the store is counted, and no other refusal
 abbrev pub faults_after : {T : Type 0} → Result T Cause → ℕ → ℕ
@@ -79,7 +88,8 @@ module _ {S : Type 0} (g : Ghosts S) where
 
   -- A table that is found in the database has the order of its rowids, as each store keeps it.
   abbrev pub IsOrderedIfFound : Held S → Type 0
-  IsOrderedIfFound conn = IsClean conn → IsOpen conn → (state g conn).now.schema ≡ cell_schema → AreInOrder ((state g conn).now.trees 0)
+  IsOrderedIfFound conn =
+      IsClean conn → IsOpen conn → (state g conn).now.schema ≡ cell_schema → AreInOrder ((state g conn).now.trees 0)
 
   -- the tables are as they were; of a connection that is shut nothing is said
   abbrev pub Keeps : Held S → Held S → Type 0
@@ -97,7 +107,8 @@ module _ {S : Type 0} (g : Ghosts S) where
   abbrev pub Opens : Held S → Stored S → Type 0
   Opens old store =
       ((store ≡ new_store old 0) × ((state g old).now.schema ≡ cell_schema))
-      ⊎ ((store ≡ new_store store.conn 1) × ((state g old).now.schema ≡ no_schema) × (IsClean store.conn → IsOpen old × IsOpen store.conn × (tables_in store.conn ≡ (λ t. []))))
+      ⊎ ((store ≡ new_store store.conn 1) × ((state g old).now.schema ≡ no_schema)
+      × (IsClean store.conn → IsOpen old × IsOpen store.conn × (tables_in store.conn ≡ (λ t. []))))
 
   -- No fault is forgotten, only a fault shuts the connection, and a crash leaves what it left
   -- before or such tables.

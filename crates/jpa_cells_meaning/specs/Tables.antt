@@ -1,5 +1,6 @@
 -- Tables of rows of cells, and what changes make of them.
-use Rattle.std.specs.Prelude.{◌≡◌, ◌≢◌, ◌+◌, ◌^◌, ◌≤◌, ◌++◌, Bool, ℕ, ℤ, not, List, [], ◌∷◌, length, filter, fold, if◌then◌else◌}
+use Rattle.std.specs.Prelude.{◌≡◌, ◌≢◌, ◌+◌, ◌^◌, ◌≤◌, ◌++◌, Bool, ℕ, ℤ, not, List, [], ◌∷◌, length, filter, fold}
+use Rattle.std.specs.Prelude.{if◌then◌else◌}
 use Rattle.std.specs.List.{AllByRecursion}
 use Rattle.std.specs.declared.cmp.Ordering.{Ordering}
 use Rattle.std.specs.declared.cmp.Ordering.TheVariants.{Less}
@@ -59,7 +60,8 @@ AreShort key = AllByRecursion (λ (c : Cell). 90 + length key + length c.value �
 -- the rows with this one in its place, and in place of the one that has its bytes
 abbrev pub with_row : CellRow → List CellRow → List CellRow
 with_row new [] = new ∷ []
-with_row new (row ∷ rows) = match_ordering (key_cmp row.row new.row) (row ∷ with_row new rows) (new ∷ rows) (new ∷ row ∷ rows)
+with_row new (row ∷ rows) =
+    match_ordering (key_cmp row.row new.row) (row ∷ with_row new rows) (new ∷ rows) (new ∷ row ∷ rows)
 
 -- the rows without the one with these bytes
 abbrev pub without_row : List ℕ → List CellRow → List CellRow
@@ -72,7 +74,8 @@ rows_after key (cell ∷ cells) rows = with_row (row_of key (placed (cell ∷ ce
 
 -- the tables after one change
 abbrev pub changed : CellChange → Tables → Tables
-changed change tables t = if is_eq (int_cmp change.table t) then rows_after change.row change.cells (tables t) else tables t
+changed change tables t =
+    if is_eq (int_cmp change.table t) then rows_after change.row change.cells (tables t) else tables t
 
 -- the changes in turn
 abbrev pub tables_after : List CellChange → Tables → Tables
@@ -83,7 +86,8 @@ tables_after (change ∷ changes) tables = tables_after changes (changed change 
 -- before
 abbrev pub wanted : (List CellRow → Bool) → List CellRow → List CellRow → List CellRow
 wanted stops taken [] = []
-wanted stops taken (row ∷ rows) = row ∷ (if stops (taken ++ row ∷ []) then [] else wanted stops (taken ++ row ∷ []) rows)
+wanted stops taken (row ∷ rows) =
+    row ∷ (if stops (taken ++ row ∷ []) then [] else wanted stops (taken ++ row ∷ []) rows)
 
 -- the rows that are wanted were handed on, and no other
 abbrev pub HandsOn : (List CellRow → Bool) → List CellRow → List CellRow → List CellRow → Type 0
@@ -91,7 +95,8 @@ HandsOn stops rows before after = after ≡ before ++ wanted stops before rows
 
 -- some of them were, from the first, but not the last
 abbrev pub HandsSome : (List CellRow → Bool) → List CellRow → List CellRow → List CellRow → Type 0
-HandsSome stops rows before after = (handed left : List CellRow) × (wanted stops before rows ≡ handed ++ left) × (after ≡ before ++ handed) × (left ≡ [] → handed ≡ [])
+HandsSome stops rows before after = (handed left : List CellRow) × (wanted stops before rows ≡ handed ++ left)
+    × (after ≡ before ++ handed) × (left ≡ [] → handed ≡ [])
 
 -- one DELETE for the row, and one INSERT for each cell
 abbrev pub statements_of : CellChange → ℕ

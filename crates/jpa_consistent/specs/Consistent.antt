@@ -2,7 +2,8 @@
 -- the states of objects agree. Each identity has one instance in a context. A store can hold the
 -- set that is seen.
 use Rattle.jpa_value.specs.Limits.{most_objects}
-use Rattle.std.specs.Prelude.{◌≡◌, ◌≢◌, ◌<◌, ◌≤◌, ℕ, ℤ, Bool, true, false, not, nat_lt, nat_le, ◌&&◌, ◌==◌, List, length, Option, Some, None, if◌then◌else◌}
+use Rattle.std.specs.Prelude.{◌≡◌, ◌≢◌, ◌<◌, ◌≤◌, ℕ, ℤ, Bool, true, false, not, nat_lt, nat_le, ◌&&◌, ◌==◌, List}
+use Rattle.std.specs.Prelude.{length, Option, Some, None, if◌then◌else◌}
 use Rattle.std.specs.List.{All, list_any, list_all}
 use Rattle.jpa_value.specs.declared.value.Identity.{Identity}
 use Rattle.jpa_value.specs.Value.{fits, same_identity, is_representable}
@@ -12,7 +13,8 @@ use Rattle.jpa_model.specs.declared.unit.VersionColumn.{VersionColumn}
 use Rattle.jpa_model.specs.Chains.{attributes_of, relations_of, root_of, root_class, is_to_one}
 use Rattle.jpa_behaviour.specs.Behaviour.{World}
 use Rattle.jpa_stored.specs.Sets.{each_fits, all_distinct, is_key_of, is_identity_of, is_rising, is_shaped}
-use Rattle.jpa_rows.specs.Cells.{CanBeHeld, are_numbers, key_given_by, version_representable, holds_representable, names_representable}
+use Rattle.jpa_rows.specs.Cells.{CanBeHeld, are_numbers, key_given_by, version_representable, holds_representable}
+use Rattle.jpa_rows.specs.Cells.{names_representable}
 use Rattle.jpa_heap.specs.declared.Link.{Link}
 use Rattle.jpa_heap.specs.declared.Collection.{Collection}
 use Rattle.jpa_heap.specs.declared.Held.{Held}
@@ -100,12 +102,14 @@ base_fits m x (Some b) =
 
 -- an entry names an object that the manager holds, with the key under which it entered, a whole key
 -- of its hierarchy; a generated key was given
-pub record IsEntry (m : PersistenceUnit) (objects : List LiveObject) (numbers : List ℕ) (manager : ℕ) (e : Entry) : Type 0 where
+pub record IsEntry (m : PersistenceUnit) (objects : List LiveObject) (numbers : List ℕ) (manager : ℕ)
+    (e : Entry) : Type 0 where
   pub within : e.object < length objects
   pub keyed : (object_at objects e.object).key ≡ e.key
   pub held : is_held_by manager (object_at objects e.object).life ≡ true
   pub whole : is_key_of (root_of m (object_at objects e.object).class) (object_at objects e.object).key ≡ true
-  pub given : key_given_by numbers (root_class m (object_at objects e.object).class) (root_of m (object_at objects e.object).class).generated (object_at objects e.object).key ≡ true
+  pub given : key_given_by numbers (root_class m (object_at objects e.object).class)
+      (root_of m (object_at objects e.object).class).generated (object_at objects e.object).key ≡ true
   pub base : base_fits m (object_at objects e.object) e.base ≡ true
 
 -- whether the objects of two entries have one identity
@@ -122,7 +126,8 @@ stands_in context n Life.Detached = true
 -- ---- a context
 
 -- the entries are entries, and of different identities
-pub record IsContext (m : PersistenceUnit) (objects : List LiveObject) (numbers : List ℕ) (manager : ℕ) (es : List Entry) : Type 0 where
+pub record IsContext (m : PersistenceUnit) (objects : List LiveObject) (numbers : List ℕ) (manager : ℕ)
+    (es : List Entry) : Type 0 where
   pub entries : All (IsEntry m objects numbers manager) es
   pub distinct : all_distinct (are_one m objects) es ≡ true
 

@@ -1,6 +1,7 @@
 -- An index of places by fingerprints, one of entries by their objects, and what ties both to the
 -- entries of a context.
-use Rattle.std.specs.Prelude.{◌≡◌, ◌⊎◌, ℕ, ◌-◌, ◌&&◌, ◌==◌, Bool, false, List, [], ◌∷◌, ◌++◌, length, take, map, filter, nat_eq, Option, Some, None, is_some, if◌then◌else◌}
+use Rattle.std.specs.Prelude.{◌≡◌, ◌⊎◌, ℕ, ◌-◌, ◌&&◌, ◌==◌, Bool, false, List, [], ◌∷◌, ◌++◌, length, take, map, filter}
+use Rattle.std.specs.Prelude.{nat_eq, Option, Some, None, is_some, if◌then◌else◌}
 use Rattle.std.specs.Global.{Vec}
 use Rattle.std.specs.HashMap.{get}
 use Rattle.std.specs.Option.{option_or}
@@ -23,11 +24,14 @@ under index print = places_in (get nat_eq index.places print)
 
 -- another index has one place more under one fingerprint, one less, or the same places
 abbrev pub Adds : ℕ → ℕ → PlaceIndex → PlaceIndex → Type 0
-Adds print place old new = (other : ℕ) → under new other ≡ (if print == other then under old other ++ place ∷ [] else under old other)
+Adds print place old new =
+    (other : ℕ) → under new other ≡ (if print == other then under old other ++ place ∷ [] else under old other)
 
 -- under one fingerprint the last place is gone, under the others the places are the same
 abbrev pub DropsLast : ℕ → PlaceIndex → PlaceIndex → Type 0
-DropsLast print old new = (other : ℕ) → under new other ≡ (if print == other then take (length (under old other) - 1) (under old other) else under old other)
+DropsLast print old new = (other : ℕ) →
+    under new other ≡ (if print == other then take (length (under old other) - 1) (under old other)
+    else under old other)
 
 -- under each fingerprint the places are the same
 abbrev pub IsSame : PlaceIndex → PlaceIndex → Type 0
@@ -51,15 +55,18 @@ is_place place (Some own) = own == place
 -- an object gets a place where it has none, and loses the place that it has; another place in its
 -- place; or none
 abbrev pub Notes : ℕ → ℕ → ObjectPlaces → ObjectPlaces → Type 0
-Notes object place old new = (n : ℕ) → place_in new n ≡ option_or (place_in old n) (if object == n then Some place else None)
+Notes object place old new =
+    (n : ℕ) → place_in new n ≡ option_or (place_in old n) (if object == n then Some place else None)
 
 -- an object loses its place where it is this one; the others keep theirs
 abbrev pub DropsPlace : ℕ → ℕ → ObjectPlaces → ObjectPlaces → Type 0
-DropsPlace object place old new = (n : ℕ) → place_in new n ≡ (if object == n && is_place place (place_in old n) then None else place_in old n)
+DropsPlace object place old new =
+    (n : ℕ) → place_in new n ≡ (if object == n && is_place place (place_in old n) then None else place_in old n)
 
 -- an object that has a place gets this one; the others keep theirs
 abbrev pub Moves : ℕ → ℕ → ObjectPlaces → ObjectPlaces → Type 0
-Moves object place old new = (n : ℕ) → place_in new n ≡ (if object == n && has_place old n then Some place else place_in old n)
+Moves object place old new =
+    (n : ℕ) → place_in new n ≡ (if object == n && has_place old n then Some place else place_in old n)
 
 -- an object loses its place; the others keep theirs
 abbrev pub Forgets : ℕ → ObjectPlaces → ObjectPlaces → Type 0
@@ -83,13 +90,15 @@ with_places at' es = filter (λ e. has_place at' e.object) es
 
 -- each object that has a place has that of its first entry among these, if it has one there
 abbrev pub Renumbers : List Entry → ObjectPlaces → ObjectPlaces → Type 0
-Renumbers es old new = (n : ℕ) → place_in new n ≡ (if has_place old n then option_or (entry_place n es) (place_in old n) else None)
+Renumbers es old new =
+    (n : ℕ) → place_in new n ≡ (if has_place old n then option_or (entry_place n es) (place_in old n) else None)
 
 -- ---- places by fingerprints
 
 -- without the places of the objects that have no entry any more
 abbrev pub KeepsPlaced : ℕ → ObjectPlaces → PlaceIndex → PlaceIndex → Type 0
-KeepsPlaced print at' old new = (other : ℕ) → under new other ≡ (if print == other then filter (has_place at') (under old other) else under old other)
+KeepsPlaced print at' old new = (other : ℕ) →
+    under new other ≡ (if print == other then filter (has_place at') (under old other) else under old other)
 
 -- the objects of the entries whose keys have a fingerprint
 abbrev pub places_with : ℕ → List Entry → List ℕ

@@ -1,7 +1,8 @@
 -- What stays of an entry while it stands in a context: its object, and the key under which it
 -- entered; where an object's entry stands, and which entries stay where objects leave (Jakarta
 -- Persistence 3.1, chapters 3.2.7 and 3.2.8).
-use Rattle.std.specs.Prelude.{◌≡◌, ℕ, Bool, not, ◌==◌, ◌&&◌, List, filter, Option, Some, None, slice_get, slice_index_or}
+use Rattle.std.specs.Prelude.{◌≡◌, ℕ, Bool, not, ◌==◌, ◌&&◌, List, filter, Option, Some, None, slice_get}
+use Rattle.std.specs.Prelude.{slice_index_or}
 use Rattle.std.specs.List.{list_any, position_from}
 use Rattle.jpa_heap.specs.declared.LiveObject.{LiveObject}
 use Rattle.jpa_heap.specs.Objects.{object_at}
@@ -11,7 +12,8 @@ use Rattle.jpa_context.specs.Work.{state_from, is_removed}
 -- an entry that may take the place of what stands at a place: of the same object, under the same
 -- key
 abbrev pub StaysAt : List Entry → ℕ → Entry → Type 0
-StaysAt es at' entry = (old : Entry) × (old ≡ slice_index_or es at' old) × (old.object ≡ entry.object) × (old.key ≡ entry.key)
+StaysAt es at' entry =
+    (old : Entry) × (old ≡ slice_index_or es at' old) × (old.object ≡ entry.object) × (old.key ≡ entry.key)
 
 -- the place of an object's first entry, counted from 0
 abbrev pub entry_place : ℕ → List Entry → Option ℕ

@@ -13,7 +13,14 @@ use Rattle.jpa_context.specs.Work.{Work}
 
 -- the work as it is
 abbrev pub now : UnitOfWork → Work
-now u = record { manager = u.manager; objects = u.objects.now; context = u.context.now; numbers = u.numbers.now; view = opened.now u.view; events = u.events }
+now u = record {
+  manager = u.manager;
+  objects = u.objects.now;
+  context = u.context.now;
+  numbers = u.numbers.now;
+  view = opened.now u.view;
+  events = u.events;
+}
 
 -- the work where it is kept: without a transaction the set that the manager sees stays as it was
 abbrev pub now_kept : Bool → UnitOfWork → Work
@@ -51,7 +58,14 @@ view_since s = s.kept
 
 -- the work to which a manager is led back, of which nothing is told
 abbrev pub undone : ℕ → Since → Work
-undone manager s = record { manager = manager; objects = s.objects; context = s.context; numbers = s.numbers; view = view_since s; events = [] }
+undone manager s = record {
+  manager = manager;
+  objects = s.objects;
+  context = s.context;
+  numbers = s.numbers;
+  view = view_since s;
+  events = [];
+}
 
 -- nothing is to be undone
 pub record IsKept (u : UnitOfWork) : Type 0 where

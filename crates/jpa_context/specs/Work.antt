@@ -1,6 +1,7 @@
 -- What an operation of one manager works on, and what it reads of it: the persistence context and
 -- the states of its objects (Jakarta Persistence 3.1, chapters 3.2 and 3.3).
-use Rattle.std.specs.Prelude.{ℕ, Bool, true, false, not, ◌==◌, List, [], ◌∷◌, ◌++◌, map, slice_set, Option, Some, None, if◌then◌else◌}
+use Rattle.std.specs.Prelude.{ℕ, Bool, true, false, not, ◌==◌, List, [], ◌∷◌, ◌++◌, map, slice_set, Option, Some, None}
+use Rattle.std.specs.Prelude.{if◌then◌else◌}
 use Rattle.std.specs.List.{filter, find}
 use Rattle.jpa_value.specs.declared.value.Identity.{Identity}
 use Rattle.jpa_value.specs.Value.{same_identity}
@@ -98,7 +99,8 @@ with_life_of n life w = with_object n (with_life (object w n) life) w
 
 -- the object enters the context as its last entry, under its key, without a lock and a base
 abbrev pub entered : ℕ → Work → Work
-entered n w = record w { context = w.context ++ record { object = n; key = (object w n).key; lock = Lock.Unlocked; base = None } ∷ [] }
+entered n w = record w
+    { context = w.context ++ record { object = n; key = (object w n).key; lock = Lock.Unlocked; base = None } ∷ [] }
 
 -- a work with the entry of an object changed
 abbrev pub with_entry : ℕ → (Entry → Entry) → Work → Work

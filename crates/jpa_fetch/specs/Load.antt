@@ -1,7 +1,8 @@
 -- Loading an object, and finding one (Jakarta Persistence 3.1, chapters 3.1.1 find and 3.5
 -- PostLoad).
 use Rattle.jpa_value.specs.Limits.{most_objects}
-use Rattle.std.specs.Prelude.{ℕ, Bool, true, false, not, nat_lt, ◌&&◌, List, [], ◌∷◌, ◌++◌, map, length, Option, Some, None, if◌then◌else◌}
+use Rattle.std.specs.Prelude.{ℕ, Bool, true, false, not, nat_lt, ◌&&◌, List, [], ◌∷◌, ◌++◌, map, length, Option, Some}
+use Rattle.std.specs.Prelude.{None, if◌then◌else◌}
 use Rattle.std.specs.List.{enumerate_from}
 use Rattle.jpa_value.specs.declared.value.Value.{Value}
 use Rattle.jpa_value.specs.declared.value.Identity.{Identity}
@@ -44,16 +45,25 @@ held_from (Some ids) = Held.One (unread_link ids)
 
 -- the relations of an object as it is loaded
 abbrev pub held_loaded : PersistenceUnit → StoredSet → Identity → Stored → List Held
-held_loaded m s id x = map (λ p. unread (is_to_one (p.1).side) (members m s id x p.0)) (enumerate_from 0 (relations_of m x.class))
+held_loaded m s id x =
+    map (λ p. unread (is_to_one (p.1).side) (members m s id x p.0)) (enumerate_from 0 (relations_of m x.class))
 
 -- a row as an object that a manager manages
 abbrev pub object_loaded : PersistenceUnit → ℕ → StoredSet → Identity → Stored → LiveObject
 object_loaded m manager s id x =
-    record { class = x.class; key = id.key; version = x.version; values = x.values; relations = held_loaded m s id x; life = Life.Managed manager }
+    record {
+      class = x.class;
+      key = id.key;
+      version = x.version;
+      values = x.values;
+      relations = held_loaded m s id x;
+      life = Life.Managed manager;
+    }
 
 -- what the base knows of each relation at a load
 abbrev pub members_loaded : PersistenceUnit → StoredSet → Identity → Stored → List (Option (List Identity))
-members_loaded m s id x = map (λ p. known (is_to_one (p.1).side) (members m s id x p.0)) (enumerate_from 0 (relations_of m x.class))
+members_loaded m s id x =
+    map (λ p. known (is_to_one (p.1).side) (members m s id x p.0)) (enumerate_from 0 (relations_of m x.class))
 
 -- the base of an object that was loaded: its row, and what is known of its relations
 abbrev pub base_loaded : PersistenceUnit → StoredSet → Identity → Stored → Base
@@ -69,7 +79,8 @@ abbrev pub load : World → Identity → Stored → Op ℕ
 load world id x = do
   n ← read (λ w. length w.objects)
   require (nat_lt n most_objects) Cause.Limit
-  change (λ w. with_base n (Some (base_loaded world.model w.view id x)) (entered n (made (object_loaded world.model w.manager w.view id x) w)))
+  change (λ w. with_base n (Some (base_loaded world.model w.view id x))
+      (entered n (made (object_loaded world.model w.manager w.view id x) w)))
   callback world LifecycleEvent.PostLoad n
   give n
 
@@ -87,7 +98,8 @@ reach world r id w = reached world r id (instance world.model w id) (row w id) w
 
 -- the context's instance, unless it is removed or of another class
 abbrev pub found_instance : PersistenceUnit → Work → ℕ → ℕ → Option ℕ
-found_instance m w class n = if not (is_removed (state_of w n)) && is_kind_of m (object w n).class class then Some n else None
+found_instance m w class n =
+    if not (is_removed (state_of w n)) && is_kind_of m (object w n).class class then Some n else None
 
 -- the row loaded as an object where its class is the one that is asked for, else nothing
 abbrev pub found_row : World → ℕ → Identity → Stored → Bool → Op (Option ℕ)

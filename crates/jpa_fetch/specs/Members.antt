@@ -1,7 +1,8 @@
 -- What get, set, add and take_out do (Jakarta Persistence 3.1, chapters 2.2: an object's state is
 -- read and changed through its members, 2.2.2: its collections, and 3.2.7: what of a detached
 -- object was not read stays unread).
-use Rattle.std.specs.Prelude.{ℕ, ◌<◌, All, Bool, true, false, ◌==◌, List, [], ◌∷◌, ◌++◌, slice_index_or, slice_set, Option, Some, None, Result, Ok, Err, if◌then◌else◌}
+use Rattle.std.specs.Prelude.{ℕ, ◌<◌, All, Bool, true, false, ◌==◌, List, [], ◌∷◌, ◌++◌, slice_index_or, slice_set}
+use Rattle.std.specs.Prelude.{Option, Some, None, Result, Ok, Err, if◌then◌else◌}
 use Rattle.std.specs.List.{list_any}
 use Rattle.jpa_value.specs.declared.value.Value.{Value}
 use Rattle.jpa_value.specs.declared.value.Identity.{Identity}
@@ -154,7 +155,8 @@ collection_in m class (Some (Member.Relation r)) = if is_to_one (relation_at m c
 abbrev pub read_for : World → ℕ → ℕ → Option ℕ → Op (ℕ × List ℕ)
 read_for world n k None = refuse (Cause.IllegalArgument Argument.Name)
 read_for world n k (Some r) = do
-  fit ← read (λ w. fits_link world.model w.objects (relation_at world.model (object w n).class r).target (Handed.Object k))
+  fit ← read (λ w. fits_link world.model w.objects (relation_at world.model (object w n).class r).target
+      (Handed.Object k))
   require fit (Cause.IllegalArgument Argument.Type)
   ks ← fetch world n r
   give (r, ks)

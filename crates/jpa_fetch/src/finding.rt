@@ -21,7 +21,7 @@ use std::alloc::Global;
 /// A copy of the row under an identity. Fails for want of memory alone, with `OutOfMemory`.
 fn row_of(work: &UnitOfWork, id: &Identity) -> Result<Option<Stored>, Cause>
     ensures row { IfOk result (λ row. row ≡ works.row (now work.now) id.now) }
-    ensures refused { IfErr result (λ cause. cause ≡ Cause.OutOfMemory) }
+    ensures err { IfErr result (λ cause. cause ≡ Cause.OutOfMemory) }
 {
     match work.view.get(id) {
         Some(row) => Ok(Some(row.try_copy()?)),

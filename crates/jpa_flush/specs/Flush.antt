@@ -1,7 +1,8 @@
 -- The flush: persist along cascades, orphans, links to what is not stored, PreUpdate, the new set,
 -- the new bases, the Post events (Jakarta Persistence 3.1, chapters 3.2.4 synchronization to the
 -- database, 2.9 orphan removal, 3.4 versions).
-use Rattle.std.specs.Prelude.{ℕ, zero, suc, ℤ, pos, ◌+ℤ◌, is_some, Bool, true, false, not, ◌&&◌, ◌||◌, List, [], ◌∷◌, map, length, slice_index_or, slice_get, Option, Some, None, if◌then◌else◌}
+use Rattle.std.specs.Prelude.{ℕ, zero, suc, ℤ, pos, ◌+ℤ◌, is_some, Bool, true, false, not, ◌&&◌, ◌||◌, List, [], ◌∷◌}
+use Rattle.std.specs.Prelude.{map, length, slice_index_or, slice_get, Option, Some, None, if◌then◌else◌}
 use Rattle.std.specs.List.{flat_map, filter, list_any, list_all, enumerate_from, zip}
 use Rattle.jpa_value.specs.declared.value.Value.{Value}
 use Rattle.jpa_value.specs.declared.value.Identity.{Identity}
@@ -29,7 +30,8 @@ use Rattle.jpa_value.specs.Value.{same_value, identity_cmp}
 use Rattle.jpa_model.specs.Chains.{relations_of, attributes_of, is_versioned}
 use Rattle.jpa_stored.specs.Sets.{StoredSet, with_stored, without, fault_of}
 use Rattle.jpa_heap.specs.Objects.{held_at}
-use Rattle.jpa_context.specs.Work.{Work, object, state_of, is_managed, instance, row, row_at, identity_at, with_object, with_base, with_entry, base_of}
+use Rattle.jpa_context.specs.Work.{Work, object, state_of, is_managed, instance, row, row_at, identity_at, with_object}
+use Rattle.jpa_context.specs.Work.{with_base, with_entry, base_of}
 use Rattle.jpa_context.specs.declared.EntityState.{EntityState}
 use Rattle.jpa_lifecycle.specs.Callbacks.{callback}
 use Rattle.jpa_cascade.specs.declared.Operation.{Operation}
@@ -43,7 +45,8 @@ use Rattle.jpa_ops.specs.States.{persist, remove}
 
 -- persists what a managed object leads to along PERSIST and ALL; in other states it leads nowhere
 abbrev pub persist_targets : World → ℕ → EntityState → Op (Unit {0})
-persist_targets world n EntityState.Managed w = each (persist world) (live_nodes (targets world.model Operation.Persist w (Node.Live n))) w
+persist_targets world n EntityState.Managed w =
+    each (persist world) (live_nodes (targets world.model Operation.Persist w (Node.Live n))) w
 persist_targets world n EntityState.New w = Done tt w
 persist_targets world n EntityState.Removed w = Done tt w
 persist_targets world n EntityState.Detached w = Done tt w
@@ -56,7 +59,8 @@ persist_behind world (Some e) w = persist_targets world e.object (state_of w e.o
 -- from place i of the context on. Only live objects enter, so their number bounds the places
 abbrev pub persist_from : World → ℕ → ℕ → Op (Unit {0})
 persist_from world zero i w = Done tt w
-persist_from world (suc bound) i w = after (persist_behind world (slice_get w.context i) w) (λ _. persist_from world bound (suc i))
+persist_from world (suc bound) i w =
+    after (persist_behind world (slice_get w.context i) w) (λ _. persist_from world bound (suc i))
 
 -- persists all that managed objects lead to along PERSIST and ALL (chapter 3.2.4)
 abbrev pub persist_reachable : World → Op (Unit {0})
@@ -109,11 +113,13 @@ gone_from (Some before) (Some now) = filter (λ id. not (list_any (same_identity
 
 -- what a relation with orphan removal held in the base and holds no more (chapter 2.9)
 abbrev pub orphans_along : PersistenceUnit → Work → ℕ → ℕ × Relation → List Identity
-orphans_along m w n p = if (p.1).orphan_removal then gone_from (in_base (base_of w n) p.0) (held_now m w (held_at (object w n) p.0)) else []
+orphans_along m w n p =
+    if (p.1).orphan_removal then gone_from (in_base (base_of w n) p.0) (held_now m w (held_at (object w n) p.0)) else []
 
 -- the orphans of a managed object; in other states it has none
 abbrev pub orphans_of : PersistenceUnit → Work → ℕ → EntityState → List Identity
-orphans_of m w n EntityState.Managed = flat_map (orphans_along m w n) (enumerate_from 0 (relations_of m (object w n).class))
+orphans_of m w n EntityState.Managed =
+    flat_map (orphans_along m w n) (enumerate_from 0 (relations_of m (object w n).class))
 orphans_of m w n EntityState.New = []
 orphans_of m w n EntityState.Removed = []
 orphans_of m w n EntityState.Detached = []
@@ -154,11 +160,13 @@ is_storable EntityState.Detached = true
 
 -- a relation cascades persist, or leads to managed and detached objects alone
 abbrev pub links_along : Work → ℕ → ℕ × Relation → Bool
-links_along w n p = ((p.1).cascade).persist || list_all (λ k. is_storable (state_of w k)) (objects_held (held_at (object w n) p.0))
+links_along w n p = ((p.1).cascade).persist || list_all (λ k. is_storable (state_of w k))
+    (objects_held (held_at (object w n) p.0))
 
 -- an object isn't managed, or each of its relations may be stored
 abbrev pub links_stored : PersistenceUnit → Work → Entry → Bool
-links_stored m w e = not (is_managed (state_of w e.object)) || list_all (links_along w e.object) (enumerate_from 0 (relations_of m (object w e.object).class))
+links_stored m w e = not (is_managed (state_of w e.object)) || list_all (links_along w e.object)
+    (enumerate_from 0 (relations_of m (object w e.object).class))
 
 -- refuses a managed object that leads to a new or removed one without a cascade (chapter 3.2.4)
 abbrev pub check_links : World → Op (Unit {0})
@@ -190,12 +198,14 @@ is_owner (Side.ManyToManyInverse owner) = false
 
 -- a relation isn't owned, or holds what the base remembers of it
 abbrev pub same_along : PersistenceUnit → Work → ℕ → Base → ℕ × Relation → Bool
-same_along m w n b p = not (is_owner (p.1).side) || same_if_read (in_base (Some b) p.0) (held_now m w (held_at (object w n) p.0))
+same_along m w n b p =
+    not (is_owner (p.1).side) || same_if_read (in_base (Some b) p.0) (held_now m w (held_at (object w n) p.0))
 
 -- an attribute value, an owned link or an owned set that was read is not the base's
 abbrev pub differs : PersistenceUnit → Work → ℕ → Base → Bool
 differs m w n b =
-    not (same_values (object w n).values (b.stored).values && list_all (same_along m w n b) (enumerate_from 0 (relations_of m (object w n).class)))
+    not (same_values (object w n).values (b.stored).values && list_all (same_along m w n b)
+    (enumerate_from 0 (relations_of m (object w n).class)))
 
 -- whether a lock raises the version (chapter 3.4.4)
 abbrev pub is_write : Lock → Bool
@@ -276,7 +286,8 @@ converts world (Some name) v = is_null v || is_some (world.column name v)
 
 -- whether each attribute's converter takes its value (chapter 3.8)
 abbrev pub all_convert : World → LiveObject → Bool
-all_convert world x = list_all (λ p. converts world (p.0).converter p.1) (zip (attributes_of world.model x.class) x.values)
+all_convert world x =
+    list_all (λ p. converts world (p.0).converter p.1) (zip (attributes_of world.model x.class) x.values)
 
 -- the checks of an action: an identity that is free, or the base's version; a version that can
 -- rise; values that can be stored (chapters 3.2.4 and 3.4.1)
@@ -374,7 +385,8 @@ joined_all m w (a ∷ as') s = joined_all m w as' (joined (identity_at m w a.0) 
 -- the view without the identities that are replaced or dropped, joined with what is written
 abbrev pub flushed : PersistenceUnit → Work → List (ℕ × Action) → StoredSet
 flushed m w plan =
-    joined_all m w plan (without (flat_map (λ a. listed (identity_at m w a.0)) (filter (λ a. replaces_row a.1) plan)) w.view)
+    joined_all m w plan (without (flat_map (λ a. listed (identity_at m w a.0)) (filter (λ a. replaces_row a.1) plan))
+    w.view)
 
 -- a fault of the new set is refused
 abbrev pub sound_or : Option Persist → Op (Unit {0})
@@ -414,7 +426,8 @@ remembered_in members (Some b) = Some (record b { members = members })
 
 -- an entry whose base remembers what relations hold, where its object is managed
 abbrev pub remembered : PersistenceUnit → Work → Entry → Entry
-remembered m w e = if is_managed (state_of w e.object) then record e { base = remembered_in (members_held m w e.object) e.base } else e
+remembered m w e = if is_managed (state_of w e.object)
+    then record e { base = remembered_in (members_held m w e.object) e.base } else e
 
 -- the base of each managed object takes the members that its read relations have now
 abbrev pub all_remembered : PersistenceUnit → Work → Work

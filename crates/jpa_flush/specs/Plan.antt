@@ -1,6 +1,7 @@
 -- The flush as a plan: what it does with each entry of the context, and what it writes or takes out
 -- under which identity.
-use Rattle.std.specs.Prelude.{ℕ, ℤ, Bool, true, false, not, ◌&&◌, is_some, List, [], ◌∷◌, map, Option, Some, None, option_map}
+use Rattle.std.specs.Prelude.{ℕ, ℤ, Bool, true, false, not, ◌&&◌, is_some, List, [], ◌∷◌, map, Option, Some, None}
+use Rattle.std.specs.Prelude.{option_map}
 use Rattle.jpa_value.specs.declared.value.Identity.{Identity}
 use Rattle.jpa_value.specs.declared.refusal.Cause.{Cause}
 use Rattle.jpa_value.specs.declared.refusal.Persist.{Persist}
@@ -16,7 +17,9 @@ use Rattle.jpa_context.specs.Steps.{◌>>=◌, ◌>>◌, Op, done, require, read
 use Rattle.jpa_lifecycle.specs.Callbacks.{callback}
 use Rattle.jpa_flush.specs.declared.steps.Step.{Step}
 use Rattle.jpa_flush.specs.declared.planning.Planned.{Planned}
-use Rattle.jpa_flush.specs.Flush.{Action, Insert, Replace, Drop, action_of, actions, stored_of, written, first_version, raised, post_event, same_version, same_identities, can_rise, all_convert, settled, all_remembered, check_actions, write_all}
+use Rattle.jpa_flush.specs.Flush.{Action, Insert, Replace, Drop, action_of, actions, stored_of, written, first_version}
+use Rattle.jpa_flush.specs.Flush.{raised, post_event, same_version, same_identities, can_rise, all_convert, settled}
+use Rattle.jpa_flush.specs.Flush.{all_remembered, check_actions, write_all}
 use Rattle.jpa_flush.specs.Flush as flushes
 
 -- ---- steps: actions, of whose base the version alone is asked
@@ -99,7 +102,8 @@ planned_as m w n event stored =
 
 -- what a plan has of an object whose row is inserted
 abbrev pub insertion : PersistenceUnit → Work → ℕ → Planned
-insertion m w n = planned_as m w n LifecycleEvent.PostPersist (Some (stored_of m w n (first_version (is_versioned m (object w n).class))))
+insertion m w n = planned_as m w n LifecycleEvent.PostPersist
+    (Some (stored_of m w n (first_version (is_versioned m (object w n).class))))
 
 -- what a plan has of an object whose row is replaced
 abbrev pub replacement : PersistenceUnit → Work → ℕ → Option ℤ → Planned

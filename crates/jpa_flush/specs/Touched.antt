@@ -38,8 +38,10 @@ AreNotesOf since now os = since ≡ take (length since) (put_back now os)
 -- entry that was added
 pub record HaveTouched (u : UnitOfWork) (places : List ℕ) : Type 0 where
   pub marked : HavePlacesOf u.context.now places (u.context.marks).objects
-  pub objects : (os : List (ℕ × LiveObject)) × AreNotesOf u.objects.since u.objects.now os × All (λ o. HasPlaceOf u.context.now places o.0) os
-  pub entries : (os : List (ℕ × Entry)) × AreNotesOf u.context.since u.context.now os × All (λ o. is_listed places o.0 ≡ true) os
+  pub objects : (os : List (ℕ × LiveObject)) × AreNotesOf u.objects.since u.objects.now os
+      × All (λ o. HasPlaceOf u.context.now places o.0) os
+  pub entries : (os : List (ℕ × Entry)) × AreNotesOf u.context.since u.context.now os
+      × All (λ o. is_listed places o.0 ≡ true) os
   pub added : HaveFrom (length u.context.since) (length u.context.now) places
 
 -- what the marks say is known: not each object is marked, and none that is not new took another key

@@ -17,7 +17,8 @@ functions_at (boolean b) = Err (Cause.Mapping MappingFault.Shape)
 functions_at (number n) = Err (Cause.Mapping MappingFault.Shape)
 functions_at (string s) = Err (Cause.Mapping MappingFault.Shape)
 functions_at (array ds) = Err (Cause.Mapping MappingFault.Shape)
-functions_at (object ms) = ok_or (functions_if_there (get (codes "functions") (object ms))) (Cause.Mapping MappingFault.Function)
+functions_at (object ms) =
+    ok_or (functions_if_there (get (codes "functions") (object ms))) (Cause.Mapping MappingFault.Function)
 
 -- the functions, or the first that is wrong: the text, the object, the functions
 unfoldable pub functions_in : List ℕ → Result (List Function) Cause

@@ -23,7 +23,8 @@ module _ {L C : Type 0} (r : Registered L C) where
 
   -- all that an entity names is registered
   abbrev pub entity_is_known : Entity → Bool
-  entity_is_known e = list_all listener_is_known e.listeners && list_all listener_is_known e.callbacks && list_all attribute_is_known e.attributes
+  entity_is_known e = list_all listener_is_known e.listeners && list_all listener_is_known e.callbacks
+      && list_all attribute_is_known e.attributes
 
   -- each listener, callback and converter that the unit names is registered in its sort
   abbrev pub names_are_known : PersistenceUnit → Bool

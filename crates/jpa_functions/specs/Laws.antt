@@ -1,6 +1,8 @@
 -- The laws of the functions: the two directions of a converter are inverse, and a listener that
 -- sees values of the program answers such.
-use Rattle.std.specs.Prelude.{◌≡◌, ◌↔◌, ◌⊎◌, ◌<◌, ◌+◌, ◌-◌, ℕ, zero, suc, ℤ, pos, negsuc, ◌+ℤ◌, int_lt, nat_lt, Bool, true, false, not, ◌&&◌, ◌||◌, List, [], ◌∷◌, find, cond, if◌then◌else◌, codes, bytes_eq, Option, Some, None, option_map, Result, Ok, Err}
+use Rattle.std.specs.Prelude.{◌≡◌, ◌↔◌, ◌⊎◌, ◌<◌, ◌+◌, ◌-◌, ℕ, zero, suc, ℤ, pos, negsuc, ◌+ℤ◌, int_lt, nat_lt, Bool}
+use Rattle.std.specs.Prelude.{true, false, not, ◌&&◌, ◌||◌, List, [], ◌∷◌, find, cond, if◌then◌else◌, codes, bytes_eq}
+use Rattle.std.specs.Prelude.{Option, Some, None, option_map, Result, Ok, Err}
 use Rattle.std.specs.List.{list_all, list_any}
 use Rattle.std.specs.Cmp.{Equal-is, tied_itself, first_so, second_so}
 use Rattle.std.specs.Ordering.{is_eq}
@@ -23,7 +25,8 @@ use Rattle.jpa_functions.specs.declared.make.Pair.{Pair}
 use Rattle.jpa_functions.specs.declared.make.Listener.{Listener}
 use Rattle.jpa_functions.specs.declared.make.Converter.{Converter}
 use Rattle.jpa_functions.specs.Pairs.{share_a_side, are_apart, column_beside, attribute_beside}
-use Rattle.jpa_functions.specs.Functions.{named_so, value_of, value_or_null, assign, counted, required, flipped, flip, digits_of, if_decoded, bytes_of, meaning}
+use Rattle.jpa_functions.specs.Functions.{named_so, value_of, value_or_null, assign, counted, required, flipped, flip}
+use Rattle.jpa_functions.specs.Functions.{digits_of, if_decoded, bytes_of, meaning}
 
 -- ---- small facts
 
@@ -67,7 +70,8 @@ module _ (from to : Pair → Value) where
   is_first true p o h = refl
   is_first false p o h = absurd (false_true h)
 
-  is_later : (b : Bool) (p : Pair) (o : Option Pair) → (b ≡ true → ⊥) → option_map to (cond b (Some p) o) ≡ option_map to o
+  is_later : (b : Bool) (p : Pair) (o : Option Pair) → (b ≡ true → ⊥) → option_map to (cond b (Some p) o)
+      ≡ option_map to o
   is_later true p o h = absurd (h refl)
   is_later false p o h = refl
 
@@ -75,28 +79,36 @@ module _ (from to : Pair → Value) where
   module _ (shared : (p q : Pair) → same_value (from p) (from q) ≡ true → share_a_side p q ≡ true) where
     meets : (p : Pair) (ps : List Pair) (d : Value) → beside ps (from p) ≡ Some d → list_any (share_a_side p) ps ≡ true
     meets p [] d e = absurd (none-some d e)
-    meets p (q ∷ qs) d e = elim (at_first (same_value (from q) (from p)) q (find (λ r. same_value (from r) (from p)) qs) d e) [
-      | inl h ↦ or_first (share_a_side p q) _ (shared p q (same_itself (from p) (from q) (sym (is_same (from q) (from p) h.0))))
-      | inr h ↦ or_second (share_a_side p q) _ (meets p qs d h.1)
-    ]
+    meets p (q ∷ qs) d e =
+        elim (at_first (same_value (from q) (from p)) q (find (λ r. same_value (from r) (from p)) qs) d e) [
+          | inl h ↦ or_first (share_a_side p q) _
+              (shared p q (same_itself (from p) (from q) (sym (is_same (from q) (from p) h.0))))
+          | inr h ↦ or_second (share_a_side p q) _ (meets p qs d h.1)
+        ]
 
 turned : (from to : Pair → Value) → ((p q : Pair) → same_value (to p) (to q) ≡ true → share_a_side p q ≡ true)
     → (ps : List Pair) (v d : Value) → are_apart ps ≡ true → beside from to ps v ≡ Some d → beside to from ps d ≡ Some v
 turned from to shared [] v d h e = absurd (none-some d e)
-turned from to shared (p ∷ ps) v d h e = elim (at_first from to (same_value (from p) v) p (find (λ q. same_value (from q) v) ps) d e) [
-  | inl k ↦ is_first to from (same_value (to p) d) p (find (λ q. same_value (to q) d) ps) (same_itself (to p) d k.1) ∙ ap Some (is_same (from p) v k.0)
-  | inr k ↦
-      let rest : beside to from ps d ≡ Some v = turned from to shared ps v d (second_so (not (list_any (share_a_side p) ps)) _ h) k.1 in
-      is_later to from (same_value (to p) d) p (find (λ q. same_value (to q) d) ps)
-      (λ t. not_both (list_any (share_a_side p) ps) (first_so (not (list_any (share_a_side p) ps)) _ h)
-      (meets to from shared p ps v (ap (λ u. beside to from ps u) (is_same (to p) d t) ∙ rest)))
-      ∙ rest
-]
+turned from to shared (p ∷ ps) v d h e =
+    elim (at_first from to (same_value (from p) v) p (find (λ q. same_value (from q) v) ps) d e) [
+      | inl k ↦ is_first to from (same_value (to p) d) p (find (λ q. same_value (to q) d) ps) (same_itself (to p) d k.1)
+          ∙ ap Some (is_same (from p) v k.0)
+      | inr k ↦
+          let rest : beside to from ps d ≡ Some v =
+          turned from to shared ps v d (second_so (not (list_any (share_a_side p) ps)) _ h) k.1 in
+          is_later to from (same_value (to p) d) p (find (λ q. same_value (to q) d) ps)
+          (λ t. not_both (list_any (share_a_side p) ps) (first_so (not (list_any (share_a_side p) ps)) _ h)
+          (meets to from shared p ps v (ap (λ u. beside to from ps u) (is_same (to p) d t) ∙ rest)))
+          ∙ rest
+    ]
 
-table_inverse : (pairs : List Pair) (v d : Value) → are_apart pairs ≡ true → (column_beside pairs v ≡ Some d) ↔ (attribute_beside pairs d ≡ Some v)
+table_inverse : (pairs : List Pair) (v d : Value) → are_apart pairs ≡ true →
+    (column_beside pairs v ≡ Some d) ↔ (attribute_beside pairs d ≡ Some v)
 table_inverse pairs v d h = (
-  turned (λ p. p.attribute) (λ p. p.column) (λ p q. or_second (same_value p.attribute q.attribute) (same_value p.column q.column)) pairs v d h,
-  turned (λ p. p.column) (λ p. p.attribute) (λ p q. or_first (same_value p.attribute q.attribute) (same_value p.column q.column)) pairs d v h,
+  turned (λ p. p.attribute) (λ p. p.column)
+      (λ p q. or_second (same_value p.attribute q.attribute) (same_value p.column q.column)) pairs v d h,
+  turned (λ p. p.column) (λ p. p.attribute)
+      (λ p q. or_first (same_value p.attribute q.attribute) (same_value p.column q.column)) pairs d v h,
 )
 
 -- ---- integers turned round
@@ -107,7 +119,8 @@ flipped_twice (negsuc n) = refl
 
 turned_round : (v d : Value) → flip v ≡ Some d → flip d ≡ Some v
 turned_round Value.Null d e = absurd (none-some d e)
-turned_round (Value.Int n) d e = ap flip (sym (same_Some (Value.Int (flipped n)) d e)) ∙ ap (λ m. Some (Value.Int m)) (flipped_twice n)
+turned_round (Value.Int n) d e =
+    ap flip (sym (same_Some (Value.Int (flipped n)) d e)) ∙ ap (λ m. Some (Value.Int m)) (flipped_twice n)
 turned_round (Value.Text bytes) d e = absurd (none-some d e)
 turned_round (Value.Bytes bytes) d e = absurd (none-some d e)
 
@@ -121,8 +134,10 @@ bytes_below [] h i = omega arith
 bytes_below (b ∷ bytes) h zero = byte_below b (first_so (nat_lt b 256) _ h)
 bytes_below (b ∷ bytes) h (suc i) = bytes_below bytes (second_so (nat_lt b 256) _ h) i
 
-as_digits : (bytes digits : List ℕ) → decode_of digits ≡ Ok bytes → encode_lower bytes ≡ digits → bytes_of (Value.Text digits) ≡ Some (Value.Bytes bytes)
-as_digits bytes digits e same = ap (if_decoded digits) e ∙ ap (λ b. if b then Some (Value.Bytes bytes) else None) ((bytes_eq-Decides (encode_lower bytes) digits).1 same)
+as_digits : (bytes digits : List ℕ) → decode_of digits ≡ Ok bytes → encode_lower bytes ≡ digits →
+    bytes_of (Value.Text digits) ≡ Some (Value.Bytes bytes)
+as_digits bytes digits e same = ap (if_decoded digits) e ∙ ap (λ b. if b then Some (Value.Bytes bytes) else None)
+    ((bytes_eq-Decides (encode_lower bytes) digits).1 same)
 
 to_bytes : (v d : Value) → is_convertible v ≡ true → digits_of v ≡ Some d → bytes_of d ≡ Some v
 to_bytes Value.Null d h e = absurd (none-some d e)
@@ -130,15 +145,19 @@ to_bytes (Value.Int n) d h e = absurd (none-some d e)
 to_bytes (Value.Text bytes) d h e = absurd (none-some d e)
 to_bytes (Value.Bytes bytes) d h e =
     let fit : IsBytes bytes = bytes_below bytes (second_so (is_short (Value.Bytes bytes)) _ h) in
-    ap bytes_of (sym (same_Some (Value.Text (encode_lower bytes)) d e)) ∙ as_digits bytes (encode_lower bytes) (decode_of-encode_lower bytes fit) refl
+    ap bytes_of (sym (same_Some (Value.Text (encode_lower bytes)) d e)) ∙ as_digits bytes (encode_lower bytes)
+    (decode_of-encode_lower bytes fit) refl
 
-from_written : (digits bytes : List ℕ) (b : Bool) (v : Value) → bytes_eq (encode_lower bytes) digits ≡ b → (if b then Some (Value.Bytes bytes) else None) ≡ Some v
+from_written : (digits bytes : List ℕ) (b : Bool) (v : Value) → bytes_eq (encode_lower bytes) digits ≡ b →
+    (if b then Some (Value.Bytes bytes) else None) ≡ Some v
     → digits_of v ≡ Some (Value.Text digits)
 from_written digits bytes true v same e =
-    ap digits_of (sym (same_Some (Value.Bytes bytes) v e)) ∙ ap (λ t. Some (Value.Text t)) ((bytes_eq-Decides (encode_lower bytes) digits).0 same)
+    ap digits_of (sym (same_Some (Value.Bytes bytes) v e)) ∙ ap (λ t. Some (Value.Text t))
+    ((bytes_eq-Decides (encode_lower bytes) digits).0 same)
 from_written digits bytes false v same e = absurd (none-some v e)
 
-from_digits : (digits : List ℕ) (r : Result (List ℕ) FromHexError) (v : Value) → if_decoded digits r ≡ Some v → digits_of v ≡ Some (Value.Text digits)
+from_digits : (digits : List ℕ) (r : Result (List ℕ) FromHexError) (v : Value) → if_decoded digits r ≡ Some v →
+    digits_of v ≡ Some (Value.Text digits)
 from_digits digits (Ok bytes) v e = from_written digits bytes (bytes_eq (encode_lower bytes) digits) v refl e
 from_digits digits (Err fault) v e = absurd (none-some v e)
 
@@ -160,9 +179,11 @@ found_representable : (values : List Named) (name : List ℕ) → list_all names
     → is_representable (value_or_null (option_map (λ n. n.value) (named_so values name))) ≡ true
 found_representable [] name h = refl
 found_representable (n ∷ ns) name h =
-    one (same_name n.name name) n (named_so ns name) (first_so (names_representable n) _ h) (found_representable ns name (second_so (names_representable n) _ h))
+    one (same_name n.name name) n (named_so ns name) (first_so (names_representable n) _ h)
+    (found_representable ns name (second_so (names_representable n) _ h))
   where
-    one : (b : Bool) (n : Named) (o : Option Named) → names_representable n ≡ true → is_representable (value_or_null (option_map (λ m. m.value) o)) ≡ true
+    one : (b : Bool) (n : Named) (o : Option Named) → names_representable n ≡ true →
+        is_representable (value_or_null (option_map (λ m. m.value) o)) ≡ true
         → is_representable (value_or_null (option_map (λ m. m.value) (cond b (Some n) o))) ≡ true
     one true n o h g = h
     one false n o h g = g
@@ -173,7 +194,8 @@ assigned name v h = ap (λ b. b && true) h
 next_of_natural : (n : ℕ) → nat_lt n 9223372036854775807 ≡ true → nat_lt (n + 1) 9223372036854775808 ≡ true
 next_of_natural n h = grind (arith, nat_tests)
 
-next_of_negative : (n : ℕ) → nat_lt n 9223372036854775808 ≡ true → (b : Bool) → is_i64 (cond b (negsuc (suc n - 2)) (pos (1 - suc n))) ≡ true
+next_of_negative : (n : ℕ) → nat_lt n 9223372036854775808 ≡ true → (b : Bool) →
+    is_i64 (cond b (negsuc (suc n - 2)) (pos (1 - suc n))) ≡ true
 next_of_negative n h true = grind (arith, nat_tests)
 next_of_negative n h false = grind (arith, nat_tests)
 
@@ -186,10 +208,12 @@ counted_up_representable : (b : Bool) (name : List ℕ) (n : ℤ) → int_lt n (
 counted_up_representable true name n e h = assigned name (Value.Int (n +ℤ pos 1)) (next_below n h e)
 counted_up_representable false name n e h = refl
 
-counted_representable : (name : List ℕ) (o : Option Value) → is_representable (value_or_null o) ≡ true → answers_representable (counted name o) ≡ true
+counted_representable : (name : List ℕ) (o : Option Value) → is_representable (value_or_null o) ≡ true →
+    answers_representable (counted name o) ≡ true
 counted_representable name None h = refl
 counted_representable name (Some Value.Null) h = refl
-counted_representable name (Some (Value.Int n)) h = counted_up_representable (int_lt n (pos 9223372036854775807)) name n refl h
+counted_representable name (Some (Value.Int n)) h =
+    counted_up_representable (int_lt n (pos 9223372036854775807)) name n refl h
 counted_representable name (Some (Value.Text bytes)) h = refl
 counted_representable name (Some (Value.Bytes bytes)) h = refl
 
@@ -203,7 +227,9 @@ required_representable name (Some (Value.Bytes bytes)) = refl
 -- each listener that sees values of the program answers such
 pub representable : ListenersAnswerRepresentable meaning
 representable (Listener.SetText given) image h = assigned given.attribute (Value.Text given.value) given.is_text
-representable (Listener.Copy from to) image h = assigned to (value_or_null (value_of image from)) (found_representable image.values from h)
-representable (Listener.Count attribute) image h = counted_representable attribute (value_of image attribute) (found_representable image.values attribute h)
+representable (Listener.Copy from to) image h =
+    assigned to (value_or_null (value_of image from)) (found_representable image.values from h)
+representable (Listener.Count attribute) image h =
+    counted_representable attribute (value_of image attribute) (found_representable image.values attribute h)
 representable (Listener.Require attribute) image h = required_representable attribute (value_of image attribute)
 representable Listener.Note image h = refl

@@ -42,7 +42,7 @@ fn of_column<'p>(table: &'p [Pair], value: &Value) -> Option<&'p Pair>
 
 fn column_beside(table: &[Pair], value: &Value) -> Result<Option<Value>, Cause>
     ensures column { IfOk result (λ answer. answer ≡ pairs.column_beside table.now value.now) }
-    ensures refused { IfErr result (λ cause. cause ≡ Cause.OutOfMemory) }
+    ensures err { IfErr result (λ cause. cause ≡ Cause.OutOfMemory) }
 {
     match of_attribute(table, value) {
         Some(pair) => Ok(Some(pair.column.try_copy()?)),
@@ -53,7 +53,7 @@ fn column_beside(table: &[Pair], value: &Value) -> Result<Option<Value>, Cause>
 fn attribute_beside(table: &[Pair], value: &Value) -> Result<Option<Value>, Cause>
     ensures attribute { IfOk result (λ answer. answer
         ≡ pairs.attribute_beside table.now value.now) }
-    ensures refused { IfErr result (λ cause. cause ≡ Cause.OutOfMemory) }
+    ensures err { IfErr result (λ cause. cause ≡ Cause.OutOfMemory) }
 {
     match of_column(table, value) {
         Some(pair) => Ok(Some(pair.attribute.try_copy()?)),
@@ -63,7 +63,7 @@ fn attribute_beside(table: &[Pair], value: &Value) -> Result<Option<Value>, Caus
 
 fn digits_of(alloc: Global, value: &Value) -> Result<Option<Value>, Cause>
     ensures digits { IfOk result (λ answer. answer ≡ spec.digits_of value.now) }
-    ensures refused { IfErr result (λ cause. cause ≡ Cause.OutOfMemory) }
+    ensures err { IfErr result (λ cause. cause ≡ Cause.OutOfMemory) }
 {
     match value {
         Value::Bytes(bytes) => {
@@ -77,7 +77,7 @@ fn digits_of(alloc: Global, value: &Value) -> Result<Option<Value>, Cause>
 /// Bytes whose digits in lower case these are.
 fn if_written_so(alloc: Global, digits: &str, bytes: Vec<u8>) -> Result<Option<Value>, Cause>
     ensures bytes { IfOk result (λ answer. answer ≡ spec.if_written_so digits.now bytes.items) }
-    ensures refused { IfErr result (λ cause. cause ≡ Cause.OutOfMemory) }
+    ensures err { IfErr result (λ cause. cause ≡ Cause.OutOfMemory) }
 {
     let written = hex::encode(alloc, bytes.as_slice())?;
     if written.as_str() == digits {
@@ -89,7 +89,7 @@ fn if_written_so(alloc: Global, digits: &str, bytes: Vec<u8>) -> Result<Option<V
 
 fn bytes_in(alloc: Global, digits: &str) -> Result<Option<Value>, Cause>
     ensures bytes { IfOk result (λ answer. answer ≡ spec.bytes_in digits.now) }
-    ensures refused { IfErr result (λ cause. cause ≡ Cause.OutOfMemory) }
+    ensures err { IfErr result (λ cause. cause ≡ Cause.OutOfMemory) }
 {
     match hex::decode(alloc, digits) {
         Ok(bytes) => if_written_so(alloc, digits, bytes),
@@ -100,7 +100,7 @@ fn bytes_in(alloc: Global, digits: &str) -> Result<Option<Value>, Cause>
 
 fn bytes_of(alloc: Global, value: &Value) -> Result<Option<Value>, Cause>
     ensures bytes { IfOk result (λ answer. answer ≡ spec.bytes_of value.now) }
-    ensures refused { IfErr result (λ cause. cause ≡ Cause.OutOfMemory) }
+    ensures err { IfErr result (λ cause. cause ≡ Cause.OutOfMemory) }
 {
     match value {
         Value::Text(digits) => bytes_in(alloc, digits.as_str()),
@@ -116,7 +116,7 @@ pub(crate) fn to_column(
     value: &Value,
 ) -> Result<Option<Value>, Cause>
     ensures column { IfOk result (λ answer. answer ≡ spec.column_by converter.now value.now) }
-    ensures refused { IfErr result (λ cause. cause ≡ Cause.OutOfMemory) }
+    ensures err { IfErr result (λ cause. cause ≡ Cause.OutOfMemory) }
 {
     match converter {
         Converter::Flip => Ok(flip(value)),
@@ -134,7 +134,7 @@ pub(crate) fn to_attribute(
 ) -> Result<Option<Value>, Cause>
     ensures attribute { IfOk result (λ answer. answer
         ≡ spec.attribute_by converter.now value.now) }
-    ensures refused { IfErr result (λ cause. cause ≡ Cause.OutOfMemory) }
+    ensures err { IfErr result (λ cause. cause ≡ Cause.OutOfMemory) }
 {
     match converter {
         Converter::Flip => Ok(flip(value)),

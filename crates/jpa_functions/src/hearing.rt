@@ -37,7 +37,7 @@ fn value_of<'v>(image: &'v Image, name: &str) -> Option<&'v Value>
 /// Gives an attribute a value.
 fn assign(alloc: Global, name: &Text, value: Value) -> Result<Heard, Cause>
     ensures heard { IfOk result (λ heard. heard ≡ spec.assign name.now value) }
-    ensures refused { IfErr result (λ cause. cause ≡ Cause.OutOfMemory) }
+    ensures err { IfErr result (λ cause. cause ≡ Cause.OutOfMemory) }
 {
     let mut assigned = Seq::new(alloc);
     assigned.push(Named {
@@ -51,7 +51,7 @@ fn assign(alloc: Global, name: &Text, value: Value) -> Result<Heard, Cause>
 fn set_text(alloc: Global, attribute: &Text, text: &Text) -> Result<Heard, Cause>
     ensures heard { IfOk result (λ heard. heard
         ≡ spec.assign attribute.now (TextValue text.now)) }
-    ensures refused { IfErr result (λ cause. cause ≡ Cause.OutOfMemory) }
+    ensures err { IfErr result (λ cause. cause ≡ Cause.OutOfMemory) }
 {
     assign(alloc, attribute, Value::Text(text.try_copy()?))
 }
@@ -60,7 +60,7 @@ fn set_text(alloc: Global, attribute: &Text, text: &Text) -> Result<Heard, Cause
 fn copy(alloc: Global, image: &Image, from: &Text, to: &Text) -> Result<Heard, Cause>
     ensures heard { IfOk result (λ heard. heard ≡ spec.assign to.now
         (spec.value_or_null (spec.value_of image.now from.now))) }
-    ensures refused { IfErr result (λ cause. cause ≡ Cause.OutOfMemory) }
+    ensures err { IfErr result (λ cause. cause ≡ Cause.OutOfMemory) }
 {
     match value_of(image, from.as_str()) {
         Some(value) => assign(alloc, to, value.try_copy()?),
@@ -71,7 +71,7 @@ fn copy(alloc: Global, image: &Image, from: &Text, to: &Text) -> Result<Heard, C
 /// One more than an integer.
 fn count_up(alloc: Global, attribute: &Text, number: i64) -> Result<Heard, Cause>
     ensures heard { IfOk result (λ heard. heard ≡ spec.counted_up attribute.now number) }
-    ensures refused { IfErr result (λ cause. cause ≡ Cause.OutOfMemory) }
+    ensures err { IfErr result (λ cause. cause ≡ Cause.OutOfMemory) }
 {
     if number < i64::MAX {
         assign(alloc, attribute, Value::Int(number + 1))
@@ -84,7 +84,7 @@ fn count_up(alloc: Global, attribute: &Text, number: i64) -> Result<Heard, Cause
 fn count(alloc: Global, image: &Image, attribute: &Text) -> Result<Heard, Cause>
     ensures heard { IfOk result (λ heard. heard ≡ spec.counted attribute.now
         (spec.value_of image.now attribute.now)) }
-    ensures refused { IfErr result (λ cause. cause ≡ Cause.OutOfMemory) }
+    ensures err { IfErr result (λ cause. cause ≡ Cause.OutOfMemory) }
 {
     match value_of(image, attribute.as_str()) {
         Some(Value::Null) => assign(alloc, attribute, Value::Int(1)),
@@ -97,7 +97,7 @@ fn count(alloc: Global, image: &Image, attribute: &Text) -> Result<Heard, Cause>
 fn require(alloc: Global, image: &Image, attribute: &Text) -> Result<Heard, Cause>
     ensures heard { IfOk result (λ heard. heard ≡ spec.required attribute.now
         (spec.value_of image.now attribute.now)) }
-    ensures refused { IfErr result (λ cause. cause ≡ Cause.OutOfMemory) }
+    ensures err { IfErr result (λ cause. cause ≡ Cause.OutOfMemory) }
 {
     match value_of(image, attribute.as_str()) {
         None | Some(Value::Null) => {
@@ -111,7 +111,7 @@ fn require(alloc: Global, image: &Image, attribute: &Text) -> Result<Heard, Caus
 /// What a listener answers to an image; `OutOfMemory` where a growth was refused.
 pub(crate) fn hear(alloc: Global, listener: &Listener, image: &Image) -> Result<Heard, Cause>
     ensures heard { IfOk result (λ heard. heard ≡ spec.heard_by listener.now image.now) }
-    ensures refused { IfErr result (λ cause. cause ≡ Cause.OutOfMemory) }
+    ensures err { IfErr result (λ cause. cause ≡ Cause.OutOfMemory) }
 {
     match listener {
         Listener::SetText(given) => set_text(alloc, &given.attribute, &given.value),

@@ -82,10 +82,13 @@ set_version x v =
 
 -- an attribute is set to a value that fits it, in any state of the object
 abbrev pub set_attribute : List Attribute → LiveObject → Handed → ℕ → Result LiveObject Cause
-set_attribute attributes x v i = unless_refused (fits_plain (slice_get attributes i) v) Argument.Type (Ok (with_value x (Member.Attribute i) (plain v)))
+set_attribute attributes x v i =
+    unless_refused (fits_plain (slice_get attributes i) v) Argument.Type
+    (Ok (with_value x (Member.Attribute i) (plain v)))
 
 -- a collection is not set
-abbrev pub set_member : PersistenceUnit → List LiveObject → LiveObject → Handed → Option Member → Result LiveObject Cause
+abbrev pub set_member : PersistenceUnit → List LiveObject → LiveObject → Handed → Option Member →
+    Result LiveObject Cause
 set_member m objects x v None = Err (Cause.IllegalArgument Argument.Name)
 set_member m objects x v (Some (Member.KeyPart i)) = set_part (root_of m x.class).key x v i
 set_member m objects x v (Some Member.Version) = set_version x v

@@ -1,6 +1,7 @@
 -- When a description gives a history: revision 1 has none of its members, and revision 2 meets
 -- condition 8 on them.
-use Rattle.std.specs.Prelude.{◌≡◌, ◌⊎◌, ℕ, ℤ, pos, Bool, true, not, ◌&&◌, ◌||◌, ◌==◌, List, [], ◌∷◌, ◌++◌, map, filter, length, Option, Some, None, is_some, unsigned_abs, if◌then◌else◌, Result, Ok, Err, IsTrue}
+use Rattle.std.specs.Prelude.{◌≡◌, ◌⊎◌, ℕ, ℤ, pos, Bool, true, not, ◌&&◌, ◌||◌, ◌==◌, List, [], ◌∷◌, ◌++◌, map, filter}
+use Rattle.std.specs.Prelude.{length, Option, Some, None, is_some, unsigned_abs, if◌then◌else◌, Result, Ok, Err, IsTrue}
 use Rattle.std.specs.List.{list_all, list_any, flat_map, range_with_len}
 use Rattle.std.specs.Ordering.{int_eq}
 use Rattle.jpa_value.specs.declared.value.Value.{Value}
@@ -83,7 +84,8 @@ all_paired p (x ∷ xs) (y ∷ ys) = p x y && all_paired p xs ys
 
 -- what condition 8 asks of a class by itself
 abbrev pub is_class_changed_well : Entity → DraftClassHistory → Bool
-is_class_changed_well e c = list_all is_number (some_list c.dropped) && all_paired is_changed_well e.attributes c.changes
+is_class_changed_well e c =
+    list_all is_number (some_list c.dropped) && all_paired is_changed_well e.attributes c.changes
 
 -- the columns of version, attributes and relations
 abbrev pub version_columns : Origin → List ℕ

@@ -15,7 +15,7 @@ use std::collections::BTreeSet;
 fn push_attribute_columns(columns: &mut Vec<u64>, attributes: &[Attribute]) -> Result<(), Cause>
     ensures added { OnOk result (columns.new.items ≡ columns.old.items
         ++ map (λ a. a.column) attributes.now) }
-    ensures refused { IfErr result (λ cause. cause ≡ Cause.OutOfMemory) }
+    ensures err { IfErr result (λ cause. cause ≡ Cause.OutOfMemory) }
 {
     for attribute in attributes {
         columns.push(attribute.column)?;
@@ -26,7 +26,7 @@ fn push_attribute_columns(columns: &mut Vec<u64>, attributes: &[Attribute]) -> R
 fn push_relation_columns(columns: &mut Vec<u64>, relations: &[Relation]) -> Result<(), Cause>
     ensures added { OnOk result (columns.new.items ≡ columns.old.items
         ++ flat_map (λ r. listed (λ c. c.column) (column_of r.side)) relations.now) }
-    ensures refused { IfErr result (λ cause. cause ≡ Cause.OutOfMemory) }
+    ensures err { IfErr result (λ cause. cause ≡ Cause.OutOfMemory) }
 {
     for relation in relations {
         if let Some(column) = relation.side.column() {
@@ -40,7 +40,7 @@ fn push_columns(columns: &mut Vec<u64>, metamodel: &Metamodel, class: usize) -> 
     requires { class < length metamodel.now.entities }
     ensures added { OnOk result (columns.new.items ≡ columns.old.items
         ++ condition.columns metamodel.now class) }
-    ensures refused { IfErr result (λ cause. cause ≡ Cause.OutOfMemory) }
+    ensures err { IfErr result (λ cause. cause ≡ Cause.OutOfMemory) }
 {
     let entity = metamodel.entity(class);
     if let Origin::Root(root) = &entity.origin {
@@ -55,7 +55,7 @@ fn push_columns(columns: &mut Vec<u64>, metamodel: &Metamodel, class: usize) -> 
 fn push_moved(columns: &mut Vec<u64>, changes: &[Change]) -> Result<(), Cause>
     ensures added { OnOk result (columns.new.items ≡ columns.old.items
         ++ flat_map condition.moved_from changes.now) }
-    ensures refused { IfErr result (λ cause. cause ≡ Cause.OutOfMemory) }
+    ensures err { IfErr result (λ cause. cause ≡ Cause.OutOfMemory) }
 {
     for change in changes {
         if let Change::Moved(column) = change {
@@ -67,7 +67,7 @@ fn push_moved(columns: &mut Vec<u64>, changes: &[Change]) -> Result<(), Cause>
 
 fn push_dropped(columns: &mut Vec<u64>, dropped: &[u64]) -> Result<(), Cause>
     ensures added { OnOk result (columns.new.items ≡ columns.old.items ++ dropped.now) }
-    ensures refused { IfErr result (λ cause. cause ≡ Cause.OutOfMemory) }
+    ensures err { IfErr result (λ cause. cause ≡ Cause.OutOfMemory) }
 {
     for column in dropped {
         columns.push(*column)?;
@@ -78,7 +78,7 @@ fn push_dropped(columns: &mut Vec<u64>, dropped: &[u64]) -> Result<(), Cause>
 fn push_old_columns(columns: &mut Vec<u64>, history: &History, class: usize) -> Result<(), Cause>
     ensures added { OnOk result (columns.new.items ≡ columns.old.items
         ++ condition.old_columns history.now class) }
-    ensures refused { IfErr result (λ cause. cause ≡ Cause.OutOfMemory) }
+    ensures err { IfErr result (λ cause. cause ≡ Cause.OutOfMemory) }
 {
     match history.classes.as_slice().get(class) {
         None => Ok(()),
@@ -99,7 +99,7 @@ fn columns_of(
     ensures found { IfOk result (λ columns. columns.items
         ≡ flat_map (condition.columns metamodel.now) places.now
         ++ flat_map (condition.old_columns history.now) places.now) }
-    ensures refused { IfErr result (λ cause. cause ≡ Cause.OutOfMemory) }
+    ensures err { IfErr result (λ cause. cause ≡ Cause.OutOfMemory) }
 {
     let mut columns = Vec::new(alloc);
     for class in places {
@@ -115,7 +115,7 @@ fn hierarchy_of(alloc: Global, metamodel: &Metamodel, root: usize) -> Result<Seq
     ensures found { IfOk result (λ places. places ≡ condition.hierarchy metamodel.now root) }
     ensures within { IfOk result (λ places.
         All (λ class. class < length metamodel.now.entities) places) }
-    ensures refused { IfErr result (λ cause. cause ≡ Cause.OutOfMemory) }
+    ensures err { IfErr result (λ cause. cause ≡ Cause.OutOfMemory) }
 {
     let mut places = Seq::new(alloc);
     for class in 0..metamodel.entities().len() {
@@ -128,7 +128,7 @@ fn hierarchy_of(alloc: Global, metamodel: &Metamodel, root: usize) -> Result<Seq
 
 fn are_distinct(alloc: Global, numbers: &[u64]) -> Result<bool, Cause>
     ensures judged { IfOk result (λ b. b ≡ condition.are_distinct numbers.now) }
-    ensures refused { IfErr result (λ cause. cause ≡ Cause.OutOfMemory) }
+    ensures err { IfErr result (λ cause. cause ≡ Cause.OutOfMemory) }
 {
     let mut seen = BTreeSet::new(alloc);
     for number in numbers {
@@ -148,7 +148,7 @@ fn is_apart(
     requires { All (λ class. class < length metamodel.now.entities) places.now }
     ensures judged { IfOk result (λ b. b
         ≡ condition.is_apart metamodel.now history.now places.now) }
-    ensures refused { IfErr result (λ cause. cause ≡ Cause.OutOfMemory) }
+    ensures err { IfErr result (λ cause. cause ≡ Cause.OutOfMemory) }
 {
     let columns = columns_of(alloc, metamodel, history, places)?;
     are_distinct(alloc, columns.as_slice())
@@ -162,7 +162,7 @@ pub(crate) fn are_apart(
     history: &History,
 ) -> Result<bool, Cause>
     ensures judged { IfOk result (λ b. b ≡ condition.are_apart metamodel.now history.now) }
-    ensures refused { IfErr result (λ cause. cause ≡ Cause.OutOfMemory) }
+    ensures err { IfErr result (λ cause. cause ≡ Cause.OutOfMemory) }
 {
     for root in 0..metamodel.entities().len() {
         let places = hierarchy_of(alloc, metamodel, root)?;

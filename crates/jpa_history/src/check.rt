@@ -21,7 +21,7 @@ fn has_changes(
 ) -> Result<bool, Cause>
     requires { history.now ≡ condition.history_of draft.now }
     ensures judged { IfOk result (λ b. b ≡ condition.has_changes metamodel.now draft.now) }
-    ensures refused { IfErr result (λ cause. cause ≡ Cause.OutOfMemory) }
+    ensures err { IfErr result (λ cause. cause ≡ Cause.OutOfMemory) }
 {
     let classes = draft.classes.as_slice();
     match metamodel.unit().revision {

@@ -10,7 +10,7 @@ use std::alloc::Global;
 
 fn copy_default(default: &Option<Value>) -> Result<Option<Value>, Cause>
     ensures equal { IfOk result (λ copy. copy ≡ default.now) }
-    ensures refused { IfErr result (λ cause. cause ≡ Cause.OutOfMemory) }
+    ensures err { IfErr result (λ cause. cause ≡ Cause.OutOfMemory) }
 {
     match default {
         None => Ok(None),
@@ -20,7 +20,7 @@ fn copy_default(default: &Option<Value>) -> Result<Option<Value>, Cause>
 
 fn change_of(change: &DraftChange) -> Result<Change, Cause>
     ensures found { IfOk result (λ made. made ≡ condition.change_of change.now) }
-    ensures refused { IfErr result (λ cause. cause ≡ Cause.OutOfMemory) }
+    ensures err { IfErr result (λ cause. cause ≡ Cause.OutOfMemory) }
 {
     match (change.was, change.since) {
         (Some(column), _) => Ok(Change::Moved(column.unsigned_abs())),
@@ -31,7 +31,7 @@ fn change_of(change: &DraftChange) -> Result<Change, Cause>
 
 fn changes_of(alloc: Global, changes: &[DraftChange]) -> Result<Seq<Change>, Cause>
     ensures found { IfOk result (λ made. made ≡ map condition.change_of changes.now) }
-    ensures refused { IfErr result (λ cause. cause ≡ Cause.OutOfMemory) }
+    ensures err { IfErr result (λ cause. cause ≡ Cause.OutOfMemory) }
 {
     let mut made = Seq::new(alloc);
     for change in changes {
@@ -42,7 +42,7 @@ fn changes_of(alloc: Global, changes: &[DraftChange]) -> Result<Seq<Change>, Cau
 
 fn columns_of(alloc: Global, columns: &[i64]) -> Result<Seq<u64>, Cause>
     ensures found { IfOk result (λ made. made ≡ map unsigned_abs columns.now) }
-    ensures refused { IfErr result (λ cause. cause ≡ Cause.OutOfMemory) }
+    ensures err { IfErr result (λ cause. cause ≡ Cause.OutOfMemory) }
 {
     let mut made = Seq::new(alloc);
     for column in columns {
@@ -63,7 +63,7 @@ pub(crate) fn listed(columns: &Option<Seq<i64>>) -> &[i64]
 
 fn class_history_of(alloc: Global, class: &DraftClassHistory) -> Result<ClassHistory, Cause>
     ensures found { IfOk result (λ made. made ≡ condition.class_history_of class.now) }
-    ensures refused { IfErr result (λ cause. cause ≡ Cause.OutOfMemory) }
+    ensures err { IfErr result (λ cause. cause ≡ Cause.OutOfMemory) }
 {
     Ok(ClassHistory {
         dropped: columns_of(alloc, listed(&class.dropped))?,
@@ -74,7 +74,7 @@ fn class_history_of(alloc: Global, class: &DraftClassHistory) -> Result<ClassHis
 /// The history that a description gives, each number by its size alone.
 pub(crate) fn history_of(alloc: Global, draft: &DraftHistory) -> Result<History, Cause>
     ensures found { IfOk result (λ made. made ≡ condition.history_of draft.now) }
-    ensures refused { IfErr result (λ cause. cause ≡ Cause.OutOfMemory) }
+    ensures err { IfErr result (λ cause. cause ≡ Cause.OutOfMemory) }
 {
     let mut classes = Seq::new(alloc);
     for class in draft.classes.as_slice() {

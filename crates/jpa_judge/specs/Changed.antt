@@ -18,7 +18,8 @@ abbrev pub is_changed : List Change → Identity → Bool
 is_changed changes q = list_any (λ c. same_identity q c.id.now) changes
 
 -- the set after the changes has elsewhere what a sound set had before them
-pub record IsChangedFrom (m : PersistenceUnit) (before : StoredSet) (changes : List Change) (after : StoredSet) : Type 0 where
+pub record IsChangedFrom (m : PersistenceUnit) (before : StoredSet) (changes : List Change)
+    (after : StoredSet) : Type 0 where
   pub rising : T (is_sorted identity_cmp before)
   pub sound : IsSound m before
   pub elsewhere : (q : Identity) → is_changed changes q ≡ false → stored_at after q ≡ stored_at before q

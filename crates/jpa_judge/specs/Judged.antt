@@ -9,7 +9,8 @@ use Rattle.jpa_model.specs.declared.unit.PersistenceUnit.{PersistenceUnit}
 use Rattle.jpa_model.specs.declared.unit.Relation.{Relation}
 use Rattle.jpa_model.specs.Chains.{attributes_of, relations_of}
 use Rattle.jpa_stored.specs.declared.stored.Stored.{Stored}
-use Rattle.jpa_stored.specs.Sets.{StoredSet, stored_at, values_there, links_there, is_of, one_to_one_column, claims_at, first_fault}
+use Rattle.jpa_stored.specs.Sets.{StoredSet, stored_at, values_there, links_there, is_of, one_to_one_column, claims_at}
+use Rattle.jpa_stored.specs.Sets.{first_fault}
 use Rattle.jpa_open.specs.Leads.{has_rival, leads_well, is_of_column}
 use Rattle.jpa_judge.specs.declared.change.Change.{Change}
 use Rattle.jpa_judge.specs.Changed.{class_at}
@@ -23,7 +24,8 @@ if_there f (Some x) = f x
 
 -- an object has its required values and links
 abbrev pub has_required : PersistenceUnit → Stored → Bool
-has_required m x = values_there (zip (attributes_of m x.class) x.values) && links_there (zip (relations_of m x.class) x.owned)
+has_required m x = values_there (zip (attributes_of m x.class) x.values)
+    && links_there (zip (relations_of m x.class) x.owned)
 
 -- what stands where something was changed has what is required
 abbrev pub fills : PersistenceUnit → StoredSet → Change → Bool
@@ -48,7 +50,8 @@ keeps_class (Some class) (Some now) = class == now
 
 -- what stands where something was changed leads well, and so does what leads there
 abbrev pub leads : PersistenceUnit → StoredSet → Change → Bool
-leads m s c = if_there (object_leads m s) (stored_at s c.id.now) && (keeps_class c.class_before (class_at s c.id.now) || leads_well m s c.id.now)
+leads m s c = if_there (object_leads m s) (stored_at s c.id.now)
+    && (keeps_class c.class_before (class_at s c.id.now) || leads_well m s c.id.now)
 
 -- ---- unique
 
@@ -56,7 +59,8 @@ leads m s c = if_there (object_leads m s) (stored_at s c.id.now) && (keeps_class
 abbrev pub ids_apart : ℕ → List Identity → List (Relation × List Identity) → Bool
 ids_apart column [] ps = true
 ids_apart column (id ∷ ids) ps =
-    not (list_any (same_identity id) ids || list_any (λ p. is_of_column column p.0 && list_any (same_identity id) p.1) ps) && ids_apart column ids ps
+    not (list_any (same_identity id) ids || list_any (λ p. is_of_column column p.0 && list_any (same_identity id) p.1)
+    ps) && ids_apart column ids ps
 
 -- no identity is owned twice in the column of a one-to-one relation
 abbrev pub link_apart : Option ℕ → List Identity → List (Relation × List Identity) → Bool
@@ -70,7 +74,9 @@ links_apart (p ∷ ps) = link_apart (one_to_one_column (p.0).side) p.1 ps && lin
 
 -- no other object claims what the owner claims in these relations
 abbrev pub links_alone : PersistenceUnit → StoredSet → Identity → List (Relation × List Identity) → Bool
-links_alone m s owner = list_all (λ p. list_all (λ claim. not (has_rival m s claim owner)) (claims_at owner.table (one_to_one_column (p.0).side) p.1))
+links_alone m s owner =
+    list_all (λ p. list_all (λ claim. not (has_rival m s claim owner))
+    (claims_at owner.table (one_to_one_column (p.0).side) p.1))
 
 -- an object shares no target of its one-to-one relations
 abbrev pub object_alone : PersistenceUnit → StoredSet → Identity → Stored → Bool
@@ -84,4 +90,5 @@ is_alone m s c = if_there (object_alone m s c.id.now) (stored_at s c.id.now)
 
 -- the first part of soundness that fails where something was changed, if one does
 abbrev pub fault_at : PersistenceUnit → StoredSet → List Change → Option Persist
-fault_at m s changes = first_fault (list_all (fills m s) changes) (list_all (leads m s) changes) (list_all (is_alone m s) changes)
+fault_at m s changes =
+    first_fault (list_all (fills m s) changes) (list_all (leads m s) changes) (list_all (is_alone m s) changes)

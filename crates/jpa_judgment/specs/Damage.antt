@@ -19,7 +19,8 @@ cells_of_row table r = map (λ c. record { table = table; row = r.row; column = 
 
 -- the cells of the unit's tables
 abbrev pub cells_in : World → Tables → List Cell
-cells_in world tables = flat_map (λ rule. flat_map (cells_of_row rule.table) (tables (pos rule.table))) (schema_of world.model).tables
+cells_in world tables =
+    flat_map (λ rule. flat_map (cells_of_row rule.table) (tables (pos rule.table))) (schema_of world.model).tables
 
 -- the row of cells is one that an object, a pair, a next number or the revision may have
 abbrev pub IsSoundCells : World → TableRule → CellRow → Type 0
@@ -40,13 +41,16 @@ pub record IsLowestDamage (world : World) (tables : Tables) (table : ℕ) (bytes
   pub row : damaged.row ≡ bytes
   pub not_sound : IsSoundCells world rule damaged → ⊥
   pub first : AllByRecursion (IsSoundCells world rule) before
-  pub lowest : (t : ℕ) (other : TableRule) → nat_lt t table ≡ true → table_of (schema_of world.model) t ≡ Some other → IsSoundTable world tables other
+  pub lowest : (t : ℕ) (other : TableRule) → nat_lt t table ≡ true → table_of (schema_of world.model) t ≡ Some other →
+      IsSoundTable world tables other
 
 -- each row by itself is sound, and yet the cells stand for no set and no next numbers
 pub record StandForNone (world : World) (tables : Tables) : Type 0 where
-  pub rows : (t : ℕ) (rule : TableRule) → table_of (schema_of world.model) t ≡ Some rule → IsSoundTable world tables rule
+  pub rows : (t : ℕ) (rule : TableRule) → table_of (schema_of world.model) t ≡ Some rule →
+      IsSoundTable world tables rule
   pub none : (set : StoredSet) (numbers : List ℕ) → StandFor world (cells_in world tables) set numbers → ⊥
 
 -- the place that is told of damaged tables: the lowest damaged row, or the empty one of table 0
 abbrev pub AreDamagedAt : World → Tables → ℕ → List ℕ → Type 0
-AreDamagedAt world tables table bytes = IsLowestDamage world tables table bytes ⊎ ((table ≡ 0) × (bytes ≡ []) × StandForNone world tables)
+AreDamagedAt world tables table bytes =
+    IsLowestDamage world tables table bytes ⊎ ((table ≡ 0) × (bytes ≡ []) × StandForNone world tables)

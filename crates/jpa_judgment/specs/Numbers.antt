@@ -1,5 +1,6 @@
 -- Numbers that rows and their ids say, and whose hierarchies have next numbers.
-use Rattle.std.specs.Prelude.{ℕ, pos, negsuc, Bool, false, ◌==◌, ◌&&◌, List, [], ◌∷◌, find, Option, Some, None, if◌then◌else◌}
+use Rattle.std.specs.Prelude.{ℕ, pos, negsuc, Bool, false, ◌==◌, ◌&&◌, List, [], ◌∷◌, find, Option, Some, None}
+use Rattle.std.specs.Prelude.{if◌then◌else◌}
 use Rattle.std.specs.List.{list_any}
 use Rattle.jpa_value.specs.declared.value.Value.{Value}
 use Rattle.jpa_model.specs.declared.unit.Entity.{Entity}

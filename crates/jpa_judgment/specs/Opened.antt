@@ -1,6 +1,7 @@
 -- What the tables of a store are to the unit that opens it: as they are found, or migrated, and
 -- what was read of them so.
-use Rattle.std.specs.Prelude.{◌≡◌, ◌+◌, ℕ, pos, Bool, true, false, ◌==◌, List, [], ◌++◌, Option, None, IfSome, sum_by, if◌then◌else◌}
+use Rattle.std.specs.Prelude.{◌≡◌, ◌+◌, ℕ, pos, Bool, true, false, ◌==◌, List, [], ◌++◌, Option, None, IfSome, sum_by}
+use Rattle.std.specs.Prelude.{if◌then◌else◌}
 use Rattle.std.specs.List.{AllByRecursion, flat_map}
 use Rattle.std.specs.List.Sorted.{IsPermutation}
 use Rattle.sqlite_trees.specs.declared.store.Store.{Ghosts}
@@ -47,11 +48,16 @@ IsIdle migration = (migration.is_due ≡ false) × (migration.changes ≡ [])
 
 module _ {S : Type 0} (g : Ghosts S) (world : World) (h : History) where
   -- a table was read as the unit opens it, up to a row that is ill-formed
-  pub record ReadsOpened (old new : Space S) (table : ℕ) (before after : Migration) (part : Rows) (stopped : Option (List ℕ)) : Type 0 where
-    pub due : IsClean g new.store.conn → after.is_due ≡ due_after world.model table (tables_in g old.store.conn (pos table)) before.is_due
-    pub changes : IsClean g new.store.conn → after.changes ≡ before.changes ++ changes_opened world h after.is_due table (tables_in g old.store.conn (pos table))
+  pub record ReadsOpened (old new : Space S) (table : ℕ) (before after : Migration) (part : Rows)
+      (stopped : Option (List ℕ)) : Type 0 where
+    pub due : IsClean g new.store.conn →
+        after.is_due ≡ due_after world.model table (tables_in g old.store.conn (pos table)) before.is_due
+    pub changes : IsClean g new.store.conn → after.changes ≡ before.changes ++ changes_opened world h after.is_due table
+        (tables_in g old.store.conn (pos table))
     pub found : IsClean g new.store.conn → AreRows (tables_in g old.store.conn (pos table))
-    pub read : IsClean g new.store.conn → IfSome (table_of old.schema table) (λ rule. AreRead rule (rows_opened world h after.is_due table (tables_in g old.store.conn (pos table))) part stopped)
+    pub read : IsClean g new.store.conn → IfSome (table_of old.schema table)
+        (λ rule. AreRead rule (rows_opened world h after.is_due table (tables_in g old.store.conn (pos table))) part
+        stopped)
     pub rising : IsClean g new.store.conn → AreRising part
     pub live : IsClean g new.store.conn → IsOpen g old.store.conn × IsOpen g new.store.conn
     -- with revision 1 nothing is due
@@ -60,9 +66,12 @@ module _ {S : Type 0} (g : Ghosts S) (world : World) (h : History) where
 -- ---- all tables
 
 -- what is read of them, table by table
-pub record AreFound (world : World) (h : History) (schema : Schema) (tables : Tables) (numbers : List ℕ) (found : Found) : Type 0 where
+pub record AreFound (world : World) (h : History) (schema : Schema) (tables : Tables) (numbers : List ℕ)
+    (found : Found) : Type 0 where
   pub read : AreReadUpTo schema (opened_tables world h tables) numbers found.rows found.end
-  pub changes : found.end ≡ None → found.changes ≡ flat_map (λ n. changes_opened world h (is_due world.model (tables (pos 0))) n (tables (pos n))) numbers
+  pub changes : found.end ≡ None →
+      found.changes ≡ flat_map (λ n. changes_opened world h (is_due world.model (tables (pos 0))) n (tables (pos n)))
+      numbers
   pub rows : found.end ≡ None → AllByRecursion (λ n. AreRows (tables (pos n))) numbers
 
 -- the changes that are due, in some order, which make the tables those that are judged
@@ -85,11 +94,13 @@ IsMigrated world h found left = (is_due world.model (found (pos 0)) ≡ true) ×
 module _ {S : Type 0} (g : Ghosts S) (world : World) (h : History) where
   -- nothing but a fault stands against the changes that are due
   abbrev pub AllowsDue : Held S → Type 0
-  AllowsDue conn = is_due world.model (tables_in g conn (pos 0)) ≡ true → Allows g conn (changes_due world h (tables_in g conn))
+  AllowsDue conn = is_due world.model (tables_in g conn (pos 0)) ≡ true →
+      Allows g conn (changes_due world h (tables_in g conn))
 
   -- the statements of the changes that are due are counted, and with revision 1 none
   pub record CountsDue (old new : Space S) : Type 0 where
     pub written : ℕ
     pub counted : new.store.writes ≡ up_to_greatest (old.store.writes + written)
     pub first : world.model.revision ≡ 1 → (written ≡ 0) × (new.store.writes ≡ old.store.writes)
-    pub due : IsClean g new.store.conn → written ≡ sum_by statements_of (changes_due world h (tables_in g old.store.conn))
+    pub due : IsClean g new.store.conn →
+        written ≡ sum_by statements_of (changes_due world h (tables_in g old.store.conn))

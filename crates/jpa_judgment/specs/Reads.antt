@@ -1,5 +1,6 @@
 -- What is read of a store, one table after another, and the place that is told of what was read.
-use Rattle.std.specs.Prelude.{◌≡◌, ◌⊎◌, ◌<◌, ℕ, pos, true, ◌==◌, List, [], ◌∷◌, ◌++◌, length, map, Option, Some, None, is_some}
+use Rattle.std.specs.Prelude.{◌≡◌, ◌⊎◌, ◌<◌, ℕ, pos, true, ◌==◌, List, [], ◌∷◌, ◌++◌, length, map, Option, Some, None}
+use Rattle.std.specs.Prelude.{is_some}
 use Rattle.std.specs.List.{AllByRecursion, list_any}
 use Rattle.std.specs.List.Sorted.{IsPermutation}
 use Rattle.sqlite.specs.Held.{state}
@@ -39,7 +40,8 @@ pub record AreReadWhole (schema : Schema) (tables : Tables) (numbers : List ℕ)
 
 -- those of the first tables, and those of the next one up to a row that is ill-formed, which has
 -- these bytes
-pub record AreReadInto (schema : Schema) (tables : Tables) (numbers : List ℕ) (rows : Rows) (table : ℕ) (bytes : List ℕ) : Type 0 where
+pub record AreReadInto (schema : Schema) (tables : Tables) (numbers : List ℕ) (rows : Rows) (table : ℕ)
+    (bytes : List ℕ) : Type 0 where
   pub front : List ℕ
   pub back : List ℕ
   pub order : numbers ≡ front ++ table ∷ back
@@ -90,4 +92,10 @@ pub record KeepsTables {S : Type 0} (g : Ghosts S) (old new : Space S) : Type 0 
   pub kept : Keeps g old.store.conn new.store.conn
   pub content : KeepsContent (state g old.store.conn) (state g new.store.conn)
   pub crash : Endures g old.store.conn new.store.conn (λ _. ⊥)
-  pub others : new ≡ record old { store = record old.store { conn = new.store.conn; table_selects = new.store.table_selects; faults = new.store.faults } }
+  pub others : new ≡ record old {
+    store = record old.store {
+      conn = new.store.conn;
+      table_selects = new.store.table_selects;
+      faults = new.store.faults;
+    };
+  }

@@ -44,7 +44,8 @@ pub record IsPairRow (m : PersistenceUnit) (id : RowId) (row : Row) : Type 0 whe
 
 -- a row is that of the revision, of a next number, of a pair or of an object
 abbrev pub IsSoundRow : World → RowId → Row → Type 0
-IsSoundRow world id row = IsRevisionRow world.model id row ⊎ (IsNumberRow world.model id row ⊎ (IsPairRow world.model id row ⊎ IsMainRow world id row))
+IsSoundRow world id row = IsRevisionRow world.model id row
+    ⊎ (IsNumberRow world.model id row ⊎ (IsPairRow world.model id row ⊎ IsMainRow world id row))
 
 -- each row by itself is sound
 abbrev pub AreSoundRows : World → Rows → Type 0

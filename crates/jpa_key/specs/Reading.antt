@@ -1,5 +1,6 @@
 -- A key read off the front of bytes, part by part: what was read, and how many bytes it took.
-use Rattle.std.specs.Prelude.{ℕ, ℤ, pos, negsuc, ◌+◌, ◌-◌, ◌^◌, Bool, true, false, ◌==◌, ◌&&◌, nat_le, List, [], ◌∷◌, ◌++◌, take, drop, length, Option, Some, None, if◌then◌else◌}
+use Rattle.std.specs.Prelude.{ℕ, ℤ, pos, negsuc, ◌+◌, ◌-◌, ◌^◌, Bool, true, false, ◌==◌, ◌&&◌, nat_le, List, [], ◌∷◌}
+use Rattle.std.specs.Prelude.{◌++◌, take, drop, length, Option, Some, None, if◌then◌else◌}
 use Rattle.std.specs.Int.{from_be_bytes, w64}
 use Rattle.std.specs.Str.{is_utf8}
 use Rattle.jpa_value.specs.declared.value.Value.{Value}
@@ -13,8 +14,10 @@ joined front count (Some read) = Some (front ++ read.0, count + read.1)
 -- up to the two bytes 0 that end it; the flag says that a byte 0 was just read
 abbrev pub unescaped : Bool → List ℕ → Option (List ℕ × ℕ)
 unescaped after_zero [] = None
-unescaped false (b ∷ bytes) = if b == 0 then joined [] 1 (unescaped true bytes) else joined (b ∷ []) 1 (unescaped false bytes)
-unescaped true (b ∷ bytes) = if b == 0 then Some ([], 1) else (if b == 255 then joined (0 ∷ []) 1 (unescaped false bytes) else None)
+unescaped false (b ∷ bytes) =
+    if b == 0 then joined [] 1 (unescaped true bytes) else joined (b ∷ []) 1 (unescaped false bytes)
+unescaped true (b ∷ bytes) =
+    if b == 0 then Some ([], 1) else (if b == 255 then joined (0 ∷ []) 1 (unescaped false bytes) else None)
 
 -- the integer that was shifted to a number
 abbrev pub unshifted : ℕ → ℤ
@@ -31,7 +34,8 @@ tagged tag bytes = if starts_with tag bytes then joined [] 1 (unescaped false (d
 
 -- an integer part at the front of bytes, which takes nine of them
 abbrev pub int_at : List ℕ → Option (Value × ℕ)
-int_at bytes = if starts_with 1 bytes && nat_le 9 (length bytes) then Some (Value.Int (unshifted (from_be_bytes w64 (take 8 (drop 1 bytes)))), 9) else None
+int_at bytes = if starts_with 1 bytes && nat_le 9 (length bytes)
+    then Some (Value.Int (unshifted (from_be_bytes w64 (take 8 (drop 1 bytes)))), 9) else None
 
 -- bytes as a text, where they are UTF-8
 abbrev pub text_of : List ℕ → Option (List ℕ)

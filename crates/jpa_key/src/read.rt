@@ -177,7 +177,7 @@ fn read_pair(
 pub fn decode_key(alloc: Global, kinds: &[Kind], bytes: &[u8]) -> Result<Option<Key>, Cause>
     ensures spelled { IfOk result (λ found. (key : List Value) → (found ≡ Some key)
         ↔ Spells kinds.now bytes.now key) }
-    ensures refused { IfErr result (λ cause. cause ≡ Cause.OutOfMemory) }
+    ensures err { IfErr result (λ cause. cause ≡ Cause.OutOfMemory) }
 {
     Ok(read_whole(alloc, kinds, bytes)?)
 }
@@ -193,7 +193,7 @@ pub fn decode_front(
 ) -> Result<Option<(Key, usize)>, Cause>
     ensures spelled { IfOk result (λ found. (key : List Value) (count : ℕ) →
         (found ≡ Some (key, count)) ↔ SpellsFront kinds.now bytes.now key count) }
-    ensures refused { IfErr result (λ cause. cause ≡ Cause.OutOfMemory) }
+    ensures err { IfErr result (λ cause. cause ≡ Cause.OutOfMemory) }
 {
     Ok(read_key(alloc, kinds, bytes)?)
 }
@@ -211,7 +211,7 @@ pub fn decode_pair(
     ensures spelled { IfOk result (λ found. (owner target : List Value) →
         (found ≡ Some (owner, target)) ↔ SpellsPair owner_kinds.now target_kinds.now bytes.now
         owner target) }
-    ensures refused { IfErr result (λ cause. cause ≡ Cause.OutOfMemory) }
+    ensures err { IfErr result (λ cause. cause ≡ Cause.OutOfMemory) }
 {
     Ok(read_pair(alloc, owner_kinds, target_kinds, bytes)?)
 }

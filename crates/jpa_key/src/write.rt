@@ -108,7 +108,7 @@ fn push_key(out: &mut Vec<u8>, key: &Key) -> Result<(), Cause>
 pub fn encode_key(alloc: Global, key: &Key) -> Result<Bytes, Cause>
     ensures bytes { IfOk result (λ bytes. bytes ≡ keys.key_bytes key.now) }
     ensures representable { OnOk result (list_all is_representable key.now ≡ true) }
-    ensures refused { IfErr result (λ cause. cause ≡ Cause.OutOfMemory) }
+    ensures err { IfErr result (λ cause. cause ≡ Cause.OutOfMemory) }
 {
     let mut out = Vec::new(alloc);
     push_key(&mut out, key)?;
@@ -124,7 +124,7 @@ pub fn encode_pair(alloc: Global, owner: &Key, target: &Key) -> Result<Bytes, Ca
         ++ keys.key_bytes target.now) }
     ensures owner_representable { OnOk result (list_all is_representable owner.now ≡ true) }
     ensures target_representable { OnOk result (list_all is_representable target.now ≡ true) }
-    ensures refused { IfErr result (λ cause. cause ≡ Cause.OutOfMemory) }
+    ensures err { IfErr result (λ cause. cause ≡ Cause.OutOfMemory) }
 {
     let mut out = Vec::new(alloc);
     push_key(&mut out, owner)?;

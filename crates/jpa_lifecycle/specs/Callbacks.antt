@@ -1,6 +1,7 @@
 -- Which listeners and callbacks hear an event, in which order, and what they do to the object
 -- (Jakarta Persistence 3.1, chapter 3.5).
-use Rattle.std.specs.Prelude.{ℕ, suc, Bool, true, false, List, [], ◌∷◌, ◌++◌, map, slice_get, Option, Some, None, if◌then◌else◌}
+use Rattle.std.specs.Prelude.{ℕ, suc, Bool, true, false, List, [], ◌∷◌, ◌++◌, map, slice_get, Option, Some, None}
+use Rattle.std.specs.Prelude.{if◌then◌else◌}
 use Rattle.std.specs.List.{flat_map, list_any, filter, zip}
 use Rattle.jpa_value.specs.declared.value.Value.{Value}
 use Rattle.jpa_value.specs.declared.refusal.Cause.{Cause}
@@ -39,7 +40,8 @@ same_event _ _ = false
 -- the classes from the lowest that leaves the listeners of its superclasses out
 abbrev pub heard_from : List ℕ → PersistenceUnit → List ℕ → List ℕ
 heard_from kept m [] = kept
-heard_from kept m (c ∷ cs) = if (entity_at m c).exclude_super then heard_from (c ∷ []) m cs else heard_from (kept ++ c ∷ []) m cs
+heard_from kept m (c ∷ cs) =
+    if (entity_at m c).exclude_super then heard_from (c ∷ []) m cs else heard_from (kept ++ c ∷ []) m cs
 
 -- none where a class of the chain leaves them out
 abbrev pub default_listeners : PersistenceUnit → List ℕ → List Listener
@@ -123,13 +125,15 @@ IsCallbackRefusal (Some r) = ⊥
 
 -- after a listener's assignments: the next ones see the object as it is then
 abbrev pub after_assignments : (LiveObject → Fired) → List ℕ → LiveObject → Option LiveObject → Fired
-after_assignments next name x None = record { names = name ∷ []; object = x; refusal = Some (Cause.Persistence Persist.Callback) }
+after_assignments next name x None =
+    record { names = name ∷ []; object = x; refusal = Some (Cause.Persistence Persist.Callback) }
 after_assignments next name x (Some y) = after_name name (next y)
 
 -- after a listener's answer: it assigns, or it threw, and nothing runs after it
 abbrev pub after_answer : (LiveObject → Fired) → PersistenceUnit → List ℕ → LiveObject → Heard → Fired
 after_answer next m name x (Heard.Assign list) = after_assignments next name x (assigned m list x)
-after_answer next m name x (Heard.Throw text) = record { names = name ∷ []; object = x; refusal = Some (Cause.Listener text) }
+after_answer next m name x (Heard.Throw text) =
+    record { names = name ∷ []; object = x; refusal = Some (Cause.Listener text) }
 
 -- after a listener: the object then, and why it refused, if it did
 abbrev pub after_turn : (LiveObject → Fired) → List ℕ → LiveObject → Option Cause → Fired
@@ -140,7 +144,8 @@ after_turn next name y (Some r) = record { names = name ∷ []; object = y; refu
 abbrev pub fired_by : World → LifecycleEvent → List (List ℕ) → LiveObject → Fired
 fired_by world event [] x = record { names = []; object = x; refusal = None }
 fired_by world event (name ∷ names) x =
-    after_answer (λ y. fired_by world event names y) world.model name x (world.heard name (image_of world.model event x))
+    after_answer (λ y. fired_by world event names y) world.model name x
+    (world.heard name (image_of world.model event x))
 
 -- the listeners and callbacks of an event, run one after another on an object (chapter 3.5)
 abbrev pub fire : World → LifecycleEvent → LiveObject → Fired

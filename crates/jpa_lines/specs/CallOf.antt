@@ -1,6 +1,7 @@
 -- Which call a line means.
 use Rattle.jpa_value.specs.Limits.{most_line_bytes}
-use Rattle.std.specs.Prelude.{◌==◌, ◌+◌, ℕ, ℤ, nat_lt, List, [], ◌∷◌, length, codes, if◌then◌else◌, Option, Some, None, is_some, Result, Ok, Err, bytes_eq}
+use Rattle.std.specs.Prelude.{◌==◌, ◌+◌, ℕ, ℤ, nat_lt, List, [], ◌∷◌, length, codes, if◌then◌else◌, Option, Some, None}
+use Rattle.std.specs.Prelude.{is_some, Result, Ok, Err, bytes_eq}
 use Rattle.std.specs.Option.{ok_or}
 use Rattle.hex.specs.Hex.{decode_of}
 use Rattle.hex.specs.declared.error.FromHexError.{FromHexError}
@@ -8,7 +9,11 @@ use Rattle.jpa_value.specs.declared.refusal.Cause.{Cause}
 use Rattle.jpa_value.specs.declared.refusal.Cause.TheVariants.{BadLine, Limit}
 use Rattle.jpa_value.specs.declared.value.Value.TheVariants.{Null, Int, Text, Bytes}
 use Rattle.jpa_protocol.specs.declared.call.Call.{Call}
-use Rattle.jpa_protocol.specs.declared.call.Call.TheVariants.{CreateEntityManager, NewObject, SetValue, Get, Add, TakeOut, Begin, Persist, Remove, Refresh, Detach, Contains, Clear, Close, Flush, Commit, Rollback, SetRollbackOnly, Merge, Lock, SetFlushMode, Find, GetReference, Query, QuerySingle, ExecuteUpdate}
+use Rattle.jpa_protocol.specs.declared.call.Call.TheVariants.{CreateEntityManager, NewObject, SetValue, Get, Add}
+use Rattle.jpa_protocol.specs.declared.call.Call.TheVariants.{TakeOut, Begin, Persist, Remove, Refresh, Detach}
+use Rattle.jpa_protocol.specs.declared.call.Call.TheVariants.{Contains, Clear, Close, Flush, Commit, Rollback}
+use Rattle.jpa_protocol.specs.declared.call.Call.TheVariants.{SetRollbackOnly, Merge, Lock, SetFlushMode, Find}
+use Rattle.jpa_protocol.specs.declared.call.Call.TheVariants.{GetReference, Query, QuerySingle, ExecuteUpdate}
 use Rattle.jpa_protocol.specs.declared.call.Given.{Given}
 use Rattle.jpa_protocol.specs.declared.call.Given.TheVariants as given
 use Rattle.jpa_protocol.specs.declared.call.FlushMode.{FlushMode}

@@ -23,4 +23,5 @@ Tells (Err cause) old new d = cause ≡ Cause.OutOfMemory
 
 -- a refusal by its name and number, and why, where there is more to tell
 abbrev pub named_data : List ℕ → ℕ → Option (List ℕ) → Data
-named_data name n why = object (member (codes "name") (string name) (member (codes "no") (number (unsigned n)) (why_member why)))
+named_data name n why =
+    object (member (codes "name") (string name) (member (codes "no") (number (unsigned n)) (why_member why)))

@@ -12,7 +12,8 @@ use Rattle.jpa_protocol.specs.declared.reply.Item.{Item}
 use Rattle.jpa_protocol.specs.declared.reply.Item.TheVariants as row
 use Rattle.jpa_protocol.specs.declared.reply.Reply.{Reply}
 use Rattle.jpa_value.specs.Event.{event_name}
-use Rattle.serde_json.specs.Data.{Data, null, boolean, number, string, array, object, unsigned, no_items, item, Members, member, no_members}
+use Rattle.serde_json.specs.Data.{Data, null, boolean, number, string, array, object, unsigned, no_items, item, Members}
+use Rattle.serde_json.specs.Data.{member, no_members}
 use Rattle.serde_json.specs.Find.{of_integer}
 use Rattle.serde_json.specs.View.{items_of}
 use Rattle.serde_json.specs.Written.{compact_text}
@@ -52,7 +53,8 @@ answer_data (answer.Rows rows) = array (items_of (map row_data rows))
 
 -- the event, the object, and the listeners and callbacks that ran
 abbrev pub event_data : Told → Data
-event_data told = array (item (string (event_name told.event)) (item (number (unsigned told.object)) (items_of (map string told.ran))))
+event_data told = array
+    (item (string (event_name told.event)) (item (number (unsigned told.object)) (items_of (map string told.ran))))
 
 -- the events that were told
 abbrev pub events_data : List Told → Data
@@ -65,7 +67,8 @@ why_member (Some detail) = member (codes "why") (string detail) no_members
 
 -- a refusal: name, number and detail
 abbrev pub refusal_data : Refusal → Data
-refusal_data r = object (member (codes "name") (string (refusal_name r)) (member (codes "no") (number (unsigned (refusal_number r))) (why_member (refusal_detail r))))
+refusal_data r = object (member (codes "name") (string (refusal_name r))
+    (member (codes "no") (number (unsigned (refusal_number r))) (why_member (refusal_detail r))))
 
 -- the members in the order of their names
 abbrev pub accepted_data : Data → Data → Data

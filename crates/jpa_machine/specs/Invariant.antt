@@ -32,7 +32,8 @@ is_idle false [] (Some t) = false
 is_idle false (e ∷ es) t = false
 
 -- what holds of a manager between calls: of its entries, its transaction and its end
-pub record IsManager (world : World) (objects : List LiveObject) (numbers : List ℕ) (manager : ℕ) (x : Manager) : Type 0 where
+pub record IsManager (world : World) (objects : List LiveObject) (numbers : List ℕ) (manager : ℕ)
+    (x : Manager) : Type 0 where
   pub entries : All (IsEntry world.model objects numbers manager) x.context
   pub distinct : all_distinct (are_one world.model objects) x.context ≡ true
   pub transaction : IsTransaction world numbers x.transaction
@@ -87,6 +88,9 @@ hands_representable (Call.Lock em object mode) = true
 hands_representable (Call.Clear em) = true
 hands_representable (Call.Close em) = true
 hands_representable (Call.SetFlushMode em mode) = true
-hands_representable (Call.Query em text parameters first max) = list_all (λ (p : Parameter). given_representable p.value) parameters
-hands_representable (Call.ExecuteUpdate em text parameters) = list_all (λ (p : Parameter). given_representable p.value) parameters
-hands_representable (Call.QuerySingle em text parameters first max) = list_all (λ (p : Parameter). given_representable p.value) parameters
+hands_representable (Call.Query em text parameters first max) =
+    list_all (λ (p : Parameter). given_representable p.value) parameters
+hands_representable (Call.ExecuteUpdate em text parameters) =
+    list_all (λ (p : Parameter). given_representable p.value) parameters
+hands_representable (Call.QuerySingle em text parameters first max) =
+    list_all (λ (p : Parameter). given_representable p.value) parameters

@@ -1,5 +1,6 @@
 -- What the law of isolation sees of a machine, and which move each step is.
-use Rattle.std.specs.Prelude.{◌≡◌, ◌≢◌, ℕ, Bool, true, false, ◌&&◌, List, [], ◌∷◌, length, map, Option, Some, None, Result, Ok, Err}
+use Rattle.std.specs.Prelude.{◌≡◌, ◌≢◌, ℕ, Bool, true, false, ◌&&◌, List, [], ◌∷◌, length, map, Option, Some, None}
+use Rattle.std.specs.Prelude.{Result, Ok, Err}
 use Rattle.jpa_value.specs.declared.refusal.Refusal.{Refusal}
 use Rattle.jpa_behaviour.specs.Behaviour.{World}
 use Rattle.jpa_heap.specs.Objects.{place_of}
@@ -9,10 +10,13 @@ use Rattle.jpa_flush.specs.Flush.{flush}
 use Rattle.jpa_protocol.specs.declared.call.Call.{Call}
 use Rattle.jpa_protocol.specs.declared.reply.Answer.{Answer}
 use Rattle.jpa_protocol.specs.declared.reply.Reply.{Reply}
-use Rattle.jpa_isolation.specs.Moves.{Scene, Snapshot, Move, Creates, Begins, Works, Ends, Commits, Rests, IsAllowed, moved, after, is_apart, IsIsolated}
+use Rattle.jpa_isolation.specs.Moves.{Scene, Snapshot, Move, Creates, Begins, Works, Ends, Commits, Rests, IsAllowed}
+use Rattle.jpa_isolation.specs.Moves.{moved, after, is_apart, IsIsolated}
 use Rattle.jpa_machine.specs.Machine.{Machine, Manager, Transaction, work_of}
 use Rattle.jpa_machine.specs.Transactions.{locked_ids}
-use Rattle.jpa_machine.specs.Routes.{Route, OfManager, ToQuery, ToUpdate, InTransaction, OfObject, ToCreate, ToMake, ToBegin, ToCommit, ToRollBack, ToMark, ToAsk, ToClear, ToSetMode, ToClose, route, commits}
+use Rattle.jpa_machine.specs.Routes.{Route, OfManager, ToQuery, ToUpdate, InTransaction, OfObject, ToCreate, ToMake}
+use Rattle.jpa_machine.specs.Routes.{ToBegin, ToCommit, ToRollBack, ToMark, ToAsk, ToClear, ToSetMode, ToClose, route}
+use Rattle.jpa_machine.specs.Routes.{commits}
 use Rattle.jpa_machine.specs.Step.{Step}
 use Rattle.jpa_machine.specs.Invariant.{IsMachine, hands_representable}
 
@@ -69,7 +73,8 @@ is_commit_move Rests = false
 
 -- what a commit takes is what its flush made, and what was locked READ then
 abbrev pub IsFlushed : World → Machine → Move → Type 0
-IsFlushed world M (Commits m set reads) = (w : Work) × (flush world (work_of M m) ≡ Done tt w) × (set ≡ w.view) × (reads ≡ locked_ids world.model w)
+IsFlushed world M (Commits m set reads) =
+    (w : Work) × (flush world (work_of M m) ≡ Done tt w) × (set ≡ w.view) × (reads ≡ locked_ids world.model w)
 IsFlushed world M Creates = Unit {0}
 IsFlushed world M (Begins m) = Unit {0}
 IsFlushed world M (Works m set) = Unit {0}
@@ -78,7 +83,8 @@ IsFlushed world M Rests = Unit {0}
 
 -- a step is a move that is allowed: a commit exactly where the call is one that is accepted, and
 -- one of the manager that the call names, or of none
-pub record IsMoveAlong (world : World) (M : Machine) (r : Route) (reply : Reply) (N : Machine) (move : Move) : Type 0 where
+pub record IsMoveAlong (world : World) (M : Machine) (r : Route) (reply : Reply) (N : Machine)
+    (move : Move) : Type 0 where
   pub allowed : IsAllowed (scene_of M) move
   pub makes : scene_of N ≡ moved (scene_of M) move
   pub acknowledged : is_commit_move move ≡ (commits r && is_ok reply.answer)
@@ -93,7 +99,8 @@ IsMove world M call reply N move = IsMoveAlong world M (route call) reply N move
 abbrev pub AreMoves : World → Machine → List Call → List Reply → List Move → Machine → Type 0
 AreMoves world M [] [] [] last = last ≡ M
 AreMoves world M (call ∷ calls) (reply ∷ replies) (move ∷ moves) last =
-    (mid : Machine) × Step world M call reply mid × IsMove world M call reply mid move × AreMoves world mid calls replies moves last
+    (mid : Machine) × Step world M call reply mid × IsMove world M call reply mid move
+    × AreMoves world mid calls replies moves last
 AreMoves world M [] [] (move ∷ moves) last = ⊥
 AreMoves world M [] (reply ∷ replies) moves last = ⊥
 AreMoves world M (call ∷ calls) [] moves last = ⊥
@@ -103,11 +110,13 @@ AreMoves world M (call ∷ calls) (reply ∷ replies) [] last = ⊥
 -- program
 abbrev pub RunsHeld : World → Machine → List Call → List Reply → Machine → Type 0
 RunsHeld world M [] [] last = last ≡ M
-RunsHeld world M (call ∷ calls) (reply ∷ replies) last = (mid : Machine) × IsMachine world M × (hands_representable call ≡ true) × Step world M call reply mid × RunsHeld world mid calls replies last
+RunsHeld world M (call ∷ calls) (reply ∷ replies) last = (mid : Machine) × IsMachine world M
+    × (hands_representable call ≡ true) × Step world M call reply mid × RunsHeld world mid calls replies last
 RunsHeld world M [] (reply ∷ replies) last = ⊥
 RunsHeld world M (call ∷ calls) [] last = ⊥
 
 -- such a run is isolated: it is a list of moves, of which the law of isolation holds
 abbrev pub IsIsolatedRun : World → Machine → List Call → List Reply → Machine → Type 0
 IsIsolatedRun world M calls replies last =
-    (moves : List Move) × AreMoves world M calls replies moves last × (scene_of last ≡ after (scene_of M) moves) × IsIsolated (scene_of M)
+    (moves : List Move) × AreMoves world M calls replies moves last × (scene_of last ≡ after (scene_of M) moves)
+    × IsIsolated (scene_of M)

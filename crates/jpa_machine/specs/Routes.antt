@@ -1,7 +1,8 @@
 -- The route of each call, and what is served along it (Jakarta Persistence 3.1, chapter 3.1.1
 -- EntityManager, chapter 7.4 EntityManagerFactory).
 use Rattle.jpa_value.specs.Limits.{most_objects, most_open_managers, most_managers}
-use Rattle.std.specs.Prelude.{ℕ, suc, ℤ, Bool, true, false, nat_lt, ◌&&◌, List, [], ◌∷◌, ◌++◌, length, count_by, Option, Some, None, Result, Ok, Err, if◌then◌else◌}
+use Rattle.std.specs.Prelude.{ℕ, suc, ℤ, Bool, true, false, nat_lt, ◌&&◌, List, [], ◌∷◌, ◌++◌, length, count_by, Option}
+use Rattle.std.specs.Prelude.{Some, None, Result, Ok, Err, if◌then◌else◌}
 use Rattle.std.specs.List.{list_all}
 use Rattle.jpa_value.specs.declared.refusal.Cause.{Cause}
 use Rattle.jpa_value.specs.declared.refusal.Argument.{Argument}
@@ -24,8 +25,11 @@ use Rattle.jpa_protocol.specs.declared.call.LockMode.{LockMode}
 use Rattle.jpa_protocol.specs.declared.call.FlushMode.{FlushMode}
 use Rattle.jpa_protocol.specs.declared.reply.Answer.{Answer}
 use Rattle.jpa_protocol.specs.declared.reply.Reply.{Reply}
-use Rattle.jpa_machine.specs.Machine.{Machine, new_manager, manager_at, has_transaction, work_of, with_mode, flushes_first, cleared, closed}
-use Rattle.jpa_machine.specs.Calls.{accepted, because, marks, marks_if_callback, ended, told_as, nothing, truth, object_told, object_or_null, got, object_numbered, handed, is_short_given, class_named, key_given}
+use Rattle.jpa_machine.specs.Machine.{Machine, new_manager, manager_at, has_transaction, work_of, with_mode}
+use Rattle.jpa_machine.specs.Machine.{flushes_first, cleared, closed}
+use Rattle.jpa_machine.specs.Calls.{accepted, because, marks, marks_if_callback, ended, told_as, nothing, truth}
+use Rattle.jpa_machine.specs.Calls.{object_told, object_or_null, got, object_numbered, handed, is_short_given}
+use Rattle.jpa_machine.specs.Calls.{class_named, key_given}
 use Rattle.jpa_machine.specs.Querying.{query_call, query_single_call, update_call}
 use Rattle.jpa_machine.specs.Transactions.{begin, commit, rollback, set_rollback_only}
 
@@ -52,11 +56,13 @@ by_manager M em next = if_open M (place_of (length M.managers) em) next
 -- the call new of a class, or IllegalArgument(entity)
 abbrev pub made_new : World → Machine → Option ℕ → Reply × Machine
 made_new world M None = because M (Cause.IllegalArgument Argument.Entity)
-made_new world M (Some class) = accepted [] (Answer.Object (suc (length M.objects))) (record M { objects = M.objects ++ new_object world.model class ∷ [] })
+made_new world M (Some class) = accepted [] (Answer.Object (suc (length M.objects)))
+    (record M { objects = M.objects ++ new_object world.model class ∷ [] })
 
 -- the call new: one more object, where there are not too many (chapter 3.2.1)
 abbrev pub make_new : World → Machine → List ℕ → Reply × Machine
-make_new world M name = if nat_lt (length M.objects) most_objects then made_new world M (class_of world.model name) else because M Cause.Limit
+make_new world M name = if nat_lt (length M.objects) most_objects then made_new world M (class_of world.model name)
+    else because M Cause.Limit
 
 -- the manager that holds the object; where none does, a number that is no manager's
 abbrev pub holder_in : Machine → Life → ℕ
@@ -196,7 +202,8 @@ if_begun M m given next = if has_transaction (manager_at M m) then next else tra
 
 -- the call close, which is refused while a transaction is open (chapter 3.1.1)
 abbrev pub close : Machine → ℕ → Reply × Machine
-close M m = if has_transaction (manager_at M m) then because M (Cause.IllegalState State.Active) else accepted [] Answer.Null (closed M m)
+close M m = if has_transaction (manager_at M m) then because M (Cause.IllegalState State.Active)
+    else accepted [] Answer.Null (closed M m)
 
 -- ---- routes
 
@@ -225,8 +232,11 @@ pub data Route : Type 0 where
 abbrev pub by_route : World → Machine → Route → Reply × Machine
 by_route world M (OfManager em op) = by_manager M em (λ m. ended marks M m (op world (work_of M m)))
 by_route world M (ToQuery em op) = by_manager M em (λ m. ended marks M m (op (flushes_first M m) world (work_of M m)))
-by_route world M (ToUpdate em op) = by_manager M em (λ m. ended marks M m (op (has_transaction (manager_at M m)) (flushes_first M m) world (work_of M m)))
-by_route world M (InTransaction em given op) = by_manager M em (λ m. if_begun M m (given (work_of M m)) (ended marks M m (op world (work_of M m))))
+by_route world M (ToUpdate em op) =
+    by_manager M em (λ m. ended marks M m
+    (op (has_transaction (manager_at M m)) (flushes_first M m) world (work_of M m)))
+by_route world M (InTransaction em given op) =
+    by_manager M em (λ m. if_begun M m (given (work_of M m)) (ended marks M m (op world (work_of M m))))
 by_route world M (OfObject number op) =
     let m = holder M (place_of (length M.objects) number) in
     ended marks_if_callback M m ((object_numbered number >>= op world) (work_of M m))

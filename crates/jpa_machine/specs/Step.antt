@@ -35,7 +35,8 @@ Step world M call reply after_it = (outcome world M call ≡ (reply, after_it)) 
 -- each reply is that of a step from where the last one left the machine
 abbrev pub Runs : World → Machine → List Call → List Reply → Machine → Type 0
 Runs world M [] [] last = last ≡ M
-Runs world M (call ∷ calls) (reply ∷ replies) last = (mid : Machine) × Step world M call reply mid × Runs world mid calls replies last
+Runs world M (call ∷ calls) (reply ∷ replies) last =
+    (mid : Machine) × Step world M call reply mid × Runs world mid calls replies last
 Runs world M [] (reply ∷ replies) last = ⊥
 Runs world M (call ∷ calls) [] last = ⊥
 

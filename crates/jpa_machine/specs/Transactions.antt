@@ -17,14 +17,19 @@ use Rattle.jpa_context.specs.Steps.{◌>>=◌, ◌>>◌, Outcome, Done, Refused,
 use Rattle.jpa_flush.specs.Flush.{flush, reads_hold, is_read_lock, listed, sound_or}
 use Rattle.jpa_protocol.specs.declared.reply.Answer.{Answer}
 use Rattle.jpa_protocol.specs.declared.reply.Reply.{Reply}
-use Rattle.jpa_machine.specs.Machine.{Machine, Transaction, manager_at, with_manager, begun_set, work_of, marked, rolled_back, committed_after}
+use Rattle.jpa_machine.specs.Machine.{Machine, Transaction, manager_at, with_manager, begun_set, work_of, marked}
+use Rattle.jpa_machine.specs.Machine.{rolled_back, committed_after}
 use Rattle.jpa_machine.specs.Calls.{accepted, refused, because}
 
 -- ---- begin
 
 -- the transaction sees what is committed now
 abbrev pub begun : Machine → ℕ → Machine
-begun M m = record M { managers = with_manager M m (record (manager_at M m) { transaction = Some (record { begun = M.committed; view = M.committed; is_marked = false }) }) }
+begun M m = record M {
+  managers = with_manager M m
+      (record (manager_at M m)
+      { transaction = Some (record { begun = M.committed; view = M.committed; is_marked = false }) });
+}
 
 -- the call begin, by the manager's transaction: an open one refuses it (chapter 7.5)
 abbrev pub begin_in : Machine → ℕ → Option Transaction → Reply × Machine
@@ -39,7 +44,8 @@ begin M m = begin_in M m (manager_at M m).transaction
 
 -- the identity of an entry's object, where it is managed and locked READ
 abbrev pub read_along : PersistenceUnit → Work → Entry → List Identity
-read_along m w e = if is_read_lock e.lock && is_managed (state_of w e.object) then listed (identity_at m w e.object) else []
+read_along m w e = if is_read_lock e.lock && is_managed (state_of w e.object) then listed (identity_at m w e.object)
+    else []
 
 -- the identities of the managed objects that are locked READ
 abbrev pub locked_ids : PersistenceUnit → Work → List Identity
@@ -48,7 +54,8 @@ locked_ids m w = flat_map (read_along m w) w.context
 -- what the transaction changed, and what it holds locked READ, is committed as it was at its begin:
 -- the first committer wins
 abbrev pub is_current : PersistenceUnit → StoredSet → StoredSet → Work → Bool
-is_current m committed begun w = all_agree committed begun (differing begun w.view) && all_agree committed begun (locked_ids m w)
+is_current m committed begun w =
+    all_agree committed begun (differing begun w.view) && all_agree committed begun (locked_ids m w)
 
 -- the flush; what is committed and what is locked is to be current; then what others committed
 -- since the begin is seen too, but for what the transaction changed, and that set is to be sound

@@ -19,10 +19,12 @@ is_bulk _ = false
 
 -- the outcome of executeUpdate for a manager at work
 abbrev pub update_outcome : World → Machine → List ℕ → List Parameter → ℕ → Outcome Answer
-update_outcome world M text parameters m = update_call text parameters (has_transaction (manager_at M m)) (flushes_first M m) world (work_of M m)
+update_outcome world M text parameters m =
+    update_call text parameters (has_transaction (manager_at M m)) (flushes_first M m) world (work_of M m)
 
 -- the set that the manager sees after the call has values of the program
 abbrev pub MakesRepresentable : World → Machine → Call → Type 0
 MakesRepresentable world M (Call.ExecuteUpdate em text parameters) =
-    (m : ℕ) → place_of (length M.managers) em ≡ Some m → HoldsAfter (λ a w. all_representable w.view ≡ true) (update_outcome world M text parameters m)
+    (m : ℕ) → place_of (length M.managers) em ≡ Some m → HoldsAfter (λ a w. all_representable w.view ≡ true)
+    (update_outcome world M text parameters m)
 MakesRepresentable world M _ = Unit {0}

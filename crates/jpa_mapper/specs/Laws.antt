@@ -30,18 +30,21 @@ pub record StandsWhole (world : World) (id : Identity) (x : Stored) (own : Rows)
 -- what is written for an object is read as the object
 abbrev pub ReadsWhatIsWritten : Type 0
 ReadsWhatIsWritten =
-    (world : World) (id : Identity) (x : Stored) → IsDescribed world.model → IsRegular world → is_discriminator (entity_at world.model x.class) ≡ true →
+    (world : World) (id : Identity) (x : Stored) → IsDescribed world.model → IsRegular world →
+    is_discriminator (entity_at world.model x.class) ≡ true →
     is_storable world id x ≡ true → StandsWhole world id x (object_rows world id x)
 
 -- and as no other
 abbrev pub ReadsOne : Type 0
 ReadsOne =
-    (world : World) (id : Identity) (row : Row) (pairs : Pairs) (x y : Stored) → IsDescribed world.model → IsRegular world →
+    (world : World) (id : Identity) (row : Row) (pairs : Pairs) (x y : Stored) → IsDescribed world.model →
+    IsRegular world →
     IsReadAs world id row pairs x → IsReadAs world id row pairs y → x ≡ y
 
 -- a store's cells stand for at most one set and next numbers
 abbrev pub StandForOne : Type 0
 StandForOne =
-    (world : World) (cells : List Cell) (set set' : StoredSet) (numbers numbers' : List ℕ) → IsDescribed world.model → IsRegular world →
+    (world : World) (cells : List Cell) (set set' : StoredSet) (numbers numbers' : List ℕ) → IsDescribed world.model →
+    IsRegular world →
     ((class : ℕ) → is_class world.model class ≡ true → is_discriminator (entity_at world.model class) ≡ true) →
     StandFor world cells set numbers → StandFor world cells set' numbers' → (set ≡ set') × (numbers ≡ numbers')

@@ -28,7 +28,8 @@ abbrev pub OwnAreOnes : PersistenceUnit → ℕ → Identity → Rows → Type 0
 OwnAreOnes m class owner = AllByRecursion (λ e. is_own_pair m class owner e.0 ≡ true → e.1 ≡ pair_row)
 
 -- the lowest row of this owner's pairs that no pair has, and the refusal that tells of it
-pub record IsDamagedPair (m : PersistenceUnit) (class : ℕ) (owner : Identity) (rows : Rows) (cause : Cause) : Type 0 where
+pub record IsDamagedPair (m : PersistenceUnit) (class : ℕ) (owner : Identity) (rows : Rows)
+    (cause : Cause) : Type 0 where
   pub front : Rows
   pub id : RowId
   pub row : Row
@@ -45,4 +46,5 @@ abbrev pub IsRefused : World → Identity → Row → Rows → Cause → Type 0
 IsRefused world id row pairs cause =
     (cause ≡ Cause.OutOfMemory)
     ⊎ (((cause ≡ Cause.Damaged id.table (key_bytes id.key)) × (IsMainRow world id row → ⊥))
-    ⊎ ((x : Stored) × IsReadAs world id row (targets_in world.model pairs id) x × IsDamagedPair world.model x.class id pairs cause))
+    ⊎ ((x : Stored) × IsReadAs world id row (targets_in world.model pairs id) x
+    × IsDamagedPair world.model x.class id pairs cause))

@@ -15,7 +15,8 @@ use Rattle.jpa_object_rows.specs.Sets.{key_after, identity_of}
 -- what of its key follows the owner's, in the target's table; nothing where the row is of another
 -- table or another owner
 abbrev pub pair_target : ℕ → ℕ → List Value → RowId → Option Identity
-pair_target join table owner id = if id.table == join then option_map (identity_of table) (key_after owner id.key) else None
+pair_target join table owner id =
+    if id.table == join then option_map (identity_of table) (key_after owner id.key) else None
 
 -- these pairs in the place of what is owned along a side, if it has a join table
 abbrev pub side_owned : Pairs → ℕ → List Identity → Side → List Identity

@@ -95,7 +95,7 @@ fn with_pairs(
     requires rising { AreRising pairs.now }
     ensures ok { IfOk result (λ x. x ≡ spec.with_pairs metamodel.now
         (targets_in metamodel.now pairs.now id.now) object) }
-    ensures refused { IfErr result (λ cause. cause ≡ Cause.OutOfMemory) }
+    ensures err { IfErr result (λ cause. cause ≡ Cause.OutOfMemory) }
 {
     let Stored {
         class,
@@ -127,7 +127,7 @@ fn owned_with(
     requires rising { AreRising pairs.now }
     ensures ok { IfOk result (λ all. all ≡ spec.owned_with
         (targets_in metamodel.now pairs.now id.now) (relations_of metamodel.now class) owned) }
-    ensures refused { IfErr result (λ cause. cause ≡ Cause.OutOfMemory) }
+    ensures err { IfErr result (λ cause. cause ≡ Cause.OutOfMemory) }
 {
     for (at, relation) in metamodel.relations_of(class).iter().enumerate() {
         if let Side::ManyToMany(join) = relation.side {

@@ -30,7 +30,7 @@ pub(crate) fn targets(
     requires rising { AreRising rows.now }
     ensures ok { IfOk result (λ ids. ids ≡ targets_in metamodel.now rows.now owner.now join
         target) }
-    ensures refused { IfErr result (λ cause. cause ≡ Cause.OutOfMemory) }
+    ensures err { IfErr result (λ cause. cause ≡ Cause.OutOfMemory) }
 {
     let table = metamodel.root_of(target).table;
     let key = owner.key.as_slice();
@@ -66,7 +66,7 @@ fn pair_target(
     table: u64,
 ) -> Result<Option<Identity>, Cause>
     ensures ok { IfOk result (λ found. found ≡ pair_target join table owner.now id.now) }
-    ensures refused { IfErr result (λ cause. cause ≡ Cause.OutOfMemory) }
+    ensures err { IfErr result (λ cause. cause ≡ Cause.OutOfMemory) }
 {
     let parts = id.key.as_slice();
     if id.table != join || !begins_with(parts, owner) {
@@ -95,7 +95,7 @@ pub(crate) fn begins_with(key: &[Value], front: &[Value]) -> bool
 /// A key of these parts.
 fn copied(alloc: Global, parts: &[Value]) -> Result<Key, Cause>
     ensures ok { IfOk result (λ key. key ≡ parts.now) }
-    ensures refused { IfErr result (λ cause. cause ≡ Cause.OutOfMemory) }
+    ensures err { IfErr result (λ cause. cause ≡ Cause.OutOfMemory) }
 {
     let mut key = Seq::new(alloc);
     for part in parts {

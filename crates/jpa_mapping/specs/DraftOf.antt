@@ -1,6 +1,7 @@
 -- What a mapping description says: each object has its required members, may have its optional
 -- ones, and has no others; each member is of its type.
-use Rattle.std.specs.Prelude.{⊤, ◌&&◌, ℕ, Bool, true, false, List, [], ◌∷◌, codes, if◌then◌else◌, Option, Some, None, is_some, bytes_eq}
+use Rattle.std.specs.Prelude.{⊤, ◌&&◌, ℕ, Bool, true, false, List, [], ◌∷◌, codes, if◌then◌else◌, Option, Some, None}
+use Rattle.std.specs.Prelude.{is_some, bytes_eq}
 use Rattle.std.specs.List.{list_any}
 use Rattle.jpa_value.specs.declared.value.Kind.{Kind}
 use Rattle.jpa_model.specs.declared.unit.Part.{Part}
@@ -133,7 +134,8 @@ version_of d = do
 -- what `since`, `default` and `was` hold is what the history says
 abbrev pub attribute_members : List (List ℕ)
 attribute_members =
-    codes "name" ∷ codes "type" ∷ codes "column" ∷ codes "required" ∷ codes "converter" ∷ codes "since" ∷ codes "default"
+    codes "name" ∷ codes "type" ∷ codes "column" ∷ codes "required" ∷ codes "converter" ∷ codes "since"
+    ∷ codes "default"
     ∷ codes "was" ∷ []
 
 -- an attribute (chapter 2.2)
@@ -164,12 +166,14 @@ side_of column table owner needed = None
 
 -- where a relation is kept
 abbrev pub side_at : Data → Option DraftSide
-side_at d = side_of (get (codes "column") d) (get (codes "joinTable") d) (get (codes "mappedBy") d) (get (codes "required") d)
+side_at d = side_of (get (codes "column") d) (get (codes "joinTable") d) (get (codes "mappedBy") d)
+    (get (codes "required") d)
 
 -- the members that a relation may have
 abbrev pub relation_members : List (List ℕ)
 relation_members =
-    codes "name" ∷ codes "kind" ∷ codes "target" ∷ codes "column" ∷ codes "joinTable" ∷ codes "mappedBy" ∷ codes "required" ∷ codes "cascade"
+    codes "name" ∷ codes "kind" ∷ codes "target" ∷ codes "column" ∷ codes "joinTable" ∷ codes "mappedBy"
+    ∷ codes "required" ∷ codes "cascade"
     ∷ codes "orphanRemoval" ∷ []
 
 -- a relation (chapter 2.9)
@@ -182,7 +186,14 @@ relation_of d = do
   side ← side_at d
   cascade ← list_at cascade_of (codes "cascade") d
   orphan_removal ← flag (codes "orphanRemoval") d
-  Some (record { name = name; kind = kind; target = target; side = side; cascade = cascade; orphan_removal = orphan_removal })
+  Some (record {
+    name = name;
+    kind = kind;
+    target = target;
+    side = side;
+    cascade = cascade;
+    orphan_removal = orphan_removal;
+  })
 
 -- a listener or a callback
 unfoldable pub listener_of : Data → Option DraftListener
@@ -197,13 +208,15 @@ listener_of d = do
 -- the members that an entity of either sort may have
 abbrev pub common_members : List (List ℕ)
 common_members =
-    codes "name" ∷ codes "discriminator" ∷ codes "attributes" ∷ codes "relations" ∷ codes "listeners" ∷ codes "callbacks" ∷ codes "excludeDefault"
+    codes "name" ∷ codes "discriminator" ∷ codes "attributes" ∷ codes "relations" ∷ codes "listeners"
+    ∷ codes "callbacks" ∷ codes "excludeDefault"
     ∷ codes "excludeSuper" ∷ []
 
 -- what `dropped` holds is what the history says
 abbrev pub root_members : List (List ℕ)
 root_members =
-    codes "table" ∷ codes "key" ∷ codes "embedded" ∷ codes "generated" ∷ codes "version" ∷ codes "dropped" ∷ common_members
+    codes "table" ∷ codes "key" ∷ codes "embedded" ∷ codes "generated" ∷ codes "version" ∷ codes "dropped"
+    ∷ common_members
 
 -- the members that a subclass may have
 abbrev pub subclass_members : List (List ℕ)
@@ -218,7 +231,8 @@ root_of d = do
   embedded ← optional as_str (codes "embedded") d
   generated ← flag (codes "generated") d
   version ← optional version_of (codes "version") d
-  Some (DraftOrigin.Root (record { table = table; key = key; embedded = embedded; generated = generated; version = version }))
+  Some (DraftOrigin.Root
+      (record { table = table; key = key; embedded = embedded; generated = generated; version = version }))
 
 -- a subclass, by its superclass (chapter 2.11)
 unfoldable pub subclass_of : Data → Option DraftOrigin

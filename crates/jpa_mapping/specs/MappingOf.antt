@@ -28,7 +28,8 @@ drafts_in bytes = and_then (json_of bytes) (λ d. ok_or (drafts_of d) (Cause.Map
 abbrev pub checked_mapping : Drafts → Result Mapping Cause
 checked_mapping drafts =
     and_then (checked drafts.draft) (λ metamodel.
-    and_then (checked_history metamodel drafts.history) (λ history. Ok (record { metamodel = metamodel; history = history })))
+    and_then (checked_history metamodel drafts.history)
+    (λ history. Ok (record { metamodel = metamodel; history = history })))
 
 -- the metamodel and its history, or the first that is wrong: the text, the shape, the model
 unfoldable pub mapping_of : List ℕ → Result Mapping Cause

@@ -22,19 +22,22 @@ pub record IsGoneOver (m : PersistenceUnit) (w : Work) (Missed : ℕ → Type 0)
   pub all : new.all ≡ old.all
   pub linked : new.linked ≡ old.linked
   pub each : (i : ℕ) (d : Entry) → i < length w.context → IsTold m w new (slice_index_or w.context i d)
-      ⊎ ((is_marked new (slice_index_or w.context i d).object ≡ is_marked old (slice_index_or w.context i d).object) × Missed i)
+      ⊎ ((is_marked new (slice_index_or w.context i d).object ≡ is_marked old (slice_index_or w.context i d).object)
+      × Missed i)
 
 -- ---- since the changes were last kept
 
 -- the entry at a place is as it was, where there was one
 abbrev pub StandsAt : UnitOfWork → ℕ → Type 0
-StandsAt u i = (d : Entry) → i < length u.context.since → slice_index_or u.context.since i d ≡ slice_index_or u.context.now i d
+StandsAt u i = (d : Entry) → i < length u.context.since → slice_index_or u.context.since i d
+    ≡ slice_index_or u.context.now i d
 
 -- the object of the entry at a place is as it was, where there was one
 abbrev pub HasObjectAsItWas : UnitOfWork → ℕ → Type 0
 HasObjectAsItWas u i =
     (d : Entry) → (slice_index_or u.context.now i d).object < length u.objects.since →
-    object_at u.objects.since (slice_index_or u.context.now i d).object ≡ object_at u.objects.now (slice_index_or u.context.now i d).object
+    object_at u.objects.since (slice_index_or u.context.now i d).object
+    ≡ object_at u.objects.now (slice_index_or u.context.now i d).object
 
 -- there was an entry at a place
 abbrev pub WasThere : UnitOfWork → ℕ → Type 0
@@ -49,4 +52,5 @@ IsMissed u i = StandsAt u i × (HasObjectAsItWas u i × WasThere u i)
 abbrev pub TakesMarksAway : PersistenceUnit → UnitOfWork → Marks → Type 0
 TakesMarksAway m u k =
     k.all ≡ false → (i : ℕ) (d : Entry) → i < length u.context.now → (IsMissed u i → ⊥) →
-    IsUntouched m (now u) k.linked (slice_index_or u.context.now i d) → is_marked k (slice_index_or u.context.now i d).object ≡ false
+    IsUntouched m (now u) k.linked (slice_index_or u.context.now i d) →
+    is_marked k (slice_index_or u.context.now i d).object ≡ false

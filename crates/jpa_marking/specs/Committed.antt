@@ -10,7 +10,8 @@ use Rattle.jpa_flush.specs.Marked.{is_calm, is_linked, is_linked_if_managed}
 
 -- the object leaves, or once unlocked it is calm and linked
 abbrev pub IsOver : PersistenceUnit → Work → Entry → Type 0
-IsOver m w e = (is_removed (state_of w e.object) ≡ true) ⊎ ((is_calm m w (unlocked e) ≡ true) × (is_linked m w e.object ≡ true))
+IsOver m w e = (is_removed (state_of w e.object) ≡ true)
+    ⊎ ((is_calm m w (unlocked e) ≡ true) × (is_linked m w e.object ≡ true))
 
 -- of the entry at a place that is so, or its object is marked
 abbrev pub IsSeenAt : PersistenceUnit → Work → Marks → ℕ → Type 0
@@ -35,4 +36,5 @@ MarksMore old new = (n : ℕ) → is_marked old n ≡ true → is_marked new n �
 
 -- each managed object of the context that is not marked is linked
 abbrev pub are_linked_unless_marked : PersistenceUnit → Work → Marks → Bool
-are_linked_unless_marked m w k = list_all (λ (e : Entry). is_marked k e.object || is_linked_if_managed m w e.object) w.context
+are_linked_unless_marked m w k =
+    list_all (λ (e : Entry). is_marked k e.object || is_linked_if_managed m w e.object) w.context

@@ -1,6 +1,7 @@
 -- merge, in three passes (Jakarta Persistence 3.1, chapter 3.2.7.1).
 use Rattle.jpa_value.specs.Limits.{most_objects}
-use Rattle.std.specs.Prelude.{ℕ, ℤ, Bool, true, false, not, nat_lt, ◌==◌, ◌||◌, List, [], ◌∷◌, length, Option, Some, None, if◌then◌else◌}
+use Rattle.std.specs.Prelude.{ℕ, ℤ, Bool, true, false, not, nat_lt, ◌==◌, ◌||◌, List, [], ◌∷◌, length, Option, Some}
+use Rattle.std.specs.Prelude.{None, if◌then◌else◌}
 use Rattle.std.specs.List.{enumerate_from}
 use Rattle.std.specs.Ordering.{is_eq, int_cmp}
 use Rattle.jpa_value.specs.declared.value.Value.{Value}
@@ -140,7 +141,8 @@ replaced world images k = replaced_by world k (image_among images k)
 
 -- of a collection that was not read, the image's base takes what the view has in it
 abbrev pub read_if_unread : World → ℕ → ℕ → Held → Op (Unit {0})
-read_if_unread world image r (Held.Many Collection.Unfetched) = change (λ w. with_read image r (members_now world.model w image r) w)
+read_if_unread world image r (Held.Many Collection.Unfetched) =
+    change (λ w. with_read image r (members_now world.model w image r) w)
 read_if_unread world image r (Held.Many (Collection.Fetched ks)) = done
 read_if_unread world image r (Held.One l) = done
 
@@ -186,7 +188,8 @@ copy_relation world images x p = if takes x p.1 then copy_at world images x p.0 
 
 -- in declared order, those of superclasses first
 abbrev pub copy_relations : World → List NodeImage → NodeImage → Op (Unit {0})
-copy_relations world images x w = each (copy_relation world images x) (enumerate_from 0 (relations_of world.model (object w x.node).class)) w
+copy_relations world images x w =
+    each (copy_relation world images x) (enumerate_from 0 (relations_of world.model (object w x.node).class)) w
 
 -- a node without a version is of any version
 abbrev pub version_is : Option ℤ → Option ℤ → Bool

@@ -2,7 +2,8 @@
 -- row the cells of dropped columns go. The cell of a column that an attribute had moves to the one
 -- that it has. The new attributes of the row's class chain get their defaults. Then the revision's
 -- row is added. It is said of cells, since a dropped column may hold anything.
-use Rattle.std.specs.Prelude.{ℕ, ℤ, pos, Bool, true, false, not, ◌&&◌, ◌==◌, List, [], ◌∷◌, ◌++◌, map, find, Option, Some, None, if◌then◌else◌, bytes_eq}
+use Rattle.std.specs.Prelude.{ℕ, ℤ, pos, Bool, true, false, not, ◌&&◌, ◌==◌, List, [], ◌∷◌, ◌++◌, map, find, Option}
+use Rattle.std.specs.Prelude.{Some, None, if◌then◌else◌, bytes_eq}
 use Rattle.std.specs.List.{flat_map, list_any, list_all}
 use Rattle.std.specs.Ordering.{int_eq}
 use Rattle.jpa_value.specs.declared.value.Value.{Value}
@@ -115,7 +116,8 @@ column_after (p ∷ changes) column = if was_in column p.1 then pos (p.0).column
 -- what becomes of a cell: it goes, moves or stays
 abbrev pub cell_after : List (Attribute × Change) → List ℕ → Cell → List Cell
 cell_after changes dropped c =
-    if list_any (λ n. int_eq (pos n) c.column) dropped then [] else record { column = column_after changes c.column; value = c.value } ∷ []
+    if list_any (λ n. int_eq (pos n) c.column) dropped then []
+    else record { column = column_after changes c.column; value = c.value } ∷ []
 
 -- whether a row's cells have the discriminator of this entity
 abbrev pub is_of : Entity → List Cell → Bool
@@ -123,19 +125,22 @@ is_of e cells = list_any (λ c. int_eq c.column (pos 0) && bytes_eq c.value (2 �
 
 -- the cells of the defaults along the chain of a class
 abbrev pub class_defaults : World → History → ℕ → List Cell
-class_defaults world h class = flat_map (λ p. cell_if (p.0).column (default_bytes world p.0 (default_in p.1))) (changes_along world.model h class)
+class_defaults world h class =
+    flat_map (λ p. cell_if (p.0).column (default_bytes world p.0 (default_in p.1))) (changes_along world.model h class)
 
 -- the defaults of the chain of the class that column 0 names
 abbrev pub default_cells : World → History → ℕ → List Cell → List Cell
 default_cells world h root cells =
     let m = world.model in
-    flat_map (λ class. if is_of (entity_at m class) cells then class_defaults world h class else []) (classes_below m root)
+    flat_map (λ class. if is_of (entity_at m class) cells then class_defaults world h class else [])
+    (classes_below m root)
 
 -- what becomes of a row's cells
 abbrev pub cells_after : World → History → ℕ → List Cell → List Cell
 cells_after world h root cells =
     let changes = changes_below world.model h root in
-    readable (if is_taken changes cells then [] else placed (flat_map (cell_after changes (dropped_by h root)) cells ++ default_cells world h root cells))
+    readable (if is_taken changes cells then []
+    else placed (flat_map (cell_after changes (dropped_by h root)) cells ++ default_cells world h root cells))
 
 -- what becomes of a row
 abbrev pub row_after : World → History → ℕ → CellRow → CellRow
@@ -171,7 +176,8 @@ rows_by world h (Some root) rows = map (row_after world h root) rows
 
 -- what becomes of the rows of a table
 abbrev pub rows_migrated : World → History → ℤ → List CellRow → List CellRow
-rows_migrated world h table rows = if int_eq table (pos 0) then with_row revision_row rows else rows_by world h (root_with world.model table) rows
+rows_migrated world h table rows =
+    if int_eq table (pos 0) then with_row revision_row rows else rows_by world h (root_with world.model table) rows
 
 -- what is written of a table: each row that differs, and the revision's row
 abbrev pub changes_by : World → History → ℤ → Option ℕ → List CellRow → List CellChange
@@ -184,15 +190,18 @@ revision_change = record { table = pos 0; row = revision_key; cells = revision_r
 
 -- what is written of a table
 abbrev pub changes_made : World → History → ℤ → List CellRow → List CellChange
-changes_made world h table rows = if int_eq table (pos 0) then revision_change ∷ [] else changes_by world h table (root_with world.model table) rows
+changes_made world h table rows =
+    if int_eq table (pos 0) then revision_change ∷ [] else changes_by world h table (root_with world.model table) rows
 
 -- ---- all tables
 
 -- THE TABLES THAT ARE JUDGED, AND THAT AN OPENING LEAVES: as they were found, or migrated
 abbrev pub opened_tables : World → History → Tables → Tables
-opened_tables world h tables table = if is_due world.model (tables (pos 0)) then rows_migrated world h table (tables table) else tables table
+opened_tables world h tables table =
+    if is_due world.model (tables (pos 0)) then rows_migrated world h table (tables table) else tables table
 
 -- what is written of all tables of the unit, as one commit
 abbrev pub changes_due : World → History → Tables → List CellChange
 changes_due world h tables =
-    if is_due world.model (tables (pos 0)) then flat_map (λ t. changes_made world h (pos t) (tables (pos t))) (tables_of world.model) else []
+    if is_due world.model (tables (pos 0)) then flat_map (λ t. changes_made world h (pos t) (tables (pos t)))
+    (tables_of world.model) else []

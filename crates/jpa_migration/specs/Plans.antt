@@ -1,6 +1,7 @@
 -- What becomes of the rows of one root's table, as it is read off the unit and its history once,
 -- and what that makes of cells.
-use Rattle.std.specs.Prelude.{◌≡◌, ℕ, ℤ, pos, Bool, true, false, not, ◌&&◌, ◌||◌, List, [], ◌∷◌, ◌++◌, if◌then◌else◌, bytes_eq}
+use Rattle.std.specs.Prelude.{◌≡◌, ℕ, ℤ, pos, Bool, true, false, not, ◌&&◌, ◌||◌, List, [], ◌∷◌, ◌++◌, if◌then◌else◌}
+use Rattle.std.specs.Prelude.{bytes_eq}
 use Rattle.std.specs.List.{flat_map, list_any}
 use Rattle.std.specs.Ordering.{int_eq}
 use Rattle.jpa_model.specs.declared.unit.Attribute.{Attribute}
@@ -98,7 +99,8 @@ column_by (move ∷ moves) column = if is_number column move.was then move.colum
 
 -- what becomes of a cell by a plan: it goes, moves or stays
 abbrev pub cell_by : Plan → Cell → List Cell
-cell_by plan c = if has_number plan.dropped c.column then [] else record { column = column_by plan.moves c.column; value = c.value } ∷ []
+cell_by plan c = if has_number plan.dropped c.column then []
+    else record { column = column_by plan.moves c.column; value = c.value } ∷ []
 
 -- whether a cell is this discriminator
 abbrev pub is_discriminator : List ℕ → Cell → Bool
@@ -146,7 +148,8 @@ differs plan cells =
 
 -- the change of a row by a plan, where its cells differ
 abbrev pub change_by : Plan → ℤ → CellRow → List CellChange
-change_by plan table r = if differs plan r.cells then record { table = table; row = r.row; cells = cells_by plan r.cells } ∷ [] else []
+change_by plan table r =
+    if differs plan r.cells then record { table = table; row = r.row; cells = cells_by plan r.cells } ∷ [] else []
 
 -- each row stays
 abbrev pub is_idle : Plan → Bool

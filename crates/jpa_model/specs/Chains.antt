@@ -1,5 +1,6 @@
 -- Entities by number, their chains, and what a name means in a chain.
-use Rattle.std.specs.Prelude.{ℕ, zero, suc, Bool, true, false, ◌==◌, List, [], ◌∷◌, ◌++◌, map, length, slice_index_or, Option, Some, None, if◌then◌else◌, option_map}
+use Rattle.std.specs.Prelude.{ℕ, zero, suc, Bool, true, false, ◌==◌, List, [], ◌∷◌, ◌++◌, map, length, slice_index_or}
+use Rattle.std.specs.Prelude.{Option, Some, None, if◌then◌else◌, option_map}
 use Rattle.std.specs.List.{flat_map, list_any, position_from}
 use Rattle.std.specs.Ordering.{is_eq, nat_cmp}
 use Rattle.std.specs.Cmp.Lexicographic.{slice_cmp}
@@ -26,7 +27,17 @@ no_root = record { table = 0; key = []; embedded = None; generated = false; vers
 
 -- what stands where a number names no entity
 abbrev pub no_entity : Entity
-no_entity = record { name = []; origin = Origin.Root no_root; discriminator = []; attributes = []; relations = []; listeners = []; callbacks = []; exclude_default = false; exclude_super = false }
+no_entity = record {
+  name = [];
+  origin = Origin.Root no_root;
+  discriminator = [];
+  attributes = [];
+  relations = [];
+  listeners = [];
+  callbacks = [];
+  exclude_default = false;
+  exclude_super = false;
+}
 
 -- the entity at a place
 abbrev pub entity_at : PersistenceUnit → ℕ → Entity
@@ -121,7 +132,13 @@ no_cascade = record { persist = false; merge = false; remove = false; refresh = 
 
 -- what stands where a place has no relation
 abbrev pub no_relation : Relation
-no_relation = record { name = []; side = Side.ManyToOne (record { column = 0; required = false }); target = 0; cascade = no_cascade; orphan_removal = false }
+no_relation = record {
+  name = [];
+  side = Side.ManyToOne (record { column = 0; required = false });
+  target = 0;
+  cascade = no_cascade;
+  orphan_removal = false;
+}
 
 -- the relation at a place of a class's chain
 abbrev pub relation_at : PersistenceUnit → ℕ → ℕ → Relation

@@ -1,6 +1,7 @@
 -- The persistence unit that a description describes: places for names, in the order of the
 -- description.
-use Rattle.std.specs.Prelude.{ℕ, Bool, true, false, List, map, Option, Some, None, option_map, unwrap_or, unsigned_abs, filter_map, if◌then◌else◌, Result, Ok, Err, ◌≡◌, ◌⊎◌}
+use Rattle.std.specs.Prelude.{ℕ, Bool, true, false, List, map, Option, Some, None, option_map, unwrap_or, unsigned_abs}
+use Rattle.std.specs.Prelude.{filter_map, if◌then◌else◌, Result, Ok, Err, ◌≡◌, ◌⊎◌}
 use Rattle.std.specs.List.{list_any, position_from}
 use Rattle.jpa_value.specs.declared.refusal.Cause.{Cause}
 use Rattle.jpa_value.specs.declared.refusal.MappingFault.{MappingFault}
@@ -37,7 +38,13 @@ version_of v = record { name = v.name; column = unsigned_abs v.column }
 
 -- a root, with its table, key and version
 abbrev pub root_of : DraftRoot → Root
-root_of r = record { table = unsigned_abs r.table; key = r.key; embedded = r.embedded; generated = r.generated; version = option_map version_of r.version }
+root_of r = record {
+  table = unsigned_abs r.table;
+  key = r.key;
+  embedded = r.embedded;
+  generated = r.generated;
+  version = option_map version_of r.version;
+}
 
 -- where a class comes from: a root, or the place of its superclass
 abbrev pub origin_of : Draft → DraftOrigin → Origin
@@ -46,7 +53,13 @@ origin_of d (DraftOrigin.Extends name) = Origin.Extends (unwrap_or (place_of d n
 
 -- an attribute, with its column
 abbrev pub attribute_of : DraftAttribute → Attribute
-attribute_of a = record { name = a.name; kind = a.kind; column = unsigned_abs a.column; required = a.required; converter = a.converter }
+attribute_of a = record {
+  name = a.name;
+  kind = a.kind;
+  column = unsigned_abs a.column;
+  required = a.required;
+  converter = a.converter;
+}
 
 -- the column of a link
 abbrev pub column_of : DraftColumn → Column
@@ -125,13 +138,25 @@ is_detach Cascade.All = true
 -- which operations are cascaded
 abbrev pub cascades_of : List Cascade → Cascades
 cascades_of cs =
-    record { persist = list_any is_persist cs; merge = list_any is_merge cs; remove = list_any is_remove cs; refresh = list_any is_refresh cs; detach = list_any is_detach cs }
+    record {
+      persist = list_any is_persist cs;
+      merge = list_any is_merge cs;
+      remove = list_any is_remove cs;
+      refresh = list_any is_refresh cs;
+      detach = list_any is_detach cs;
+    }
 
 -- a relation, with the place of its target
 abbrev pub relation_of : Draft → DraftRelation → Relation
 relation_of d r =
     let target = place_of d r.target in
-    record { name = r.name; side = side_of d r.kind target r.side; target = unwrap_or target 0; cascade = cascades_of r.cascade; orphan_removal = r.orphan_removal }
+    record {
+      name = r.name;
+      side = side_of d r.kind target r.side;
+      target = unwrap_or target 0;
+      cascade = cascades_of r.cascade;
+      orphan_removal = r.orphan_removal;
+    }
 
 -- a listener, with those of its events that there are
 abbrev pub listener_of : DraftListener → Listener
@@ -153,7 +178,11 @@ entity_of d e = record {
 
 -- the persistence unit that a description describes
 abbrev pub unit_of : Draft → PersistenceUnit
-unit_of d = record { revision = unsigned_abs d.revision; listeners = map listener_of d.listeners; entities = map (entity_of d) d.entities }
+unit_of d = record {
+  revision = unsigned_abs d.revision;
+  listeners = map listener_of d.listeners;
+  entities = map (entity_of d) d.entities;
+}
 
 -- what a check answers where there is memory
 abbrev pub checked : Draft → Result PersistenceUnit Cause

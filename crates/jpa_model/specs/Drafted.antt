@@ -1,6 +1,7 @@
 -- What names mean in a description: superclasses, chains, hierarchies, and what the classes of
 -- these declare.
-use Rattle.std.specs.Prelude.{ℕ, zero, suc, ℤ, pos, false, ◌==◌, List, [], ◌∷◌, ◌++◌, map, filter, length, slice_index_or, Option, Some, None, unwrap_or, if◌then◌else◌, codes}
+use Rattle.std.specs.Prelude.{ℕ, zero, suc, ℤ, pos, false, ◌==◌, List, [], ◌∷◌, ◌++◌, map, filter, length}
+use Rattle.std.specs.Prelude.{slice_index_or, Option, Some, None, unwrap_or, if◌then◌else◌, codes}
 use Rattle.std.specs.List.{flat_map, position_from, range_with_len}
 use Rattle.std.specs.Borrow.{Bor}
 use Rattle.jpa_model.specs.Chains.{same_name}
@@ -23,7 +24,18 @@ listed f (Some a) = f a ∷ []
 
 -- what stands where a place names no entity
 abbrev pub no_entity : DraftEntity
-no_entity = record { name = []; origin = DraftOrigin.Root (record { table = pos 0; key = []; embedded = None; generated = false; version = None }); discriminator = None; attributes = []; relations = []; listeners = []; callbacks = []; exclude_default = false; exclude_super = false }
+no_entity = record {
+  name = [];
+  origin = DraftOrigin.Root (record { table = pos 0; key = []; embedded = None; generated = false; version = None });
+  discriminator = None;
+  attributes =
+      [];
+  relations = [];
+  listeners = [];
+  callbacks = [];
+  exclude_default = false;
+  exclude_super = false;
+}
 
 -- the entity at a place
 abbrev pub entity_at : Draft → ℕ → DraftEntity
@@ -103,7 +115,8 @@ side_columns (DraftSide.MappedBy name) = []
 
 -- the columns of version, attributes and relations
 abbrev pub columns : DraftEntity → List ℤ
-columns e = version_columns e.origin ++ map (λ a. a.column) e.attributes ++ flat_map (λ r. side_columns r.side) e.relations
+columns e = version_columns e.origin ++ map (λ a. a.column) e.attributes ++ flat_map (λ r. side_columns r.side)
+    e.relations
 
 -- the table of a root
 abbrev pub root_tables : DraftOrigin → List ℤ

@@ -1,7 +1,8 @@
 -- What a metamodel keeps for each class, so that no chain is walked again.
 use Rattle.std.specs.Prelude.{ℕ, ◌≡◌, ◌==◌, Bool, List, map, length, Option, Some, None, if◌then◌else◌}
 use Rattle.std.specs.List.{list_any, range_with_len}
-use Rattle.jpa_model.specs.Chains.{chain, root_class, root_of, attributes_of, relations_of, declarers_of, is_version_name}
+use Rattle.jpa_model.specs.Chains.{chain, root_class, root_of, attributes_of, relations_of, declarers_of}
+use Rattle.jpa_model.specs.Chains.{is_version_name}
 use Rattle.jpa_model.specs.WellFormed.{IsWellFormed}
 use Rattle.jpa_model.specs.Described.{unit_of}
 use Rattle.jpa_model.specs.declared.draft.Draft.{Draft}
@@ -17,7 +18,16 @@ kinds_of m chain = map (λ above. list_any (λ c. c == above) chain) (range_with
 -- what is kept for a class
 abbrev pub lineage_of : PersistenceUnit → ℕ → Lineage
 lineage_of m class =
-    record { chain = chain m class; kinds = kinds_of m (chain m class); root_class = root_class m class; root = root_of m class; attributes = attributes_of m class; relations = relations_of m class; declarers = declarers_of m class }
+    record {
+      chain = chain m class;
+      kinds = kinds_of m (chain m class);
+      root_class = root_class m class;
+      root = root_of m class;
+      attributes =
+          attributes_of m class;
+      relations = relations_of m class;
+      declarers = declarers_of m class;
+    }
 
 -- what is kept for each class
 abbrev pub lineages_of : PersistenceUnit → List Lineage

@@ -1,11 +1,13 @@
 -- When a description gives a metamodel: revision 1 or 2 and seven conditions on its declarations.
-use Rattle.std.specs.Prelude.{ℕ, ◌+◌, ℤ, pos, Bool, true, false, not, ◌&&◌, ◌||◌, ◌==◌, nat_le, int_le, List, [], ◌∷◌, length, Option, Some, None, is_some, count_by, sum_by, find, IsTrue}
+use Rattle.std.specs.Prelude.{ℕ, ◌+◌, ℤ, pos, Bool, true, false, not, ◌&&◌, ◌||◌, ◌==◌, nat_le, int_le, List, [], ◌∷◌}
+use Rattle.std.specs.Prelude.{length, Option, Some, None, is_some, count_by, sum_by, find, IsTrue}
 use Rattle.std.specs.List.{list_all, list_any, flat_map}
 use Rattle.std.specs.Ordering.{int_eq}
 use Rattle.jpa_value.specs.Limits.{most_bytes}
 use Rattle.jpa_value.specs.declared.value.Kind.{Kind}
 use Rattle.jpa_model.specs.Chains.{same_name}
-use Rattle.jpa_model.specs.Drafted.{entity_at, classes, place_of, chain, chains, first_of, hierarchy, declared_by, member_names, columns, tables, discriminator, relations_of, event_of}
+use Rattle.jpa_model.specs.Drafted.{entity_at, classes, place_of, chain, chains, first_of, hierarchy, declared_by}
+use Rattle.jpa_model.specs.Drafted.{member_names, columns, tables, discriminator, relations_of, event_of}
 use Rattle.jpa_model.specs.declared.unit.Part.{Part}
 use Rattle.jpa_model.specs.declared.draft.Draft.{Draft}
 use Rattle.jpa_model.specs.declared.draft.DraftAttribute.{DraftAttribute}
@@ -57,7 +59,8 @@ is_name text = begins_with_letter text && nat_le (length text) 64 && list_all is
 -- the names of a root's key parts, embedded id and version have the form of one
 abbrev pub is_root_named : DraftOrigin → Bool
 is_root_named (DraftOrigin.Root root) =
-    list_all (λ part. is_name part.name) root.key && if_some is_name root.embedded && if_some (λ v. is_name v.name) root.version
+    list_all (λ part. is_name part.name) root.key && if_some is_name root.embedded
+    && if_some (λ v. is_name v.name) root.version
 is_root_named (DraftOrigin.Extends name) = true
 
 -- the names of an attribute and of its converter have the form of one
@@ -71,7 +74,8 @@ are_listeners_named = list_all (λ l. is_name l.name)
 -- all names that an entity declares have the form of one
 abbrev pub is_entity_named : DraftEntity → Bool
 is_entity_named e =
-    is_name e.name && is_root_named e.origin && list_all is_attribute_named e.attributes && list_all (λ r. is_name r.name) e.relations
+    is_name e.name && is_root_named e.origin && list_all is_attribute_named e.attributes
+    && list_all (λ r. is_name r.name) e.relations
     && are_listeners_named e.listeners && are_listeners_named e.callbacks
 
 -- the first condition
@@ -127,7 +131,8 @@ has_key_if_root e = has e.origin
 -- the second condition
 abbrev pub has_roots : Draft → Bool
 has_roots d =
-    list_all (is_superclass_named d) d.entities && list_all (begins_with_root d) (chains d) && list_all has_key_if_root d.entities
+    list_all (is_superclass_named d) d.entities && list_all (begins_with_root d) (chains d)
+    && list_all has_key_if_root d.entities
 
 -- 3. Tables of roots and join tables are distinct and lie from 1 to 1,000,000; so do the columns
 -- within a hierarchy. Discriminators are distinct within a hierarchy and have at most 65,535 bytes.
@@ -159,7 +164,8 @@ member_count e = length e.attributes + length e.relations
 
 -- what the fourth condition asks of a chain
 abbrev pub is_distinct_along : Draft → List ℕ → Bool
-is_distinct_along d chain = nat_le (sum_by (λ class. member_count (entity_at d class)) chain) 64 && are_distinct_names (declared_by member_names d chain)
+is_distinct_along d chain = nat_le (sum_by (λ class. member_count (entity_at d class)) chain) 64
+    && are_distinct_names (declared_by member_names d chain)
 
 -- the fourth condition
 abbrev pub has_members : Draft → Bool
@@ -206,7 +212,8 @@ is_opposite RelationKind.ManyToMany RelationKind.ManyToMany = true
 
 -- whether a relation is the owning side of an inverse one of this kind that the entity declares
 abbrev pub keeps : DraftEntity → RelationKind → DraftRelation → Bool
-keeps declaring kind owner = is_owning owner.side && is_opposite kind owner.kind && same_name owner.target declaring.name
+keeps declaring kind owner =
+    is_owning owner.side && is_opposite kind owner.kind && same_name owner.target declaring.name
 
 -- whether there is something, and it passes a test
 abbrev pub is_some_that : {A : Type 0} → (A → Bool) → Option A → Bool
@@ -221,7 +228,8 @@ is_kept d declaring r = by r.side
     by (DraftSide.Column c) = true
     by (DraftSide.JoinTable table) = true
     by (DraftSide.MappedBy name) =
-        is_some_that (λ target. is_some_that (keeps declaring r.kind) (find (λ o. same_name o.name name) (relations_of d target))) (place_of d r.target)
+        is_some_that (λ target. is_some_that (keeps declaring r.kind)
+        (find (λ o. same_name o.name name) (relations_of d target))) (place_of d r.target)
 
 -- a relation has a target, goes with its kind, and is kept (chapter 2.9)
 abbrev pub has_target_and_owner : Draft → DraftEntity → DraftRelation → Bool
@@ -235,12 +243,14 @@ is_inverse_of d class owner r = by r.side
     by (DraftSide.Column c) = false
     by (DraftSide.JoinTable table) = false
     by (DraftSide.MappedBy name) =
-        same_name name owner.name && is_some_that (λ target. list_any (λ c. c == class) (chain d target)) (place_of d r.target)
+        same_name name owner.name && is_some_that (λ target. list_any (λ c. c == class) (chain d target))
+        (place_of d r.target)
 
 -- a relation has a target, which declares at most one inverse side of it
 abbrev pub has_one_inverse : Draft → ℕ → DraftRelation → Bool
 has_one_inverse d class owner =
-    is_some_that (λ target. nat_le (count_by (is_inverse_of d class owner) (entity_at d target).relations) 1) (place_of d owner.target)
+    is_some_that (λ target. nat_le (count_by (is_inverse_of d class owner) (entity_at d target).relations) 1)
+    (place_of d owner.target)
 
 -- the fifth condition
 abbrev pub has_relations : Draft → Bool
@@ -275,7 +285,8 @@ hears l = list_all is_event l.events && are_distinct_names l.events
 -- what the seventh condition asks of an entity
 abbrev pub has_events_of : DraftEntity → Bool
 has_events_of e =
-    list_all hears e.listeners && list_all hears e.callbacks && are_distinct_names (flat_map (λ l. l.events) e.callbacks)
+    list_all hears e.listeners && list_all hears e.callbacks
+    && are_distinct_names (flat_map (λ l. l.events) e.callbacks)
 
 -- the seventh condition
 abbrev pub has_events : Draft → Bool
@@ -283,7 +294,8 @@ has_events d = list_all hears d.listeners && list_all has_events_of d.entities
 
 -- conditions 2 to 7
 abbrev pub stands_together : Draft → Bool
-stands_together d = has_roots d && (has_members d && (has_numbers d && (has_relations d && (has_orphans d && has_events d))))
+stands_together d = has_roots d
+    && (has_members d && (has_numbers d && (has_relations d && (has_orphans d && has_events d))))
 
 -- a description is of revision 1 or 2
 abbrev pub has_revision : Draft → Bool

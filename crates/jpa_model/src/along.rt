@@ -16,7 +16,7 @@ use std::alloc::Global;
 fn push_root_names<'a>(names: &mut Vec<&'a Text>, origin: &'a DraftOrigin) -> Result<(), Cause>
     ensures added { OnOk result (drafted.names_in names.new.items
         ≡ drafted.names_in names.old.items ++ drafted.root_names origin.now) }
-    ensures refused { IfErr result (λ cause. cause ≡ Cause.OutOfMemory) }
+    ensures err { IfErr result (λ cause. cause ≡ Cause.OutOfMemory) }
 {
     if let DraftOrigin::Root(root) = origin {
         match &root.embedded {
@@ -33,7 +33,7 @@ fn push_root_names<'a>(names: &mut Vec<&'a Text>, origin: &'a DraftOrigin) -> Re
 fn push_member_names<'a>(names: &mut Vec<&'a Text>, entity: &'a DraftEntity) -> Result<(), Cause>
     ensures added { OnOk result (drafted.names_in names.new.items
         ≡ drafted.names_in names.old.items ++ drafted.member_names entity.now) }
-    ensures refused { IfErr result (λ cause. cause ≡ Cause.OutOfMemory) }
+    ensures err { IfErr result (λ cause. cause ≡ Cause.OutOfMemory) }
 {
     push_root_names(names, &entity.origin)?;
     push_names(names, entity.attributes.as_slice())?;
@@ -43,7 +43,7 @@ fn push_member_names<'a>(names: &mut Vec<&'a Text>, entity: &'a DraftEntity) -> 
 fn names_along<'a>(alloc: Global, draft: &'a Draft, chain: &[usize]) -> Result<Vec<&'a Text>, Cause>
     ensures found { IfOk result (λ names. drafted.names_in names.items
         ≡ drafted.declared_by drafted.member_names draft.now chain.now) }
-    ensures refused { IfErr result (λ cause. cause ≡ Cause.OutOfMemory) }
+    ensures err { IfErr result (λ cause. cause ≡ Cause.OutOfMemory) }
 {
     let mut names = Vec::new(alloc);
     for class in chain {
@@ -76,7 +76,7 @@ fn are_few_along(draft: &Draft, chain: &[usize]) -> bool
 #[tactic(auto, using(crate::proofs::SameName::distinct_names))]
 fn is_distinct_along(alloc: Global, draft: &Draft, chain: &[usize]) -> Result<bool, Cause>
     ensures judged { IfOk result (λ b. b ≡ well.is_distinct_along draft.now chain.now) }
-    ensures refused { IfErr result (λ cause. cause ≡ Cause.OutOfMemory) }
+    ensures err { IfErr result (λ cause. cause ≡ Cause.OutOfMemory) }
 {
     if !are_few_along(draft, chain) {
         return Ok(false);
@@ -93,7 +93,7 @@ pub(crate) fn are_distinct_along(
 ) -> Result<bool, Cause>
     ensures judged { IfOk result (λ b. b ≡ list_all (well.is_distinct_along draft.now)
         chains.now) }
-    ensures refused { IfErr result (λ cause. cause ≡ Cause.OutOfMemory) }
+    ensures err { IfErr result (λ cause. cause ≡ Cause.OutOfMemory) }
 {
     for chain in chains {
         if !is_distinct_along(alloc, draft, chain.as_slice())? {
@@ -121,7 +121,7 @@ fn discriminators_of<'a>(
     requires { All (λ class. class < length draft.now.entities) places.now }
     ensures found { IfOk result (λ texts. drafted.names_in texts.items
         ≡ map (λ class. drafted.discriminator (drafted.entity_at draft.now class)) places.now) }
-    ensures refused { IfErr result (λ cause. cause ≡ Cause.OutOfMemory) }
+    ensures err { IfErr result (λ cause. cause ≡ Cause.OutOfMemory) }
 {
     let mut texts = Vec::new(alloc);
     for class in places {
@@ -134,7 +134,7 @@ fn discriminators_of<'a>(
 fn is_stored_apart(alloc: Global, draft: &Draft, places: &[usize]) -> Result<bool, Cause>
     requires { All (λ class. class < length draft.now.entities) places.now }
     ensures judged { IfOk result (λ b. b ≡ well.is_stored_apart draft.now places.now) }
-    ensures refused { IfErr result (λ cause. cause ≡ Cause.OutOfMemory) }
+    ensures err { IfErr result (λ cause. cause ≡ Cause.OutOfMemory) }
 {
     let columns = columns_of(alloc, draft, places)?;
     if !are_numbers(columns.as_slice()) {
@@ -150,7 +150,7 @@ fn are_stored_apart(alloc: Global, draft: &Draft, chains: &[Seq<usize>]) -> Resu
     ensures judged { IfOk result (λ b. b ≡ list_all
         (λ root. well.is_stored_apart draft.now (drafted.hierarchy draft.now root))
         (drafted.classes draft.now)) }
-    ensures refused { IfErr result (λ cause. cause ≡ Cause.OutOfMemory) }
+    ensures err { IfErr result (λ cause. cause ≡ Cause.OutOfMemory) }
 {
     for root in 0..draft.entities.len() {
         let members = hierarchy_of(alloc, draft, chains, root)?;
@@ -169,7 +169,7 @@ pub(crate) fn has_numbers(
 ) -> Result<bool, Cause>
     requires { chains.now ≡ drafted.chains draft.now }
     ensures judged { IfOk result (λ b. b ≡ well.has_numbers draft.now) }
-    ensures refused { IfErr result (λ cause. cause ≡ Cause.OutOfMemory) }
+    ensures err { IfErr result (λ cause. cause ≡ Cause.OutOfMemory) }
 {
     let entities = draft.entities.as_slice();
     if !discriminators_are_short(entities) {

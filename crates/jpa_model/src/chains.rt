@@ -38,7 +38,7 @@ fn chain_from(
 ) -> Result<Seq<usize>, Cause>
     ensures found { IfOk result (λ chain. chain ≡ drafted.chain_from draft.now steps class
         superclass) }
-    ensures refused { IfErr result (λ cause. cause ≡ Cause.OutOfMemory) }
+    ensures err { IfErr result (λ cause. cause ≡ Cause.OutOfMemory) }
 {
     let mut chain = match superclass {
         Some(above) if steps > 0 => chain_from(
@@ -58,7 +58,7 @@ fn chain_from(
 #[tactic(auto, using(crate::proofs::Chained::chains_more))]
 pub(crate) fn chains_of(alloc: Global, draft: &Draft) -> Result<Seq<Seq<usize>>, Cause>
     ensures found { IfOk result (λ chains. chains ≡ drafted.chains draft.now) }
-    ensures refused { IfErr result (λ cause. cause ≡ Cause.OutOfMemory) }
+    ensures err { IfErr result (λ cause. cause ≡ Cause.OutOfMemory) }
 {
     let steps = draft.entities.len();
     let mut chains = Seq::new(alloc);
@@ -115,7 +115,7 @@ pub(crate) fn hierarchy_of(
     ensures found { IfOk result (λ members. members ≡ drafted.hierarchy draft.now root) }
     ensures within { IfOk result (λ members. All (λ class. class < length draft.now.entities)
         members) }
-    ensures refused { IfErr result (λ cause. cause ≡ Cause.OutOfMemory) }
+    ensures err { IfErr result (λ cause. cause ≡ Cause.OutOfMemory) }
 {
     let mut members = Seq::new(alloc);
     for class in 0..draft.entities.len() {

@@ -40,7 +40,7 @@ impl ClassIndex {
         class: usize,
     ) -> Result<ClassIndex, Cause>
         ensures found { IfOk result (λ found. found ≡ lineage_of unit.now class) }
-        ensures refused { IfErr result (λ cause. cause ≡ Cause.OutOfMemory) }
+        ensures err { IfErr result (λ cause. cause ≡ Cause.OutOfMemory) }
     {
         let lineage = lineage_of(alloc, unit, class)?;
         let members = members_by_name(
@@ -110,7 +110,7 @@ ghost use Rattle.jpa_value.specs.declared.refusal.Cause.{Cause};
 /// The index of each class.
 pub(crate) fn index_of(alloc: Global, unit: &PersistenceUnit) -> Result<Seq<ClassIndex>, Cause>
     ensures found { IfOk result (λ found. found ≡ lineages_of unit.now) }
-    ensures refused { IfErr result (λ cause. cause ≡ Cause.OutOfMemory) }
+    ensures err { IfErr result (λ cause. cause ≡ Cause.OutOfMemory) }
 {
     let mut found = Seq::new(alloc);
     for class in 0..unit.entities.len() {

@@ -8,7 +8,7 @@ use jpa_value::{Cause, Text, TryCopy};
 /// An equal text, or none; `OutOfMemory` where a growth was refused.
 pub(crate) fn copy_option(text: &Option<Text>) -> Result<Option<Text>, Cause>
     ensures equal { IfOk result (λ copy. copy ≡ text.now) }
-    ensures refused { IfErr result (λ cause. cause ≡ Cause.OutOfMemory) }
+    ensures err { IfErr result (λ cause. cause ≡ Cause.OutOfMemory) }
 {
     match text {
         None => Ok(None),
@@ -36,7 +36,7 @@ impl TryCopy for VersionColumn {
 
 fn copy_version(version: &Option<VersionColumn>) -> Result<Option<VersionColumn>, Cause>
     ensures equal { IfOk result (λ copy. copy ≡ version.now) }
-    ensures refused { IfErr result (λ cause. cause ≡ Cause.OutOfMemory) }
+    ensures err { IfErr result (λ cause. cause ≡ Cause.OutOfMemory) }
 {
     match version {
         None => Ok(None),

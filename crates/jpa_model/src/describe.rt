@@ -26,7 +26,7 @@ use std::alloc::Global;
 
 fn version_of(version: &Option<DraftVersion>) -> Result<Option<VersionColumn>, Cause>
     ensures found { IfOk result (λ v. v ≡ option_map described.version_of version.now) }
-    ensures refused { IfErr result (λ cause. cause ≡ Cause.OutOfMemory) }
+    ensures err { IfErr result (λ cause. cause ≡ Cause.OutOfMemory) }
 {
     match version {
         None => Ok(None),
@@ -39,7 +39,7 @@ fn version_of(version: &Option<DraftVersion>) -> Result<Option<VersionColumn>, C
 
 fn root_of(root: &DraftRoot) -> Result<Root, Cause>
     ensures found { IfOk result (λ r. r ≡ described.root_of root.now) }
-    ensures refused { IfErr result (λ cause. cause ≡ Cause.OutOfMemory) }
+    ensures err { IfErr result (λ cause. cause ≡ Cause.OutOfMemory) }
 {
     Ok(Root {
         table: root.table.unsigned_abs(),
@@ -52,7 +52,7 @@ fn root_of(root: &DraftRoot) -> Result<Root, Cause>
 
 fn origin_of(draft: &Draft, origin: &DraftOrigin) -> Result<Origin, Cause>
     ensures found { IfOk result (λ o. o ≡ described.origin_of draft.now origin.now) }
-    ensures refused { IfErr result (λ cause. cause ≡ Cause.OutOfMemory) }
+    ensures err { IfErr result (λ cause. cause ≡ Cause.OutOfMemory) }
 {
     match origin {
         DraftOrigin::Root(root) => Ok(Origin::Root(root_of(root)?)),
@@ -64,7 +64,7 @@ fn origin_of(draft: &Draft, origin: &DraftOrigin) -> Result<Origin, Cause>
 
 fn attribute_of(attribute: &DraftAttribute) -> Result<Attribute, Cause>
     ensures found { IfOk result (λ a. a ≡ described.attribute_of attribute.now) }
-    ensures refused { IfErr result (λ cause. cause ≡ Cause.OutOfMemory) }
+    ensures err { IfErr result (λ cause. cause ≡ Cause.OutOfMemory) }
 {
     Ok(Attribute {
         name: attribute.name.try_copy()?,
@@ -77,7 +77,7 @@ fn attribute_of(attribute: &DraftAttribute) -> Result<Attribute, Cause>
 
 fn attributes_of(alloc: Global, attributes: &[DraftAttribute]) -> Result<Seq<Attribute>, Cause>
     ensures found { IfOk result (λ found. found ≡ map described.attribute_of attributes.now) }
-    ensures refused { IfErr result (λ cause. cause ≡ Cause.OutOfMemory) }
+    ensures err { IfErr result (λ cause. cause ≡ Cause.OutOfMemory) }
 {
     let mut found = Seq::new(alloc);
     for attribute in attributes {
@@ -121,7 +121,7 @@ fn relation_names<'a>(
 ) -> Result<Vec<&'a Text>, Cause>
     ensures found { IfOk result (λ names. drafted.names_in names.items
         ≡ map (λ r. r.name) (drafted.declared_by (λ e. e.relations) draft.now chain.now)) }
-    ensures refused { IfErr result (λ cause. cause ≡ Cause.OutOfMemory) }
+    ensures err { IfErr result (λ cause. cause ≡ Cause.OutOfMemory) }
 {
     let mut names = Vec::new(alloc);
     for class in chain {
@@ -136,7 +136,7 @@ fn place_along(alloc: Global, draft: &Draft, chain: &[usize], name: &Text) -> Re
     ensures found { IfOk result (λ place. place ≡ unwrap_or
         (position_from (λ o. same_name o.name name.now) 0
         (drafted.declared_by (λ e. e.relations) draft.now chain.now)) 0) }
-    ensures refused { IfErr result (λ cause. cause ≡ Cause.OutOfMemory) }
+    ensures err { IfErr result (λ cause. cause ≡ Cause.OutOfMemory) }
 {
     let names = relation_names(alloc, draft, chain)?;
     Ok(place_by_name(names.as_slice(), name).unwrap_or(0))
@@ -153,7 +153,7 @@ fn owner_place(
     requires within { ForSome target (λ i. i < length draft.now.entities) }
     ensures found { IfOk result (λ place. place
         ≡ described.owner_place draft.now target name.now) }
-    ensures refused { IfErr result (λ cause. cause ≡ Cause.OutOfMemory) }
+    ensures err { IfErr result (λ cause. cause ≡ Cause.OutOfMemory) }
 {
     match target {
         None => Ok(0),
@@ -172,7 +172,7 @@ fn side_of(
     requires chained { chains.now ≡ drafted.chains draft.now }
     requires within { ForSome target (λ i. i < length draft.now.entities) }
     ensures found { IfOk result (λ s. s ≡ described.side_of draft.now kind target side.now) }
-    ensures refused { IfErr result (λ cause. cause ≡ Cause.OutOfMemory) }
+    ensures err { IfErr result (λ cause. cause ≡ Cause.OutOfMemory) }
 {
     match side {
         DraftSide::Column(column) => Ok(owning_side(kind, column_of(*column))),
@@ -236,7 +236,7 @@ fn relation_of(
 ) -> Result<Relation, Cause>
     requires { chains.now ≡ drafted.chains draft.now }
     ensures found { IfOk result (λ r. r ≡ described.relation_of draft.now relation.now) }
-    ensures refused { IfErr result (λ cause. cause ≡ Cause.OutOfMemory) }
+    ensures err { IfErr result (λ cause. cause ≡ Cause.OutOfMemory) }
 {
     let target = place_of_entity(draft, &relation.target);
     Ok(Relation {
@@ -257,7 +257,7 @@ fn relations_of(
     requires { chains.now ≡ drafted.chains draft.now }
     ensures found { IfOk result (λ found. found ≡ map (described.relation_of draft.now)
         relations.now) }
-    ensures refused { IfErr result (λ cause. cause ≡ Cause.OutOfMemory) }
+    ensures err { IfErr result (λ cause. cause ≡ Cause.OutOfMemory) }
 {
     let mut found = Seq::new(alloc);
     for relation in relations {
@@ -268,7 +268,7 @@ fn relations_of(
 
 fn events_of(alloc: Global, names: &[Text]) -> Result<Seq<LifecycleEvent>, Cause>
     ensures found { IfOk result (λ found. found ≡ filter_map drafted.event_of names.now) }
-    ensures refused { IfErr result (λ cause. cause ≡ Cause.OutOfMemory) }
+    ensures err { IfErr result (λ cause. cause ≡ Cause.OutOfMemory) }
 {
     let mut found = Seq::new(alloc);
     for name in names {
@@ -281,7 +281,7 @@ fn events_of(alloc: Global, names: &[Text]) -> Result<Seq<LifecycleEvent>, Cause
 
 fn listeners_of(alloc: Global, listeners: &[DraftListener]) -> Result<Seq<Listener>, Cause>
     ensures found { IfOk result (λ found. found ≡ map described.listener_of listeners.now) }
-    ensures refused { IfErr result (λ cause. cause ≡ Cause.OutOfMemory) }
+    ensures err { IfErr result (λ cause. cause ≡ Cause.OutOfMemory) }
 {
     let mut found = Seq::new(alloc);
     for listener in listeners {
@@ -301,7 +301,7 @@ fn entity_of(
 ) -> Result<Entity, Cause>
     requires { chains.now ≡ drafted.chains draft.now }
     ensures found { IfOk result (λ e. e ≡ described.entity_of draft.now entity.now) }
-    ensures refused { IfErr result (λ cause. cause ≡ Cause.OutOfMemory) }
+    ensures err { IfErr result (λ cause. cause ≡ Cause.OutOfMemory) }
 {
     Ok(Entity {
         name: entity.name.try_copy()?,
@@ -320,7 +320,7 @@ fn entities_of(alloc: Global, draft: &Draft, chains: &[Seq<usize>]) -> Result<Se
     requires { chains.now ≡ drafted.chains draft.now }
     ensures found { IfOk result (λ found. found ≡ map (described.entity_of draft.now)
         draft.now.entities) }
-    ensures refused { IfErr result (λ cause. cause ≡ Cause.OutOfMemory) }
+    ensures err { IfErr result (λ cause. cause ≡ Cause.OutOfMemory) }
 {
     let mut found = Seq::new(alloc);
     for entity in draft.entities.as_slice() {
@@ -337,7 +337,7 @@ pub(crate) fn unit_of(
 ) -> Result<PersistenceUnit, Cause>
     requires { chains.now ≡ drafted.chains draft.now }
     ensures found { IfOk result (λ unit. unit ≡ described.unit_of draft.now) }
-    ensures refused { IfErr result (λ cause. cause ≡ Cause.OutOfMemory) }
+    ensures err { IfErr result (λ cause. cause ≡ Cause.OutOfMemory) }
 {
     Ok(PersistenceUnit {
         revision: draft.revision.unsigned_abs(),

@@ -63,7 +63,7 @@ fn all_hear(listeners: &[DraftListener]) -> bool
 fn events_of(alloc: Global, listeners: &[DraftListener]) -> Result<Vec<&Text>, Cause>
     ensures heard { IfOk result (λ names. drafted.names_in names.items
         ≡ flat_map (λ l. l.events) listeners.now) }
-    ensures refused { IfErr result (λ cause. cause ≡ Cause.OutOfMemory) }
+    ensures err { IfErr result (λ cause. cause ≡ Cause.OutOfMemory) }
 {
     let mut names = Vec::new(alloc);
     for listener in listeners {
@@ -75,7 +75,7 @@ fn events_of(alloc: Global, listeners: &[DraftListener]) -> Result<Vec<&Text>, C
 #[tactic(auto, using(crate::proofs::SameName::distinct_names))]
 fn entity_hears(alloc: Global, entity: &DraftEntity) -> Result<bool, Cause>
     ensures judged { IfOk result (λ b. b ≡ well.has_events_of entity.now) }
-    ensures refused { IfErr result (λ cause. cause ≡ Cause.OutOfMemory) }
+    ensures err { IfErr result (λ cause. cause ≡ Cause.OutOfMemory) }
 {
     let callbacks = entity.callbacks.as_slice();
     if !all_hear(entity.listeners.as_slice()) || !all_hear(callbacks) {
@@ -89,7 +89,7 @@ fn entity_hears(alloc: Global, entity: &DraftEntity) -> Result<bool, Cause>
 /// its own.
 pub(crate) fn has_events(alloc: Global, draft: &Draft) -> Result<bool, Cause>
     ensures judged { IfOk result (λ b. b ≡ well.has_events draft.now) }
-    ensures refused { IfErr result (λ cause. cause ≡ Cause.OutOfMemory) }
+    ensures err { IfErr result (λ cause. cause ≡ Cause.OutOfMemory) }
 {
     if !all_hear(draft.listeners.as_slice()) {
         return Ok(false);

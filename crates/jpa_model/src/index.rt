@@ -17,7 +17,7 @@ use std::collections::BTreeMap;
 fn put<V: Drop>(names: &mut BTreeMap<String, V>, name: String, value: V) -> Result<(), Cause>
     ensures put { OnOk result ((q : List ℕ) → get_by_text names.new q
         ≡ (if same_name (string_bytes name) q then Some value else get_by_text names.old q)) }
-    ensures refused { IfErr result (λ cause. cause ≡ Cause.OutOfMemory) }
+    ensures err { IfErr result (λ cause. cause ≡ Cause.OutOfMemory) }
 {
     names.insert(name, value)?;
     Ok(())
@@ -30,7 +30,7 @@ pub(crate) fn entities_by_name(
 ) -> Result<BTreeMap<String, usize>, Cause>
     ensures found { IfOk result (λ names. (q : List ℕ) → get_by_text names q
         ≡ position_from (λ e. same_name e.name q) 0 entities.now) }
-    ensures refused { IfErr result (λ cause. cause ≡ Cause.OutOfMemory) }
+    ensures err { IfErr result (λ cause. cause ≡ Cause.OutOfMemory) }
 {
     let mut names = BTreeMap::new(alloc);
     let mut left = entities.len();
@@ -50,7 +50,7 @@ fn add_attributes(
     ensures added { OnOk result ((q : List ℕ) → get_by_text members.new q
         ≡ or_else (option_map Member.Attribute
         (position_from (λ a. same_name a.name q) 0 attributes.now)) (get_by_text members.old q)) }
-    ensures refused { IfErr result (λ cause. cause ≡ Cause.OutOfMemory) }
+    ensures err { IfErr result (λ cause. cause ≡ Cause.OutOfMemory) }
 {
     let mut left = attributes.len();
     while left > 0 {
@@ -69,7 +69,7 @@ fn add_relations(
     ensures added { OnOk result ((q : List ℕ) → get_by_text members.new q
         ≡ or_else (option_map Member.Relation
         (position_from (λ r. same_name r.name q) 0 relations.now)) (get_by_text members.old q)) }
-    ensures refused { IfErr result (λ cause. cause ≡ Cause.OutOfMemory) }
+    ensures err { IfErr result (λ cause. cause ≡ Cause.OutOfMemory) }
 {
     let mut left = relations.len();
     while left > 0 {
@@ -82,7 +82,7 @@ fn add_relations(
 
 fn name_of_part(alloc: Global, root: &Root, part: &Part) -> Result<String, Cause>
     ensures found { IfOk result (λ name. string_bytes name ≡ part_name root.now part.now) }
-    ensures refused { IfErr result (λ cause. cause ≡ Cause.OutOfMemory) }
+    ensures err { IfErr result (λ cause. cause ≡ Cause.OutOfMemory) }
 {
     let Some(id) = &root.embedded else {
         return Ok(String::from_str(alloc, part.name.as_str())?);
@@ -102,7 +102,7 @@ fn add_parts(
         ≡ or_else (option_map Member.KeyPart
         (position_from (λ part. same_name (part_name root.now part) q) 0 root.now.key))
         (get_by_text members.old q)) }
-    ensures refused { IfErr result (λ cause. cause ≡ Cause.OutOfMemory) }
+    ensures err { IfErr result (λ cause. cause ≡ Cause.OutOfMemory) }
 {
     let key = root.key.as_slice();
     let mut left = key.len();
@@ -121,7 +121,7 @@ fn add_version(
 ) -> Result<(), Cause>
     ensures added { OnOk result ((q : List ℕ) → get_by_text members.new q
         ≡ or_else (version_member root.now q) (get_by_text members.old q)) }
-    ensures refused { IfErr result (λ cause. cause ≡ Cause.OutOfMemory) }
+    ensures err { IfErr result (λ cause. cause ≡ Cause.OutOfMemory) }
 {
     if let Some(version) = &root.version {
         let name = String::from_str(alloc, version.name.as_str())?;
@@ -140,7 +140,7 @@ pub(crate) fn members_by_name(
 ) -> Result<BTreeMap<String, Member>, Cause>
     ensures found { IfOk result (λ names. (q : List ℕ) → get_by_text names q
         ≡ member_among root.now attributes.now relations.now q) }
-    ensures refused { IfErr result (λ cause. cause ≡ Cause.OutOfMemory) }
+    ensures err { IfErr result (λ cause. cause ≡ Cause.OutOfMemory) }
 {
     let mut members = BTreeMap::new(alloc);
     add_relations(alloc, &mut members, relations)?;

@@ -45,7 +45,7 @@ fn chain_from(
 ) -> Result<Seq<usize>, Cause>
     ensures found { IfOk result (λ chain. chain ≡ chains.chain_from unit.now steps class
         (chains.entity_at unit.now class).origin) }
-    ensures refused { IfErr result (λ cause. cause ≡ Cause.OutOfMemory) }
+    ensures err { IfErr result (λ cause. cause ≡ Cause.OutOfMemory) }
 {
     let mut chain = match superclass_of(unit, class) {
         Some(above) if steps > 0 => chain_from(alloc, unit, steps - 1, above)?,
@@ -79,7 +79,7 @@ fn no_root(alloc: Global) -> Root
 fn root_at(alloc: Global, unit: &PersistenceUnit, class: usize) -> Result<Root, Cause>
     ensures found { IfOk result (λ root. root ≡ chains.root_in
         (chains.entity_at unit.now class).origin) }
-    ensures refused { IfErr result (λ cause. cause ≡ Cause.OutOfMemory) }
+    ensures err { IfErr result (λ cause. cause ≡ Cause.OutOfMemory) }
 {
     let Some(entity) = unit.entities.as_slice().get(class) else {
         return Ok(no_root(alloc));
@@ -98,7 +98,7 @@ fn has_class(chain: &[usize], class: usize) -> bool
 
 fn kinds_of(alloc: Global, unit: &PersistenceUnit, chain: &[usize]) -> Result<Seq<bool>, Cause>
     ensures found { IfOk result (λ kinds. kinds ≡ kept.kinds_of unit.now chain.now) }
-    ensures refused { IfErr result (λ cause. cause ≡ Cause.OutOfMemory) }
+    ensures err { IfErr result (λ cause. cause ≡ Cause.OutOfMemory) }
 {
     let mut kinds = Seq::new(alloc);
     for above in 0..unit.entities.len() {
@@ -109,7 +109,7 @@ fn kinds_of(alloc: Global, unit: &PersistenceUnit, chain: &[usize]) -> Result<Se
 
 fn push_copies<T: TryCopy>(copies: &mut Seq<T>, items: &[T]) -> Result<(), Cause>
     ensures added { OnOk result (copies.new ≡ copies.old ++ items.now) }
-    ensures refused { IfErr result (λ cause. cause ≡ Cause.OutOfMemory) }
+    ensures err { IfErr result (λ cause. cause ≡ Cause.OutOfMemory) }
 {
     for item in items {
         copies.push(item.try_copy()?)?;
@@ -124,7 +124,7 @@ fn attributes_along(
 ) -> Result<Seq<Attribute>, Cause>
     ensures found { IfOk result (λ found. found ≡ flat_map
         (λ c. (chains.entity_at unit.now c).attributes) chain.now) }
-    ensures refused { IfErr result (λ cause. cause ≡ Cause.OutOfMemory) }
+    ensures err { IfErr result (λ cause. cause ≡ Cause.OutOfMemory) }
 {
     let mut found = Seq::new(alloc);
     for class in chain {
@@ -142,7 +142,7 @@ fn relations_along(
 ) -> Result<Seq<Relation>, Cause>
     ensures found { IfOk result (λ found. found ≡ flat_map
         (λ c. (chains.entity_at unit.now c).relations) chain.now) }
-    ensures refused { IfErr result (λ cause. cause ≡ Cause.OutOfMemory) }
+    ensures err { IfErr result (λ cause. cause ≡ Cause.OutOfMemory) }
 {
     let mut found = Seq::new(alloc);
     for class in chain {
@@ -160,7 +160,7 @@ fn push_declarer(
 ) -> Result<(), Cause>
     ensures added { OnOk result (declarers.new ≡ declarers.old
         ++ map (λ r. class) relations.now) }
-    ensures refused { IfErr result (λ cause. cause ≡ Cause.OutOfMemory) }
+    ensures err { IfErr result (λ cause. cause ≡ Cause.OutOfMemory) }
 {
     for _relation in relations {
         declarers.push(class)?;
@@ -175,7 +175,7 @@ fn push_declarer_of(
 ) -> Result<(), Cause>
     ensures added { OnOk result (declarers.new ≡ declarers.old
         ++ map (λ r. class) (chains.entity_at unit.now class).relations) }
-    ensures refused { IfErr result (λ cause. cause ≡ Cause.OutOfMemory) }
+    ensures err { IfErr result (λ cause. cause ≡ Cause.OutOfMemory) }
 {
     match unit.entities.as_slice().get(class) {
         None => Ok(()),
@@ -190,7 +190,7 @@ fn declarers_along(
 ) -> Result<Seq<usize>, Cause>
     ensures found { IfOk result (λ found. found ≡ flat_map
         (λ c. map (λ r. c) (chains.entity_at unit.now c).relations) chain.now) }
-    ensures refused { IfErr result (λ cause. cause ≡ Cause.OutOfMemory) }
+    ensures err { IfErr result (λ cause. cause ≡ Cause.OutOfMemory) }
 {
     let mut found = Seq::new(alloc);
     for class in chain {
@@ -206,7 +206,7 @@ pub(crate) fn lineage_of(
     class: usize,
 ) -> Result<Lineage, Cause>
     ensures found { IfOk result (λ found. found ≡ kept.lineage_of unit.now class) }
-    ensures refused { IfErr result (λ cause. cause ≡ Cause.OutOfMemory) }
+    ensures err { IfErr result (λ cause. cause ≡ Cause.OutOfMemory) }
 {
     let chain = chain_from(alloc, unit, unit.entities.len(), class)?;
     let root_class = first_or(chain.as_slice(), class);

@@ -188,7 +188,7 @@ pub(crate) fn push_names<'a, T: Named>(
 ) -> Result<(), Cause>
     ensures added { OnOk result (drafted.names_in names.new.items
         ≡ drafted.names_in names.old.items ++ map T.name_of items.now) }
-    ensures refused { IfErr result (λ cause. cause ≡ Cause.OutOfMemory) }
+    ensures err { IfErr result (λ cause. cause ≡ Cause.OutOfMemory) }
 {
     for item in items {
         names.push(item.name())?;

@@ -52,7 +52,7 @@ fn push_attribute_columns(
 ) -> Result<(), Cause>
     ensures added { OnOk result (columns.new.items ≡ columns.old.items
         ++ map (λ a. a.column) attributes.now) }
-    ensures refused { IfErr result (λ cause. cause ≡ Cause.OutOfMemory) }
+    ensures err { IfErr result (λ cause. cause ≡ Cause.OutOfMemory) }
 {
     for attribute in attributes {
         columns.push(attribute.column)?;
@@ -63,7 +63,7 @@ fn push_attribute_columns(
 fn push_relation_columns(columns: &mut Vec<i64>, relations: &[DraftRelation]) -> Result<(), Cause>
     ensures added { OnOk result (columns.new.items ≡ columns.old.items
         ++ flat_map (λ r. drafted.side_columns r.side) relations.now) }
-    ensures refused { IfErr result (λ cause. cause ≡ Cause.OutOfMemory) }
+    ensures err { IfErr result (λ cause. cause ≡ Cause.OutOfMemory) }
 {
     for relation in relations {
         if let DraftSide::Column(side) = &relation.side {
@@ -76,7 +76,7 @@ fn push_relation_columns(columns: &mut Vec<i64>, relations: &[DraftRelation]) ->
 fn push_columns(columns: &mut Vec<i64>, entity: &DraftEntity) -> Result<(), Cause>
     ensures added { OnOk result (columns.new.items ≡ columns.old.items
         ++ drafted.columns entity.now) }
-    ensures refused { IfErr result (λ cause. cause ≡ Cause.OutOfMemory) }
+    ensures err { IfErr result (λ cause. cause ≡ Cause.OutOfMemory) }
 {
     if let DraftOrigin::Root(root) = &entity.origin {
         if let Some(version) = &root.version {
@@ -91,7 +91,7 @@ fn push_columns(columns: &mut Vec<i64>, entity: &DraftEntity) -> Result<(), Caus
 pub(crate) fn columns_of(alloc: Global, draft: &Draft, places: &[usize]) -> Result<Vec<i64>, Cause>
     ensures found { IfOk result (λ columns. columns.items
         ≡ drafted.declared_by drafted.columns draft.now places.now) }
-    ensures refused { IfErr result (λ cause. cause ≡ Cause.OutOfMemory) }
+    ensures err { IfErr result (λ cause. cause ≡ Cause.OutOfMemory) }
 {
     let mut columns = Vec::new(alloc);
     for class in places {
@@ -105,7 +105,7 @@ pub(crate) fn columns_of(alloc: Global, draft: &Draft, places: &[usize]) -> Resu
 fn push_join_tables(tables: &mut Vec<i64>, relations: &[DraftRelation]) -> Result<(), Cause>
     ensures added { OnOk result (tables.new.items ≡ tables.old.items
         ++ flat_map (λ r. drafted.join_tables r.side) relations.now) }
-    ensures refused { IfErr result (λ cause. cause ≡ Cause.OutOfMemory) }
+    ensures err { IfErr result (λ cause. cause ≡ Cause.OutOfMemory) }
 {
     for relation in relations {
         if let DraftSide::JoinTable(table) = &relation.side {
@@ -118,7 +118,7 @@ fn push_join_tables(tables: &mut Vec<i64>, relations: &[DraftRelation]) -> Resul
 fn push_tables(tables: &mut Vec<i64>, entity: &DraftEntity) -> Result<(), Cause>
     ensures added { OnOk result (tables.new.items ≡ tables.old.items
         ++ drafted.tables entity.now) }
-    ensures refused { IfErr result (λ cause. cause ≡ Cause.OutOfMemory) }
+    ensures err { IfErr result (λ cause. cause ≡ Cause.OutOfMemory) }
 {
     if let DraftOrigin::Root(root) = &entity.origin {
         tables.push(root.table)?;
@@ -129,7 +129,7 @@ fn push_tables(tables: &mut Vec<i64>, entity: &DraftEntity) -> Result<(), Cause>
 /// The tables of all roots and relations.
 pub(crate) fn tables_of(alloc: Global, entities: &[DraftEntity]) -> Result<Vec<i64>, Cause>
     ensures found { IfOk result (λ tables. tables.items ≡ flat_map drafted.tables entities.now) }
-    ensures refused { IfErr result (λ cause. cause ≡ Cause.OutOfMemory) }
+    ensures err { IfErr result (λ cause. cause ≡ Cause.OutOfMemory) }
 {
     let mut tables = Vec::new(alloc);
     for entity in entities {

@@ -31,7 +31,7 @@ pub(crate) fn stands_together(
 ) -> Result<bool, Cause>
     requires { chains.now ≡ drafted.chains draft.now }
     ensures judged { IfOk result (λ b. b ≡ well.stands_together draft.now) }
-    ensures refused { IfErr result (λ cause. cause ≡ Cause.OutOfMemory) }
+    ensures err { IfErr result (λ cause. cause ≡ Cause.OutOfMemory) }
 {
     if !has_roots(draft, chains) {
         return Ok(false);

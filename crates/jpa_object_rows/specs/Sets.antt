@@ -1,5 +1,6 @@
 -- What rows stand for: the set of stored objects, the pairs of an owner, and the next numbers.
-use Rattle.std.specs.Prelude.{◌≡◌, ℕ, pos, negsuc, true, ◌==◌, List, [], ◌∷◌, map, Option, Some, None, option_map, if◌then◌else◌}
+use Rattle.std.specs.Prelude.{◌≡◌, ℕ, pos, negsuc, true, ◌==◌, List, [], ◌∷◌, map, Option, Some, None, option_map}
+use Rattle.std.specs.Prelude.{if◌then◌else◌}
 use Rattle.std.specs.List.{flat_map, zip, AllByRecursion}
 use Rattle.std.specs.FinMap.{find, put}
 use Rattle.std.specs.Ordering.{nat_cmp}
@@ -66,7 +67,8 @@ AreOnes join rows = AllByRecursion (λ e. e.1 ≡ pair_row) (table_rows join row
 
 -- and so are those of each join table
 abbrev pub HoldsOnes : PersistenceUnit → Rows → Type 0
-HoldsOnes m rows = (class : ℕ) → is_class m class ≡ true → AllByRecursion (λ join. AreOnes join rows) (joins_of (relations_of m class))
+HoldsOnes m rows = (class : ℕ) → is_class m class ≡ true → AllByRecursion (λ join. AreOnes join rows)
+    (joins_of (relations_of m class))
 
 -- rows of a unit: rising, each a row of the table that its id names and with a column, those of
 -- join tables pairs
@@ -100,7 +102,8 @@ number_in (Some row) = next_in (content_at 0 row)
 
 -- the next number of a root with generated keys, 1 of other classes
 abbrev pub next_at : Rows → Origin → ℕ
-next_at rows (Origin.Root root) = if root.generated then number_in (find identity_cmp (number_id root.table) rows) else 1
+next_at rows (Origin.Root root) =
+    if root.generated then number_in (find identity_cmp (number_id root.table) rows) else 1
 next_at rows (Origin.Extends parent) = 1
 
 -- the next numbers of all classes

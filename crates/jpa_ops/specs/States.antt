@@ -1,7 +1,8 @@
 -- persist, remove, refresh and detach, and what detaches objects (Jakarta Persistence 3.1, chapters
 -- 3.2.2 persist, 3.2.3 remove, 3.2.5 refresh, 3.2.6 detach, 3.2.7 detached entities, 3.4.4 lock
 -- modes, 2.4 generated keys).
-use Rattle.std.specs.Prelude.{ℕ, suc, pos, is_some, Bool, true, false, not, nat_lt, ◌==◌, List, [], ◌∷◌, slice_index_or, slice_set, Option, Some, None}
+use Rattle.std.specs.Prelude.{ℕ, suc, pos, is_some, Bool, true, false, not, nat_lt, ◌==◌, List, [], ◌∷◌, slice_index_or}
+use Rattle.std.specs.Prelude.{slice_set, Option, Some, None}
 use Rattle.std.specs.List.{list_all}
 use Rattle.jpa_value.specs.declared.value.Value.{Value}
 use Rattle.jpa_value.specs.declared.value.Identity.{Identity}
@@ -21,7 +22,8 @@ use Rattle.jpa_context.specs.declared.Lock.{Lock}
 use Rattle.jpa_context.specs.Steps.{◌>>=◌, ◌>>◌, Done, Op, done, refuse, require, read, change, each}
 use Rattle.jpa_model.specs.Chains.{root_of, root_class, is_versioned}
 use Rattle.jpa_heap.specs.Objects.{is_whole, with_life, object_at}
-use Rattle.jpa_context.specs.Work.{Work, object, state_of, is_managed, entry_of, left, with_lock, instance, row, row_at, identity_at, entered, with_life_of, with_object, with_base, base_of}
+use Rattle.jpa_context.specs.Work.{Work, object, state_of, is_managed, entry_of, left, with_lock, instance, row, row_at}
+use Rattle.jpa_context.specs.Work.{identity_at, entered, with_life_of, with_object, with_base, base_of}
 use Rattle.jpa_context.specs.declared.EntityState.{EntityState}
 use Rattle.jpa_lifecycle.specs.Callbacks.{callback}
 use Rattle.jpa_cascade.specs.declared.Operation.{Operation}
@@ -145,7 +147,8 @@ remove world n = cascaded world Operation.Remove (remove_node world) n
 
 -- the object as its row has it now, which is its new base; the entry keeps its place and its lock
 abbrev pub reloaded : World → ℕ → Identity → Stored → Work → Work
-reloaded world n id x w = with_base n (Some (base_loaded world.model w.view id x)) (with_object n (object_loaded world.model w.manager w.view id x) w)
+reloaded world n id x w = with_base n (Some (base_loaded world.model w.view id x))
+    (with_object n (object_loaded world.model w.manager w.view id x) w)
 
 -- a row must be there, and of the object's class
 abbrev pub refresh_row : World → ℕ → Option Identity → Option Stored → Op (Unit {0})
@@ -202,7 +205,8 @@ detach world n = cascaded world Operation.Detach detach_node n
 -- the objects of the entries are detached, with their state as it is
 abbrev pub detach_each : List Entry → List LiveObject → List LiveObject
 detach_each [] objects = objects
-detach_each (e ∷ es) objects = detach_each es (slice_set objects e.object (with_life (object_at objects e.object) Life.Detached))
+detach_each (e ∷ es) objects =
+    detach_each es (slice_set objects e.object (with_life (object_at objects e.object) Life.Detached))
 
 -- ---- lock
 

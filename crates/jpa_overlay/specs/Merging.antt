@@ -12,9 +12,12 @@ use Rattle.jpa_overlay.specs.Overlay.{Changes, rows_under}
 abbrev pub IsMemory : Cause → Type 0
 IsMemory c = c ≡ cause.OutOfMemory
 
--- What the changes put before the row is handed on, and the row, unless it is changed itself; then these changes are left.
-pub record MergesRow {K : Type 0} (Takes : K → RowId × Row → Result Bool Cause → K → Type 0) (before : Changes) (e : RowId × Row) (out : Result Bool Cause) (after : Changes) (first last : K) : Type 0 where
+-- What the changes put before the row is handed on, and the row, unless it is changed itself; then
+-- these changes are left.
+pub record MergesRow {K : Type 0} (Takes : K → RowId × Row → Result Bool Cause → K → Type 0) (before : Changes)
+    (e : RowId × Row) (out : Result Bool Cause) (after : Changes) (first last : K) : Type 0 where
   pub these : Rows
   pub handed : Hands Takes IsMemory first these out last
-  pub merged : T (is_sorted identity_cmp before) → (rows : Rows) → AreRising (e ∷ rows) → rows_under before (e ∷ rows) ≡ these ++ rows_under after rows
+  pub merged : T (is_sorted identity_cmp before) → (rows : Rows) → AreRising (e ∷ rows) → rows_under before (e ∷ rows)
+      ≡ these ++ rows_under after rows
   pub sorted : T (is_sorted identity_cmp before) → T (is_sorted identity_cmp after)

@@ -25,7 +25,8 @@ with_row id row rows = changed identity_cmp id row rows
 
 -- the first, over no rows, say of each row that the second change what stands there
 abbrev pub Recalls : Changes → Changes → Rows → Type 0
-Recalls stood changes rows = (id : RowId) → IsSome (find identity_cmp id changes) → find identity_cmp id (rows_under stood []) ≡ find identity_cmp id rows
+Recalls stood changes rows = (id : RowId) → IsSome (find identity_cmp id changes) →
+    find identity_cmp id (rows_under stood []) ≡ find identity_cmp id rows
 
 -- ---- the changes alone
 

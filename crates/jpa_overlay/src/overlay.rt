@@ -198,8 +198,8 @@ impl Overlay {
         ensures ok { OnOk result (self.new ≡ with_change id (Some row) self.old) }
         ensures seen { OnOk result ((base : Rows) → AreRising base → rows_under self.new base
             ≡ with_row id (Some row) (rows_under self.old base)) }
-        ensures err { OnErr result (self.new ≡ self.old) }
-        ensures refused { IfErr result (λ cause. cause ≡ Cause.OutOfMemory) }
+        ensures unchanged { OnErr result (self.new ≡ self.old) }
+        ensures err { IfErr result (λ cause. cause ≡ Cause.OutOfMemory) }
     {
         self.change(id, Some(row))
     }
@@ -210,8 +210,8 @@ impl Overlay {
         ensures ok { OnOk result (self.new ≡ with_change id None self.old) }
         ensures seen { OnOk result ((base : Rows) → AreRising base → rows_under self.new base
             ≡ with_row id None (rows_under self.old base)) }
-        ensures err { OnErr result (self.new ≡ self.old) }
-        ensures refused { IfErr result (λ cause. cause ≡ Cause.OutOfMemory) }
+        ensures unchanged { OnErr result (self.new ≡ self.old) }
+        ensures err { IfErr result (λ cause. cause ≡ Cause.OutOfMemory) }
     {
         self.change(id, None)
     }
@@ -227,8 +227,8 @@ impl Overlay {
     /// One change more, in place of that of its row, if there is one.
     fn change(&mut self, id: RowId, row: Option<Row>) -> Result<(), Cause>
         ensures ok { OnOk result (self.new ≡ with_change id row self.old) }
-        ensures err { OnErr result (self.new ≡ self.old) }
-        ensures refused { IfErr result (λ cause. cause ≡ Cause.OutOfMemory) }
+        ensures unchanged { OnErr result (self.new ≡ self.old) }
+        ensures err { IfErr result (λ cause. cause ≡ Cause.OutOfMemory) }
     {
         let place = self.search(&id);
         let entry = Change::new(self.allocator(), id, row)?;

@@ -23,16 +23,30 @@ key_parts = record { name = codes "id"; kind = Kind.Int } ∷ []
 
 -- the root of persons: table 1, generated keys, a version
 abbrev pub person_root : DraftRoot
-person_root = record { table = pos 1; key = key_parts; embedded = None; generated = true; version = Some (record { name = codes "version"; column = pos 1 }) }
+person_root = record {
+  table = pos 1;
+  key = key_parts;
+  embedded = None;
+  generated = true;
+  version = Some (record { name = codes "version"; column = pos 1 });
+}
 
 -- the attributes of a person: a name
 abbrev pub person_attributes : List DraftAttribute
-person_attributes = record { name = codes "name"; kind = Kind.Text; column = pos 2; required = false; converter = None } ∷ []
+person_attributes = record { name = codes "name"; kind = Kind.Text; column = pos 2; required = false; converter = None }
+    ∷ []
 
 -- the orders of a person, which go with the person
 abbrev pub orders_draft : DraftRelation
 orders_draft =
-    record { name = codes "orders"; kind = RelationKind.OneToMany; target = codes "Order"; side = DraftSide.MappedBy (codes "person"); cascade = Cascade.All ∷ []; orphan_removal = true }
+    record {
+      name = codes "orders";
+      kind = RelationKind.OneToMany;
+      target = codes "Order";
+      side = DraftSide.MappedBy (codes "person");
+      cascade = Cascade.All ∷ [];
+      orphan_removal = true;
+    }
 
 -- the entity Person
 abbrev pub person_draft : DraftEntity
@@ -55,7 +69,8 @@ order_key = record { name = codes "number"; kind = Kind.Int } ∷ []
 
 -- the attributes of an order: an amount
 abbrev pub order_attributes : List DraftAttribute
-order_attributes = record { name = codes "amount"; kind = Kind.Int; column = pos 1; required = false; converter = None } ∷ []
+order_attributes = record { name = codes "amount"; kind = Kind.Int; column = pos 1; required = false; converter = None }
+    ∷ []
 
 -- the person of an order
 abbrev pub person_of_draft : DraftRelation
@@ -74,7 +89,8 @@ abbrev pub order_draft : DraftEntity
 order_draft =
     record {
       name = codes "Order";
-      origin = DraftOrigin.Root (record { table = pos 2; key = order_key; embedded = None; generated = false; version = None });
+      origin = DraftOrigin.Root
+          (record { table = pos 2; key = order_key; embedded = None; generated = false; version = None });
       discriminator = None;
       attributes = order_attributes;
       relations = person_of_draft ∷ [];
@@ -101,20 +117,42 @@ persons =
       listeners = [];
       entities = record {
         name = codes "Person";
-        origin = Origin.Root (record { table = 1; key = key_parts; embedded = None; generated = true; version = Some (record { name = codes "version"; column = 1 }) });
+        origin = Origin.Root
+            (record {
+              table = 1;
+              key = key_parts;
+              embedded = None;
+              generated = true;
+              version = Some (record { name = codes "version"; column = 1 });
+            });
         discriminator = codes "Person";
-        attributes = record { name = codes "name"; kind = Kind.Text; column = 2; required = false; converter = None } ∷ [];
-        relations = record { name = codes "orders"; side = Side.OneToMany 0; target = 1; cascade = all_cascades; orphan_removal = true } ∷ [];
+        attributes = record { name = codes "name"; kind = Kind.Text; column = 2; required = false; converter = None }
+            ∷ [];
+        relations = record {
+          name = codes "orders";
+          side = Side.OneToMany 0;
+          target = 1;
+          cascade = all_cascades;
+          orphan_removal = true;
+        } ∷ [];
         listeners = [];
         callbacks = [];
         exclude_default = false;
         exclude_super = false;
       } ∷ record {
         name = codes "Order";
-        origin = Origin.Root (record { table = 2; key = order_key; embedded = None; generated = false; version = None });
+        origin = Origin.Root
+            (record { table = 2; key = order_key; embedded = None; generated = false; version = None });
         discriminator = codes "Order";
-        attributes = record { name = codes "amount"; kind = Kind.Int; column = 1; required = false; converter = None } ∷ [];
-        relations = record { name = codes "person"; side = Side.ManyToOne (record { column = 2; required = false }); target = 0; cascade = no_cascade; orphan_removal = false } ∷ [];
+        attributes = record { name = codes "amount"; kind = Kind.Int; column = 1; required = false; converter = None }
+            ∷ [];
+        relations = record {
+          name = codes "person";
+          side = Side.ManyToOne (record { column = 2; required = false });
+          target = 0;
+          cascade = no_cascade;
+          orphan_removal = false;
+        } ∷ [];
         listeners = [];
         callbacks = [];
         exclude_default = false;

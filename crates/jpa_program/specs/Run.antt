@@ -22,11 +22,13 @@ rows_over g =
       writes = λ space. space.store.writes;
       endures = λ old new Holds. EnduresRows g old.schema old.store.conn new.store.conn Holds;
       wider = λ old new P Q weaker e. rows_wider g old.schema old.store.conn new.store.conn P Q weaker e;
-      then = λ first second third P Q same a b. rows_then g first.schema first.store.conn second.store.conn third.store.conn P Q a (subst (λ schema. EnduresRows g schema second.store.conn third.store.conn Q) same b);
+      then = λ first second third P Q same a b. rows_then g first.schema first.store.conn second.store.conn
+          third.store.conn P Q a (subst (λ schema. EnduresRows g schema second.store.conn third.store.conn Q) same b);
     }
 
 module _ {S L C : Type 0} (g : Ghosts S) (meaning : Meaning L C) where
   -- where the connection is open and its disk clean, the unit's tables have the cells of the
   -- committed set and of its stored next numbers, and no others
   abbrev pub HoldsCommitted : Provided (Space S) L C → Type 0
-  HoldsCommitted p = HoldsCells g (world_in meaning p) (p.rows).store.conn (p.machine).committed (p.machine).stored_numbers
+  HoldsCommitted p = HoldsCells g (world_in meaning p)
+      (p.rows).store.conn (p.machine).committed (p.machine).stored_numbers

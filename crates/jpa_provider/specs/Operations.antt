@@ -16,7 +16,8 @@ use Rattle.jpa_provider.specs.declared.querying.Wanted.{Wanted}
 use Rattle.jpa_provider.specs.declared.replies.Rule.{Rule}
 use Rattle.jpa_machine.specs.Machine.{Machine, kept}
 use Rattle.jpa_machine.specs.Calls.{ended, marks, marks_if_callback, marked_if, object_numbered}
-use Rattle.jpa_machine.specs.Routes.{get_call, set_call, add_call, take_out_call, persist_call, remove_call, refresh_call, detach_call, merge_call, lock_call, find_call, get_reference_call}
+use Rattle.jpa_machine.specs.Routes.{get_call, set_call, add_call, take_out_call, persist_call, remove_call}
+use Rattle.jpa_machine.specs.Routes.{refresh_call, detach_call, merge_call, lock_call, find_call, get_reference_call}
 use Rattle.jpa_machine.specs.Querying.{asked_of, query_call, query_single_call}
 use Rattle.jpa_machine.specs.Step.{IsGivenUp}
 use Rattle.jpa_machine.specs.Invariant.{given_representable}

@@ -1,7 +1,8 @@
 -- The machine that live data stand for: managers, each with the layers of its open transaction over
 -- the committed set, and one of them at work.
 use Rattle.jpa_context.specs.Marks.{Marks, none_marked}
-use Rattle.std.specs.Prelude.{◌≡◌, ◌≢◌, ◌<◌, ◌+◌, ◌⊎◌, ℕ, ℤ, Bool, true, false, List, [], ◌∷◌, length, map, Option, Some, None, Ok, Err, slice_index_or, slice_set, if◌then◌else◌}
+use Rattle.std.specs.Prelude.{◌≡◌, ◌≢◌, ◌<◌, ◌+◌, ◌⊎◌, ℕ, ℤ, Bool, true, false, List, [], ◌∷◌, length, map, Option}
+use Rattle.std.specs.Prelude.{Some, None, Ok, Err, slice_index_or, slice_set, if◌then◌else◌}
 use Rattle.std.specs.List.{filter}
 use Rattle.jpa_value.specs.declared.refusal.Cause.{Cause}
 use Rattle.jpa_value.specs.declared.refusal.Refusal.{Refusal}
@@ -28,7 +29,8 @@ use Rattle.jpa_heap.specs.Objects.{place_of, object_at, with_life}
 use Rattle.jpa_provider.specs.declared.session.Status.{Status}
 use Rattle.jpa_provider.specs.declared.session.EntityManager.{EntityManager}
 use Rattle.jpa_provider.specs.declared.session.Session.{Session}
-use Rattle.jpa_machine.specs.Machine.{Machine, Manager, Transaction, manager_at, is_begun, with_manager, work_of, is_gone, committed_after, rolled_back}
+use Rattle.jpa_machine.specs.Machine.{Machine, Manager, Transaction, manager_at, is_begun, with_manager, work_of}
+use Rattle.jpa_machine.specs.Machine.{is_gone, committed_after, rolled_back}
 use Rattle.jpa_machine.specs.Step.{Step, gives_up}
 use Rattle.jpa_machine.specs.Invariant.{IsMachine, context_of}
 use Rattle.jpa_fetch.specs.Orderly.{IsOrderly}

@@ -27,7 +27,7 @@ fn keep_back_at(
         ≡ ((manager_in managers.old.items place).layers).written }
     ensures told { OnOk result
         (IsKeptBack ((manager_in managers.new.items place).layers).back ids.now) }
-    ensures refused { IfErr result (λ cause. cause ≡ Cause.OutOfMemory) }
+    ensures err { IfErr result (λ cause. cause ≡ Cause.OutOfMemory) }
 {
     managers[place].layers.keep_back(view, ids)
 }
@@ -46,7 +46,7 @@ fn keep_back_if_begun(
     ensures elsewhere { (k : ℕ) → k ≢ place
         → manager_in managers.new.items k ≡ manager_in managers.old.items k }
     ensures told { OnOk result (IsTold manager managers.new.items ids.now place) }
-    ensures refused { IfErr result (λ cause. cause ≡ Cause.OutOfMemory) }
+    ensures err { IfErr result (λ cause. cause ≡ Cause.OutOfMemory) }
 {
     if place != manager && status_of(managers, place).is_begun() {
         keep_back_at(managers, place, view, ids)?;
@@ -68,7 +68,7 @@ fn keep_back_others(
     ensures held { AreHeld view.now.committed managers.old.items manager
         view.now.committed managers.new.items }
     ensures told { OnOk result (AreTold manager managers.new.items ids.now) }
-    ensures refused { IfErr result (λ cause. cause ≡ Cause.OutOfMemory) }
+    ensures err { IfErr result (λ cause. cause ≡ Cause.OutOfMemory) }
 {
     for place in places {
         keep_back_if_begun(managers, *place, manager, view, ids)?;
@@ -97,7 +97,7 @@ pub(crate) fn make_room(
     ensures room { OnOk result (view.new.is_ready ≡ true) }
     ensures beside { OnOk result (AreHeld view.new.committed managers.new.items manager
         view.new.seen managers.new.items) }
-    ensures refused { IfErr result (λ cause. cause ≡ Cause.OutOfMemory) }
+    ensures err { IfErr result (λ cause. cause ≡ Cause.OutOfMemory) }
 {
     keep_back_others(managers, places, manager, view, ids)?;
     view.prepare()

@@ -18,7 +18,7 @@ fn shared(
     entry: Boxed<(Identity, Stored)>,
 ) -> Result<Shared<(Identity, Stored)>, Cause>
     ensures shared { IfOk result (λ e. e ≡ entry) }
-    ensures refused { IfErr result (λ cause. cause ≡ Cause.OutOfMemory) }
+    ensures err { IfErr result (λ cause. cause ≡ Cause.OutOfMemory) }
 {
     let (id, object) = entry.get();
     Ok(Shared::new(alloc, (id.try_copy()?, object.try_copy()?))?)
@@ -30,7 +30,7 @@ fn shared_entries(
     entries: Vec<Boxed<(Identity, Stored)>>,
 ) -> Result<Vec<Shared<(Identity, Stored)>>, Cause>
     ensures all { IfOk result (λ list. list.items ≡ entries.items) }
-    ensures refused { IfErr result (λ cause. cause ≡ Cause.OutOfMemory) }
+    ensures err { IfErr result (λ cause. cause ≡ Cause.OutOfMemory) }
 {
     let mut list = Vec::new(alloc);
     for entry in entries {
@@ -43,7 +43,7 @@ fn shared_entries(
 /// only refusal.
 pub(crate) fn view_of(alloc: Global, committed: StoredSet) -> Result<OpenSet, Cause>
     ensures view { IfOk result (λ view. view ≡ unwritten committed) }
-    ensures refused { IfErr result (λ cause. cause ≡ Cause.OutOfMemory) }
+    ensures err { IfErr result (λ cause. cause ≡ Cause.OutOfMemory) }
 {
     let entries = shared_entries(alloc, committed.into_entries())?;
     OpenSet::new(alloc, entries)

@@ -1,6 +1,7 @@
 -- query and querySingle of a manager (Jakarta Persistence 3.1, chapters 3.10.1, 3.10.8 flush mode,
 -- 4.2.1 SELECT statements, 4.9 SELECT clause).
-use Rattle.std.specs.Prelude.{suc, ℤ, pos, negsuc, Bool, true, false, List, [], ◌∷◌, take, drop, Option, Some, None, ◌&&◌}
+use Rattle.std.specs.Prelude.{suc, ℤ, pos, negsuc, Bool, true, false, List, [], ◌∷◌, take, drop, Option, Some, None}
+use Rattle.std.specs.Prelude.{◌&&◌}
 use Rattle.jpa_value.specs.declared.refusal.Cause.{Cause}
 use Rattle.jpa_value.specs.declared.refusal.Argument.{Argument}
 use Rattle.jpa_value.specs.declared.refusal.State.{State}

@@ -25,6 +25,7 @@ over None below = below
 over (Some c) below = c
 
 -- the changes are the difference: they rise, and none of them leaves a row as it was
-pub record AreDifference {R C : Type 0} (by_row : R → R → Ordering) (base : List (R × C)) (changes : List (R × Option C)) : Type 0 where
+pub record AreDifference {R C : Type 0} (by_row : R → R → Ordering) (base : List (R × C))
+    (changes : List (R × Option C)) : Type 0 where
   pub rising : T (is_sorted by_row changes)
   pub real : (r : R) (c : Option C) → find by_row r changes ≡ Some c → c ≢ find by_row r base

@@ -21,12 +21,15 @@ entry_if by_key (Some k) value entries = put_if by_key k (value k) entries
 
 -- key_at: the key that a row's id spells, if any; value: what the cells of a key's row stand for,
 -- if anything. A row for which either is missing gives no entry
-abbrev pub entries_of : {K R C X : Type 0} → (K → K → Ordering) → (R → Option K) → (K → C → Option X) → List (R × C) → List (K × X)
+abbrev pub entries_of : {K R C X : Type 0} → (K → K → Ordering) → (R → Option K) → (K → C → Option X) → List (R × C) →
+    List (K × X)
 entries_of by_key key_at value [] = []
-entries_of by_key key_at value (row ∷ rows) = entry_if by_key (key_at row.0) (λ k. value k row.1) (entries_of by_key key_at value rows)
+entries_of by_key key_at value (row ∷ rows) =
+    entry_if by_key (key_at row.0) (λ k. value k row.1) (entries_of by_key key_at value rows)
 
 -- row_of spells a key as the id of its row: no other id is read as this key
-pub record Spells {K R : Type 0} (by_key : K → K → Ordering) (by_row : R → R → Ordering) (key_at : R → Option K) (row_of : K → R) : Type 0 where
+pub record Spells {K R : Type 0} (by_key : K → K → Ordering) (by_row : R → R → Ordering) (key_at : R → Option K)
+    (row_of : K → R) : Type 0 where
   pub keys : IsLinearOrder by_key
   pub rows : IsLinearOrder by_row
   pub only : (r : R) (k : K) → key_at r ≡ Some k → row_of k ≡ r

@@ -1,7 +1,8 @@
 -- The cells of a set of stored objects and the next numbers of the generators, and what it is for
 -- the cells of a store to stand for them (Jakarta Persistence 3.1, chapters 2.4 keys and 2.10 to
 -- 2.12 mapping of relations and hierarchies; the form of the cells is this provider's own).
-use Rattle.std.specs.Prelude.{◌≡◌, ◌↔◌, ℕ, ℤ, pos, Bool, true, false, ◌==◌, List, [], ◌∷◌, ◌++◌, slice_index_or, Option, Some, None, if◌then◌else◌, Contains, nat_lt, ◌&&◌, ◌||◌, T}
+use Rattle.std.specs.Prelude.{◌≡◌, ◌↔◌, ℕ, ℤ, pos, Bool, true, false, ◌==◌, List, [], ◌∷◌, ◌++◌, slice_index_or, Option}
+use Rattle.std.specs.Prelude.{Some, None, if◌then◌else◌, Contains, nat_lt, ◌&&◌, ◌||◌, T}
 use Rattle.std.specs.List.{flat_map, filter, zip, list_any, list_all}
 use Rattle.std.specs.FinMap.{is_sorted}
 use Rattle.jpa_value.specs.declared.value.Value.{Value}
@@ -57,7 +58,8 @@ column_value world (Some name) v = cell_value (world.column name v)
 
 -- the cells of attributes
 abbrev pub attribute_cells : World → ℕ → List ℕ → List (Attribute × Value) → List Cell
-attribute_cells world table row = flat_map (λ p. value_cell table row (p.0).column (column_value world (p.0).converter p.1))
+attribute_cells world table row =
+    flat_map (λ p. value_cell table row (p.0).column (column_value world (p.0).converter p.1))
 
 -- the cell of a version, where there is one (chapter 3.4.2)
 abbrev pub version_cells : ℕ → List ℕ → Option VersionColumn → Option ℤ → List Cell
@@ -68,11 +70,14 @@ version_cells table row (Some c) (Some n) = value_cell table row c.column (Value
 -- a to-one relation is a column of the row; a pair is a row of the join table; an inverse side is
 -- not written
 abbrev pub relation_cells_of : ℕ → List ℕ → Side → List Identity → List Cell
-relation_cells_of table row (Side.ManyToOne c) ids = flat_map (λ id. cell_if table row c.column (Some (4 ∷ key_bytes id.key))) ids
-relation_cells_of table row (Side.OneToOne c) ids = flat_map (λ id. cell_if table row c.column (Some (4 ∷ key_bytes id.key))) ids
+relation_cells_of table row (Side.ManyToOne c) ids =
+    flat_map (λ id. cell_if table row c.column (Some (4 ∷ key_bytes id.key))) ids
+relation_cells_of table row (Side.OneToOne c) ids =
+    flat_map (λ id. cell_if table row c.column (Some (4 ∷ key_bytes id.key))) ids
 relation_cells_of table row (Side.OneToOneInverse owner) ids = []
 relation_cells_of table row (Side.OneToMany owner) ids = []
-relation_cells_of table row (Side.ManyToMany join) ids = flat_map (λ id. value_cell join (row ++ key_bytes id.key) 0 (Value.Int (pos 1))) ids
+relation_cells_of table row (Side.ManyToMany join) ids =
+    flat_map (λ id. value_cell join (row ++ key_bytes id.key) 0 (Value.Int (pos 1))) ids
 relation_cells_of table row (Side.ManyToManyInverse owner) ids = []
 
 -- the cells of relations
@@ -93,7 +98,8 @@ object_cells world id x =
 
 -- a next number is stored where it is not 1
 abbrev pub number_cells : ℕ → ℕ → List Cell
-number_cells table k = if k == 1 then [] else value_cell 0 (key_bytes (Value.Int (pos table) ∷ [])) 0 (Value.Int (pos k))
+number_cells table k =
+    if k == 1 then [] else value_cell 0 (key_bytes (Value.Int (pos table) ∷ [])) 0 (Value.Int (pos k))
 
 -- the cell of a root's next number, where keys are generated
 abbrev pub generator_cells : Origin → ℕ → List Cell
@@ -105,7 +111,8 @@ generator_cells (Origin.Extends parent) k = []
 abbrev pub rows : World → StoredSet → List ℕ → List Cell
 rows world set numbers =
     flat_map (λ e. object_cells world e.0 e.1) set
-    ++ (flat_map (λ p. generator_cells (p.0).origin p.1) (zip (world.model).entities numbers) ++ number_cells 0 (world.model).revision)
+    ++ (flat_map (λ p. generator_cells (p.0).origin p.1) (zip (world.model).entities numbers)
+    ++ number_cells 0 (world.model).revision)
 
 -- ---- the tables of a persistence unit: 0 for next numbers, those of the roots, and join tables
 
@@ -134,7 +141,8 @@ is_own_cell m c = list_any (λ t. t == c.table) (tables_of m)
 -- among a store's cells those of the unit's tables are these and no others; cells of other tables
 -- are not looked at
 abbrev pub AreRows : World → List Cell → StoredSet → List ℕ → Type 0
-AreRows world cells set numbers = (c : Cell) → Contains (filter (is_own_cell world.model) cells) c ↔ Contains (rows world set numbers) c
+AreRows world cells set numbers =
+    (c : Cell) → Contains (filter (is_own_cell world.model) cells) c ↔ Contains (rows world set numbers) c
 
 -- ---- what a store can hold
 
@@ -151,7 +159,8 @@ passes world a v = is_given (column_value world a.converter v) || is_null v
 
 -- each attribute of a set passes its converter
 abbrev pub all_pass : World → StoredSet → Bool
-all_pass world set = list_all (λ e. list_all (λ p. passes world p.0 p.1) (zip (attributes_of world.model (e.1).class) (e.1).values)) set
+all_pass world set =
+    list_all (λ e. list_all (λ p. passes world p.0 p.1) (zip (attributes_of world.model (e.1).class) (e.1).values)) set
 
 -- a generated key lies from 1 to below the next number
 abbrev pub is_given_before : ℕ → List Value → Bool
@@ -165,7 +174,8 @@ key_given_by numbers root true key = is_given_before (slice_index_or numbers roo
 
 -- each generated key of a set was given by these next numbers
 abbrev pub keys_given : PersistenceUnit → StoredSet → List ℕ → Bool
-keys_given m set numbers = list_all (λ e. key_given_by numbers (root_class m (e.1).class) (root_of m (e.1).class).generated (e.0).key) set
+keys_given m set numbers =
+    list_all (λ e. key_given_by numbers (root_class m (e.1).class) (root_of m (e.1).class).generated (e.0).key) set
 
 -- a number for each class: the next one where it is a root with generated keys, 1 for any other
 abbrev pub is_next : Origin → ℕ → Bool
@@ -187,7 +197,8 @@ version_representable (Some n) = is_i64 n
 
 -- what a stored object holds are values of the program
 abbrev pub holds_representable : Stored → Bool
-holds_representable x = version_representable x.version && (list_all is_representable x.values && list_all (list_all names_representable) x.owned)
+holds_representable x = version_representable x.version
+    && (list_all is_representable x.values && list_all (list_all names_representable) x.owned)
 
 -- what a set holds are values of the program
 abbrev pub all_representable : StoredSet → Bool

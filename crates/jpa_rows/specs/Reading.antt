@@ -1,5 +1,6 @@
 -- What the steps of reading answer.
-use Rattle.std.specs.Prelude.{ℕ, ◌+◌, Bool, true, ◌==◌, ◌&&◌, nat_le, List, [], ◌∷◌, length, Option, Some, None, if◌then◌else◌}
+use Rattle.std.specs.Prelude.{ℕ, ◌+◌, Bool, true, ◌==◌, ◌&&◌, nat_le, List, [], ◌∷◌, length, Option, Some, None}
+use Rattle.std.specs.Prelude.{if◌then◌else◌}
 use Rattle.std.specs.List.{list_all}
 use Rattle.std.specs.Str.{is_utf8}
 use Rattle.jpa_value.specs.Limits.{most_bytes}
@@ -59,7 +60,8 @@ bytes_in bytes = bytes_after (untagged 3 bytes)
 -- the kind of value that bytes of this tag spell
 abbrev pub kind_at : List ℕ → Option Kind
 kind_at [] = None
-kind_at (b ∷ bytes) = if b == 1 then Some Kind.Int else (if b == 2 then Some Kind.Text else (if b == 3 then Some Kind.Bytes else None))
+kind_at (b ∷ bytes) =
+    if b == 1 then Some Kind.Int else (if b == 2 then Some Kind.Text else (if b == 3 then Some Kind.Bytes else None))
 
 -- a column with what it holds
 abbrev pub field : ℕ → Content → Field

@@ -1,5 +1,6 @@
 -- Rows by id, how they are spelled as cells, and what it is for cells to spell one.
-use Rattle.std.specs.Prelude.{◌≡◌, ◌≢◌, IfSome, All, ℕ, ℤ, pos, Bool, true, false, ◌==◌, ◌&&◌, List, [], ◌∷◌, map, find, Option, Some, None, unwrap_or, T}
+use Rattle.std.specs.Prelude.{◌≡◌, ◌≢◌, IfSome, All, ℕ, ℤ, pos, Bool, true, false, ◌==◌, ◌&&◌, List, [], ◌∷◌, map, find}
+use Rattle.std.specs.Prelude.{Option, Some, None, unwrap_or, T}
 use Rattle.std.specs.List.{list_all}
 use Rattle.std.specs.FinMap.{is_sorted}
 use Rattle.std.specs.FinMap.Entries.{where_key}

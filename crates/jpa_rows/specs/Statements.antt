@@ -26,4 +26,5 @@ AreAtMost count old new = (new ≡ old) ⊎ (new ≤ up_to_greatest (old + count
 
 -- all of so many statements ran, or on a refusal some of them
 abbrev pub Counts : {T E : Type 0} → Result T E → ℕ → ℕ → ℕ → Type 0
-Counts r old new statements = OnOk r (new ≡ up_to_greatest (old + statements)) × (old ≤ new) × (new ≤ up_to_greatest (old + statements))
+Counts r old new statements =
+    OnOk r (new ≡ up_to_greatest (old + statements)) × (old ≤ new) × (new ≤ up_to_greatest (old + statements))

@@ -49,7 +49,8 @@ link_rules m target (Some c) = rule c.column (Holds.Reference (kinds_of (root_of
 
 -- the rules of the columns that a class declares
 abbrev pub rules_of_class : PersistenceUnit → Entity → List ColumnRule
-rules_of_class m e = map attribute_rule e.attributes ++ flat_map (λ r. link_rules m r.target (column_of r.side)) e.relations
+rules_of_class m e =
+    map attribute_rule e.attributes ++ flat_map (λ r. link_rules m r.target (column_of r.side)) e.relations
 
 -- the places of the classes
 abbrev pub classes : PersistenceUnit → List ℕ
@@ -61,7 +62,8 @@ classes_below m root = filter (λ class. root_class m class == root) (classes m)
 
 -- the rules of the columns of a hierarchy's table
 abbrev pub rules_of : PersistenceUnit → ℕ → Root → List ColumnRule
-rules_of m class root = rule 0 (Holds.Kind Kind.Text) ∷ version_rules root.version ++ flat_map (λ c. rules_of_class m (entity_at m c)) (classes_below m class)
+rules_of m class root = rule 0 (Holds.Kind Kind.Text) ∷ version_rules root.version
+    ++ flat_map (λ c. rules_of_class m (entity_at m c)) (classes_below m class)
 
 -- ---- tables
 
@@ -75,7 +77,8 @@ next_numbers = record { table = 0; key = Kind.Int ∷ []; columns = one_number }
 
 -- the table of a root; other classes have none of their own
 abbrev pub root_table : PersistenceUnit → ℕ → Origin → List TableRule
-root_table m class (Origin.Root root) = record { table = root.table; key = kinds_of root; columns = rules_of m class root } ∷ []
+root_table m class (Origin.Root root) =
+    record { table = root.table; key = kinds_of root; columns = rules_of m class root } ∷ []
 root_table m class (Origin.Extends parent) = []
 
 -- a pair's row is named by the owner's key and then the target's
@@ -83,7 +86,9 @@ abbrev pub join_table : PersistenceUnit → ℕ → Relation → List TableRule
 join_table m class r = of r.side
   where
     of : Side → List TableRule
-    of (Side.ManyToMany join) = record { table = join; key = kinds_of (root_of m class) ++ kinds_of (root_of m r.target); columns = one_number } ∷ []
+    of (Side.ManyToMany join) =
+        record { table = join; key = kinds_of (root_of m class) ++ kinds_of (root_of m r.target); columns = one_number }
+        ∷ []
     of _ = []
 
 -- the tables that a class declares: its own as a root, and join tables

@@ -26,7 +26,7 @@ impl TryCopy for Field {
 /// An equal row, or none; `OutOfMemory` where a growth was refused.
 pub fn copy_row(row: &Option<Row>) -> Result<Option<Row>, Cause>
     ensures equal { IfOk result (λ copy. copy ≡ row.now) }
-    ensures refused { IfErr result (λ cause. cause ≡ Cause.OutOfMemory) }
+    ensures err { IfErr result (λ cause. cause ≡ Cause.OutOfMemory) }
 {
     match row {
         None => Ok(None),

@@ -47,7 +47,7 @@ fn short_key(found: Option<Key>) -> Option<Key>
 
 fn read_key(alloc: Global, kinds: &[Kind], bytes: &[u8]) -> Result<Option<Key>, Cause>
     ensures spelled { IfOk result (Finds (SpellsKey kinds.now bytes.now)) }
-    ensures refused { IfErr result (λ cause. cause ≡ Cause.OutOfMemory) }
+    ensures err { IfErr result (λ cause. cause ≡ Cause.OutOfMemory) }
 {
     Ok(short_key(decode_key(alloc, kinds, bytes)?))
 }
@@ -59,7 +59,7 @@ fn read_key(alloc: Global, kinds: &[Kind], bytes: &[u8]) -> Result<Option<Key>, 
 pub fn read_id(alloc: Global, table: &TableRule, bytes: &[u8]) -> Result<Option<Key>, Cause>
     ensures spelled { IfOk result (λ found. (key : List Value) → (found ≡ Some key)
         ↔ SpellsId table.now bytes.now key) }
-    ensures refused { IfErr result (λ cause. cause ≡ Cause.OutOfMemory) }
+    ensures err { IfErr result (λ cause. cause ≡ Cause.OutOfMemory) }
 {
     Ok(read_key(alloc, table.key.as_slice(), bytes)?)
 }
@@ -95,14 +95,14 @@ fn part_in(key: Option<Key>) -> Option<Value>
 /// The integer that all of these bytes spell, as the only part of a key.
 fn read_int(alloc: Global, bytes: &[u8]) -> Result<Option<Value>, Cause>
     ensures spelled { IfOk result (Finds (SpellsValue (Holds.Kind Kind.Int) bytes.now)) }
-    ensures refused { IfErr result (λ cause. cause ≡ Cause.OutOfMemory) }
+    ensures err { IfErr result (λ cause. cause ≡ Cause.OutOfMemory) }
 {
     Ok(part_in(decode_key(alloc, &[Kind::Int], bytes)?))
 }
 
 fn text_of(alloc: Global, bytes: &[u8]) -> Result<Option<Value>, Cause>
     ensures ok { IfOk result (λ found. found ≡ reading.text_of bytes.now) }
-    ensures refused { IfErr result (λ cause. cause ≡ Cause.OutOfMemory) }
+    ensures err { IfErr result (λ cause. cause ≡ Cause.OutOfMemory) }
 {
     if bytes.len() > MOST_BYTES {
         return Ok(None);
@@ -115,7 +115,7 @@ fn text_of(alloc: Global, bytes: &[u8]) -> Result<Option<Value>, Cause>
 
 fn text_in(alloc: Global, bytes: &[u8]) -> Result<Option<Value>, Cause>
     ensures ok { IfOk result (λ found. found ≡ reading.text_in bytes.now) }
-    ensures refused { IfErr result (λ cause. cause ≡ Cause.OutOfMemory) }
+    ensures err { IfErr result (λ cause. cause ≡ Cause.OutOfMemory) }
 {
     match untagged(TEXT, bytes) {
         None => Ok(None),
@@ -125,7 +125,7 @@ fn text_in(alloc: Global, bytes: &[u8]) -> Result<Option<Value>, Cause>
 
 fn bytes_of(alloc: Global, bytes: &[u8]) -> Result<Option<Value>, Cause>
     ensures ok { IfOk result (λ found. found ≡ reading.bytes_of bytes.now) }
-    ensures refused { IfErr result (λ cause. cause ≡ Cause.OutOfMemory) }
+    ensures err { IfErr result (λ cause. cause ≡ Cause.OutOfMemory) }
 {
     if bytes.len() > MOST_BYTES {
         return Ok(None);
@@ -135,7 +135,7 @@ fn bytes_of(alloc: Global, bytes: &[u8]) -> Result<Option<Value>, Cause>
 
 fn bytes_in(alloc: Global, bytes: &[u8]) -> Result<Option<Value>, Cause>
     ensures ok { IfOk result (λ found. found ≡ reading.bytes_in bytes.now) }
-    ensures refused { IfErr result (λ cause. cause ≡ Cause.OutOfMemory) }
+    ensures err { IfErr result (λ cause. cause ≡ Cause.OutOfMemory) }
 {
     match untagged(BYTES, bytes) {
         None => Ok(None),
@@ -145,7 +145,7 @@ fn bytes_in(alloc: Global, bytes: &[u8]) -> Result<Option<Value>, Cause>
 
 fn read_value(alloc: Global, kind: Kind, bytes: &[u8]) -> Result<Option<Value>, Cause>
     ensures spelled { IfOk result (Finds (SpellsValue (Holds.Kind kind) bytes.now)) }
-    ensures refused { IfErr result (λ cause. cause ≡ Cause.OutOfMemory) }
+    ensures err { IfErr result (λ cause. cause ≡ Cause.OutOfMemory) }
 {
     match kind {
         Kind::Int => Ok(read_int(alloc, bytes)?),
@@ -171,7 +171,7 @@ fn kind_at(bytes: &[u8]) -> Option<Kind>
 
 fn read_any(alloc: Global, bytes: &[u8]) -> Result<Option<Value>, Cause>
     ensures spelled { IfOk result (Finds (SpellsValue Holds.Any bytes.now)) }
-    ensures refused { IfErr result (λ cause. cause ≡ Cause.OutOfMemory) }
+    ensures err { IfErr result (λ cause. cause ≡ Cause.OutOfMemory) }
 {
     match kind_at(bytes) {
         None => Ok(None),
@@ -183,7 +183,7 @@ fn read_reference(alloc: Global, kinds: &[Kind], bytes: &[u8]) -> Result<Option<
     ensures spelled { IfOk result
         (Finds (λ key. SpellsContent (Holds.Reference kinds.now) bytes.now
         (Content.Reference key))) }
-    ensures refused { IfErr result (λ cause. cause ≡ Cause.OutOfMemory) }
+    ensures err { IfErr result (λ cause. cause ≡ Cause.OutOfMemory) }
 {
     match untagged(REFERENCE, bytes) {
         None => Ok(None),
@@ -216,7 +216,7 @@ fn as_reference(found: Option<Key>) -> Option<Content>
 pub fn read_content(alloc: Global, holds: &Holds, bytes: &[u8]) -> Result<Option<Content>, Cause>
     ensures spelled { IfOk result (λ found. (content : Content) → (found ≡ Some content)
         ↔ SpellsContent holds.now bytes.now content) }
-    ensures refused { IfErr result (λ cause. cause ≡ Cause.OutOfMemory) }
+    ensures err { IfErr result (λ cause. cause ≡ Cause.OutOfMemory) }
 {
     match holds {
         Holds::Kind(kind) => Ok(as_value(read_value(alloc, *kind, bytes)?)),
@@ -252,7 +252,7 @@ fn field_of(column: u32, content: Option<Content>) -> Option<Field>
 
 fn read_field(alloc: Global, table: &TableRule, cell: &(i64, Bytes)) -> Result<Option<Field>, Cause>
     ensures spelled { IfOk result (Finds (SpellsField table.now cell.now)) }
-    ensures refused { IfErr result (λ cause. cause ≡ Cause.OutOfMemory) }
+    ensures err { IfErr result (λ cause. cause ≡ Cause.OutOfMemory) }
 {
     match rule_for(table, cell) {
         None => Ok(None),
@@ -270,7 +270,7 @@ fn read_fields(
     cells: &[(i64, Bytes)],
 ) -> Result<Option<Row>, Cause>
     ensures spelled { IfOk result (Finds (SpellsFields table.now cells.now)) }
-    ensures refused { IfErr result (λ cause. cause ≡ Cause.OutOfMemory) }
+    ensures err { IfErr result (λ cause. cause ≡ Cause.OutOfMemory) }
 {
     let mut row = Seq::new(alloc);
     for cell in cells {
@@ -309,7 +309,7 @@ pub fn read_row(
 ) -> Result<Option<Row>, Cause>
     ensures spelled { IfOk result (λ found. (row : Row) → (found ≡ Some row)
         ↔ SpellsRow table.now cells.now row) }
-    ensures refused { IfErr result (λ cause. cause ≡ Cause.OutOfMemory) }
+    ensures err { IfErr result (λ cause. cause ≡ Cause.OutOfMemory) }
 {
     Ok(rising_row(read_fields(alloc, table, cells)?))
 }

@@ -1,5 +1,6 @@
 -- What is read of rows of cells: the rows that they spell, up to the first that spells none.
-use Rattle.std.specs.Prelude.{◌≡◌, ◌≢◌, ◌⊎◌, ◌↔◌, ℕ, ℤ, pos, ⊤, Bool, Result, Err, List, [], ◌∷◌, ◌++◌, map, Option, Some, None, IsSome}
+use Rattle.std.specs.Prelude.{◌≡◌, ◌≢◌, ◌⊎◌, ◌↔◌, ℕ, ℤ, pos, ⊤, Bool, Result, Err, List, [], ◌∷◌, ◌++◌, map, Option}
+use Rattle.std.specs.Prelude.{Some, None, IsSome}
 use Rattle.jpa_value.specs.declared.refusal.Cause.{Cause}
 use Rattle.jpa_value.specs.declared.refusal.Cause.TheVariants as cause
 use Rattle.jpa_rows.specs.declared.schema.TableRule.{TableRule}
@@ -23,7 +24,8 @@ cells_from = map (λ p. record { column = p.0; value = p.1 })
 -- the row that the cells spell and no other; none where there are no cells
 abbrev pub IsFound : TableRule → List Cell → Option Row → Type 0
 IsFound table [] found = found ≡ None
-IsFound table (cell ∷ cells) found = IsSome found × ((row : Row) → (found ≡ Some row) ↔ SpellsRow table (columns_of (cell ∷ cells)) row)
+IsFound table (cell ∷ cells) found =
+    IsSome found × ((row : Row) → (found ≡ Some row) ↔ SpellsRow table (columns_of (cell ∷ cells)) row)
 
 -- there are cells, and they spell no row of the table
 pub record IsIllFormed (table : TableRule) (cells : List Cell) : Type 0 where
@@ -56,13 +58,17 @@ AreEntries table stored rows = ⊥
 abbrev pub AreRead : TableRule → List CellRow → Rows → Option (List ℕ) → Type 0
 AreRead table stored rows None = AreEntries table stored rows
 AreRead table stored rows (Some bytes) =
-    (before : List CellRow) × (r : CellRow) × (after : List CellRow) × (stored ≡ before ++ r ∷ after) × AreEntries table before rows × IsDamaged table r × (r.row ≡ bytes)
+    (before : List CellRow) × (r : CellRow) × (after : List CellRow) × (stored ≡ before ++ r ∷ after)
+    × AreEntries table before rows × IsDamaged table r × (r.row ≡ bytes)
 
--- A row of cells is handed on as the entry that it spells; where it spells none, that is the refusal. For want of memory none is.
-abbrev pub ReadsRow : {K : Type 0} → (K → RowId × Row → Result Bool Cause → K → Type 0) → TableRule → K → CellRow → Result Bool Cause → K → Type 0
+-- A row of cells is handed on as the entry that it spells; where it spells none, that is the
+-- refusal. For want of memory none is.
+abbrev pub ReadsRow : {K : Type 0} → (K → RowId × Row → Result Bool Cause → K → Type 0) → TableRule → K → CellRow →
+    Result Bool Cause → K → Type 0
 ReadsRow Takes table first stored out last =
     ((e : RowId × Row) × IsEntry table stored e × Takes first e out last)
-    ⊎ (((out ≡ Err cause.OutOfMemory) ⊎ (IsDamaged table stored × (out ≡ Err (cause.Damaged table.table stored.row)))) × (last ≡ first))
+    ⊎ (((out ≡ Err cause.OutOfMemory) ⊎ (IsDamaged table stored × (out ≡ Err (cause.Damaged table.table stored.row))))
+    × (last ≡ first))
 
 -- ---- all tables
 
@@ -74,5 +80,6 @@ IsReadBy (Some table) stored rows = AreRows stored × AreRead table stored rows 
 -- rows that are read of all tables of a schema are those that the tables have
 abbrev pub ReadsAll : Type 0
 ReadsAll =
-    (schema : Schema) (tables : Tables) (rows : Rows) → AreRising rows → ((table : ℕ) → IsReadBy (table_of schema table) (tables (pos table)) (table_rows table rows)) →
+    (schema : Schema) (tables : Tables) (rows : Rows) → AreRising rows →
+    ((table : ℕ) → IsReadBy (table_of schema table) (tables (pos table)) (table_rows table rows)) →
     AreRowsOf schema rows × AreStored schema tables rows

@@ -14,7 +14,13 @@ use Rattle.jpa_rows.specs.Tables.{rule, next_numbers}
 
 -- table 1 by one integer, with an integer in column 0
 abbrev pub numbers : Schema
-numbers = record { tables = record { table = 1; key = Kind.Int ∷ []; columns = record { column = 0; holds = Holds.Kind Kind.Int } ∷ [] } ∷ [] }
+numbers = record {
+  tables = record {
+    table = 1;
+    key = Kind.Int ∷ [];
+    columns = record { column = 0; holds = Holds.Kind Kind.Int } ∷ [];
+  } ∷ [];
+}
 
 -- a key of one integer
 abbrev pub key : ℤ → List Value
@@ -37,11 +43,20 @@ adds_seven = record { id = first; row = Some seven }
 
 -- the table of persons: discriminator, version and name
 abbrev pub persons : TableRule
-persons = record { table = 1; key = Kind.Int ∷ []; columns = rule 0 (Holds.Kind Kind.Text) ∷ rule 1 (Holds.Kind Kind.Int) ∷ rule 2 (Holds.Kind Kind.Text) ∷ [] }
+persons = record {
+  table = 1;
+  key = Kind.Int ∷ [];
+  columns = rule 0 (Holds.Kind Kind.Text) ∷ rule 1 (Holds.Kind Kind.Int) ∷ rule 2 (Holds.Kind Kind.Text) ∷ [];
+}
 
 -- the table of orders: discriminator, version and the person that an order leads to
 abbrev pub orders : TableRule
-orders = record { table = 2; key = Kind.Int ∷ []; columns = rule 0 (Holds.Kind Kind.Text) ∷ rule 1 (Holds.Kind Kind.Int) ∷ rule 2 (Holds.Reference (Kind.Int ∷ [])) ∷ [] }
+orders = record {
+  table = 2;
+  key = Kind.Int ∷ [];
+  columns = rule 0 (Holds.Kind Kind.Text) ∷ rule 1 (Holds.Kind Kind.Int)
+      ∷ rule 2 (Holds.Reference (Kind.Int ∷ [])) ∷ [];
+}
 
 -- the schema of persons and orders
 abbrev pub shop : Schema

@@ -18,7 +18,8 @@ pub record Space (S : Type 0) : Type 0 where
 -- a store of rows has a code where its connection has one
 abbrev pub space_code : {S : Type 0} → Coded S → Coded (Space S)
 space_code {S} store =
-    code_by (Schema × Stored S) (coded× schema.the_row.coded (stored_code store)) (λ s. (s.schema, s.store)) (λ p. record { schema = p.0; store = p.1 }) (λ _. refl)
+    code_by (Schema × Stored S) (coded× schema.the_row.coded (stored_code store)) (λ s. (s.schema, s.store))
+    (λ p. record { schema = p.0; store = p.1 }) (λ _. refl)
 
 module _ {S : Type 0} (g : Ghosts S) where
   -- over a clean disk they are rows of the schema's tables, which an open connection has, and no

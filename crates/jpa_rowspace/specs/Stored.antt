@@ -34,7 +34,8 @@ cells_in (Some row) = map cell_of row
 
 -- a change of a row, as a change of cells
 abbrev pub cell_change : RowChange → CellChange
-cell_change change = record { table = pos (change.id).table; row = key_bytes (change.id).key; cells = cells_in change.row }
+cell_change change =
+    record { table = pos (change.id).table; row = key_bytes (change.id).key; cells = cells_in change.row }
 
 -- changes of rows, as changes of cells
 abbrev pub cell_changes : List RowChange → List CellChange
@@ -69,4 +70,5 @@ pub record AreRowsOf (schema : Schema) (rows : Rows) : Type 0 where
 
 -- each of the schema's tables has its rows of these, as cells, and no others
 abbrev pub AreStored : Schema → Tables → Rows → Type 0
-AreStored schema tables rows = (table : ℕ) → IsSome (table_of schema table) → tables (pos table) ≡ stored_rows table rows
+AreStored schema tables rows =
+    (table : ℕ) → IsSome (table_of schema table) → tables (pos table) ≡ stored_rows table rows

@@ -6,4 +6,5 @@ use Rattle.jpa_stored.specs.Sets.{claim_cmp}
 
 -- the order of claims is total
 pub claim_total : IsTotalOrder claim_cmp
-claim_total = then_total (on_total (λ (c : Claim). c.table) nat_cmp_total) (then_total (on_total (λ (c : Claim). c.column) nat_cmp_total) (on_total (λ (c : Claim). c.target) identity_total))
+claim_total = then_total (on_total (λ (c : Claim). c.table) nat_cmp_total)
+    (then_total (on_total (λ (c : Claim). c.column) nat_cmp_total) (on_total (λ (c : Claim). c.target) identity_total))

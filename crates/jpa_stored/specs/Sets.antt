@@ -1,6 +1,7 @@
 -- Sets of stored objects: a finite map from identities to stored objects, as its entries in rising
 -- order of the identities.
-use Rattle.std.specs.Prelude.{◌≡◌, ℕ, ℤ, Bool, true, false, not, nat_lt, ◌&&◌, ◌==◌, List, [], ◌∷◌, length, map, slice_index_or, Option, Some, None, if◌then◌else◌}
+use Rattle.std.specs.Prelude.{◌≡◌, ℕ, ℤ, Bool, true, false, not, nat_lt, ◌&&◌, ◌==◌, List, [], ◌∷◌, length, map}
+use Rattle.std.specs.Prelude.{slice_index_or, Option, Some, None, if◌then◌else◌}
 use Rattle.std.specs.List.{flat_map, filter, list_any, list_all, zip}
 use Rattle.std.specs.FinMap.Entries.{find, put, where_key}
 use Rattle.jpa_value.specs.declared.value.Value.{Value}
@@ -16,7 +17,8 @@ use Rattle.jpa_model.specs.declared.unit.Attribute.{Attribute}
 use Rattle.jpa_model.specs.declared.unit.Column.{Column}
 use Rattle.jpa_model.specs.declared.unit.Side.{Side}
 use Rattle.jpa_model.specs.declared.unit.Relation.{Relation}
-use Rattle.jpa_model.specs.Chains.{attributes_of, relations_of, relation_at, is_kind_of, is_held_by, root_of, owner_of, column_of}
+use Rattle.jpa_model.specs.Chains.{attributes_of, relations_of, relation_at, is_kind_of, is_held_by, root_of, owner_of}
+use Rattle.jpa_model.specs.Chains.{column_of}
 use Rattle.jpa_stored.specs.declared.claims.Claim.{Claim}
 use Rattle.jpa_stored.specs.declared.stored.Stored.{Stored}
 
@@ -47,7 +49,8 @@ owned_at x r = slice_index_or x.owned r []
 
 -- those of the class or a subclass whose relation leads to the identity, rising
 abbrev pub leading_to : PersistenceUnit → StoredSet → ℕ → ℕ → Identity → List Identity
-leading_to m s class owner id = map (λ e. e.0) (filter (λ e. is_kind_of m (e.1).class class && list_any (same_identity id) (owned_at e.1 owner)) s)
+leading_to m s class owner id =
+    map (λ e. e.0) (filter (λ e. is_kind_of m (e.1).class class && list_any (same_identity id) (owned_at e.1 owner)) s)
 
 -- the identities that an object holds in a relation
 abbrev pub members_by : PersistenceUnit → StoredSet → Identity → Stored → ℕ → ℕ → Option ℕ → List Identity
@@ -56,7 +59,8 @@ members_by m s id x r target (Some owner) = leading_to m s target owner id
 
 -- the identities that an object holds in a relation of its class (chapter 2.9)
 abbrev pub members : PersistenceUnit → StoredSet → Identity → Stored → ℕ → List Identity
-members m s id x r = let relation = relation_at m x.class r in members_by m s id x r relation.target (owner_of relation.side)
+members m s id x r =
+    let relation = relation_at m x.class r in members_by m s id x r relation.target (owner_of relation.side)
 
 -- what an identity holds in the relation at place r of the class; nothing where it is not in the
 -- set or of a class without that relation
@@ -87,7 +91,8 @@ links_there = list_all (λ p. not (is_required (column_of (p.0).side) && is_empt
 -- no object of a set lacks a required value or link
 abbrev pub no_required_null : PersistenceUnit → StoredSet → Bool
 no_required_null m s =
-    list_all (λ e. values_there (zip (attributes_of m (e.1).class) (e.1).values) && links_there (zip (relations_of m (e.1).class) (e.1).owned)) s
+    list_all (λ e. values_there (zip (attributes_of m (e.1).class) (e.1).values)
+    && links_there (zip (relations_of m (e.1).class) (e.1).owned)) s
 
 -- an object of the class or a subclass stands under the identity
 abbrev pub is_of : PersistenceUnit → Option Stored → ℕ → Bool
@@ -96,7 +101,8 @@ is_of m (Some x) class = is_kind_of m x.class class
 
 -- each link and each pair leads to an object of the relation's target class or a subclass
 abbrev pub all_lead : PersistenceUnit → StoredSet → Bool
-all_lead m s = list_all (λ e. list_all (λ p. list_all (λ id. is_of m (stored_at s id) (p.0).target) p.1) (zip (relations_of m (e.1).class) (e.1).owned)) s
+all_lead m s = list_all (λ e. list_all (λ p. list_all (λ id. is_of m (stored_at s id) (p.0).target) p.1)
+    (zip (relations_of m (e.1).class) (e.1).owned)) s
 
 -- the targets owned in oneToOne relations, each with the table and the column of the relation
 abbrev pub one_to_one_column : Side → Option ℕ
@@ -114,11 +120,13 @@ claims_at table (Some column) ids = map (λ id. record { table = table; column =
 
 -- the claims of a set: the targets that objects own in one-to-one relations (chapter 2.9)
 abbrev pub claims : PersistenceUnit → StoredSet → List Claim
-claims m s = flat_map (λ e. flat_map (λ p. claims_at (e.0).table (one_to_one_column (p.0).side) p.1) (zip (relations_of m (e.1).class) (e.1).owned)) s
+claims m s = flat_map (λ e. flat_map (λ p. claims_at (e.0).table (one_to_one_column (p.0).side) p.1)
+    (zip (relations_of m (e.1).class) (e.1).owned)) s
 
 -- by table, then by column, then by target
 abbrev pub claim_cmp : Claim → Claim → Ordering
-claim_cmp a b = ordering_then (nat_cmp a.table b.table) (ordering_then (nat_cmp a.column b.column) (identity_cmp a.target b.target))
+claim_cmp a b = ordering_then (nat_cmp a.table b.table)
+    (ordering_then (nat_cmp a.column b.column) (identity_cmp a.target b.target))
 
 -- whether two claims are the same
 abbrev pub same_claim : Claim → Claim → Bool

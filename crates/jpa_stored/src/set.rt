@@ -89,8 +89,8 @@ impl StoredSet {
     /// memory, which is `OutOfMemory` and the only refusal, the set stays as it was.
     pub fn put(&mut self, id: Identity, object: Stored) -> Result<(), Cause>
         ensures ok { OnOk result (self.new ≡ with_stored id object self.old) }
-        ensures err { OnErr result (self.new ≡ self.old) }
-        ensures refused { IfErr result (λ cause. cause ≡ Cause.OutOfMemory) }
+        ensures unchanged { OnErr result (self.new ≡ self.old) }
+        ensures err { IfErr result (λ cause. cause ≡ Cause.OutOfMemory) }
     {
         let place = self.search(&id);
         let entry = Boxed::new(self.allocator(), (id, object))?;

@@ -26,7 +26,8 @@ use Rattle.jpa_updates.specs.Updates.{with_view, run_bulk, execute_update}
 
 -- a statement that was checked for arguments of these sorts, asked of a work that sees a set which
 -- a store can hold
-pub record IsAsked (world : World) (query : Query) (sorts : List (Text × Sort)) (typed : Typed) (arguments : List Datum) (w : Work) : Type 0 where
+pub record IsAsked (world : World) (query : Query) (sorts : List (Text × Sort)) (typed : Typed) (arguments : List Datum)
+    (w : Work) : Type 0 where
   pub convertible : AnswersConvertible world
   pub inherited : AreInherited world.model
   pub held : CanBeHeld world w.view w.numbers
@@ -40,7 +41,8 @@ pub record IsHeld (world : World) (w v : Work) : Type 0 where
 
 -- the keys of live objects have the parts of their hierarchies; they may be null
 abbrev pub HaveKeys : PersistenceUnit → Work → Type 0
-HaveKeys m w = (n : ℕ) → n < length w.objects → each_fits (λ (part : Part) v. fits part.kind v) (root_of m (object w n).class).key (object w n).key ≡ true
+HaveKeys m w = (n : ℕ) → n < length w.objects → each_fits (λ (part : Part) v. fits part.kind v)
+    (root_of m (object w n).class).key (object w n).key ≡ true
 
 -- What executeUpdate leaves, by what the flush before it left: a set that a store can hold, where
 -- it could hold that one and the values are the program's; nothing else changed.
@@ -52,11 +54,15 @@ pub record IsExecuted (world : World) (flushes : Bool) (w v : Work) : Type 0 whe
 -- executeUpdate of a unit.
 pub record UpdateLaws (world : World) : Type 0 where
   -- what is bound to parameters is of their sorts
-  pub bound : (bindings : List Binding) (w : Work) → HaveKeys world.model w → AreInHeap w.objects bindings → (ds : List Datum) → arguments_of world.model bindings w ≡ Some ds
+  pub bound : (bindings : List Binding) (w : Work) → HaveKeys world.model w → AreInHeap w.objects bindings →
+      (ds : List Datum) → arguments_of world.model bindings w ≡ Some ds
       → are_of world.model (sorts_of world.model bindings w) ds ≡ true
   -- the set that is seen then a store can hold, where its values are the program's
-  pub kept : (query : Query) (sorts : List (Text × Sort)) (q : Statement) (w v : Work) (k : ℕ) → IsAsked world query sorts q.typed q.arguments w
+  pub kept : (query : Query) (sorts : List (Text × Sort)) (q : Statement) (w v : Work) (k : ℕ) →
+      IsAsked world query sorts q.typed q.arguments w
       → run_bulk world q w ≡ Done k v → all_representable v.view ≡ true → IsHeld world w v
   -- what was bound is what was checked, so that of the flush alone something is asked
-  pub executed : (is_active flushes : Bool) (text : Text) (bindings : List Binding) (w v : Work) (k : ℕ) → AnswersConvertible world → AreInherited world.model
-      → HaveKeys world.model w → AreInHeap w.objects bindings → execute_update world is_active flushes text bindings w ≡ Done k v → IsExecuted world flushes w v
+  pub executed : (is_active flushes : Bool) (text : Text) (bindings : List Binding) (w v : Work) (k : ℕ) →
+      AnswersConvertible world → AreInherited world.model
+      → HaveKeys world.model w → AreInHeap w.objects bindings → execute_update world is_active flushes text bindings w
+      ≡ Done k v → IsExecuted world flushes w v

@@ -44,8 +44,10 @@ judged_bulk m is_active text bindings = do
 -- SELECT makes nothing
 abbrev pub changed_by : World → Typed → List Datum → StoredSet → Result Changed Cause
 changed_by world (Typed.Select q) arguments s = Err (Cause.IllegalState State.Statement)
-changed_by world (Typed.Update class assignments filter) arguments s = updated world.model s arguments (throws_in world) class assignments filter
-changed_by world (Typed.Delete class is_named filter) arguments s = deleted world.model s arguments class is_named filter
+changed_by world (Typed.Update class assignments filter) arguments s =
+    updated world.model s arguments (throws_in world) class assignments filter
+changed_by world (Typed.Delete class is_named filter) arguments s =
+    deleted world.model s arguments class is_named filter
 
 -- a work that sees this set
 abbrev pub with_view : StoredSet → Work → Work

@@ -1,5 +1,6 @@
 -- Values: which fit a kind, and how they are ordered.
-use Rattle.std.specs.Prelude.{ℕ, ℤ, pos, negsuc, Bool, true, false, List, [], length, nat_le, nat_lt, Option, Some, None, option_map}
+use Rattle.std.specs.Prelude.{ℕ, ℤ, pos, negsuc, Bool, true, false, List, [], length, nat_le, nat_lt, Option, Some}
+use Rattle.std.specs.Prelude.{None, option_map}
 use Rattle.std.specs.List.{list_all}
 use Rattle.std.specs.Str.{is_utf8}
 use Rattle.std.specs.declared.cmp.Ordering.{Ordering}
@@ -59,7 +60,8 @@ bytes_in (Value.Bytes bytes) = bytes
 -- the order of values: by rank, then by number, then byte by byte
 abbrev pub value_cmp : Value → Value → Ordering
 value_cmp a b =
-    ordering_then (nat_cmp (rank a) (rank b)) (ordering_then (int_cmp (number_in a) (number_in b)) (slice_cmp nat_cmp (bytes_in a) (bytes_in b)))
+    ordering_then (nat_cmp (rank a) (rank b))
+    (ordering_then (int_cmp (number_in a) (number_in b)) (slice_cmp nat_cmp (bytes_in a) (bytes_in b)))
 
 -- part by part
 abbrev pub key_cmp : List Value → List Value → Ordering

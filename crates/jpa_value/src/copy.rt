@@ -11,7 +11,7 @@ pub trait TryCopy: Drop {
     /// An equal value; `OutOfMemory` where a growth was refused.
     fn try_copy(&self) -> Result<Self, Cause>
         ensures equal { IfOk result (λ copy. copy ≡ self.now) }
-        ensures refused { IfErr result (λ cause. cause ≡ Cause.OutOfMemory) };
+        ensures err { IfErr result (λ cause. cause ≡ Cause.OutOfMemory) };
 }
 
 impl TryCopy for Text {

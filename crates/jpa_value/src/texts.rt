@@ -135,7 +135,7 @@ impl Cause {
     /// Its detail, where it has one; `OutOfMemory` where a growth was refused.
     pub fn detail(&self, alloc: Global) -> Result<Option<Text>, Cause>
         ensures ok { IfOk result (λ detail. detail ≡ refusals.cause_detail self.now) }
-        ensures refused { IfErr result (λ cause. cause ≡ Cause.OutOfMemory) }
+        ensures err { IfErr result (λ cause. cause ≡ Cause.OutOfMemory) }
     {
         let word = match self {
             Cause::IllegalArgument(argument) => argument.name(),
@@ -156,7 +156,7 @@ impl Cause {
     /// Its text: `Name` or `Name(detail)`; `OutOfMemory` where a growth was refused.
     pub fn text(&self, alloc: Global) -> Result<Text, Cause>
         ensures ok { IfOk result (λ text. text ≡ refusals.cause_text self.now) }
-        ensures refused { IfErr result (λ cause. cause ≡ Cause.OutOfMemory) }
+        ensures err { IfErr result (λ cause. cause ≡ Cause.OutOfMemory) }
     {
         match self.detail(alloc)? {
             None => Ok(Text::of(alloc, self.name())?),
@@ -190,7 +190,7 @@ impl Refusal {
     /// roll back; `OutOfMemory` where a growth was refused.
     pub fn detail(&self, alloc: Global) -> Result<Option<Text>, Cause>
         ensures ok { IfOk result (λ detail. detail ≡ refusals.refusal_detail self.now) }
-        ensures refused { IfErr result (λ cause. cause ≡ Cause.OutOfMemory) }
+        ensures err { IfErr result (λ cause. cause ≡ Cause.OutOfMemory) }
     {
         match self {
             Refusal::Because(cause) => cause.detail(alloc),
@@ -204,7 +204,7 @@ impl Refusal {
 /// `Damaged(1:018000000000000001)`; `OutOfMemory` where a growth was refused.
 pub fn refusal_text(alloc: Global, refusal: &Refusal) -> Result<Text, Cause>
     ensures ok { IfOk result (λ text. text ≡ refusals.refusal_text refusal.now) }
-    ensures refused { IfErr result (λ cause. cause ≡ Cause.OutOfMemory) }
+    ensures err { IfErr result (λ cause. cause ≡ Cause.OutOfMemory) }
 {
     match refusal.detail(alloc)? {
         None => Ok(Text::of(alloc, refusal.name())?),

@@ -1,7 +1,8 @@
 -- Identities read off row ids: what is read off the bytes is a guess, which counts only where its
 -- own bytes are the given ones. So each identity has one spelling, also among rows that no program
 -- wrote.
-use Rattle.std.specs.Prelude.{ℕ, Bool, false, ◌==◌, ◌&&◌, not, is_some, List, ◌++◌, length, drop, find, Option, Some, None, option_map, if◌then◌else◌}
+use Rattle.std.specs.Prelude.{ℕ, Bool, false, ◌==◌, ◌&&◌, not, is_some, List, ◌++◌, length, drop, find, Option, Some}
+use Rattle.std.specs.Prelude.{None, option_map, if◌then◌else◌}
 use Rattle.std.specs.List.{list_any}
 use Rattle.jpa_value.specs.declared.value.Value.{Value}
 use Rattle.jpa_value.specs.declared.value.Identity.{Identity}
@@ -27,7 +28,8 @@ has_table table (Origin.Extends parent) = false
 
 -- the root with this table
 abbrev pub root_at : PersistenceUnit → ℕ → Option Root
-root_at m table = option_map (λ class. root_in (entity_at m class).origin) (find (λ class. has_table table (entity_at m class).origin) (classes m))
+root_at m table = option_map (λ class. root_in (entity_at m class).origin)
+    (find (λ class. has_table table (entity_at m class).origin) (classes m))
 
 -- the identity with a key that was read, where the row's bytes are the key's own
 abbrev pub identity_if : Root → RowId → Option (List Value) → Option Identity
@@ -77,7 +79,9 @@ abbrev pub target_if : Root → Identity → RowId → Option (List Value) → O
 target_if root owner r None = None
 target_if root owner r (Some key) =
     let target : Identity = record { table = root.table; key = key } in
-    if is_identity_of root target && (names_representable target && same_bytes (key_bytes owner.key ++ key_bytes key) r.row) then Some target else None
+    if is_identity_of root target
+    && (names_representable target && same_bytes (key_bytes owner.key ++ key_bytes key) r.row) then Some target
+    else None
 
 -- the target of this owner's pair, if the row is one: the owner's own bytes are cut off the front.
 -- The join table must be one of the owner's hierarchy. Else a row could be a pair of an identity of
@@ -85,4 +89,5 @@ target_if root owner r (Some key) =
 abbrev pub target_at : PersistenceUnit → ℕ → Identity → ℕ → RowId → Option Identity
 target_at m target owner join r =
     let root = root_of m target in
-    if (r.table == join) && is_join_of m join owner.table then target_if root owner r (key_in (kinds_of root) (drop (length (key_bytes owner.key)) r.row)) else None
+    if (r.table == join) && is_join_of m join owner.table
+    then target_if root owner r (key_in (kinds_of root) (drop (length (key_bytes owner.key)) r.row)) else None

@@ -1,6 +1,7 @@
 -- What the laws ask of a metamodel: tables, discriminators and columns tell roots, classes and what
 -- classes have apart.
-use Rattle.std.specs.Prelude.{◌≡◌, ℕ, pos, Bool, true, ◌==◌, ◌||◌, nat_lt, List, [], ◌∷◌, ◌++◌, map, length, Some, Option, None}
+use Rattle.std.specs.Prelude.{◌≡◌, ℕ, pos, Bool, true, ◌==◌, ◌||◌, nat_lt, List, [], ◌∷◌, ◌++◌, map, length, Some}
+use Rattle.std.specs.Prelude.{Option, None}
 use Rattle.std.specs.List.{flat_map, AllByRecursion}
 use Rattle.jpa_value.specs.Value.{is_i64}
 use Rattle.jpa_model.specs.declared.unit.Column.{Column}
@@ -55,11 +56,14 @@ pub record IsUnambiguous (m : PersistenceUnit) : Type 0 where
   -- a root's table names it
   pub root : (class : ℕ) → is_class m class ≡ true → root_at m (root_of m class).table ≡ Some (root_of m class)
   -- a class has the root of each class above it
-  pub kinds : (class above : ℕ) → is_class m class ≡ true → is_kind_of m class above ≡ true → root_of m class ≡ root_of m above
+  pub kinds : (class above : ℕ) → is_class m class ≡ true → is_kind_of m class above ≡ true →
+      root_of m class ≡ root_of m above
   -- a discriminator names a class of its hierarchy
-  pub discriminator : (class : ℕ) → is_class m class ≡ true → class_in m (root_of m class).table (Some (class_bytes (entity_at m class))) ≡ class
+  pub discriminator : (class : ℕ) → is_class m class ≡ true →
+      class_in m (root_of m class).table (Some (class_bytes (entity_at m class))) ≡ class
   -- no column of a class stands for two things
   pub columns : (class : ℕ) → is_class m class ≡ true → are_distinct_numbers (columns_along m class) ≡ true
   -- the join tables of a class are of its hierarchy, each of one relation
-  pub joins : (class : ℕ) → is_class m class ≡ true → AllByRecursion (λ join. is_join_of m join (root_of m class).table ≡ true) (joins_of (relations_of m class))
+  pub joins : (class : ℕ) → is_class m class ≡ true →
+      AllByRecursion (λ join. is_join_of m join (root_of m class).table ≡ true) (joins_of (relations_of m class))
   pub relations : (class : ℕ) → is_class m class ≡ true → are_distinct_numbers (joins_of (relations_of m class)) ≡ true

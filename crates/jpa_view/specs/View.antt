@@ -1,5 +1,6 @@
 -- The set of stored objects that rows stand for: it has what can be read.
-use Rattle.std.specs.Prelude.{◌≡◌, ℕ, ℤ, pos, negsuc, Bool, true, ◌==◌, ◌&&◌, List, [], ◌∷◌, map, take, find, Option, Some, None, unwrap_or, if◌then◌else◌}
+use Rattle.std.specs.Prelude.{◌≡◌, ℕ, ℤ, pos, negsuc, Bool, true, ◌==◌, ◌&&◌, List, [], ◌∷◌, map, take, find, Option}
+use Rattle.std.specs.Prelude.{Some, None, unwrap_or, if◌then◌else◌}
 use Rattle.std.specs.List.{zip, list_all, AllByRecursion}
 use Rattle.std.specs.FinMap as maps
 use Rattle.std.specs.FinMap.Entries.{where_key}
@@ -35,7 +36,8 @@ abbrev pub value_from : Option (List ℕ) → Value
 value_from None = Value.Null
 value_from (Some []) = Value.Null
 value_from (Some (tag ∷ bytes)) =
-    if tag == 1 then Value.Int (unshifted (from_be_bytes w64 (take 8 bytes))) else if tag == 2 then Value.Text bytes else Value.Bytes bytes
+    if tag == 1 then Value.Int (unshifted (from_be_bytes w64 (take 8 bytes))) else if tag == 2 then Value.Text bytes
+    else Value.Bytes bytes
 
 -- a value from its column: back through its converter (chapter 3.8)
 abbrev pub from_column : World → Option (List ℕ) → Value → Value
@@ -76,8 +78,10 @@ Pairs = ℕ → ℕ → List Identity
 
 -- the identities that a row and its pairs may own along a side
 abbrev pub owned_by : PersistenceUnit → Pairs → Columns → ℕ → Side → List Identity
-owned_by m pairs columns target (Side.ManyToOne c) = link_from (root_of m target) (maps.find int_cmp (pos c.column) columns)
-owned_by m pairs columns target (Side.OneToOne c) = link_from (root_of m target) (maps.find int_cmp (pos c.column) columns)
+owned_by m pairs columns target (Side.ManyToOne c) =
+    link_from (root_of m target) (maps.find int_cmp (pos c.column) columns)
+owned_by m pairs columns target (Side.OneToOne c) =
+    link_from (root_of m target) (maps.find int_cmp (pos c.column) columns)
 owned_by m pairs columns target (Side.OneToOneInverse owner) = []
 owned_by m pairs columns target (Side.OneToMany owner) = []
 owned_by m pairs columns target (Side.ManyToMany join) = pairs join target
@@ -85,7 +89,8 @@ owned_by m pairs columns target (Side.ManyToManyInverse owner) = []
 
 -- whether a class has this discriminator and is of this table's hierarchy
 abbrev pub has_discriminator : PersistenceUnit → ℕ → List ℕ → ℕ → Bool
-has_discriminator m table bytes class = ((root_of m class).table == table) && same_bytes (class_bytes (entity_at m class)) bytes
+has_discriminator m table bytes class =
+    ((root_of m class).table == table) && same_bytes (class_bytes (entity_at m class)) bytes
 
 -- the class of this table's hierarchy with this discriminator
 abbrev pub class_in : PersistenceUnit → ℕ → Option (List ℕ) → ℕ
@@ -112,7 +117,9 @@ guessed world pairs columns class =
 abbrev pub is_storable : World → Identity → Stored → Bool
 is_storable world id x =
     is_shaped world.model id x
-    && (names_representable id && (holds_representable x && list_all (λ p. passes world p.0 p.1) (zip (attributes_of world.model x.class) x.values)))
+    && (names_representable id
+    && (holds_representable x && list_all (λ p. passes world p.0 p.1)
+    (zip (attributes_of world.model x.class) x.values)))
 
 -- each object of a set is one that a row can stand for
 abbrev pub AreStorable : World → StoredSet → Type 0
@@ -120,11 +127,13 @@ AreStorable world = AllByRecursion (λ e. is_storable world e.0 e.1 ≡ true)
 
 -- an object, where it is one that a row can stand for and its columns are these
 abbrev pub stored_if : World → Identity → Columns → Stored → Option Stored
-stored_if world id columns x = if is_storable world id x && same_columns (columns_of world x) columns then Some x else None
+stored_if world id columns x =
+    if is_storable world id x && same_columns (columns_of world x) columns then Some x else None
 
 -- the object that a row and its pairs stand for, if they stand for one
 abbrev pub stored_from : World → Pairs → Identity → Columns → Option Stored
-stored_from world pairs id columns = stored_if world id columns (guessed world pairs columns (class_from world.model id.table columns))
+stored_from world pairs id columns =
+    stored_if world id columns (guessed world pairs columns (class_from world.model id.table columns))
 
 -- ---- pairs
 
@@ -134,7 +143,8 @@ pair_from target columns = if same_columns pair_columns columns then Some true e
 
 -- what an owner holds in join tables, by the rows of its pairs
 abbrev pub pairs_of : PersistenceUnit → Rows → Identity → Pairs
-pairs_of m rows owner join target = map (λ e. e.0) (entries_of identity_cmp (target_at m target owner join) pair_from rows)
+pairs_of m rows owner join target =
+    map (λ e. e.0) (entries_of identity_cmp (target_at m target owner join) pair_from rows)
 
 -- ---- the set
 
@@ -175,7 +185,8 @@ table_rows table rows = where_key row_cmp (λ r. r.table == table) rows
 
 -- the objects read off the rows of a table
 abbrev pub scanned : World → ℕ → Rows → StoredSet
-scanned world table rows = entries_of identity_cmp (identity_at world.model) (stored_in world rows) (table_rows table rows)
+scanned world table rows =
+    entries_of identity_cmp (identity_at world.model) (stored_in world rows) (table_rows table rows)
 
 -- ---- next numbers: 1 where no row says another one
 

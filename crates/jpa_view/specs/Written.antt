@@ -107,7 +107,8 @@ with_joins owner (p ∷ ps) rows = with_side owner (p.0).side p.1 (with_joins ow
 
 -- rows with those of an object: its main row and its pairs
 abbrev pub with_object : World → Identity → Stored → Rows → Rows
-with_object world id x rows = put row_cmp (row_of id) (columns_of world x) (with_joins id (zip (relations_of world.model x.class) x.owned) rows)
+with_object world id x rows =
+    put row_cmp (row_of id) (columns_of world x) (with_joins id (zip (relations_of world.model x.class) x.owned) rows)
 
 -- rows with those of all objects of a set
 abbrev pub with_set : World → StoredSet → Rows → Rows
@@ -135,7 +136,8 @@ without_joins owner (p ∷ ps) rows = without_side owner (p.0).side p.1 (without
 
 -- rows without those of an object
 abbrev pub without_object : World → Identity → Stored → Rows → Rows
-without_object world id x rows = dropped row_cmp (row_of id) (without_joins id (zip (relations_of world.model x.class) x.owned) rows)
+without_object world id x rows =
+    dropped row_cmp (row_of id) (without_joins id (zip (relations_of world.model x.class) x.owned) rows)
 
 -- ---- next numbers: a row of table 0 for each that is not 1
 

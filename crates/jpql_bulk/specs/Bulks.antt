@@ -24,11 +24,13 @@ set_drops run all t = list_any (bulk.assignment_drops run.metamodel.now (now run
 -- those whose tuple has no null step
 abbrev pub there : Run → Bool → List TypedAssignment → Option TypedCondition → List Entry → List Entry
 there run is_named all where_ es =
-    filter (λ e. not (set_drops run all (tuple_of run is_named e) || drops_any (any_condition run where_) (tuple_of run is_named e))) es
+    filter (λ e. not (set_drops run all (tuple_of run is_named e) || drops_any (any_condition run where_)
+    (tuple_of run is_named e))) es
 
 -- those for which WHERE is true
 abbrev pub kept_of : Run → Bool → Option TypedCondition → List Entry → Answer (List Entry)
-kept_of run is_named where_ es = kept (λ e. truth_of_any (any_condition run where_) (alone (tuple_of run is_named e))) es
+kept_of run is_named where_ es =
+    kept (λ e. truth_of_any (any_condition run where_) (alone (tuple_of run is_named e))) es
 
 -- the objects that an UPDATE or a DELETE concerns
 abbrev pub concerned : Run → ℕ → Bool → List TypedAssignment → Option TypedCondition → Answer (List Entry)
@@ -38,7 +40,8 @@ concerned run class is_named all where_ =
 -- WHERE leaves of these objects what it leaves of all of their class, whichever are dropped
 abbrev pub LeavesAll : Run → ℕ → Bool → Option TypedCondition → List Entry → Type 0
 LeavesAll run class is_named where_ es =
-    (drops : Entry → Bool) → kept_of run is_named where_ (filter (λ e. not (drops e)) (objects run class)) ≡ kept_of run is_named where_ (filter (λ e. not (drops e)) es)
+    (drops : Entry → Bool) → kept_of run is_named where_ (filter (λ e. not (drops e)) (objects run class))
+    ≡ kept_of run is_named where_ (filter (λ e. not (drops e)) es)
 
 -- what an assignment gives for an object
 abbrev pub assignment_datum : Run → Entry → TypedAssignment → Answer (Member × Datum)

@@ -30,7 +30,8 @@ change_in c = (entry c.object, members_in c.members.items)
 
 module _ (m : PersistenceUnit) (s : StoredSet) (parameters : List Datum) where
   -- the objects that an UPDATE concerns, with what it sets
-  abbrev pub found_by_update : ℕ → List TypedAssignment → Option TypedCondition → Answer (List (Entry × List (Member × Datum)))
+  abbrev pub found_by_update : ℕ → List TypedAssignment → Option TypedCondition →
+      Answer (List (Entry × List (Member × Datum)))
   found_by_update class all where_ =
       bulk.concerned m s parameters class true (λ t. list_any (bulk.assignment_drops m s parameters t) all) where_
       >>= λ found. every (map (bulk.assignments_for m s parameters all) found)

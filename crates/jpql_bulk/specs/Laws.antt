@@ -13,7 +13,9 @@ pub record BulkLaws (m : PersistenceUnit) (s : StoredSet) (ps : List Datum) : Ty
   -- all is computed by the old set, then each object is assigned, in rising order, and put
   pub update : (throws : Throws) (class : ℕ) (all : List TypedAssignment) (where_ : Option TypedCondition)
       → updated m s ps throws class all where_
-      ≡ or_refuse (found_by_update m s ps class all where_) (λ given. each_assigned m throws given and_then λ entries. Ok (put_all entries s, length entries))
+      ≡ or_refuse (found_by_update m s ps class all where_)
+      (λ given. each_assigned m throws given and_then λ entries. Ok (put_all entries s, length entries))
   -- those that are found are taken out
   pub delete : (class : ℕ) (is_named : Bool) (where_ : Option TypedCondition)
-      → deleted m s ps class is_named where_ ≡ or_refuse (found_by_delete m s ps class is_named where_) (λ ids. Ok (without ids s, length ids))
+      → deleted m s ps class is_named where_ ≡ or_refuse (found_by_delete m s ps class is_named where_)
+      (λ ids. Ok (without ids s, length ids))

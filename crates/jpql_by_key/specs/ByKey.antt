@@ -1,6 +1,8 @@
--- The one object that a statement asks by its key: it is one block of one variable, with `WHERE variable.key = x`, the key of one
+-- The one object that a statement asks by its key: it is one block of one variable, with `WHERE
+-- variable.key = x`, the key of one
 -- part, and x a literal or a parameter (chapters 4.4.2 and 4.6.7).
-use Rattle.std.specs.Prelude.{ℕ, Bool, true, false, not, ◌&&◌, ◌||◌, ◌==◌, nat_lt, List, [], ◌∷◌, length, slice_index_or, Option, Some, None, option_and_then, if◌then◌else◌}
+use Rattle.std.specs.Prelude.{ℕ, Bool, true, false, not, ◌&&◌, ◌||◌, ◌==◌, nat_lt, List, [], ◌∷◌, length}
+use Rattle.std.specs.Prelude.{slice_index_or, Option, Some, None, option_and_then, if◌then◌else◌}
 use Rattle.std.specs.List.{list_all}
 use Rattle.jpa_value.specs.declared.value.Identity.{Identity}
 use Rattle.jpa_value.specs.declared.value.Value.{Value}
@@ -173,7 +175,8 @@ module _ (m : PersistenceUnit) where
   -- the table that has the rows of a class
   abbrev pub keyed_table : ℕ → Option ℕ
   keyed_table class =
-      if nat_lt class (length m.entities) && all_below (is_keyed class (root_of m class).table) (length m.entities) then Some (root_of m class).table else None
+      if nat_lt class (length m.entities) && all_below (is_keyed class (root_of m class).table) (length m.entities)
+      then Some (root_of m class).table else None
 
 -- ---- the identity
 
@@ -190,7 +193,8 @@ identity_in None v = None
 -- the identity of the only object that decides what a statement gives, where it asks one by its key
 abbrev pub key_of : PersistenceUnit → List Datum → TypedSelect → Option Identity
 key_of m ps q =
-    if is_own_select m q then identity_in (option_and_then (keyed_table m) (ranged q.sources)) (asked_if_any ps q.filter) else None
+    if is_own_select m q then identity_in (option_and_then (keyed_table m) (ranged q.sources))
+    (asked_if_any ps q.filter) else None
 
 -- the set of what stands under the identity
 abbrev pub only : Identity → Option Stored → StoredSet

@@ -13,7 +13,8 @@ use Rattle.jpql_by_key.specs.ByKey.{key_of, only, owns_no_pairs}
 
 -- other objects decide nothing, the identity has a class's table, and its object owns no pairs
 pub record KeyLaws (m : PersistenceUnit) (ps : List Datum) (q : TypedSelect) (id : Identity) : Type 0 where
-  -- over a set it gives what it gives over the one object with the identity, or over none: the same rows, or the same Overflow
+  -- over a set it gives what it gives over the one object with the identity, or over none: the same
+  -- rows, or the same Overflow
   pub alone : (s : StoredSet) → CanBeLookedUp m s → selected m s ps q ≡ selected m (only id (stored_at s id)) ps q
   -- its table is that of a class's hierarchy
   pub rooted : (class : ℕ) × (class < length m.entities) × ((root_of m class).table ≡ id.table)
@@ -22,4 +23,5 @@ pub record KeyLaws (m : PersistenceUnit) (ps : List Datum) (q : TypedSelect) (id
 
 -- these laws hold of each statement that asks one object by its key
 abbrev pub LawsOfKeys : Type 0
-LawsOfKeys = (m : PersistenceUnit) (ps : List Datum) (q : TypedSelect) (id : Identity) → key_of m ps q ≡ Some id → KeyLaws m ps q id
+LawsOfKeys = (m : PersistenceUnit) (ps : List Datum) (q : TypedSelect) (id : Identity) → key_of m ps q ≡ Some id →
+    KeyLaws m ps q id

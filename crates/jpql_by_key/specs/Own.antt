@@ -1,6 +1,8 @@
--- What the one object of a statement tells by itself: no path goes on from it to another object, and none names what others
+-- What the one object of a statement tells by itself: no path goes on from it to another object,
+-- and none names what others
 -- own, a collection or the inverse side of a relation.
-use Rattle.std.specs.Prelude.{ℕ, zero, suc, Bool, true, false, not, ◌&&◌, ◌||◌, List, [], ◌∷◌, length, Option, Some, None, option_map, is_none}
+use Rattle.std.specs.Prelude.{ℕ, zero, suc, Bool, true, false, not, ◌&&◌, ◌||◌, List, [], ◌∷◌, length, Option, Some}
+use Rattle.std.specs.Prelude.{None, option_map, is_none}
 use Rattle.std.specs.List.{list_all}
 use Rattle.jpa_model.specs.declared.unit.Member.{Member}
 use Rattle.jpa_model.specs.declared.unit.PersistenceUnit.{PersistenceUnit}
@@ -125,4 +127,5 @@ module _ (m : PersistenceUnit) where
   abbrev pub is_own_select : TypedSelect → Bool
   is_own_select q =
       list_all is_own_value q.items
-      && (is_any_own q.filter && (list_all is_own_path q.groups && (is_any_own q.having && list_all is_own_key q.order)))
+      && (is_any_own q.filter
+      && (list_all is_own_path q.groups && (is_any_own q.having && list_all is_own_key q.order)))

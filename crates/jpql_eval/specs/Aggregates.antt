@@ -13,7 +13,8 @@ use Rattle.jpql_eval.specs.Calls.{integer_in}
 -- without those that are the same as one before
 abbrev pub first_ones : {A : Type 0} → (A → A → Bool) → List A → List A → List A
 first_ones same seen [] = []
-first_ones same seen (a ∷ all) = if list_any (λ b. same b a) seen then first_ones same seen all else (a ∷ first_ones same (a ∷ seen) all)
+first_ones same seen (a ∷ all) =
+    if list_any (λ b. same b a) seen then first_ones same seen all else (a ∷ first_ones same (a ∷ seen) all)
 
 -- a list without those that are the same as one before
 abbrev pub once : {A : Type 0} → (A → A → Bool) → List A → List A
@@ -21,7 +22,8 @@ once same = first_ones same []
 
 -- what an aggregate goes by: all that is not null, under DISTINCT each once (chapter 4.9.5)
 abbrev pub counted : Bool → List Datum → List Datum
-counted distinct all = let there = filter (λ a. not (is_nothing a)) all in if distinct then once same_datum there else there
+counted distinct all =
+    let there = filter (λ a. not (is_nothing a)) all in if distinct then once same_datum there else there
 
 -- the sum of integers, however great; other data count as 0
 abbrev pub total : List Datum → ℤ

@@ -59,11 +59,13 @@ substring_of a from = of_one (λ t. of_one (λ f. text (substring t f None)) (in
 
 -- SUBSTRING from a position, of so many characters (chapter 4.7.2)
 abbrev pub substring_upto : Datum → Datum → Datum → Datum
-substring_upto a from n = of_one (λ t. of_one (λ f. of_one (λ k. text (substring t f (Some k))) (integer_in n)) (integer_in from)) (text_in a)
+substring_upto a from n =
+    of_one (λ t. of_one (λ f. of_one (λ k. text (substring t f (Some k))) (integer_in n)) (integer_in from)) (text_in a)
 
 -- LOCATE: where a text stands in another, from a position on (chapter 4.7.2)
 abbrev pub locate_from : Datum → Datum → Datum → Datum
-locate_from x a from = of_one (λ s. of_one (λ t. of_one (λ f. number (pos (locate s t f))) (integer_in from)) (text_in a)) (text_in x)
+locate_from x a from =
+    of_one (λ s. of_one (λ t. of_one (λ f. number (pos (locate s t f))) (integer_in from)) (text_in a)) (text_in x)
 
 -- of one operand, of two, of three
 abbrev pub of_operand : Function → Datum → Answer Datum

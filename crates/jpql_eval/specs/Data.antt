@@ -51,7 +51,8 @@ identity_in (Datum.Entity id) = id
 -- the order of data: values before entities, values by theirs, entities by their identities
 abbrev pub datum_cmp : Datum → Datum → Ordering
 datum_cmp a b =
-    ordering_then (nat_cmp (is_entity a) (is_entity b)) (ordering_then (value_cmp (value_in a) (value_in b)) (identity_cmp (identity_in a) (identity_in b)))
+    ordering_then (nat_cmp (is_entity a) (is_entity b))
+    (ordering_then (value_cmp (value_in a) (value_in b)) (identity_cmp (identity_in a) (identity_in b)))
 
 -- whether a comparison holds, by whether both are the same and by their order
 abbrev pub holds : Comparison → Bool → Ordering → Bool
@@ -68,7 +69,8 @@ holds Comparison.AtLeast same _ = true
 
 -- a comparison with null is unknown
 abbrev pub compared : Comparison → Datum → Datum → Truth
-compared op a b = if is_nothing a || is_nothing b then Truth.Unknown else truth_of (holds op (same_datum a b) (datum_cmp a b))
+compared op a b = if is_nothing a || is_nothing b then Truth.Unknown
+    else truth_of (holds op (same_datum a b) (datum_cmp a b))
 
 -- x IN (a, b) is x = a OR x = b
 abbrev pub among : Datum → List Datum → Truth

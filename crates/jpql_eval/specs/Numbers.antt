@@ -41,5 +41,6 @@ absolute a = gives null
 
 -- the remainder has the dividend's sign, and by 0 it is null; that of the least integer by -1 is 0
 abbrev pub modulo : Datum → Datum → Answer Datum
-modulo (Datum.Plain (Value.Int a)) (Datum.Plain (Value.Int b)) = if nat_eq (nat_abs b) 0 then gives null else integer (int_rem a b)
+modulo (Datum.Plain (Value.Int a)) (Datum.Plain (Value.Int b)) =
+    if nat_eq (nat_abs b) 0 then gives null else integer (int_rem a b)
 modulo a b = gives null

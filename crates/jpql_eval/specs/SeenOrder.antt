@@ -10,7 +10,8 @@ use Rattle.jpql_eval.specs.declared.seen.Seen.{Seen}
 
 -- the order of data is total
 pub datum_total : IsTotalOrder datum_cmp
-datum_total = then_total (on_total is_entity nat_cmp_total) (then_total (on_total value_in value_total) (on_total identity_in identity_total))
+datum_total = then_total (on_total is_entity nat_cmp_total)
+    (then_total (on_total value_in value_total) (on_total identity_in identity_total))
 
 -- the order of what stands for data
 abbrev pub seen_cmp : Seen → Seen → Ordering

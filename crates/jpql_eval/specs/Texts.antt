@@ -1,6 +1,7 @@
 -- Functions of texts, and LIKE (chapters 4.6.10 and 4.7.2). A text is its bytes, and its characters
 -- are the Unicode scalar values that they spell.
-use Rattle.std.specs.Prelude.{ℕ, zero, suc, ◌+◌, nat_le, ℤ, pos, negsuc, ◌+ℤ◌, Bool, true, false, ◌&&◌, ◌||◌, nat_eq, int_le, int_lt, List, [], ◌∷◌, Option, Some, None, if◌then◌else◌, chars, encode_utf8_all}
+use Rattle.std.specs.Prelude.{ℕ, zero, suc, ◌+◌, nat_le, ℤ, pos, negsuc, ◌+ℤ◌, Bool, true, false, ◌&&◌, ◌||◌, nat_eq}
+use Rattle.std.specs.Prelude.{int_le, int_lt, List, [], ◌∷◌, Option, Some, None, if◌then◌else◌, chars, encode_utf8_all}
 use Rattle.std.specs.List.{starts_with}
 use Rattle.jpql_eval.specs.declared.patterns.Mark.{Mark}
 
@@ -20,7 +21,8 @@ is_before at (Some end) = int_lt at end
 abbrev pub those_from : ℕ → ℤ → Option ℤ → List ℕ → List ℕ
 those_from at from end [] = []
 those_from at from end (c ∷ cs) =
-    let more = those_from (at + 1) from end cs in if int_le from (pos at) && is_before (pos at) end then c ∷ more else more
+    let more = those_from (at + 1) from end cs in
+    if int_le from (pos at) && is_before (pos at) end then c ∷ more else more
 
 -- the position behind so many characters, where a number is given
 abbrev pub end_of : ℤ → Option ℤ → Option ℤ
@@ -43,7 +45,8 @@ at_least_one (negsuc n) = 1
 -- position; else 0. An empty text stands at the end too.
 abbrev pub found_from : ℕ → ℕ → List ℕ → List ℕ → ℕ
 found_from at from x [] = if nat_le from at && starts_with nat_eq [] x then at else 0
-found_from at from x (c ∷ cs) = if nat_le from at && starts_with nat_eq (c ∷ cs) x then at else found_from (at + 1) from x cs
+found_from at from x (c ∷ cs) =
+    if nat_le from at && starts_with nat_eq (c ∷ cs) x then at else found_from (at + 1) from x cs
 
 -- the position of a text in another, from one on; 0 where it isn't there (chapter 4.7.2)
 abbrev pub locate : Text → Text → ℤ → ℕ

@@ -1,6 +1,7 @@
 -- What the data of a sort are, and what a member of a class can be set to (chapters 4.6.4 and
 -- 4.11).
-use Rattle.std.specs.Prelude.{◌≡◌, ℕ, Bool, true, false, nat_lt, ◌&&◌, ◌||◌, List, length, slice_get, Option, Some, None, is_some, is_none}
+use Rattle.std.specs.Prelude.{◌≡◌, ℕ, Bool, true, false, nat_lt, ◌&&◌, ◌||◌, List, length, slice_get, Option, Some}
+use Rattle.std.specs.Prelude.{None, is_some, is_none}
 use Rattle.jpa_value.specs.declared.value.Value.{Value}
 use Rattle.jpa_value.specs.declared.value.Kind.{Kind}
 use Rattle.jpa_value.specs.Value.{is_null}
@@ -57,11 +58,13 @@ are_of m = each_fits (λ p d. is_of m p.1 d)
 abbrev pub takes_link : PersistenceUnit → ℕ → ℕ → Datum → Bool
 takes_link m class r (Datum.Plain v) = true
 takes_link m class r (Datum.Entity id) =
-    is_some_that (λ (relation : Relation). is_some (column_of relation.side) && is_identity_of (root_of m relation.target) id) (slice_get (relations_of m class) r)
+    is_some_that (λ (relation : Relation). is_some (column_of relation.side)
+    && is_identity_of (root_of m relation.target) id) (slice_get (relations_of m class) r)
 
 -- a value that an attribute takes is null or of its kind; an entity is not asked
 abbrev pub takes_value : PersistenceUnit → ℕ → ℕ → Datum → Bool
-takes_value m class i (Datum.Plain v) = is_null v || is_some_that (λ (a : Attribute). is_kind a.kind v) (slice_get (attributes_of m class) i)
+takes_value m class i (Datum.Plain v) =
+    is_null v || is_some_that (λ (a : Attribute). is_kind a.kind v) (slice_get (attributes_of m class) i)
 takes_value m class i (Datum.Entity id) = true
 
 -- a version is there to be set; an attribute takes null and its kind; an owned relation to one
@@ -87,8 +90,11 @@ throws_in world a v = throws_by world a.converter v
 
 -- what a class has, each class below it has in the same place
 pub record AreInherited (m : PersistenceUnit) : Type 0 where
-  pub roots : (class kind : ℕ) → nat_lt kind (length m.entities) ≡ true → is_kind_of m kind class ≡ true → root_of m kind ≡ root_of m class
-  pub attributes : (class kind i : ℕ) (a : Attribute) → nat_lt kind (length m.entities) ≡ true → is_kind_of m kind class ≡ true →
+  pub roots : (class kind : ℕ) → nat_lt kind (length m.entities) ≡ true → is_kind_of m kind class ≡ true →
+      root_of m kind ≡ root_of m class
+  pub attributes : (class kind i : ℕ) (a : Attribute) → nat_lt kind (length m.entities) ≡ true →
+      is_kind_of m kind class ≡ true →
       slice_get (attributes_of m class) i ≡ Some a → slice_get (attributes_of m kind) i ≡ Some a
-  pub relations : (class kind r : ℕ) (relation : Relation) → nat_lt kind (length m.entities) ≡ true → is_kind_of m kind class ≡ true →
+  pub relations : (class kind r : ℕ) (relation : Relation) → nat_lt kind (length m.entities) ≡ true →
+      is_kind_of m kind class ≡ true →
       slice_get (relations_of m class) r ≡ Some relation → slice_get (relations_of m kind) r ≡ Some relation

@@ -17,7 +17,8 @@ use Rattle.jpql_kept.specs.Fits.{are_of, throws_in, AreInherited}
 
 -- A statement that was checked for parameters of these sorts, with data of these sorts. A store can
 -- hold the set. The unit's classes inherit, and what a converter answers can stand in a column.
-pub record IsReady (world : World) (s : StoredSet) (numbers : List ℕ) (q : Query) (sorts : List (Text × Sort)) (data_ : List Datum) (typed : Typed) : Type 0 where
+pub record IsReady (world : World) (s : StoredSet) (numbers : List ℕ) (q : Query) (sorts : List (Text × Sort))
+    (data_ : List Datum) (typed : Typed) : Type 0 where
   pub convertible : AnswersConvertible world
   pub inherited : AreInherited world.model
   pub held : CanBeHeld world s numbers
@@ -30,11 +31,13 @@ pub record KeepLaws (world : World) (s : StoredSet) (numbers : List ℕ) : Type 
   -- values of the right kind stand in the attributes, short ones, for which no converter throws; a
   -- version is a number, a link an identity of its hierarchy; identities, classes and generated
   -- keys are what they were
-  pub update : (q : Query) (sorts : List (Text × Sort)) (data_ : List Datum) (class : ℕ) (all : List TypedAssignment) (where_ : Option TypedCondition)
+  pub update : (q : Query) (sorts : List (Text × Sort)) (data_ : List Datum) (class : ℕ) (all : List TypedAssignment)
+      (where_ : Option TypedCondition)
       → IsReady world s numbers q sorts data_ (Typed.Update class all where_)
       → (after : StoredSet) (n : ℕ) → updated world.model s data_ (throws_in world) class all where_ ≡ Ok (after, n)
       → all_representable after ≡ true → IsSound world.model after → CanBeHeld world after numbers
   -- a part of the set is left
-  pub delete : (data_ : List Datum) (class : ℕ) (is_named : Bool) (where_ : Option TypedCondition) → CanBeHeld world s numbers
+  pub delete : (data_ : List Datum) (class : ℕ) (is_named : Bool) (where_ : Option TypedCondition) →
+      CanBeHeld world s numbers
       → (after : StoredSet) (n : ℕ) → deleted world.model s data_ class is_named where_ ≡ Ok (after, n)
       → IsSound world.model after → CanBeHeld world after numbers

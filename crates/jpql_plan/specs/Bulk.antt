@@ -1,5 +1,6 @@
 -- UPDATE and DELETE (chapter 4.11): what they make of a set, by the old set.
-use Rattle.std.specs.Prelude.{ℕ, Bool, true, false, not, ◌||◌, nat_lt, List, [], ◌∷◌, map, length, slice_get, slice_set, Option, Some, None, option_map, if◌then◌else◌, Result, Ok, Err}
+use Rattle.std.specs.Prelude.{ℕ, Bool, true, false, not, ◌||◌, nat_lt, List, [], ◌∷◌, map, length, slice_get, slice_set}
+use Rattle.std.specs.Prelude.{Option, Some, None, option_map, if◌then◌else◌, Result, Ok, Err}
 use Rattle.std.specs.List.{list_any, filter}
 use Rattle.jpa_value.specs.declared.value.Value.{Value}
 use Rattle.jpa_value.specs.declared.refusal.Cause.{Cause}
@@ -56,7 +57,8 @@ throws_at throws (Some a) v = throws a v
 abbrev pub with_attribute : PersistenceUnit → Throws → Stored → ℕ → Datum → Result Stored Cause
 with_attribute m throws x i (Datum.Plain v) =
     require (not (is_too_long v)) Cause.Limit and_then λ _.
-    require (not (throws_at throws (slice_get (attributes_of m x.class) i) v)) (Cause.Persistence Persist.Converter) and_then λ _.
+    require (not (throws_at throws (slice_get (attributes_of m x.class) i) v))
+    (Cause.Persistence Persist.Converter) and_then λ _.
     Ok (record x { values = slice_set x.values i v })
 with_attribute m throws x i (Datum.Entity id) = Ok x
 
@@ -86,7 +88,8 @@ all_assigned m throws x (a ∷ all) = assigned m throws x a.0 a.1 and_then λ y.
 abbrev pub each_assigned : PersistenceUnit → Throws → List (Entry × List (Member × Datum)) → Result (List Entry) Cause
 each_assigned m throws [] = Ok []
 each_assigned m throws (p ∷ ps) =
-    all_assigned m throws (p.0).1 p.1 and_then λ x. each_assigned m throws ps and_then λ more. Ok ((((p.0).0), x) ∷ more)
+    all_assigned m throws (p.0).1 p.1 and_then λ x. each_assigned m throws ps and_then λ more. Ok
+    ((((p.0).0), x) ∷ more)
 
 -- ---- statements
 
@@ -112,11 +115,13 @@ module _ (m : PersistenceUnit) (s : StoredSet) (parameters : List Datum) where
   abbrev pub concerned : ℕ → Bool → (Tuple → Bool) → Option TypedCondition → Answer (List Entry)
   concerned class is_named drops where_ =
       let test = option_map (condition m s parameters) where_ in
-      kept (λ e. truth_of_any test (alone (tuple_of is_named e))) (filter (λ e. not (drops (tuple_of is_named e) || drops_any test (tuple_of is_named e))) (objects m s class))
+      kept (λ e. truth_of_any test (alone (tuple_of is_named e)))
+      (filter (λ e. not (drops (tuple_of is_named e) || drops_any test (tuple_of is_named e))) (objects m s class))
 
   -- what each assignment gives for an object
   abbrev pub assignment_datum : Entry → TypedAssignment → Answer (Member × Datum)
-  assignment_datum e a = under (λ d. (a.member, d)) (if_any null (λ v. value m s parameters v (alone (Some e ∷ []))) a.value)
+  assignment_datum e a =
+      under (λ d. (a.member, d)) (if_any null (λ v. value m s parameters v (alone (Some e ∷ []))) a.value)
 
   -- an object with what each assignment gives for it
   abbrev pub assignments_for : List TypedAssignment → Entry → Answer (Entry × List (Member × Datum))
@@ -125,10 +130,12 @@ module _ (m : PersistenceUnit) (s : StoredSet) (parameters : List Datum) where
   -- an UPDATE: what values were before is assigned to the objects concerned (chapter 4.11)
   abbrev pub updated : Throws → ℕ → List TypedAssignment → Option TypedCondition → Result Changed Cause
   updated throws class all where_ =
-      or_refuse (concerned class true (λ t. list_any (assignment_drops t) all) where_ >>= λ found. every (map (assignments_for all) found)) (λ given.
+      or_refuse (concerned class true (λ t. list_any (assignment_drops t) all) where_
+      >>= λ found. every (map (assignments_for all) found)) (λ given.
       each_assigned m throws given and_then λ entries. Ok (put_all entries s, length entries))
 
   -- a DELETE: the objects concerned are taken out (chapter 4.11)
   abbrev pub deleted : ℕ → Bool → Option TypedCondition → Result Changed Cause
   deleted class is_named where_ =
-      or_refuse (concerned class is_named (λ t. false) where_) (λ found. Ok (without (map (λ (e : Entry). e.0) found) s, length found))
+      or_refuse (concerned class is_named (λ t. false) where_)
+      (λ found. Ok (without (map (λ (e : Entry). e.0) found) s, length found))

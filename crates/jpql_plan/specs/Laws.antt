@@ -1,5 +1,6 @@
 -- Laws of what queries mean, in a reader's words.
-use Rattle.std.specs.Prelude.{◌≡◌, ℕ, Bool, true, false, not, ◌||◌, List, [], ◌∷◌, ◌++◌, map, Option, Some, None, if◌then◌else◌}
+use Rattle.std.specs.Prelude.{◌≡◌, ℕ, Bool, true, false, not, ◌||◌, List, [], ◌∷◌, ◌++◌, map, Option, Some, None}
+use Rattle.std.specs.Prelude.{if◌then◌else◌}
 use Rattle.std.specs.List.{filter, list_any}
 use Rattle.std.specs.List.Sorted.{IsSortedBy, IsStableBy}
 use Rattle.jpa_model.specs.declared.unit.PersistenceUnit.{PersistenceUnit}
@@ -19,7 +20,8 @@ use Rattle.jpql_eval.specs.Truths.{is_yes}
 use Rattle.jpql_eval.specs.Data.{same_data}
 use Rattle.jpql_eval.specs.Aggregates.{once}
 use Rattle.jpql_plan.specs.Paths.{Entry, Tuple, object_at, with_object, objects, related_objects}
-use Rattle.jpql_plan.specs.Meaning.{alone, is_any, in_turn, kept, tuples_where, value, value_drops, condition, truth, source, join, exists}
+use Rattle.jpql_plan.specs.Meaning.{alone, is_any, in_turn, kept, tuples_where, value, value_drops, condition, truth}
+use Rattle.jpql_plan.specs.Meaning.{source, join, exists}
 use Rattle.jpql_plan.specs.Selection.{Row, put_tuples, precedes, in_order}
 
 -- the objects of a class, without joins
@@ -41,11 +43,14 @@ joined_with m s of step t = map (λ (e : Entry). with_object t (Some e)) (relate
 -- FROM and EXISTS (chapters 4.4 and 4.6.16), over a set, with parameters.
 pub record FromLaws (m : PersistenceUnit) (s : StoredSet) (ps : List Datum) : Type 0 where
   -- a range is the objects of its class and those below it, in rising order
-  pub range : (class : ℕ) (t : Tuple) → source m s ps (range_of class) t ≡ gives (map (λ (e : Entry). with_object t (Some e)) (objects m s class))
+  pub range : (class : ℕ) (t : Tuple) → source m s ps (range_of class) t
+      ≡ gives (map (λ (e : Entry). with_object t (Some e)) (objects m s class))
   -- an inner join is a filter of the related objects, and without ON all of them
   pub inner : (of : ℕ) (step : Step) (on : TypedCondition) (t : Tuple)
-      → join m s ps (join_along false of step (Some on)) t ≡ kept (λ e. truth m s ps on (alone e)) (joined_with m s of step t)
-  pub inner_of_all : (of : ℕ) (step : Step) (t : Tuple) → join m s ps (join_along false of step None) t ≡ gives (joined_with m s of step t)
+      → join m s ps (join_along false of step (Some on)) t ≡ kept (λ e. truth m s ps on (alone e))
+      (joined_with m s of step t)
+  pub inner_of_all : (of : ℕ) (step : Step) (t : Tuple) → join m s ps (join_along false of step None) t
+      ≡ gives (joined_with m s of step t)
   -- LEFT JOIN loses no tuple, and where no object is joined gives one with null
   pub left_keeps : (of : ℕ) (step : Step) (on : TypedCondition) (t : Tuple) (found : List Tuple)
       → join m s ps (join_along true of step (Some on)) t ≡ gives found → is_any found ≡ true
@@ -57,24 +62,30 @@ pub record FromLaws (m : PersistenceUnit) (s : StoredSet) (ps : List Datum) : Ty
       → in_turn (map (source m s ps) (all ++ more)) t
       ≡ (in_turn (map (source m s ps) all) t >>= each (in_turn (map (source m s ps) more)))
   -- EXISTS is whether the nested block has a tuple, where its item never overflows
-  pub exists_any : (item : TypedValue) (sources : List TypedSource) (filtered : TypedCondition) (t : Tuple) (left : List Tuple) (gives_item : Tuple → Datum)
-      → tuples_where (map (source m s ps) sources) (λ e. value_drops m s ps item e || (condition m s ps filtered).drops e) (Some (condition m s ps filtered)) t ≡ gives left
+  pub exists_any : (item : TypedValue) (sources : List TypedSource) (filtered : TypedCondition) (t : Tuple)
+      (left : List Tuple) (gives_item : Tuple → Datum)
+      → tuples_where (map (source m s ps) sources)
+      (λ e. value_drops m s ps item e || (condition m s ps filtered).drops e) (Some (condition m s ps filtered)) t
+      ≡ gives left
       → ((e : Tuple) → value m s ps item (alone e) ≡ gives (gives_item e))
       → exists m s ps (block_of item sources filtered) t ≡ gives (is_any left)
 
 -- WHERE, ON and HAVING (chapters 4.5, 4.4.5 and 4.8): what is true is kept.
 pub record WhereLaws (test : Tuple → Answer Truth) (drops : Tuple → Bool) (ts : List Tuple) : Type 0 where
   -- where nothing overflows, it is the filter of what is true
-  pub filtered : (holds : Tuple → Truth) → ((t : Tuple) → test t ≡ gives (holds t)) → kept test ts ≡ gives (filter (λ t. is_yes (holds t)) ts)
+  pub filtered : (holds : Tuple → Truth) → ((t : Tuple) → test t ≡ gives (holds t)) →
+      kept test ts ≡ gives (filter (λ t. is_yes (holds t)) ts)
   -- tuples may be tested one by one
-  pub one_by_one : kept test (filter (λ t. not (drops t)) ts) ≡ each (λ t. if drops t then gives [] else kept test (t ∷ [])) ts
+  pub one_by_one : kept test (filter (λ t. not (drops t)) ts)
+      ≡ each (λ t. if drops t then gives [] else kept test (t ∷ [])) ts
 
 -- ORDER BY (chapter 4.10): the stable sort by the keys.
 pub record OrderLaws (keys : List TypedKey) (rows : List Row) : Type 0 where
   pub sorted : IsSortedBy (precedes keys) (in_order keys rows)
   pub stable : IsStableBy (precedes keys) rows (in_order keys rows)
   -- and there is no other
-  pub one : (others : List Row) → IsSortedBy (precedes keys) others → IsStableBy (precedes keys) rows others → others ≡ in_order keys rows
+  pub one : (others : List Row) → IsSortedBy (precedes keys) others → IsStableBy (precedes keys) rows others →
+      others ≡ in_order keys rows
 
 -- DISTINCT goes by the items of rows.
 abbrev pub is_same_row : Row → Row → Bool
@@ -83,7 +94,8 @@ is_same_row a b = same_data a.items b.items
 -- DISTINCT (chapter 4.9): one more row is kept exactly where no row before it is the same.
 pub record DistinctLaws (rows : List Row) (row : Row) : Type 0 where
   pub one_more : once is_same_row (rows ++ row ∷ [])
-      ≡ (if list_any (λ (before : Row). is_same_row before row) rows then once is_same_row rows else once is_same_row rows ++ row ∷ [])
+      ≡ (if list_any (λ (before : Row). is_same_row before row) rows then once is_same_row rows
+      else once is_same_row rows ++ row ∷ [])
 
 -- the tuples that are grouped by the same as one, and those that aren't
 abbrev pub grouped_with : (Tuple → List Datum) → Tuple → List Tuple → List Tuple
@@ -96,4 +108,5 @@ grouped_apart key t ts = filter (λ u. not (same_data (key t) (key u))) ts
 -- GROUP BY (chapter 4.8) parts the tuples. The first group has the first tuple and all that are
 -- grouped by the same, in their order. The others are the groups of those that are left.
 pub record GroupLaws (key : Tuple → List Datum) (t : Tuple) (ts : List Tuple) : Type 0 where
-  pub first_group : put_tuples key [] (t ∷ ts) ≡ (t ∷ grouped_with key t ts) ∷ put_tuples key [] (grouped_apart key t ts)
+  pub first_group : put_tuples key [] (t ∷ ts) ≡ (t ∷ grouped_with key t ts)
+      ∷ put_tuples key [] (grouped_apart key t ts)

@@ -1,6 +1,7 @@
 -- What a SELECT gives: groups, HAVING, rows, DISTINCT and ORDER BY (chapters 4.8 to 4.10). The cut
 -- is the caller's.
-use Rattle.std.specs.Prelude.{Bool, true, false, ◌||◌, List, [], ◌∷◌, ◌++◌, map, slice_index_or, is_some, option_map, if◌then◌else◌}
+use Rattle.std.specs.Prelude.{Bool, true, false, ◌||◌, List, [], ◌∷◌, ◌++◌, map, slice_index_or, is_some, option_map}
+use Rattle.std.specs.Prelude.{if◌then◌else◌}
 use Rattle.std.specs.List.{list_any}
 use Rattle.std.specs.Ordering.{is_lt, ordering_then}
 use Rattle.std.specs.declared.cmp.Ordering.{Ordering}
@@ -18,7 +19,8 @@ use Rattle.jpql_eval.specs.Answers.{Answer, ◌>>=◌, under, every}
 use Rattle.jpql_eval.specs.Data.{null, same_data, datum_cmp}
 use Rattle.jpql_eval.specs.Aggregates.{once}
 use Rattle.jpql_plan.specs.Paths.{Tuple, path_datum, is_broken}
-use Rattle.jpql_plan.specs.Meaning.{Case, alone, is_any, kept, drops_any, truth_of_any, tuples_where, value, value_drops, condition, source}
+use Rattle.jpql_plan.specs.Meaning.{Case, alone, is_any, kept, drops_any, truth_of_any, tuples_where, value}
+use Rattle.jpql_plan.specs.Meaning.{value_drops, condition, source}
 
 -- ---- groups
 
@@ -131,7 +133,8 @@ module _ (m : PersistenceUnit) (s : StoredSet) (parameters : List Datum) where
   -- whether a tuple has a null step in some path of the block
   abbrev pub select_drops : TypedSelect → Tuple → Bool
   select_drops q t =
-      list_any (λ v. value_drops m s parameters v t) q.items || drops_any (option_map (condition m s parameters) q.filter) t
+      list_any (λ v. value_drops m s parameters v t) q.items
+      || drops_any (option_map (condition m s parameters) q.filter) t
       || list_any (is_broken m s t) q.groups || drops_any (option_map (condition m s parameters) q.having) t
       || list_any (key_breaks t) q.order
 
@@ -146,7 +149,8 @@ module _ (m : PersistenceUnit) (s : StoredSet) (parameters : List Datum) where
   -- a row: what its items give, with what it is ordered by (chapter 4.9)
   abbrev pub row_of : TypedSelect → Case → Answer Row
   row_of q at =
-      under (λ items. record { items = items; keys = map (key_datum items at) q.order }) (every (map (λ v. value m s parameters v at) q.items))
+      under (λ items. record { items = items; keys = map (key_datum items at) q.order })
+      (every (map (λ v. value m s parameters v at) q.items))
 
   -- under DISTINCT the first of rows with the same items, else all rows (chapter 4.9)
   abbrev pub distinct : Bool → List Row → List Row
@@ -155,14 +159,17 @@ module _ (m : PersistenceUnit) (s : StoredSet) (parameters : List Datum) where
   -- the tuples of a SELECT: of FROM, where WHERE is true and no path has a null step
   abbrev pub selected_tuples : TypedSelect → Answer (List Tuple)
   selected_tuples q =
-      tuples_where (map (source m s parameters) q.sources) (select_drops q) (option_map (condition m s parameters) q.filter) []
+      tuples_where (map (source m s parameters) q.sources) (select_drops q)
+      (option_map (condition m s parameters) q.filter) []
 
   -- the rows of what HAVING is true of (chapter 4.8)
   abbrev pub rows_of : TypedSelect → List Case → Answer (List Row)
-  rows_of q cases = kept (truth_of_any (option_map (condition m s parameters) q.having)) cases >>= λ left. every (map (row_of q) left)
+  rows_of q cases = kept (truth_of_any (option_map (condition m s parameters) q.having)) cases
+      >>= λ left. every (map (row_of q) left)
 
   -- the rows that a SELECT gives (chapter 4.2.1)
   abbrev pub selected : TypedSelect → Answer (List (List Datum))
   selected q =
       selected_tuples q >>= λ all.
-      under (λ rows. map (λ (r : Row). r.items) (in_order q.order (distinct q.is_distinct rows))) (rows_of q (cases_of q all))
+      under (λ rows. map (λ (r : Row). r.items) (in_order q.order (distinct q.is_distinct rows)))
+      (rows_of q (cases_of q all))

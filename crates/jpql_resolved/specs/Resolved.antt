@@ -52,7 +52,8 @@ if_written f (Some a) = option_map Some (f a)
 -- in turn, each in the scope that those before it leave
 abbrev pub in_scope : {A : Type 0} → List (Scope → Option (A × Scope)) → Scope → Option (List A × Scope)
 in_scope [] scope = Some ([], scope)
-in_scope (one ∷ more) scope = one scope >>= λ first. option_map (λ rest. (first.0 ∷ rest.0, rest.1)) (in_scope more first.1)
+in_scope (one ∷ more) scope =
+    one scope >>= λ first. option_map (λ rest. (first.0 ∷ rest.0, rest.1)) (in_scope more first.1)
 
 module _ (m : PersistenceUnit) (parameters : List (Text × Sort)) where
   -- ---- values; that the parameters are those that are given, a check asks by itself
@@ -114,7 +115,8 @@ module _ (m : PersistenceUnit) (parameters : List (Text × Sort)) where
   abbrev pub block_step : Block-F Condition-in Block-in Join-in Source-in → Block-in
   block_step b outer =
       in_scope b.sources outer >>= λ from.
-      both (λ item filter. roll-TypedBlock (record { item = item; sources = from.0; filter = filter })) (value from.1 (b.item).value) (if_written (λ c. c from.1) b.filter)
+      both (λ item filter. roll-TypedBlock (record { item = item; sources = from.0; filter = filter }))
+      (value from.1 (b.item).value) (if_written (λ c. c from.1) b.filter)
 
   -- the tree of a join, where its relation and its ON, which may name its variable, mean something
   -- (chapter 4.4.5)
@@ -122,19 +124,24 @@ module _ (m : PersistenceUnit) (parameters : List (Text × Sort)) where
   join_step j scope =
       step_from m scope j.of j.relation >>= λ related. target m related.1 >>= λ class.
       let wider = with_variable scope j.variable class in
-      option_map (λ on. (roll-TypedJoin (record { is_left = j.is_left; of = related.0; step = related.1; on = on }), wider)) (if_written (λ c. c wider) j.on)
+      option_map (λ on. (
+        roll-TypedJoin (record { is_left = j.is_left; of = related.0; step = related.1; on = on }),
+        wider,
+      )) (if_written (λ c. c wider) j.on)
 
   -- what a range ranges over, and its class, where the names mean something (chapter 4.4.3)
   abbrev pub origin : Scope → Origin → Option (TypedOrigin × ℕ)
   origin scope (Origin.Entity name) = option_map (λ class. (TypedOrigin.Entity class, class)) (class_of m name)
-  origin scope (Origin.Related x name) = step_from m scope x name >>= λ related. option_map (λ class. (TypedOrigin.Related related.0 related.1, class)) (target m related.1)
+  origin scope (Origin.Related x name) = step_from m scope x name
+      >>= λ related. option_map (λ class. (TypedOrigin.Related related.0 related.1, class)) (target m related.1)
 
   -- the tree of a range and its joins in turn, where its origin and each join mean something
   -- (chapter 4.4.3)
   abbrev pub source_step : Source-F Condition-in Block-in Join-in Source-in → Source-in
   source_step s scope =
       origin scope s.origin >>= λ from.
-      option_map (λ joins. (roll-TypedSource (record { origin = from.0; joins = joins.0 }), joins.1)) (in_scope s.joins (with_variable scope s.variable from.1))
+      option_map (λ joins. (roll-TypedSource (record { origin = from.0; joins = joins.0 }), joins.1))
+      (in_scope s.joins (with_variable scope s.variable from.1))
 
   -- the tree of a condition in a scope, where its names mean something (chapter 4.6)
   abbrev pub condition : Condition → Condition-in
@@ -165,28 +172,41 @@ module _ (m : PersistenceUnit) (parameters : List (Text × Sort)) where
 
   -- the tree of a key of ORDER BY, where what it names means something (chapter 4.10)
   abbrev pub key_in : Scope → List Item → SortKey → Option TypedKey
-  key_in scope items key = option_map (λ by. record { by = by; is_descending = key.is_descending }) (sorted scope items key.by)
+  key_in scope items key =
+      option_map (λ by. record { by = by; is_descending = key.is_descending }) (sorted scope items key.by)
 
   -- a SELECT in the scope that its FROM makes
   abbrev pub select_in : Select → Scope → List TypedSource → Option TypedSelect
   select_in q scope sources =
-      all_some (map (λ i. value scope i.value) q.items) >>= λ items. filtered scope q.filter >>= λ where_. all_some (map (path_of m scope) q.groups) >>= λ groups.
-      both (λ having order. record { is_distinct = q.is_distinct; items = items; sources = sources; filter = where_; groups = groups; having = having; order = order })
+      all_some (map (λ i. value scope i.value) q.items) >>= λ items. filtered scope q.filter
+      >>= λ where_. all_some (map (path_of m scope) q.groups) >>= λ groups.
+      both (λ having order. record {
+        is_distinct = q.is_distinct;
+        items = items;
+        sources = sources;
+        filter = where_;
+        groups = groups;
+        having = having;
+        order = order;
+      })
       (filtered scope q.having) (all_some (map (key_in scope q.items) q.order))
 
   -- an assignment's tree, if its member, and its value unless NULL, mean something (chapter 4.11)
   abbrev pub assignment : Scope → Assignment → Option TypedAssignment
-  assignment scope a = step_from m scope a.variable a.name >>= λ s. option_map (λ set. record { member = (s.1).member; value = set }) (if_written (value scope) a.value)
+  assignment scope a = step_from m scope a.variable a.name
+      >>= λ s. option_map (λ set. record { member = (s.1).member; value = set }) (if_written (value scope) a.value)
 
   -- the tree of a statement, where each name of an entity, variable, member and item means
   -- something (chapter 4.2)
   abbrev pub statement : Query → Option Typed
-  statement (Query.Select q) = in_scope (map source q.sources) [] >>= λ from. option_map Typed.Select (select_in q from.1 from.0)
+  statement (Query.Select q) =
+      in_scope (map source q.sources) [] >>= λ from. option_map Typed.Select (select_in q from.1 from.0)
   statement (Query.Update entity x assignments where_) =
       class_of m entity >>= λ class.
       let scope = with_variable [] x class in
       both (Typed.Update class) (all_some (map (assignment scope) assignments)) (filtered scope where_)
-  statement (Query.Delete entity x where_) = class_of m entity >>= λ class. option_map (Typed.Delete class (is_some x)) (filtered (scope_of x class) where_)
+  statement (Query.Delete entity x where_) =
+      class_of m entity >>= λ class. option_map (Typed.Delete class (is_some x)) (filtered (scope_of x class) where_)
 
   -- ---- the law: what a check answers is a tree in which each name means something
 

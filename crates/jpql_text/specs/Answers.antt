@@ -22,7 +22,9 @@ IsRead text query = IsQuery text query × IsWithin text × (declared_variables q
 
 -- a text is too long, nests too deep, or is a query with too many variables
 abbrev pub IsOverLimit : Text → Type 0
-IsOverLimit text = (most_query_bytes < length text) ⊎ ((nests_over most_open_parentheses false 0 text ≡ true) ⊎ ((query : Query) × IsQuery text query × (most_query_variables < declared_variables query)))
+IsOverLimit text = (most_query_bytes < length text)
+    ⊎ ((nests_over most_open_parentheses false 0 text ≡ true)
+    ⊎ ((query : Query) × IsQuery text query × (most_query_variables < declared_variables query)))
 
 -- why a text is refused
 abbrev pub IsRefused : Text → Cause → Type 0

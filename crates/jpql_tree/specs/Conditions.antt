@@ -1,6 +1,7 @@
 -- How conditions and nested SELECTs are read from tokens, from the left: each function gives the
 -- tree and the tokens after it.
-use Rattle.std.specs.Prelude.{ℕ, zero, suc, Bool, true, false, ◌&&◌, ◌||◌, List, [], ◌∷◌, ◌++◌, drop, length, Option, Some, None, if◌then◌else◌}
+use Rattle.std.specs.Prelude.{ℕ, zero, suc, Bool, true, false, ◌&&◌, ◌||◌, List, [], ◌∷◌, ◌++◌, drop, length, Option}
+use Rattle.std.specs.Prelude.{Some, None, if◌then◌else◌}
 use Rattle.jpql_tree.specs.declared.token.Keyword.{Keyword}
 use Rattle.jpql_tree.specs.declared.token.Keyword.TheVariants as k
 use Rattle.jpql_tree.specs.declared.token.Mark.{Mark}
@@ -21,7 +22,8 @@ use Rattle.jpql_tree.specs.declared.Block.{Block, roll-Block}
 use Rattle.jpql_tree.specs.declared.Source.{Source, roll-Source}
 use Rattle.jpql_tree.specs.declared.Join.{Join, roll-Join}
 use Rattle.jpql_tree.specs.Grammar.{Text}
-use Rattle.jpql_tree.specs.Values.{Read, ◌>>=◌, is_mark, sees, after, is_word, after_word, optional_word, name_at, variable_at, path_at, list_at, closed, value_at}
+use Rattle.jpql_tree.specs.Values.{Read, ◌>>=◌, is_mark, sees, after, is_word, after_word, optional_word, name_at}
+use Rattle.jpql_tree.specs.Values.{variable_at, path_at, list_at, closed, value_at}
 
 -- ---- "(" before a condition or a value
 
@@ -142,7 +144,8 @@ module _ (n : ℕ) (a : Value) where
 
   -- value AND value, after BETWEEN (chapter 4.6.8)
   unfoldable pub between_at : Read Condition
-  between_at ts = value_at n ts >>= λ b. after_word k.And b.1 >>= λ more. value_at n more >>= λ d. Some (is.Between a b.0 d.0, d.1)
+  between_at ts = value_at n ts >>= λ b. after_word k.And b.1 >>= λ more. value_at n more
+      >>= λ d. Some (is.Between a b.0 d.0, d.1)
 
   -- "(" value {"," value} ")", after IN (chapter 4.6.9)
   unfoldable pub among_at : Read Condition
@@ -178,7 +181,8 @@ valued_at n ts = value_at n ts >>= λ a. tested_at n a.0 (begins_variable ts) a.
 unfoldable pub entities_at : Text → Read Condition
 entities_at x ts =
     let no = optional_word k.Not ts in
-    after_word k.In no.1 >>= λ a. after m.Open a >>= λ b. closed (list_at name_at b) >>= λ all. Some (negated_if no.0 (is.Type x all.0), all.1)
+    after_word k.In no.1 >>= λ a. after m.Open a >>= λ b. closed (list_at name_at b)
+    >>= λ all. Some (negated_if no.0 (is.Type x all.0), all.1)
 
 -- an entity, after "=" or "<>" (chapter 4.7.5)
 unfoldable pub type_is_at : Bool → Text → Read Condition
@@ -207,7 +211,8 @@ named_at ts = variable_at (optional_word k.As ts).1
 
 -- [[AS] name]
 unfoldable pub optional_name_at : Read (Option Text)
-optional_name_at ts = if is_word k.As ts || begins_variable ts then (named_at ts >>= λ w. Some (Some w.0, w.1)) else Some (None, ts)
+optional_name_at ts =
+    if is_word k.As ts || begins_variable ts then (named_at ts >>= λ w. Some (Some w.0, w.1)) else Some (None, ts)
 
 -- value [[AS] name] (chapter 4.9)
 unfoldable pub item_at : ℕ → Read Item
@@ -253,7 +258,8 @@ module _ (inner : Read Condition) where
   -- {join}, at most so many, after those that were found
   unfoldable pub joins_at : ℕ → List Join → Read (List Join)
   joins_at zero found ts = Some (found, ts)
-  joins_at (suc j) found ts = if begins_join ts then (join_at ts >>= λ a. joins_at j (found ++ a.0 ∷ []) a.1) else Some (found, ts)
+  joins_at (suc j) found ts =
+      if begins_join ts then (join_at ts >>= λ a. joins_at j (found ++ a.0 ∷ []) a.1) else Some (found, ts)
 
   -- a range and its joins (chapter 4.4.3)
   unfoldable pub source_at : Bool → Read Source
@@ -266,12 +272,14 @@ module _ (n : ℕ) (inner : Read Condition) where
   unfoldable pub block_at : Read Block
   block_at ts =
       let d = optional_word k.Distinct ts in
-      item_at n d.1 >>= λ i. after_word k.From i.1 >>= λ more. list_at (source_at inner true) more >>= λ xs. clause_at inner k.Where xs.1 >>= λ f.
+      item_at n d.1 >>= λ i. after_word k.From i.1 >>= λ more. list_at (source_at inner true) more
+      >>= λ xs. clause_at inner k.Where xs.1 >>= λ f.
       Some (roll-Block (record { is_distinct = d.0; item = i.0; sources = xs.0; filter = f.0 }), f.1)
 
   -- after EXISTS
   unfoldable pub exists_at : Read Condition
-  exists_at ts = after m.Open ts >>= λ a. after_word k.Select a >>= λ b. closed (block_at b) >>= λ x. Some (is.Exists x.0, x.1)
+  exists_at ts = after m.Open ts >>= λ a. after_word k.Select a >>= λ b. closed (block_at b)
+      >>= λ x. Some (is.Exists x.0, x.1)
 
   -- "(" cond ")", EXISTS, or a test without a condition inside
   unfoldable pub test_at : Read Condition
@@ -287,7 +295,8 @@ module _ (n : ℕ) (inner : Read Condition) where
   -- {AND not}, at most so many, after what stands before
   unfoldable pub ands_at : ℕ → Condition → Read Condition
   ands_at zero before ts = Some (before, ts)
-  ands_at (suc j) before ts = if is_word k.And ts then (not_at (drop 1 ts) >>= λ a. ands_at j (is.And before a.0) a.1) else Some (before, ts)
+  ands_at (suc j) before ts =
+      if is_word k.And ts then (not_at (drop 1 ts) >>= λ a. ands_at j (is.And before a.0) a.1) else Some (before, ts)
 
   -- not {AND not} (chapter 4.6.5)
   unfoldable pub and_at : Read Condition
@@ -296,7 +305,8 @@ module _ (n : ℕ) (inner : Read Condition) where
   -- {OR and}, at most so many, after what stands before
   unfoldable pub ors_at : ℕ → Condition → Read Condition
   ors_at zero before ts = Some (before, ts)
-  ors_at (suc j) before ts = if is_word k.Or ts then (and_at (drop 1 ts) >>= λ a. ors_at j (is.Or before a.0) a.1) else Some (before, ts)
+  ors_at (suc j) before ts =
+      if is_word k.Or ts then (and_at (drop 1 ts) >>= λ a. ors_at j (is.Or before a.0) a.1) else Some (before, ts)
 
   -- and {OR and} (chapter 4.6.5)
   unfoldable pub cond_level_at : Read Condition

@@ -181,18 +181,31 @@ abbrev mutual
   -- the tokens of a call
   pub write_call : Call° → List Token → List Token
   write_call (length_of w a) rest = t.Key k.Length w ∷ t.Mark m.Open ∷ write_value a (t.Mark m.Close ∷ rest)
-  write_call (concat w a b all) rest = t.Key k.Concat w ∷ t.Mark m.Open ∷ write_value a (t.Mark m.Comma ∷ write_value b (write_more all (t.Mark m.Close ∷ rest)))
-  write_call (substring_from w a b) rest = t.Key k.Substring w ∷ t.Mark m.Open ∷ write_value a (t.Mark m.Comma ∷ write_value b (t.Mark m.Close ∷ rest))
-  write_call (substring w a b d) rest = t.Key k.Substring w ∷ t.Mark m.Open ∷ write_value a (t.Mark m.Comma ∷ write_value b (t.Mark m.Comma ∷ write_value d (t.Mark m.Close ∷ rest)))
-  write_call (locate w a b) rest = t.Key k.Locate w ∷ t.Mark m.Open ∷ write_value a (t.Mark m.Comma ∷ write_value b (t.Mark m.Close ∷ rest))
-  write_call (locate_from w a b d) rest = t.Key k.Locate w ∷ t.Mark m.Open ∷ write_value a (t.Mark m.Comma ∷ write_value b (t.Mark m.Comma ∷ write_value d (t.Mark m.Close ∷ rest)))
+  write_call (concat w a b all) rest =
+      t.Key k.Concat w ∷ t.Mark m.Open
+      ∷ write_value a (t.Mark m.Comma ∷ write_value b (write_more all (t.Mark m.Close ∷ rest)))
+  write_call (substring_from w a b) rest =
+      t.Key k.Substring w ∷ t.Mark m.Open ∷ write_value a (t.Mark m.Comma ∷ write_value b (t.Mark m.Close ∷ rest))
+  write_call (substring w a b d) rest =
+      t.Key k.Substring w ∷ t.Mark m.Open
+      ∷ write_value a (t.Mark m.Comma ∷ write_value b (t.Mark m.Comma ∷ write_value d (t.Mark m.Close ∷ rest)))
+  write_call (locate w a b) rest =
+      t.Key k.Locate w ∷ t.Mark m.Open ∷ write_value a (t.Mark m.Comma ∷ write_value b (t.Mark m.Close ∷ rest))
+  write_call (locate_from w a b d) rest =
+      t.Key k.Locate w ∷ t.Mark m.Open
+      ∷ write_value a (t.Mark m.Comma ∷ write_value b (t.Mark m.Comma ∷ write_value d (t.Mark m.Close ∷ rest)))
   write_call (abs w a) rest = t.Key k.Abs w ∷ t.Mark m.Open ∷ write_value a (t.Mark m.Close ∷ rest)
-  write_call (modulo w a b) rest = t.Key k.Mod w ∷ t.Mark m.Open ∷ write_value a (t.Mark m.Comma ∷ write_value b (t.Mark m.Close ∷ rest))
+  write_call (modulo w a b) rest =
+      t.Key k.Mod w ∷ t.Mark m.Open ∷ write_value a (t.Mark m.Comma ∷ write_value b (t.Mark m.Close ∷ rest))
   write_call (size w p) rest = t.Key k.Size w ∷ t.Mark m.Open ∷ write_path p (t.Mark m.Close ∷ rest)
-  write_call (coalesce w a b all) rest = t.Key k.Coalesce w ∷ t.Mark m.Open ∷ write_value a (t.Mark m.Comma ∷ write_value b (write_more all (t.Mark m.Close ∷ rest)))
-  write_call (null_if w a b) rest = t.Key k.NullIf w ∷ t.Mark m.Open ∷ write_value a (t.Mark m.Comma ∷ write_value b (t.Mark m.Close ∷ rest))
+  write_call (coalesce w a b all) rest =
+      t.Key k.Coalesce w ∷ t.Mark m.Open
+      ∷ write_value a (t.Mark m.Comma ∷ write_value b (write_more all (t.Mark m.Close ∷ rest)))
+  write_call (null_if w a b) rest =
+      t.Key k.NullIf w ∷ t.Mark m.Open ∷ write_value a (t.Mark m.Comma ∷ write_value b (t.Mark m.Close ∷ rest))
   write_call (aggregate f w a) rest = t.Key (aggregate_word f) w ∷ t.Mark m.Open ∷ write_value a (t.Mark m.Close ∷ rest)
-  write_call (aggregate_distinct f w d a) rest = t.Key (aggregate_word f) w ∷ t.Mark m.Open ∷ t.Key k.Distinct d ∷ write_value a (t.Mark m.Close ∷ rest)
+  write_call (aggregate_distinct f w d a) rest =
+      t.Key (aggregate_word f) w ∷ t.Mark m.Open ∷ t.Key k.Distinct d ∷ write_value a (t.Mark m.Close ∷ rest)
 
   -- the tokens of the arguments that are left
   pub write_more : More° → List Token → List Token
@@ -475,20 +488,31 @@ abbrev mutual
   pub write_test : Test° → List Token → List Token
   write_test (inside x) rest = t.Mark m.Open ∷ write_cond x (t.Mark m.Close ∷ rest)
   write_test (compare op a b) rest = write_value a (t.Mark (comparison_mark op) ∷ write_value b rest)
-  write_test (between a n w b u d) rest = write_value a (write_word k.Not n (t.Key k.Between w ∷ write_value b (t.Key k.And u ∷ write_value d rest)))
-  write_test (among a n w b all) rest = write_value a (write_word k.Not n (t.Key k.In w ∷ t.Mark m.Open ∷ write_value b (write_more all (t.Mark m.Close ∷ rest))))
-  write_test (like a n w b e) rest = write_value a (write_word k.Not n (t.Key k.Like w ∷ write_value b (write_escape e rest)))
+  write_test (between a n w b u d) rest =
+      write_value a (write_word k.Not n (t.Key k.Between w ∷ write_value b (t.Key k.And u ∷ write_value d rest)))
+  write_test (among a n w b all) rest =
+      write_value a (write_word k.Not n
+      (t.Key k.In w ∷ t.Mark m.Open ∷ write_value b (write_more all (t.Mark m.Close ∷ rest))))
+  write_test (like a n w b e) rest =
+      write_value a (write_word k.Not n (t.Key k.Like w ∷ write_value b (write_escape e rest)))
   write_test (null a w n u) rest = write_value a (t.Key k.Is w ∷ write_word k.Not n (t.Key k.Null u ∷ rest))
   write_test (empty p w n u) rest = write_path p (t.Key k.Is w ∷ write_word k.Not n (t.Key k.Empty u ∷ rest))
-  write_test (member a n w of p) rest = write_value a (write_word k.Not n (t.Key k.Member w ∷ write_word k.Of of (write_path p rest)))
+  write_test (member a n w of p) rest =
+      write_value a (write_word k.Not n (t.Key k.Member w ∷ write_word k.Of of (write_path p rest)))
   write_test (exists w b) rest = t.Key k.Exists w ∷ t.Mark m.Open ∷ write_sub b (t.Mark m.Close ∷ rest)
-  write_test (type_is w x e) rest = t.Key k.Type w ∷ t.Mark m.Open ∷ t.Word x ∷ t.Mark m.Close ∷ t.Mark m.Equal ∷ name_token e ∷ rest
-  write_test (type_is_not w x e) rest = t.Key k.Type w ∷ t.Mark m.Open ∷ t.Word x ∷ t.Mark m.Close ∷ t.Mark m.Different ∷ name_token e ∷ rest
-  write_test (type_among w x n u e es) rest = t.Key k.Type w ∷ t.Mark m.Open ∷ t.Word x ∷ t.Mark m.Close ∷ write_word k.Not n (t.Key k.In u ∷ t.Mark m.Open ∷ name_token e ∷ write_others (λ e rest. name_token e ∷ rest) es (t.Mark m.Close ∷ rest))
+  write_test (type_is w x e) rest =
+      t.Key k.Type w ∷ t.Mark m.Open ∷ t.Word x ∷ t.Mark m.Close ∷ t.Mark m.Equal ∷ name_token e ∷ rest
+  write_test (type_is_not w x e) rest =
+      t.Key k.Type w ∷ t.Mark m.Open ∷ t.Word x ∷ t.Mark m.Close ∷ t.Mark m.Different ∷ name_token e ∷ rest
+  write_test (type_among w x n u e es) rest = t.Key k.Type w ∷ t.Mark m.Open ∷ t.Word x ∷ t.Mark m.Close
+      ∷ write_word k.Not n (t.Key k.In u ∷ t.Mark m.Open ∷ name_token e ∷ write_others (λ e rest. name_token e ∷ rest)
+      es (t.Mark m.Close ∷ rest))
 
   -- the tokens of a nested SELECT
   pub write_sub : Sub° → List Token → List Token
-  write_sub (sub w d i u x xs f) rest = t.Key k.Select w ∷ write_word k.Distinct d (write_item i (t.Key k.From u ∷ write_source x (write_sources xs (write_where f rest))))
+  write_sub (sub w d i u x xs f) rest =
+      t.Key k.Select w ∷ write_word k.Distinct d
+      (write_item i (t.Key k.From u ∷ write_source x (write_sources xs (write_where f rest))))
 
   -- the tokens of a range and its joins
   pub write_source : Source° → List Token → List Token
@@ -506,7 +530,8 @@ abbrev mutual
 
   -- the tokens of a join
   pub write_join : Join° → List Token → List Token
-  write_join (join l w x r n o) rest = write_side l (t.Key k.Join w ∷ t.Word x ∷ t.Mark m.Dot ∷ name_token r ∷ write_named n (write_on o rest))
+  write_join (join l w x r n o) rest =
+      write_side l (t.Key k.Join w ∷ t.Word x ∷ t.Mark m.Dot ∷ name_token r ∷ write_named n (write_on o rest))
 
   -- the tokens of ON
   pub write_on : On° → List Token → List Token
@@ -558,11 +583,18 @@ abbrev mutual
 
   -- the tree of a nested SELECT
   pub sub_tree : Sub° → Block
-  sub_tree (sub w d i u x xs f) = roll-Block (record { is_distinct = is_written d; item = item_tree i; sources = source_tree x ∷ sources_trees xs; filter = where_tree f })
+  sub_tree (sub w d i u x xs f) =
+      roll-Block (record {
+        is_distinct = is_written d;
+        item = item_tree i;
+        sources = source_tree x ∷ sources_trees xs;
+        filter = where_tree f;
+      })
 
   -- the tree of a range and its joins
   pub source_tree : Source° → Source
-  source_tree (source r js) = roll-Source (record { origin = range_origin r; variable = range_variable r; joins = joins_trees js })
+  source_tree (source r js) =
+      roll-Source (record { origin = range_origin r; variable = range_variable r; joins = joins_trees js })
 
   -- the trees of the ranges that are left
   pub sources_trees : Sources° → List Source
@@ -576,7 +608,8 @@ abbrev mutual
 
   -- the tree of a join
   pub join_tree : Join° → Join
-  join_tree (join l w x r n o) = roll-Join (record { is_left = is_left l; of = x; relation = name_text r; variable = n.name; on = on_tree o })
+  join_tree (join l w x r n o) =
+      roll-Join (record { is_left = is_left l; of = x; relation = name_text r; variable = n.name; on = on_tree o })
 
   -- the condition behind ON, where it is written
   pub on_tree : On° → Option Condition
@@ -622,7 +655,8 @@ write_key (by_path x n ns d) rest = t.Word x ∷ write_names (n ∷ ns) (write_d
 -- a key: what it goes by, and whether it descends
 abbrev pub key_tree : Key° → SortKey
 key_tree (by_name w d) = record { by = by.Name w; is_descending = is_descending d }
-key_tree (by_path x n ns d) = record { by = by.Path (record { variable = x; names = map name_text (n ∷ ns) }); is_descending = is_descending d }
+key_tree (by_path x n ns d) =
+    record { by = by.Path (record { variable = x; names = map name_text (n ∷ ns) }); is_descending = is_descending d }
 
 -- GROUP BY path {"," path}, ORDER BY key {"," key}, HAVING cond
 pub data Clause (A : Type 0) : Type 0 where
@@ -679,13 +713,15 @@ write_from (from_entity e n js) rest = name_token e ∷ write_named n (write_joi
 
 -- the tree of a range of an entity and its joins
 abbrev pub from_tree : From° → Source
-from_tree (from_entity e n js) = roll-Source (record { origin = from.Entity (name_text e); variable = n.name; joins = joins_trees js })
+from_tree (from_entity e n js) =
+    roll-Source (record { origin = from.Entity (name_text e); variable = n.name; joins = joins_trees js })
 
 -- a statement: SELECT, UPDATE or DELETE (chapter 4.2)
 pub data Statement° : Type 0 where
   -- SELECT [DISTINCT] item {"," item} FROM from [WHERE cond] [GROUP BY ..] [HAVING cond] [ORDER BY
   -- ..]
-  select : Text → Written → Item° → List Item° → Text → From° → List From° → Where° → Clause Steps → Having° → Clause Key° → Statement°
+  select : Text → Written → Item° → List Item° → Text → From° → List From° → Where° → Clause Steps → Having° →
+      Clause Key° → Statement°
   -- UPDATE Entity [AS] var SET var "." name "=" (value | NULL) {..} [WHERE cond]
   update : Text → Name → Named → Text → Set° → List Set° → Where° → Statement°
   -- DELETE FROM Entity [[AS] var] [WHERE cond]
@@ -694,10 +730,14 @@ pub data Statement° : Type 0 where
 -- the tokens of a statement
 abbrev pub write_statement : Statement° → List Token
 write_statement (select w d i is u x xs f gs h ks) =
-    t.Key k.Select w ∷ write_word k.Distinct d (write_item i (write_others write_item is (t.Key k.From u ∷ write_from x (write_others write_from xs
+    t.Key k.Select w ∷ write_word k.Distinct d
+    (write_item i (write_others write_item is (t.Key k.From u ∷ write_from x (write_others write_from xs
     (write_where f (write_clause k.Group write_path gs (write_having h (write_clause k.Order write_key ks []))))))))
-write_statement (update w e n u a all f) = t.Key k.Update w ∷ name_token e ∷ write_named n (t.Key k.Set u ∷ write_set a (write_others write_set all (write_where f [])))
-write_statement (delete w u e n f) = t.Key k.Delete w ∷ t.Key k.From u ∷ name_token e ∷ write_optional_name n (write_where f [])
+write_statement (update w e n u a all f) =
+    t.Key k.Update w ∷ name_token e
+    ∷ write_named n (t.Key k.Set u ∷ write_set a (write_others write_set all (write_where f [])))
+write_statement (delete w u e n f) =
+    t.Key k.Delete w ∷ t.Key k.From u ∷ name_token e ∷ write_optional_name n (write_where f [])
 
 -- the tree of a statement
 abbrev pub statement_tree : Statement° → Query

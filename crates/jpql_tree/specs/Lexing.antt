@@ -1,6 +1,7 @@
 -- How a text is cut into pieces, from the left: each function gives the piece and the text after
 -- it.
-use Rattle.std.specs.Prelude.{ℕ, zero, suc, ◌==◌, Bool, true, false, not, ◌&&◌, nat_le, List, [], ◌∷◌, ◌++◌, drop, ℤ, Option, Some, None, if◌then◌else◌}
+use Rattle.std.specs.Prelude.{ℕ, zero, suc, ◌==◌, Bool, true, false, not, ◌&&◌, nat_le, List, [], ◌∷◌, ◌++◌, drop, ℤ}
+use Rattle.std.specs.Prelude.{Option, Some, None, if◌then◌else◌}
 use Rattle.std.specs.Char.{is_ascii_digit}
 use lib.IntN.{pos}
 use Rattle.jpql_tree.specs.declared.token.Mark.{Mark}
@@ -8,7 +9,8 @@ use Rattle.jpql_tree.specs.declared.token.Mark.TheVariants as m
 use Rattle.jpql_tree.specs.declared.token.Token.{Token}
 use Rattle.jpql_tree.specs.Grammar.{Text}
 use Rattle.jpql_tree.specs.Values.{◌>>=◌}
-use Rattle.jpql_tree.specs.Text.{is_blank, begins_word, is_in_word, begins, digits_value, greatest_integer, Piece, blank, bare, digits, quoted, named, numbered, mark, piece_tokens}
+use Rattle.jpql_tree.specs.Text.{is_blank, begins_word, is_in_word, begins, digits_value, greatest_integer, Piece}
+use Rattle.jpql_tree.specs.Text.{blank, bare, digits, quoted, named, numbered, mark, piece_tokens}
 
 -- the bytes at the front that pass, and those after them
 unfoldable pub run : (ℕ → Bool) → Text → Text × Text
@@ -38,8 +40,10 @@ greater_of next = if next == 61 then m.AtLeast else m.Greater
 -- the mark that these two bytes begin with, the second 0 where there is none
 abbrev pub mark_of : ℕ → ℕ → Option Mark
 mark_of b next =
-    if b == 44 then Some m.Comma else if b == 46 then Some m.Dot else if b == 40 then Some m.Open else if b == 41 then Some m.Close
-    else if b == 43 then Some m.Plus else if b == 45 then Some m.Minus else if b == 42 then Some m.Star else if b == 61 then Some m.Equal
+    if b == 44 then Some m.Comma else if b == 46 then Some m.Dot else if b == 40 then Some m.Open else if b == 41
+    then Some m.Close
+    else if b == 43 then Some m.Plus else if b == 45 then Some m.Minus else if b == 42 then Some m.Star else if b == 61
+    then Some m.Equal
     else if b == 60 then Some (less_of next)
     else if b == 62 then Some (greater_of next)
     else None
@@ -70,7 +74,8 @@ number_of w = if nat_le (digits_value 0 w) greatest_integer then Some (pos (digi
 
 -- digits, where they are an integer of 64 bits
 unfoldable pub digits_at : Cut
-digits_at text = let r = run is_ascii_digit text in if nat_le (digits_value 0 r.0) greatest_integer then Some (digits r.0, r.1) else None
+digits_at text = let r = run is_ascii_digit text in
+    if nat_le (digits_value 0 r.0) greatest_integer then Some (digits r.0, r.1) else None
 
 -- a text in quotes, after the first of these
 unfoldable pub quotes_at : Cut
@@ -83,7 +88,8 @@ named_at text = if begins begins_word text then Some (named (run is_in_word text
 -- the number of a parameter, after "?"; it begins with no 0
 unfoldable pub numbered_at : Cut
 numbered_at text =
-    if begins is_ascii_digit text && not (begins (λ b. b == 48) text) then Some (numbered (run is_ascii_digit text).0, (run is_ascii_digit text).1) else None
+    if begins is_ascii_digit text && not (begins (λ b. b == 48) text)
+    then Some (numbered (run is_ascii_digit text).0, (run is_ascii_digit text).1) else None
 
 -- a mark, as long as it can be
 unfoldable pub mark_at : Cut

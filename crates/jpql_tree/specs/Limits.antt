@@ -1,5 +1,6 @@
 -- How deep the parentheses of a text nest.
-use Rattle.std.specs.Prelude.{ℕ, zero, suc, ◌==◌, ◌+◌, ◌-◌, Bool, false, not, nat_le, ◌||◌, [], ◌∷◌, Option, Some, None, if◌then◌else◌}
+use Rattle.std.specs.Prelude.{ℕ, zero, suc, ◌==◌, ◌+◌, ◌-◌, Bool, false, not, nat_le, ◌||◌, [], ◌∷◌, Option, Some, None}
+use Rattle.std.specs.Prelude.{if◌then◌else◌}
 use Rattle.jpql_tree.specs.Grammar.{Text}
 
 -- one parenthesis fewer; one that closes where none is open counts nothing

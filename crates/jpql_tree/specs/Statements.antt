@@ -13,7 +13,8 @@ use Rattle.jpql_tree.specs.declared.Sorted.TheVariants as by
 use Rattle.jpql_tree.specs.declared.Assignment.{Assignment}
 use Rattle.jpql_tree.specs.declared.Query.{Query}
 use Rattle.jpql_tree.specs.declared.Query.TheVariants as q
-use Rattle.jpql_tree.specs.Values.{Read, ◌>>=◌, after, is_word, after_word, optional_word, name_at, path_at, list_at, value_at}
+use Rattle.jpql_tree.specs.Values.{Read, ◌>>=◌, after, is_word, after_word, optional_word, name_at, path_at, list_at}
+use Rattle.jpql_tree.specs.Values.{value_at}
 use Rattle.jpql_tree.specs.Conditions.{named_at, optional_name_at, item_at, related_at, clause_at, source_at, cond_at}
 
 -- [ASC | DESC]
@@ -30,11 +31,13 @@ sorted_by p = of_names p.names
 
 -- (path | name) [ASC | DESC] (chapter 4.10)
 unfoldable pub key_at : Read SortKey
-key_at ts = path_at ts >>= λ p. let d = direction_at p.1 in Some (record { by = sorted_by p.0; is_descending = d.0 }, d.1)
+key_at ts = path_at ts >>= λ p. let d = direction_at p.1 in
+    Some (record { by = sorted_by p.0; is_descending = d.0 }, d.1)
 
 -- [GROUP BY one {"," one}], [ORDER BY one {"," one}]
 unfoldable pub by_at : {A : Type 0} → Keyword → Read A → Read (List A)
-by_at word one ts = if is_word word ts then (after_word k.By (drop 1 ts) >>= λ more. list_at one more) else Some ([], ts)
+by_at word one ts = if is_word word ts then (after_word k.By (drop 1 ts) >>= λ more. list_at one more)
+    else Some ([], ts)
 
 -- a statement after which no tokens are left
 abbrev pub where_ended : Query → List Token → Option Query
@@ -51,9 +54,22 @@ module _ (n : ℕ) where
   unfoldable pub select_at : Read Query
   select_at ts =
       let d = optional_word k.Distinct ts in
-      list_at (item_at n) d.1 >>= λ is. after_word k.From is.1 >>= λ more. list_at (source_at (cond_at n) false) more >>= λ xs.
-      filter_at k.Where xs.1 >>= λ f. by_at k.Group path_at f.1 >>= λ gs. filter_at k.Having gs.1 >>= λ h. by_at k.Order key_at h.1 >>= λ ks.
-      Some (q.Select (record { is_distinct = d.0; items = is.0; sources = xs.0; filter = f.0; groups = gs.0; having = h.0; order = ks.0 }), ks.1)
+      list_at (item_at n) d.1 >>= λ is. after_word k.From is.1 >>= λ more. list_at (source_at (cond_at n) false) more
+      >>= λ xs.
+      filter_at k.Where xs.1 >>= λ f. by_at k.Group path_at f.1 >>= λ gs. filter_at k.Having gs.1
+      >>= λ h. by_at k.Order key_at h.1 >>= λ ks.
+      Some (
+        q.Select (record {
+          is_distinct = d.0;
+          items = is.0;
+          sources = xs.0;
+          filter = f.0;
+          groups = gs.0;
+          having = h.0;
+          order = ks.0;
+        }),
+        ks.1,
+      )
 
   -- a value, or NULL
   unfoldable pub new_value_at : Read (Option Value)
@@ -66,12 +82,14 @@ module _ (n : ℕ) where
 
   -- what follows the word UPDATE (chapter 4.11)
   unfoldable pub update_at : Read Query
-  update_at ts = name_at ts >>= λ e. named_at e.1 >>= λ w. after_word k.Set w.1 >>= λ more. list_at assignment_at more >>= λ all. filter_at k.Where all.1 >>= λ f.
+  update_at ts = name_at ts >>= λ e. named_at e.1 >>= λ w. after_word k.Set w.1 >>= λ more. list_at assignment_at more
+      >>= λ all. filter_at k.Where all.1 >>= λ f.
       Some (q.Update e.0 w.0 all.0 f.0, f.1)
 
   -- what follows the word DELETE (chapter 4.11)
   unfoldable pub delete_at : Read Query
-  delete_at ts = after_word k.From ts >>= λ more. name_at more >>= λ e. optional_name_at e.1 >>= λ w. filter_at k.Where w.1 >>= λ f.
+  delete_at ts = after_word k.From ts >>= λ more. name_at more >>= λ e. optional_name_at e.1
+      >>= λ w. filter_at k.Where w.1 >>= λ f.
       Some (q.Delete e.0 w.0 f.0, f.1)
 
   -- a statement (chapter 4.2)

@@ -1,7 +1,8 @@
 -- Text as tokens. A text is pieces, one after the other; `write_piece` is a piece's bytes in front
 -- of those that follow, and `Spelled` says how it is spelled and what may follow it: each piece
 -- goes as far as it can.
-use Rattle.std.specs.Prelude.{◌≡◌, ℕ, ◌+◌, ◌-◌, ◌*◌, ◌==◌, Bool, true, false, ◌||◌, nat_le, List, [], ◌∷◌, ◌++◌, codes, Option, Some, None, if◌then◌else◌}
+use Rattle.std.specs.Prelude.{◌≡◌, ℕ, ◌+◌, ◌-◌, ◌*◌, ◌==◌, Bool, true, false, ◌||◌, nat_le, List, [], ◌∷◌, ◌++◌, codes}
+use Rattle.std.specs.Prelude.{Option, Some, None, if◌then◌else◌}
 use Rattle.std.specs.List.{list_all}
 use Rattle.std.specs.Char.{is_ascii_digit, is_ascii_alphabetic, is_ascii_alphanumeric}
 use Rattle.std.specs.Str.{str_eq_ignore_ascii_case}
@@ -87,9 +88,12 @@ spelling k.Max = codes "MAX"
 -- the words of the grammar (chapter 4.4.1)
 abbrev pub keywords : List Keyword
 keywords =
-    k.Select ∷ k.Distinct ∷ k.From ∷ k.Where ∷ k.Group ∷ k.By ∷ k.Having ∷ k.Order ∷ k.As ∷ k.Inner ∷ k.Left ∷ k.Outer ∷ k.Join ∷ k.On ∷ k.Asc ∷ k.Desc
-    ∷ k.Update ∷ k.Set ∷ k.Null ∷ k.Delete ∷ k.Or ∷ k.And ∷ k.Not ∷ k.Between ∷ k.In ∷ k.Like ∷ k.Escape ∷ k.Is ∷ k.Empty ∷ k.Member ∷ k.Of ∷ k.Exists ∷ k.Type
-    ∷ k.Length ∷ k.Concat ∷ k.Substring ∷ k.Locate ∷ k.Abs ∷ k.Mod ∷ k.Size ∷ k.Coalesce ∷ k.NullIf ∷ k.Count ∷ k.Sum ∷ k.Min ∷ k.Max ∷ []
+    k.Select ∷ k.Distinct ∷ k.From ∷ k.Where ∷ k.Group ∷ k.By ∷ k.Having ∷ k.Order ∷ k.As ∷ k.Inner ∷ k.Left ∷ k.Outer
+    ∷ k.Join ∷ k.On ∷ k.Asc ∷ k.Desc
+    ∷ k.Update ∷ k.Set ∷ k.Null ∷ k.Delete ∷ k.Or ∷ k.And ∷ k.Not ∷ k.Between ∷ k.In ∷ k.Like ∷ k.Escape ∷ k.Is
+    ∷ k.Empty ∷ k.Member ∷ k.Of ∷ k.Exists ∷ k.Type
+    ∷ k.Length ∷ k.Concat ∷ k.Substring ∷ k.Locate ∷ k.Abs ∷ k.Mod ∷ k.Size ∷ k.Coalesce ∷ k.NullIf ∷ k.Count ∷ k.Sum
+    ∷ k.Min ∷ k.Max ∷ []
 
 -- the first of these words that a text is, whatever its case
 abbrev pub first_keyword : List Keyword → Text → Option Keyword
@@ -180,7 +184,8 @@ IsDigits w = (begins is_ascii_digit w ≡ true) × (list_all is_ascii_digit w �
 abbrev pub Spelled : Piece → Text → Type 0
 Spelled (blank b) rest = is_blank b ≡ true
 Spelled (bare w) rest = IsWord w × (begins is_in_word rest ≡ false)
-Spelled (digits w) rest = IsDigits w × (nat_le (digits_value 0 w) greatest_integer ≡ true) × (begins is_ascii_digit rest ≡ false)
+Spelled (digits w) rest =
+    IsDigits w × (nat_le (digits_value 0 w) greatest_integer ≡ true) × (begins is_ascii_digit rest ≡ false)
 Spelled (quoted w) rest = begins (λ b. b == 39) rest ≡ false
 Spelled (named w) rest = IsWord w × (begins is_in_word rest ≡ false)
 Spelled (numbered w) rest = IsDigits w × (begins (λ b. b == 48) w ≡ false) × (begins is_ascii_digit rest ≡ false)

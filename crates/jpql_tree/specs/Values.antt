@@ -1,6 +1,7 @@
 -- How values are read from tokens, from the left: each function gives the tree and the tokens after
 -- it.
-use Rattle.std.specs.Prelude.{ℕ, zero, suc, Bool, true, false, nat_eq, nat_le, ◌||◌, List, [], ◌∷◌, ◌++◌, drop, length, Option, Some, None, if◌then◌else◌}
+use Rattle.std.specs.Prelude.{ℕ, zero, suc, Bool, true, false, nat_eq, nat_le, ◌||◌, List, [], ◌∷◌, ◌++◌, drop, length}
+use Rattle.std.specs.Prelude.{Option, Some, None, if◌then◌else◌}
 use Rattle.std.specs.Option.{option_and_then}
 use Rattle.jpql_tree.specs.declared.token.Keyword.{Keyword}
 use Rattle.jpql_tree.specs.declared.token.Keyword.TheVariants as k
@@ -90,16 +91,19 @@ variable_at (x ∷ rest) = variable_of x >>= λ w. Some (w, rest)
 -- {"." name}, at most so many, after those that were found
 unfoldable pub names_at : ℕ → List Text → Read (List Text)
 names_at zero found ts = Some (found, ts)
-names_at (suc n) found ts = if sees m.Dot ts then (name_at (drop 1 ts) >>= λ r. names_at n (found ++ r.0 ∷ []) r.1) else Some (found, ts)
+names_at (suc n) found ts =
+    if sees m.Dot ts then (name_at (drop 1 ts) >>= λ r. names_at n (found ++ r.0 ∷ []) r.1) else Some (found, ts)
 
 -- var {"." name} (chapter 4.4.4)
 unfoldable pub path_at : Read Path
-path_at ts = variable_at ts >>= λ x. names_at (length x.1) [] x.1 >>= λ r. Some (record { variable = x.0; names = r.0 }, r.1)
+path_at ts = variable_at ts >>= λ x. names_at (length x.1) [] x.1
+    >>= λ r. Some (record { variable = x.0; names = r.0 }, r.1)
 
 -- {"," one}, after those that were found
 unfoldable pub others_at : {A : Type 0} → Read A → ℕ → List A → Read (List A)
 others_at one zero found ts = Some (found, ts)
-others_at one (suc n) found ts = if sees m.Comma ts then (one (drop 1 ts) >>= λ a. others_at one n (found ++ a.0 ∷ []) a.1) else Some (found, ts)
+others_at one (suc n) found ts =
+    if sees m.Comma ts then (one (drop 1 ts) >>= λ a. others_at one n (found ++ a.0 ∷ []) a.1) else Some (found, ts)
 
 -- one {"," one}
 unfoldable pub list_at : {A : Type 0} → Read A → Read (List A)
@@ -143,7 +147,8 @@ takes f.NullIf n = nat_eq n 2
 module _ (inner : Read Value) where
   -- the arguments of a call and the parenthesis that closes (chapter 4.7)
   unfoldable pub call_at : Callee → Read Value
-  call_at (calls.Function h) ts = closed (list_at inner ts) >>= λ all. if takes h (length all.0) then Some (v.Call h all.0, all.1) else None
+  call_at (calls.Function h) ts =
+      closed (list_at inner ts) >>= λ all. if takes h (length all.0) then Some (v.Call h all.0, all.1) else None
   call_at calls.Size ts = closed (path_at ts) >>= λ p. Some (v.Size p.0, p.1)
   call_at (calls.Aggregate h) ts =
       let d = optional_word k.Distinct ts in closed (inner d.1) >>= λ a. Some (v.Aggregate h d.0 a.0, a.1)
@@ -173,7 +178,8 @@ module _ (inner : Read Value) where
   -- {"*" unary}, at most so many, after what stands before
   unfoldable pub times_at : ℕ → Value → Read Value
   times_at zero before ts = Some (before, ts)
-  times_at (suc n) before ts = if sees m.Star ts then (unary_at (drop 1 ts) >>= λ a. times_at n (v.Arithmetic o.Times before a.0) a.1) else Some (before, ts)
+  times_at (suc n) before ts = if sees m.Star ts
+      then (unary_at (drop 1 ts) >>= λ a. times_at n (v.Arithmetic o.Times before a.0) a.1) else Some (before, ts)
 
   -- unary {"*" unary} (chapter 4.7.1)
   unfoldable pub product_at : Read Value

@@ -87,7 +87,8 @@ module _ (which : Names) where
 
   -- the names in a condition (chapter 4.6)
   abbrev pub in_condition : Condition → List Text
-  in_condition = fold-Condition (List Text) (List Text) (List Text) (List Text) condition_step block_step join_step source_step
+  in_condition = fold-Condition (List Text) (List Text) (List Text) (List Text) condition_step block_step join_step
+      source_step
 
   -- the names in a nested SELECT (chapter 4.6.16)
   abbrev pub in_block : Block → List Text
@@ -99,7 +100,8 @@ module _ (which : Names) where
 
   -- the names in a range and its joins (chapter 4.4.3)
   abbrev pub in_source : Source → List Text
-  in_source = fold-Source (List Text) (List Text) (List Text) (List Text) condition_step block_step join_step source_step
+  in_source = fold-Source (List Text) (List Text) (List Text) (List Text) condition_step block_step join_step
+      source_step
 
   -- the names in a condition, where there is one
   abbrev pub in_filter : Option Condition → List Text
@@ -123,6 +125,8 @@ module _ (which : Names) where
 
   -- the names of the asked sort in a statement
   abbrev pub names_in : Query → List Text
-  names_in (Query.Select s) = flat_map (in_item which) s.items ++ flat_map in_source s.sources ++ in_filter s.filter ++ in_filter s.having
-  names_in (Query.Update entity x assignments filter) = of_variable which x ++ flat_map in_assignment assignments ++ in_filter filter
+  names_in (Query.Select s) =
+      flat_map (in_item which) s.items ++ flat_map in_source s.sources ++ in_filter s.filter ++ in_filter s.having
+  names_in (Query.Update entity x assignments filter) =
+      of_variable which x ++ flat_map in_assignment assignments ++ in_filter filter
   names_in (Query.Delete entity x filter) = in_variable x ++ in_filter filter

@@ -1,5 +1,6 @@
 -- Variables in scope, and what paths from them mean (chapter 4.4).
-use Rattle.std.specs.Prelude.{ℕ, Bool, true, false, not, ◌&&◌, nat_le, List, [], ◌∷◌, length, slice_get, Option, Some, None, option_map, if◌then◌else◌}
+use Rattle.std.specs.Prelude.{ℕ, Bool, true, false, not, ◌&&◌, nat_le, List, [], ◌∷◌, length, slice_get, Option, Some}
+use Rattle.std.specs.Prelude.{None, option_map, if◌then◌else◌}
 use Rattle.std.specs.List.{list_any, position_from}
 use Rattle.std.specs.Str.{str_eq_ignore_ascii_case}
 use lib.Pointwise.{pointwise}
@@ -68,7 +69,8 @@ step_at m class name = member_of m class name >>= λ member. Some (record { clas
 
 -- a step from a variable, and the place of that
 abbrev pub step_from : PersistenceUnit → Scope → Text → Text → Option (ℕ × Step)
-step_from m scope x name = place_of scope x >>= λ place. class_at scope place >>= λ class. step_at m class name >>= λ s. Some (place, s)
+step_from m scope x name =
+    place_of scope x >>= λ place. class_at scope place >>= λ class. step_at m class name >>= λ s. Some (place, s)
 
 -- the name of an embedded id, which is one step with that of a part
 abbrev pub is_embedded : PersistenceUnit → ℕ → Text → Bool
@@ -80,7 +82,8 @@ is_embedded m class name = is (root_of m class).embedded
 
 -- the step to the key part of a name, where the class has one
 abbrev pub part_at : PersistenceUnit → ℕ → Text → Option Step
-part_at m class name = position_from (λ part. same_name part.name name) 0 (root_of m class).key >>= λ i. Some (record { class = class; member = Member.KeyPart i })
+part_at m class name = position_from (λ part. same_name part.name name) 0 (root_of m class).key
+    >>= λ i. Some (record { class = class; member = Member.KeyPart i })
 
 -- whether a path ends with this name, or with that of a part after it
 abbrev pub is_last : PersistenceUnit → ℕ → Text → List Text → Bool
@@ -125,4 +128,5 @@ allows_path _ groups p = true
 
 -- what a path means where the clause allows it
 abbrev pub resolved : PersistenceUnit → List Path → Scope → Clause → Path → Option TypedPath
-resolved m groups scope clause p = path_of m scope p >>= λ path. when (allows_steps clause (length path.steps) && allows_path clause groups p) path
+resolved m groups scope clause p =
+    path_of m scope p >>= λ path. when (allows_steps clause (length path.steps) && allows_path clause groups p) path

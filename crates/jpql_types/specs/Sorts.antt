@@ -1,5 +1,6 @@
 -- What values are of, and which go together (chapters 4.6, 4.7 and 4.9.5).
-use Rattle.std.specs.Prelude.{ℕ, ◌-◌, ◌==◌, length, Bool, true, false, ◌&&◌, List, [], ◌∷◌, slice_get, Option, Some, None, option_map, if◌then◌else◌}
+use Rattle.std.specs.Prelude.{ℕ, ◌-◌, ◌==◌, length, Bool, true, false, ◌&&◌, List, [], ◌∷◌, slice_get, Option, Some}
+use Rattle.std.specs.Prelude.{None, option_map, if◌then◌else◌}
 use Rattle.std.specs.List.{list_all}
 use Rattle.jpa_value.specs.declared.value.Kind.{Kind}
 use Rattle.jpa_model.specs.Chains.{root_of, root_class, attributes_of}

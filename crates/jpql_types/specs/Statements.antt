@@ -1,5 +1,6 @@
 -- Which statements are well typed, and what a check answers (chapters 4.2 and 4.8 to 4.11).
-use Rattle.std.specs.Prelude.{ℕ, ◌==◌, Bool, true, false, not, ◌&&◌, ◌||◌, List, [], ◌∷◌, map, length, find, is_some, Option, if◌then◌else◌, Result, Ok, Err}
+use Rattle.std.specs.Prelude.{ℕ, ◌==◌, Bool, true, false, not, ◌&&◌, ◌||◌, List, [], ◌∷◌, map, length, find, is_some}
+use Rattle.std.specs.Prelude.{Option, if◌then◌else◌, Result, Ok, Err}
 use Rattle.std.specs.List.{list_any, list_all}
 use Rattle.jpa_value.specs.declared.refusal.Argument.{Argument}
 use Rattle.jpa_value.specs.declared.refusal.Cause.{Cause}
@@ -27,7 +28,8 @@ use Rattle.jpql_types.specs.declared.typed.Typed.{Typed}
 use Rattle.jpql_types.specs.Scope.{Scope, same_variable, step_from, relation_of, path_of, same_path}
 use Rattle.jpql_types.specs.Sorts.{goes_with, is_basic, step_sort}
 use Rattle.jpql_types.specs.Names.{names_in}
-use Rattle.jpql_types.specs.Typing.{pass_both, sort_of_path, with_variable, scope_of, in_turn, value_sort, is_condition_typed, source_scope}
+use Rattle.jpql_types.specs.Typing.{pass_both, sort_of_path, with_variable, scope_of, in_turn, value_sort}
+use Rattle.jpql_types.specs.Typing.{is_condition_typed, source_scope}
 use Rattle.jpql_types.specs.Trees.{is_named, typed_statement}
 
 -- ---- names: no variable is declared twice, no item named twice or as a variable
@@ -43,7 +45,8 @@ abbrev pub has_distinct_names : Query → Bool
 has_distinct_names q =
     let variables = names_in Names.Variables q in
     let items = names_in Names.Items q in
-    are_distinct same_variable variables && are_distinct same_name items && list_all (λ name. not (list_any (same_variable name) variables)) items
+    are_distinct same_variable variables && are_distinct same_name items
+    && list_all (λ name. not (list_any (same_variable name) variables)) items
 
 -- ---- groups
 
@@ -129,11 +132,13 @@ module _ (m : PersistenceUnit) (parameters : List (Text × Sort)) where
   -- DISTINCT keeps the items, and what is one step from a variable that is an item
   abbrev pub is_kept : Select → Scope → Sorted → Bool
   is_kept q scope (Sorted.Name name) = true
-  is_kept q scope (Sorted.Path p) = is_some_that (λ path. list_any (λ i. is_kept_by p (length path.steps) i.value) q.items) (path_of m scope p)
+  is_kept q scope (Sorted.Path p) =
+      is_some_that (λ path. list_any (λ i. is_kept_by p (length path.steps) i.value) q.items) (path_of m scope p)
 
   -- a key of ORDER BY is of a basic sort, and under DISTINCT it is kept (chapter 4.10)
   abbrev pub is_key_typed : Select → Scope → SortKey → Bool
-  is_key_typed q scope key = is_some_that is_basic (sorted_sort q scope key.by) && (not q.is_distinct || is_kept q scope key.by)
+  is_key_typed q scope key =
+      is_some_that is_basic (sorted_sort q scope key.by) && (not q.is_distinct || is_kept q scope key.by)
 
   -- a path of GROUP BY has a sort, by the rules of WHERE (chapter 4.8)
   abbrev pub is_group_typed : Select → Scope → Path → Bool
@@ -152,7 +157,8 @@ module _ (m : PersistenceUnit) (parameters : List (Text × Sort)) where
 
   -- the FROM of a SELECT is well typed, and its other clauses are in the scope behind it
   abbrev pub is_select_typed : Select → Bool
-  is_select_typed q = is_some_that (is_select_typed_in q) (in_turn (map (source_scope m parameters q.groups) q.sources) [])
+  is_select_typed q = is_some_that (is_select_typed_in q)
+      (in_turn (map (source_scope m parameters q.groups) q.sources) [])
 
   -- ---- SET
 
@@ -162,7 +168,8 @@ module _ (m : PersistenceUnit) (parameters : List (Text × Sort)) where
 
   -- a step, and what it is set to
   abbrev pub is_set_typed : Scope → Option Value → Step → Bool
-  is_set_typed scope value s = is_settable m s && allows_value s.member value && if_some (is_value_of scope (step_sort m s)) value
+  is_set_typed scope value s =
+      is_settable m s && allows_value s.member value && if_some (is_value_of scope (step_sort m s)) value
 
   -- an assignment names a member, and sets it as its sort allows (chapter 4.11)
   abbrev pub is_assignment_typed : Scope → Assignment → Bool
@@ -179,8 +186,10 @@ module _ (m : PersistenceUnit) (parameters : List (Text × Sort)) where
   -- the clauses of a statement are well typed, over an entity that there is (chapter 4.2)
   abbrev pub is_statement_typed : Query → Bool
   is_statement_typed (Query.Select q) = is_select_typed q
-  is_statement_typed (Query.Update entity x assignments filter) = is_some_that (λ class. is_update_typed assignments filter (with_variable [] x class)) (class_of m entity)
-  is_statement_typed (Query.Delete entity x filter) = is_some_that (λ class. is_filter_typed [] (scope_of x class) Clause.Where filter) (class_of m entity)
+  is_statement_typed (Query.Update entity x assignments filter) =
+      is_some_that (λ class. is_update_typed assignments filter (with_variable [] x class)) (class_of m entity)
+  is_statement_typed (Query.Delete entity x filter) =
+      is_some_that (λ class. is_filter_typed [] (scope_of x class) Clause.Where filter) (class_of m entity)
 
   -- a statement is well typed: its names are distinct, and its clauses well typed (chapter 4.2)
   abbrev pub is_typed : Query → Bool
@@ -190,7 +199,8 @@ module _ (m : PersistenceUnit) (parameters : List (Text × Sort)) where
 abbrev pub are_given : List (Text × Sort) → Query → Bool
 are_given parameters q =
     let used = names_in Names.Parameters q in
-    list_all (λ name. list_any (λ p. same_name p.0 name) parameters) used && list_all (λ p. list_any (same_name p.0) used) parameters
+    list_all (λ name. list_any (λ p. same_name p.0 name) parameters) used
+    && list_all (λ p. list_any (same_name p.0) used) parameters
 
 -- what a check answers where there is memory
 abbrev pub checked : PersistenceUnit → Query → List (Text × Sort) → Result Typed Cause

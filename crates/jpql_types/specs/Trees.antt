@@ -133,19 +133,31 @@ module _ (m : PersistenceUnit) (parameters : List (Text × Sort)) where
   abbrev pub block_step : Block-F Condition-in Block-in Join-in Source-in → Block-in
   block_step b outer =
       let from = in_scope b.sources outer in
-      roll-TypedBlock (record { item = typed_value from.1 (b.item).value; sources = from.0; filter = option_map (λ c. c from.1) b.filter })
+      roll-TypedBlock (record {
+        item = typed_value from.1 (b.item).value;
+        sources = from.0;
+        filter = option_map (λ c. c from.1) b.filter;
+      })
 
   -- the tree of a join, whose ON may name the join's own variable (chapter 4.4.5)
   abbrev pub join_step : Join-F Condition-in Block-in Join-in Source-in → Join-in
   join_step j scope =
       let related = typed_step scope j.of j.relation in
-      let wider = with_variable scope j.variable (place (target m related.1)) in
-      (roll-TypedJoin (record { is_left = j.is_left; of = related.0; step = related.1; on = option_map (λ c. c wider) j.on }), wider)
+      let wider = with_variable scope j.variable (place (target m related.1)) in (
+        roll-TypedJoin (record {
+          is_left = j.is_left;
+          of = related.0;
+          step = related.1;
+          on = option_map (λ c. c wider) j.on;
+        }),
+        wider,
+      )
 
   -- the tree of what a range ranges over, and the class of its objects (chapter 4.4.3)
   abbrev pub typed_origin : Scope → Origin → TypedOrigin × ℕ
   typed_origin scope (Origin.Entity name) = let class = class_named name in (TypedOrigin.Entity class, class)
-  typed_origin scope (Origin.Related x name) = let related = typed_step scope x name in (TypedOrigin.Related related.0 related.1, place (target m related.1))
+  typed_origin scope (Origin.Related x name) =
+      let related = typed_step scope x name in (TypedOrigin.Related related.0 related.1, place (target m related.1))
 
   -- the tree of a range, with its joins in turn (chapter 4.4.3)
   abbrev pub source_step : Source-F Condition-in Block-in Join-in Source-in → Source-in
@@ -202,7 +214,8 @@ module _ (m : PersistenceUnit) (parameters : List (Text × Sort)) where
 
   -- the tree of an assignment: its member, and its value if that isn't NULL (chapter 4.11)
   abbrev pub typed_assignment : Scope → Assignment → TypedAssignment
-  typed_assignment scope a = record { member = (typed_step scope a.variable a.name).1.member; value = option_map (typed_value scope) a.value }
+  typed_assignment scope a =
+      record { member = (typed_step scope a.variable a.name).1.member; value = option_map (typed_value scope) a.value }
 
   -- the tree of a statement (chapter 4.2)
   abbrev pub typed_statement : Query → Typed

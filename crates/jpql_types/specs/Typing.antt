@@ -1,6 +1,7 @@
 -- Which values, conditions and nested SELECTs are well typed: by folds over their trees (chapters
 -- 4.4 to 4.7, 4.9.5).
-use Rattle.std.specs.Prelude.{ℕ, ◌==◌, Bool, true, false, not, ◌&&◌, List, [], ◌∷◌, ◌++◌, map, length, filter, find, is_some, Option, Some, None, if◌then◌else◌, nat_le, nat_lt}
+use Rattle.std.specs.Prelude.{ℕ, ◌==◌, Bool, true, false, not, ◌&&◌, List, [], ◌∷◌, ◌++◌, map, length, filter, find}
+use Rattle.std.specs.Prelude.{is_some, Option, Some, None, if◌then◌else◌, nat_le, nat_lt}
 use Rattle.std.specs.List.{list_all}
 use Rattle.jpa_model.specs.Chains.{same_name, class_of, root_class}
 use Rattle.jpa_model.specs.WellFormed.{is_some_that, if_some}
@@ -21,7 +22,8 @@ use Rattle.jpql_types.specs.declared.scope.Clause.{Clause}
 use Rattle.jpql_types.specs.declared.scope.TypedPath.{TypedPath}
 use Rattle.jpql_types.specs.declared.sort.Sort.{Sort}
 use Rattle.jpql_types.specs.Scope.{Scope, when, step_from, target, resolved}
-use Rattle.jpql_types.specs.Sorts.{integer, text, goes_with, joined, joined_basic, call_sort, aggregate_sort, arithmetic_sort, are_comparable, path_sort, collection_class}
+use Rattle.jpql_types.specs.Sorts.{integer, text, goes_with, joined, joined_basic, call_sort, aggregate_sort}
+use Rattle.jpql_types.specs.Sorts.{arithmetic_sort, are_comparable, path_sort, collection_class}
 
 -- the elements of a list, where none is missing
 abbrev pub all_some : {A : Type 0} → List (Option A) → Option (List A)
@@ -123,7 +125,8 @@ module _ (m : PersistenceUnit) (parameters : List (Text × Sort)) (groups : List
   sort_step scope (part.Arithmetic op a b) clause = all_some (a clause ∷ b clause ∷ []) >>= λ all. arithmetic_sort all
   sort_step scope (part.Call f all) clause = all_some (map (λ a. a clause) all) >>= λ sorts. call_sort f sorts
   sort_step scope (part.Size p) clause = collection m groups scope clause p >>= λ class. Some integer
-  sort_step scope (part.Aggregate g distinct a) clause = if allows_aggregates clause then (a Clause.Where >>= λ s. aggregate_sort g s) else None
+  sort_step scope (part.Aggregate g distinct a) clause =
+      if allows_aggregates clause then (a Clause.Where >>= λ s. aggregate_sort g s) else None
 
   -- what a value is of, where it is well typed
   abbrev pub value_sort : Scope → Clause → Value → Option Sort
@@ -150,31 +153,43 @@ module _ (m : PersistenceUnit) (parameters : List (Text × Sort)) (groups : List
   condition_step (test.Or a b) scope clause = a scope clause && b scope clause
   condition_step (test.And a b) scope clause = a scope clause && b scope clause
   condition_step (test.Not a) scope clause = a scope clause
-  condition_step (test.Compare op a b) scope clause = pass_both (are_comparable op) (value_sort scope clause a) (value_sort scope clause b)
-  condition_step (test.Between a b c) scope clause = is_some (sorts_of scope clause (a ∷ b ∷ c ∷ []) >>= λ all. joined_basic all)
+  condition_step (test.Compare op a b) scope clause =
+      pass_both (are_comparable op) (value_sort scope clause a) (value_sort scope clause b)
+  condition_step (test.Between a b c) scope clause =
+      is_some (sorts_of scope clause (a ∷ b ∷ c ∷ []) >>= λ all. joined_basic all)
   condition_step (test.In a all) scope clause = is_some (sorts_of scope clause (a ∷ all) >>= λ sorts. joined sorts)
-  condition_step (test.Like a b escape) scope clause = is_some_that (list_all (goes_with text)) (sorts_of scope clause (a ∷ b ∷ [])) && if_some is_one_character escape
+  condition_step (test.Like a b escape) scope clause =
+      is_some_that (list_all (goes_with text)) (sorts_of scope clause (a ∷ b ∷ [])) && if_some is_one_character escape
   condition_step (test.IsNull a) scope clause = is_some (value_sort scope clause a)
   condition_step (test.IsEmpty p) scope clause = is_some (collection m groups scope clause p)
-  condition_step (test.Member a p) scope clause = is_member_typed (collection m groups scope clause p) (value_sort scope clause a)
+  condition_step (test.Member a p) scope clause =
+      is_member_typed (collection m groups scope clause p) (value_sort scope clause a)
   condition_step (test.Exists b) scope clause = allows_exists clause && b scope
-  condition_step (test.«Type» x names) scope clause = is_some_that (λ (path : TypedPath). list_all (is_of_hierarchy m path.class) names) (resolved m groups scope clause (variable_path x))
+  condition_step (test.«Type» x names) scope clause =
+      is_some_that (λ (path : TypedPath). list_all (is_of_hierarchy m path.class) names)
+      (resolved m groups scope clause (variable_path x))
 
   -- a nested SELECT
   abbrev pub block_step : Block-F Judges (Scope → Bool) Adds Adds → Scope → Bool
-  block_step b outer = is_some_that (λ scope. is_some (value_sort scope Clause.Where (b.item).value) && if_some (λ c. c scope Clause.Where) b.filter) (in_turn b.sources outer)
+  block_step b outer =
+      is_some_that (λ scope. is_some (value_sort scope Clause.Where (b.item).value)
+      && if_some (λ c. c scope Clause.Where) b.filter) (in_turn b.sources outer)
 
   -- the scope behind a join, whose ON is well typed with the join's own variable (chapter 4.4.5)
   abbrev pub join_step : Join-F Judges (Scope → Bool) Adds Adds → Adds
-  join_step j scope = related_class m scope j.of j.relation >>= λ class. let wider = with_variable scope j.variable class in when (if_some (λ c. c wider Clause.On) j.on) wider
+  join_step j scope = related_class m scope j.of j.relation
+      >>= λ class. let wider = with_variable scope j.variable class in
+      when (if_some (λ c. c wider Clause.On) j.on) wider
 
   -- the scope behind a range and its joins, where each is well typed (chapter 4.4.3)
   abbrev pub source_step : Source-F Judges (Scope → Bool) Adds Adds → Adds
-  source_step s scope = origin_class m scope s.origin >>= λ class. in_turn s.joins (with_variable scope s.variable class)
+  source_step s scope =
+      origin_class m scope s.origin >>= λ class. in_turn s.joins (with_variable scope s.variable class)
 
   -- whether a condition is well typed in a scope and a clause (chapter 4.6)
   abbrev pub is_condition_typed : Scope → Clause → Condition → Bool
-  is_condition_typed scope clause c = fold-Condition Judges (Scope → Bool) Adds Adds condition_step block_step join_step source_step c scope clause
+  is_condition_typed scope clause c =
+      fold-Condition Judges (Scope → Bool) Adds Adds condition_step block_step join_step source_step c scope clause
 
   -- the scope behind a range, where that is well typed
   abbrev pub source_scope : Source → Scope → Option Scope

@@ -25,10 +25,10 @@ on_ok (Ok a) p = p
 on_ok (Err b) p = tt
 
 pub returns-clause-seen : goal.returns-clause-seen
-returns-clause-seen c = same_seen c.args.view.now c.prepare.new.self c.prepare.result c.prepare.ensures.ok c.prepare.ensures.err
+returns-clause-seen c = same_seen c.args.view.now c.prepare.new.self c.prepare.result c.prepare.ensures.ok c.prepare.ensures.unchanged
 
 pub returns-clause-undone : goal.returns-clause-undone
-returns-clause-undone c = undone_itself c.args.view.now c.prepare.new.self c.prepare.result c.prepare.ensures.ok c.prepare.ensures.err
+returns-clause-undone c = undone_itself c.args.view.now c.prepare.new.self c.prepare.result c.prepare.ensures.ok c.prepare.ensures.unchanged
 
 pub returns-clause-room : goal.returns-clause-room
 returns-clause-room c = has_room c.args.view.now c.prepare.new.self c.prepare.result c.prepare.ensures.ok
@@ -39,8 +39,8 @@ returns-clause-beside c =
     let w = c.prepare.new.self in
     let m = c.args.manager in
     let ys = c.keep_back_others.new.managers.items in
-    let seen = same_seen v w c.prepare.result c.prepare.ensures.ok c.prepare.ensures.err in
-    let undone = undone_itself v w c.prepare.result c.prepare.ensures.ok c.prepare.ensures.err in
+    let seen = same_seen v w c.prepare.result c.prepare.ensures.ok c.prepare.ensures.unchanged in
+    let undone = undone_itself v w c.prepare.result c.prepare.ensures.ok c.prepare.ensures.unchanged in
     on_ok c.prepare.result
     (subst (λ (p : StoredSet × StoredSet). AreHeld p.0 ys m p.1 ys) (λ i. (sym undone.committed i, sym seen i))
     (held_beside v.committed v.seen ys m c.args.ids.now c.requires.committed c.requires.seen c.requires.elsewhere c.in_ok-keep_back_others.ensures.told))
