@@ -7,6 +7,8 @@
 - docs/CHAPTERS.md cites each folder of tests/runs, and no other. Titles of worked examples are
   those of their files. The index of tests/runs/README.md has the same runs by chapter.
 - `CRATE: NAME` in docs/WORDS.md is a file of definitions.
+- Each public definition of crates/*/specs has a comment right above it, and no line there has more
+  than 120 columns.
 - The version of CHANGELOG.md is that of the program and of the client.
 - The calls are as many as docs/GUIDE.md says, all are in its tables and those of docs/QUERIES.md,
   and no other paper counts them.
@@ -42,6 +44,7 @@ COUNTS = {26: "twenty-six", 27: "twenty-seven", 28: "twenty-eight", 29: "twenty-
 TOPS = "bench|clients|crates|dist|docs|examples|planted|tests|tools"
 LINK = re.compile(r"\[([^][]*)\]\(([^()\s]+)\)")
 CODE = re.compile(r"`([^`]+)`")
+DEFINES = re.compile(r" *(?:(?:(?:abbrev|opaque|unfoldable) )+pub (?!mod )|pub (?:record|data) )")
 DECLARING = r"(?:(?:abbrev|opaque|unfoldable|record|data|pub)\s+)+"
 faults = []
 
@@ -216,6 +219,16 @@ def check_words(page: str) -> None:
             fault(page, f"{crate}: {name} is no file of definitions")
 
 
+def check_definitions(name: Path) -> None:
+    above = ""
+    for place, line in enumerate(read(name).splitlines(), 1):
+        if len(line) > 120:
+            fault(f"{name}:{place}", f"{len(line)} columns")
+        if DEFINES.match(line) and not above.lstrip().startswith("--"):
+            fault(f"{name}:{place}", "a public definition without a comment")
+        above = line
+
+
 def check_version(page: str) -> None:
     version = found_in(r"^## (\d+\.\d+\.\d+)", read(page))[:1]
     for name, pattern in VERSIONS.items():
@@ -251,6 +264,8 @@ def main(words: list[Any]) -> int:
     check_runs("docs/CHAPTERS.md")
     check_run_index("docs/CHAPTERS.md", bool(words))
     check_words("docs/WORDS.md")
+    for name in sorted(pathlib.Path("crates").glob("*/specs/**/*.antt")):
+        check_definitions(name)
     check_version("CHANGELOG.md")
     check_calls("docs/GUIDE.md")
     for line in faults:

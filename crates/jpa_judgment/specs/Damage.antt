@@ -1,5 +1,4 @@
--- Which row of cells is the lowest damaged one, and what it is for cells without one to stand for
--- nothing.
+-- What is told of cells that stand for no set: the lowest damaged row, or that none by itself is.
 use Rattle.std.specs.Prelude.{◌≡◌, ◌⊎◌, ℕ, pos, true, nat_lt, List, [], ◌∷◌, ◌++◌, map, Some}
 use Rattle.std.specs.List.{flat_map, AllByRecursion}
 use Rattle.jpa_behaviour.specs.Behaviour.{World}
@@ -44,13 +43,19 @@ pub record IsLowestDamage (world : World) (tables : Tables) (table : ℕ) (bytes
   pub lowest : (t : ℕ) (other : TableRule) → nat_lt t table ≡ true → table_of (schema_of world.model) t ≡ Some other →
       IsSoundTable world tables other
 
--- each row by itself is sound, and yet the cells stand for no set and no next numbers
-pub record StandForNone (world : World) (tables : Tables) : Type 0 where
-  pub rows : (t : ℕ) (rule : TableRule) → table_of (schema_of world.model) t ≡ Some rule →
-      IsSoundTable world tables rule
-  pub none : (set : StoredSet) (numbers : List ℕ) → StandFor world (cells_in world tables) set numbers → ⊥
+-- each row of the unit's tables is sound by itself
+abbrev pub AreSoundTables : World → Tables → Type 0
+AreSoundTables world tables =
+    (t : ℕ) (rule : TableRule) → table_of (schema_of world.model) t ≡ Some rule → IsSoundTable world tables rule
 
--- the place that is told of damaged tables: the lowest damaged row, or the empty one of table 0
-abbrev pub AreDamagedAt : World → Tables → ℕ → List ℕ → Type 0
-AreDamagedAt world tables table bytes =
-    IsLowestDamage world tables table bytes ⊎ ((table ≡ 0) × (bytes ≡ []) × StandForNone world tables)
+-- the cells of the tables stand for no set and no next numbers
+abbrev pub StandForNone : World → Tables → Type 0
+StandForNone world tables =
+    (set : StoredSet) (numbers : List ℕ) → StandFor world (cells_in world tables) set numbers → ⊥
+
+-- tables whose cells stand for no set, and the place that is told of them: the lowest damaged row,
+-- or the empty one of table 0 where each row is sound by itself
+pub record AreDamagedAt (world : World) (tables : Tables) (table : ℕ) (bytes : List ℕ) : Type 0 where
+  pub none : StandForNone world tables
+  pub place : IsLowestDamage world tables table bytes
+      ⊎ ((table ≡ 0) × (bytes ≡ []) × AreSoundTables world tables)
