@@ -5,11 +5,13 @@ ghost use Rattle.jpql_tree.specs.Values.{list_at, closed};
 ghost use Rattle.jpql_tree.specs.Conditions as spec;
 ghost use Rattle.jpql_tree.specs.Conditions.{cond_at};
 
+use crate::lookahead::opens_condition;
+use crate::predicates::{begins_variable, opposite, simple};
+use crate::steps::{after, after_word, is_word, name, optional_word, sees, variable};
+use crate::values::value;
 use jpa_value::{Boxed, Seq, Text};
 use jpql_lexer::ReadError;
-use jpql_predicates::{begins_variable, opens_condition, opposite, simple};
 use jpql_tree::{Block, Condition, Item, Join, Keyword, Mark, Origin, Source, Token};
-use jpql_values::{after, after_word, is_word, name, optional_word, sees, value, variable};
 use std::alloc::{AllocError, Global};
 
 /// Two boxes, of what a condition joins.

@@ -3,8 +3,8 @@
 //! `read_query` takes a text, seen as its bytes, to the tree of `jpql_tree`. That crate has the
 //! grammar as a relation between texts and trees (`specs/Queries`), reading as functions on lists
 //! (`specs/Values`, `Conditions`, `Statements`), and the laws that these are the grammar.
-//! `jpql_lexer` cuts the text into tokens, `jpql_values` and `jpql_conditions` read what their
-//! names say, and here are statements, the limits and the whole.
+//! `jpql_lexer` cuts the text into tokens, `jpql_conditions` reads values and conditions, and here
+//! are statements, the limits and the whole.
 //!
 //! Conditions and values recurse as deep as parentheses nest, of which a text has at most 32: each
 //! recursion counts down from 34.

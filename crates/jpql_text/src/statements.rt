@@ -6,12 +6,14 @@ ghost use Rattle.jpql_tree.specs.Statements as spec;
 ghost use Rattle.jpql_tree.specs.Conditions.{item_at};
 
 use jpa_value::Seq;
-use jpql_conditions::{clause, item, named, optional_name, related, sources};
+use jpql_conditions::{
+    after, after_word, clause, is_word, item, name, named, optional_name, optional_word, path,
+    related, sees, sources, value,
+};
 use jpql_lexer::ReadError;
 use jpql_tree::{
     Assignment, Item, Keyword, Mark, Path, Query, Select, SortKey, Sorted, Token, Value,
 };
-use jpql_values::{after, after_word, is_word, name, optional_word, path, sees, value};
 use std::alloc::Global;
 
 fn direction(tokens: &[Token]) -> (bool, &[Token])

@@ -1,8 +1,8 @@
 use Rattle.std.proofs.Common.{rules, arith}
 use Rattle.std.proofs.lemmas.Grind.{common_steps}
 use Rattle.jpql_tree.specs.Values.{times_at, sums_at, others_at, value_at}
-use Rattle.jpql_values.proofs.Turns.{one_more}
-use Rattle.jpql_values.proofs.values.+value.Goals as goal
+use Rattle.jpql_conditions.proofs.Turns.{one_more}
+use Rattle.jpql_conditions.proofs.values.+value.Goals as goal
 
 pub times-loop-turn-preserved : goal.times-loop-turn-preserved
 unfolding times_at

@@ -1,8 +1,8 @@
 use Rattle.std.proofs.Common.{rules, arith}
 use Rattle.std.proofs.lemmas.Grind.{common_steps}
 use Rattle.jpql_tree.specs.Values.{others_at, name_at}
-use Rattle.jpql_values.proofs.Turns.{one_more}
-use Rattle.jpql_predicates.proofs.predicates.names.Goals as goal
+use Rattle.jpql_conditions.proofs.Turns.{one_more}
+use Rattle.jpql_conditions.proofs.predicates.names.Goals as goal
 
 pub loop-turn-preserved : goal.loop-turn-preserved
 unfolding others_at

@@ -1,6 +1,6 @@
 use Rattle.std.proofs.Common.{◌≡◌, ◌≤◌, false, drop}
 use Rattle.jpql_tree.specs.Conditions.{has_test}
-use Rattle.jpql_predicates.proofs.lookahead.has_test.Given as goal
+use Rattle.jpql_conditions.proofs.lookahead.has_test.Given as goal
 
 -- what was passed tells nothing
 abbrev pub invariant-loop-token : goal.invariant-loop-token

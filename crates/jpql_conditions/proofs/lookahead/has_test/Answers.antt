@@ -2,8 +2,8 @@ use Rattle.std.proofs.Common.{rules, arith, ◌≡◌, ◌∷◌, ◌+◌, ◌�
 use Rattle.std.proofs.lemmas.Grind.{common_steps}
 use Rattle.std.proofs.Math.Seq.{drop-cons}
 use Rattle.jpql_tree.specs.Conditions.{has_test}
-use Rattle.jpql_predicates.proofs.HasTest.{told, done, closes, opens, passes, none_left, one_more_left}
-use Rattle.jpql_predicates.proofs.lookahead.has_test.Goals as goal
+use Rattle.jpql_conditions.proofs.HasTest.{told, done, closes, opens, passes, none_left, one_more_left}
+use Rattle.jpql_conditions.proofs.lookahead.has_test.Goals as goal
 
 pub returns-then-tells : goal.returns-then-tells
 returns-then-tells c =

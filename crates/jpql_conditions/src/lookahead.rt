@@ -2,8 +2,8 @@
 ghost use Rattle.std.specs.Prelude.{◌≡◌, false};
 ghost use Rattle.jpql_tree.specs.Conditions as spec;
 
+use crate::steps::{is_mark, sees};
 use jpql_tree::{Keyword, Mark, Token};
-use jpql_values::{is_mark, sees};
 
 pub fn is_comparison(mark: Mark) -> bool
     ensures { result ≡ spec.is_comparison mark }

@@ -5,12 +5,11 @@ ghost use Rattle.jpql_tree.specs.Values.{list_at, name_at};
 ghost use Rattle.jpql_tree.specs.Conditions as spec;
 
 use crate::lookahead::is_comparison;
+use crate::steps::{after, after_word, is_word, name, optional_word, path, sees, variable};
+use crate::values::{value, value_list};
 use jpa_value::{Boxed, Seq, Text};
 use jpql_lexer::ReadError;
 use jpql_tree::{Comparison, Condition, Keyword, Mark, Path, Token, Value};
-use jpql_values::{
-    after, after_word, is_word, name, optional_word, path, sees, value, value_list, variable,
-};
 use std::alloc::{AllocError, Global};
 
 #[tactic(auto, unfolding(jpql_tree::specs::Conditions::comparison_at))]

@@ -1,6 +1,6 @@
 use Rattle.std.proofs.Common.{◌≡◌, [], ◌∷◌, length, ◌-◌, ◌+◌, ◌*◌}
 use Rattle.jpql_tree.specs.Values.{times_at, sums_at, others_at, value_at}
-use Rattle.jpql_values.proofs.values.+value.Given as goal
+use Rattle.jpql_conditions.proofs.values.+value.Given as goal
 
 abbrev pub decreases-value : goal.decreases-value
 decreases-value l = l.depth * 10
