@@ -3,11 +3,11 @@ ghost use Rattle.std.specs.Prelude.{◌≡◌, IfOk, IfErr, map};
 ghost use Rattle.jpa_value.specs.declared.refusal.Cause.{Cause};
 ghost use Rattle.jpa_queries.specs.Queries as queries;
 ghost use Rattle.jpql_eval.specs.Seen.{seen};
-ghost use Rattle.jpql_rows.specs.Tables.{rows_in};
+ghost use Rattle.jpql_select.specs.Tables.{rows_in};
 
 use jpa_value::{Cause, Seq, TryCopy, Value};
 use jpql_eval::{Datum, Seen};
-use jpql_rows::Table;
+use jpql_select::Table;
 use std::alloc::Global;
 
 /// Whether a number of rows, where one is asked, isn't negative.

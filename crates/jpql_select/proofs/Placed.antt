@@ -8,8 +8,8 @@ use Rattle.jpql_eval.specs.declared.datum.Datum.{Datum}
 use Rattle.jpql_eval.specs.Data.{same_data}
 use Rattle.jpql_plan.specs.Paths.{Tuple}
 use Rattle.jpql_plan.specs.Selection.{put_tuple, put_tuples}
-use Rattle.jpql_rows.specs.Keys.{data_total}
-use Rattle.jpql_rows.proofs.Keys.{same_by_cmp}
+use Rattle.jpql_select.specs.Keys.{data_total}
+use Rattle.jpql_select.proofs.Keys.{same_by_cmp}
 use Rattle.jpql_select.specs.Groups.{groups_in, add_at, begins_with, place_of, all_some, AreApart}
 
 pub added : {T : Type 0} (gs : List (Vec T)) (i : ℕ) (x y : Vec T) (t : T) → i < length gs → x ≡ slice_index_or gs i x → y.items ≡ x.items ++ t ∷ []

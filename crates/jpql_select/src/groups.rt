@@ -4,12 +4,12 @@ ghost use Rattle.std.specs.BTreeMap.{get, Updates};
 ghost use Rattle.std.specs.Prelude.{◌≡◌, ◌<◌, ◌++◌, ◌∷◌, [], length, slice_index_or, unwrap_or, Some, OnOk, IfOk};
 ghost use Rattle.jpql_eval.specs.Data.{same_data};
 ghost use Rattle.jpql_plan.specs.Selection.{put_tuples};
-ghost use Rattle.jpql_rows.specs.Keys.{data_cmp};
+ghost use Rattle.jpql_select.specs.Keys.{data_cmp};
 ghost use Rattle.jpql_select.specs.Groups.{groups_in, add_at, begins_with};
 ghost use Rattle.jpql_select.specs.Selects as selects;
 
+use crate::key::Key;
 use jpql_eval::is_same;
-use jpql_rows::Key;
 use jpql_run::{Run, Tuple, path};
 use jpql_types::TypedPath;
 use std::alloc::{AllocError, Global};

@@ -4,13 +4,23 @@
 //! `select` gives the table of a statement: its tuples stand alone or in groups, HAVING keeps some,
 //! each gives a row, and the rows come in their order. What a row has stays borrowed from the set,
 //! the statement or its parameters.
+//!
+//! `key`, `row`, `order`, `distinct` and `table` know of rows alone: what rows and groups go by,
+//! DISTINCT and ORDER BY.
 #![tactic(auto)]
 
 mod case;
+mod distinct;
 mod groups;
+mod key;
+mod order;
+mod row;
 mod rows;
 mod short;
 mod statement;
+mod table;
 mod tuples;
 
+pub use row::Row;
 pub use statement::select;
+pub use table::Table;

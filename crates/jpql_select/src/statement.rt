@@ -3,15 +3,15 @@ ghost use Rattle.jpa_open.specs.Opened as opened;
 ghost use Rattle.jpql_eval.specs.Finds.{Finds};
 ghost use Rattle.jpql_plan.specs.Selection as selection;
 ghost use Rattle.jpql_run.specs.Keys as keys;
-ghost use Rattle.jpql_rows.specs.Tables.{rows_in};
+ghost use Rattle.jpql_select.specs.Tables.{rows_in};
 
 use crate::case::cases_of;
 use crate::rows::rows_of;
+use crate::table::{Table, ordered};
 use crate::tuples::selected_tuples;
 use jpa_model::Metamodel;
 use jpa_open::OpenSet;
 use jpql_eval::{Datum, Failure};
-use jpql_rows::{Table, ordered};
 use jpql_run::Run;
 use jpql_types::TypedSelect;
 use std::alloc::Global;

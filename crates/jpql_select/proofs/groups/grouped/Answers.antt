@@ -5,8 +5,8 @@ use Rattle.std.proofs.lemmas.Iterator.Consumers.{YieldsList-turn}
 use Rattle.std.proofs.lemmas.List.{length-map}
 use Rattle.jpql_eval.specs.declared.datum.Datum.{Datum}
 use Rattle.jpql_eval.specs.Data.{same_data}
-use Rattle.jpql_rows.specs.Keys.{data_cmp}
-use Rattle.jpql_rows.proofs.Keys.{same_by_cmp}
+use Rattle.jpql_select.specs.Keys.{data_cmp}
+use Rattle.jpql_select.proofs.Keys.{same_by_cmp}
 use Rattle.jpql_run.proofs.Yielded.{next_of}
 use Rattle.jpql_select.specs.Groups.{groups_in, add_at, begins_with, place_of, all_some, AreApart}
 use Rattle.jpql_select.specs.Selects.{group_key}

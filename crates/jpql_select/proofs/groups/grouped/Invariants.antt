@@ -2,7 +2,7 @@ use Rattle.std.proofs.Common.{◌≡◌, List, [], true, drop, length}
 use Rattle.std.specs.BTreeMap.{get}
 use Rattle.jpql_eval.specs.declared.datum.Datum.{Datum}
 use Rattle.jpql_plan.specs.Selection.{put_tuples}
-use Rattle.jpql_rows.specs.Keys.{data_cmp}
+use Rattle.jpql_select.specs.Keys.{data_cmp}
 use Rattle.jpql_select.specs.Groups.{groups_in, place_of, all_some, AreApart}
 use Rattle.jpql_select.specs.Selects.{group_key}
 use Rattle.jpql_select.proofs.groups.grouped.Given as goal

@@ -2,7 +2,7 @@
 ghost use Rattle.std.specs.Prelude.{◌≡◌, map, Some, refl, IfOk};
 ghost use Rattle.std.specs.Cmp.{partial_equiv_from_equiv, eq_by_cmp_equiv, partial_order_from_agreeing_total};
 ghost use Rattle.jpql_eval.specs.Seen.{seen};
-ghost use Rattle.jpql_rows.specs.Keys.{data_cmp, is_same, data_total};
+ghost use Rattle.jpql_select.specs.Keys.{data_cmp, is_same, data_total};
 
 use jpql_eval::Seen;
 use std::alloc::{AllocError, Global};

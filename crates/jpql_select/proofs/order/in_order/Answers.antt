@@ -3,8 +3,8 @@ use Rattle.std.specs.Ordering.{is_lt}
 use Rattle.std.proofs.lemmas.Fn.{always_returns_same}
 use Rattle.jpql_plan.specs.Selection.{precedes}
 use Rattle.jpql_plan.proofs.Orders.{precedes_is_order}
-use Rattle.jpql_rows.proofs.Sorted.{sorted_is_in_order}
-use Rattle.jpql_rows.proofs.order.in_order.Goals as goal
+use Rattle.jpql_select.proofs.Sorted.{sorted_is_in_order}
+use Rattle.jpql_select.proofs.order.in_order.Goals as goal
 
 pub returns : goal.returns
 returns c =

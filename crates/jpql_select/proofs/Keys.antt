@@ -10,7 +10,7 @@ use Rattle.jpql_eval.specs.Data.{datum_cmp, same_datum, same_data}
 use Rattle.jpql_eval.specs.Seen.{seen}
 use Rattle.jpql_eval.specs.SeenOrder.{seen_cmp}
 use Rattle.jpql_eval.proofs.Orders.{same_by_order}
-use Rattle.jpql_rows.specs.Keys.{data_cmp, is_same}
+use Rattle.jpql_select.specs.Keys.{data_cmp, is_same}
 
 pub by_seen : (xs ys : List Seen) → slice_cmp seen_cmp xs ys ≡ data_cmp (map seen xs) (map seen ys)
 by_seen [] [] = refl

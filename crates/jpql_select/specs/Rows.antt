@@ -5,7 +5,7 @@ use Rattle.jpql_eval.specs.declared.datum.Datum.{Datum}
 use Rattle.jpql_eval.specs.Aggregates.{once}
 use Rattle.jpql_plan.specs.Laws.{is_same_row}
 use Rattle.jpql_plan.specs.Selection.{Row, in_order}
-use Rattle.jpql_rows.specs.Tables.{items_in}
+use Rattle.jpql_select.specs.Tables.{items_in}
 
 -- under DISTINCT the first of rows with the same items, else all rows (chapter 4.9)
 abbrev pub distinct : Bool → List Row → List Row

@@ -2,7 +2,7 @@
 ghost use Rattle.std.specs.Prelude.{◌≡◌, IfOk};
 ghost use Rattle.jpql_eval.specs.Aggregates as aggregates;
 ghost use Rattle.jpql_plan.specs.Laws.{is_same_row};
-ghost use Rattle.jpql_rows.specs.Rows as rows_;
+ghost use Rattle.jpql_select.specs.Rows as rows_;
 
 use crate::key::key_of;
 use crate::row::Row;

@@ -6,8 +6,8 @@ use Rattle.jpql_eval.specs.Data.{same_data}
 use Rattle.jpql_eval.specs.declared.datum.Datum.{Datum}
 use Rattle.jpql_plan.specs.Laws.{is_same_row}
 use Rattle.jpql_plan.specs.Selection.{Row}
-use Rattle.jpql_rows.specs.Keys.{data_cmp}
-use Rattle.jpql_rows.proofs.distinct.once.Given as goal
+use Rattle.jpql_select.specs.Keys.{data_cmp}
+use Rattle.jpql_select.proofs.distinct.once.Given as goal
 
 abbrev pub invariant-loop-row : goal.invariant-loop-row
 invariant-loop-row l = record {

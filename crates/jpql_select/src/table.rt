@@ -1,7 +1,7 @@
 //! The table of a SELECT.
 ghost use Rattle.std.specs.Prelude.{◌≡◌, IfOk};
-ghost use Rattle.jpql_rows.specs.Rows as rows_;
-ghost use Rattle.jpql_rows.specs.Tables.{rows_in, items_in};
+ghost use Rattle.jpql_select.specs.Rows as rows_;
+ghost use Rattle.jpql_select.specs.Tables.{rows_in, items_in};
 
 use crate::distinct::distinct;
 use crate::order::in_order;

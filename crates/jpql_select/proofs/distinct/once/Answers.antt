@@ -11,10 +11,10 @@ use Rattle.jpql_eval.specs.declared.datum.Datum.{Datum}
 use Rattle.jpql_eval.proofs.Distinct.{cond_or, was_there, was_new}
 use Rattle.jpql_plan.specs.Laws.{is_same_row}
 use Rattle.jpql_plan.specs.Selection.{Row}
-use Rattle.jpql_rows.specs.Keys.{data_cmp}
-use Rattle.jpql_rows.proofs.Keys.{same_by_cmp}
-use Rattle.jpql_rows.proofs.Once.{again_met, first_met, kept_then}
-use Rattle.jpql_rows.proofs.distinct.once.Goals as goal
+use Rattle.jpql_select.specs.Keys.{data_cmp}
+use Rattle.jpql_select.proofs.Keys.{same_by_cmp}
+use Rattle.jpql_select.proofs.Once.{again_met, first_met, kept_then}
+use Rattle.jpql_select.proofs.distinct.once.Goals as goal
 
 -- a row that was not met
 pub loop-row-preserved-in_ok-push : goal.loop-row-preserved-in_ok-push

@@ -1,3 +1,0 @@
-pub mod Keys
-pub mod Once
-pub mod Sorted
