@@ -7,10 +7,10 @@ use Rattle.jpa_model.specs.declared.unit.PersistenceUnit.{PersistenceUnit}
 use Rattle.jpa_behaviour.specs.Registered.{Meaning, Registered, world_of}
 use Rattle.jpql_eval.specs.Answers.{Answer, gives}
 use Rattle.jpql_plan.specs.Bulk.{or_refuse}
-use Rattle.jpql_assign.specs.declared.refused.Refused.{Refused}
-use Rattle.jpql_assign.specs.Assigns.{Refuses}
-use Rattle.jpql_assign.specs.Causes.{cause_of}
-use Rattle.jpql_assign.specs.Throwing as registered
+use Rattle.jpql_bulk.specs.declared.refused.Refused.{Refused}
+use Rattle.jpql_bulk.specs.Assigns.{Refuses}
+use Rattle.jpql_bulk.specs.Causes.{cause_of}
+use Rattle.jpql_bulk.specs.Throwing as registered
 use Rattle.jpql_kept.specs.Fits as kept
 use Rattle.jpa_updates.specs.Changing.{AnswersAs}
 

@@ -1,7 +1,7 @@
 use Rattle.std.proofs.Common.{◌≡◌, ◌∙◌, ap, sym, List, map}
 use Rattle.jpa_behaviour.specs.Served.{world_of_unit}
 use Rattle.jpa_open.specs.Opened as opened
-use Rattle.jpql_assign.specs.Throwing as registered
+use Rattle.jpql_bulk.specs.Throwing as registered
 use Rattle.jpql_bulk.specs.Changes.{change_in, found_by_update}
 use Rattle.jpql_bulk.specs.declared.update.Change.{Change}
 use Rattle.jpql_kept.specs.Fits.{throws_in}

@@ -1,8 +1,8 @@
 use Rattle.std.proofs.Common.{◌≡◌, drop}
-use Rattle.jpql_assign.specs.Throwing.{throws_in}
+use Rattle.jpql_bulk.specs.Throwing.{throws_in}
 use Rattle.jpql_bulk.specs.Changes.{members_in}
 use Rattle.jpql_plan.specs.Bulk as bulk
-use Rattle.jpql_assign.proofs.changes.all_assigned.Given as goal
+use Rattle.jpql_bulk.proofs.changes.all_assigned.Given as goal
 
 -- what is left to assign makes of what was made what all make of the object
 abbrev pub invariant-loop-member : goal.invariant-loop-member

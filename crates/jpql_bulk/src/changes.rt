@@ -1,17 +1,17 @@
 //! All assignments of an UPDATE.
 ghost use Rattle.std.specs.Prelude.{◌≡◌, map};
-ghost use Rattle.jpql_assign.specs.Assigns.{Assigns, same};
-ghost use Rattle.jpql_assign.specs.Throwing.{throws_in};
+ghost use Rattle.jpql_bulk.specs.Assigns.{Assigns, same};
+ghost use Rattle.jpql_bulk.specs.Throwing.{throws_in};
 ghost use Rattle.jpql_bulk.specs.Changes.{members_in, change_in};
 ghost use Rattle.jpql_plan.specs.Bulk as bulk;
 
 use crate::members::{assigned, copied};
 use crate::refused::Refused;
+use crate::update::Change;
 use jpa_behaviour::{Behaviour, ServedUnit};
 use jpa_model::Member;
 use jpa_stored::Stored;
 use jpa_value::Identity;
-use jpql_bulk::Change;
 use jpql_eval::Seen;
 use std::alloc::Global;
 

@@ -1,9 +1,9 @@
 use Rattle.std.proofs.Common.{◌≡◌, map, drop}
-use Rattle.jpql_assign.specs.Throwing.{throws_in}
-use Rattle.jpql_assign.proofs.Made.{after}
+use Rattle.jpql_bulk.specs.Throwing.{throws_in}
+use Rattle.jpql_bulk.proofs.Made.{after}
 use Rattle.jpql_bulk.specs.Changes.{change_in}
 use Rattle.jpql_plan.specs.Bulk as bulk
-use Rattle.jpql_assign.proofs.changes.assign.Given as goal
+use Rattle.jpql_bulk.proofs.changes.assign.Given as goal
 
 -- what was made, and what is left
 abbrev pub invariant-loop-change : goal.invariant-loop-change

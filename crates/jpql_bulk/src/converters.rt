@@ -2,8 +2,8 @@
 ghost use Rattle.std.specs.Prelude.{◌≡◌, Ok, is_none};
 ghost use Rattle.std.specs.Option.{option_copied};
 ghost use Rattle.jpa_behaviour.specs.Registered.{column_in};
-ghost use Rattle.jpql_assign.specs.Assigns.{Assigns, same};
-ghost use Rattle.jpql_assign.specs.Throwing.{throws_by, throws_in};
+ghost use Rattle.jpql_bulk.specs.Assigns.{Assigns, same};
+ghost use Rattle.jpql_bulk.specs.Throwing.{throws_by, throws_in};
 ghost use Rattle.jpql_plan.specs.Bulk as bulk;
 
 use crate::refused::Refused;

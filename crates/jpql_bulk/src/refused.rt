@@ -1,7 +1,7 @@
 //! Why nothing was assigned.
 ghost use Rattle.std.specs.Prelude.{◌≡◌};
-ghost use Rattle.jpql_assign.specs.Causes.{cause_of};
-ghost use Rattle.jpql_assign.specs.declared.refused.Refused.TheVariants.{Memory};
+ghost use Rattle.jpql_bulk.specs.Causes.{cause_of};
+ghost use Rattle.jpql_bulk.specs.declared.refused.Refused.TheVariants.{Memory};
 
 use jpa_value::{Cause, Persist};
 use std::alloc::{AllocError, AllocFailed};

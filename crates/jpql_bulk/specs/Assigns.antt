@@ -3,8 +3,8 @@ use Rattle.std.specs.Prelude.{◌≡◌, List, [], ◌∷◌, Option, Some, None
 use Rattle.jpa_value.specs.declared.refusal.Cause.{Cause}
 use Rattle.jpa_value.specs.declared.value.Identity.{Identity}
 use Rattle.jpa_value.specs.declared.value.Value.{Value}
-use Rattle.jpql_assign.specs.Causes.{cause_of}
-use Rattle.jpql_assign.specs.declared.refused.Refused.{Refused}
+use Rattle.jpql_bulk.specs.Causes.{cause_of}
+use Rattle.jpql_bulk.specs.declared.refused.Refused.{Refused}
 use Rattle.jpql_eval.specs.declared.datum.Datum.{Datum}
 
 -- what a refusal says of the wanted result: Memory nothing, others that it is theirs

@@ -1,8 +1,8 @@
 //! One assignment.
 ghost use Rattle.std.specs.Prelude.{◌≡◌, Ok, slice_set};
 ghost use Rattle.jpa_model.specs.Chains as chains;
-ghost use Rattle.jpql_assign.specs.Assigns.{Assigns, same, plain, link_of};
-ghost use Rattle.jpql_assign.specs.Throwing.{throws_in};
+ghost use Rattle.jpql_bulk.specs.Assigns.{Assigns, same, plain, link_of};
+ghost use Rattle.jpql_bulk.specs.Throwing.{throws_in};
 ghost use Rattle.jpql_eval.specs.Seen.{seen};
 ghost use Rattle.jpql_plan.specs.Bulk as bulk;
 

@@ -1,10 +1,10 @@
 use Rattle.std.proofs.Common.{rules, ◌≡◌, ◌∙◌, ap, sym, ◌+◌, ◌<◌, drop, length, map, Ok}
 use Rattle.jpa_stored.specs.declared.stored.Stored.{Stored}
-use Rattle.jpql_assign.specs.Throwing.{throws_in}
+use Rattle.jpql_bulk.specs.Throwing.{throws_in}
 use Rattle.jpql_plan.specs.Bulk.{all_assigned}
 use Rattle.jpql_bulk.specs.Changes.{members_in, change_in}
-use Rattle.jpql_assign.proofs.Made.{after, made_more}
-use Rattle.jpql_assign.proofs.changes.assign.Goals as goal
+use Rattle.jpql_bulk.proofs.Made.{after, made_more}
+use Rattle.jpql_bulk.proofs.changes.assign.Goals as goal
 
 pub loop-change-preserved : goal.loop-change-preserved
 loop-change-preserved g c =

@@ -1,7 +1,7 @@
 -- Why nothing was assigned, as a call tells it.
 use Rattle.jpa_value.specs.declared.refusal.Cause.{Cause}
 use Rattle.jpa_value.specs.declared.refusal.Persist.{Persist}
-use Rattle.jpql_assign.specs.declared.refused.Refused.{Refused}
+use Rattle.jpql_bulk.specs.declared.refused.Refused.{Refused}
 
 -- the cause that a refusal is told by
 abbrev pub cause_of : Refused → Cause

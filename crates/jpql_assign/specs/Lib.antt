@@ -1,3 +1,0 @@
-pub mod Assigns
-pub mod Causes
-pub mod Throwing
