@@ -7,3 +7,9 @@ mod Blocks
 mod Joined
 mod Items
 mod Judged
+-- ---- each name means something
+pub mod Options
+pub mod ResolvedValues
+pub mod Turns
+pub mod ResolvedConditions
+pub mod ResolvedStatements

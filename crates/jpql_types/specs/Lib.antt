@@ -7,3 +7,4 @@ pub mod Statements
 pub mod Gives
 pub mod Within
 pub mod Indexes
+pub mod Resolved

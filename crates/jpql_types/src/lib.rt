@@ -8,8 +8,9 @@
 //! what values are of and which go together, in `Typing` which values, conditions and nested
 //! SELECTs are well typed, in `Statements` which statements are, and what a check of one answers;
 //! in `Names` the names that a statement has, in `Trees` its typed tree; in `Indexes` what its
-//! names and paths are found by. The crate stands on those of values, of the metamodel and of the
-//! trees that are written.
+//! names and paths are found by. `Resolved` makes the same trees, and none where a name means
+//! nothing; `resolved_law` carries the law that for what a check accepts both are the same. The
+//! crate stands on those of values, of the metamodel and of the trees that are written.
 #![tactic(auto)]
 
 mod check;
@@ -21,6 +22,7 @@ mod error;
 mod from;
 mod groups;
 mod index;
+mod laws;
 mod names;
 mod nodes;
 mod order;
@@ -34,6 +36,7 @@ mod typed;
 mod values;
 
 pub use check::check_query;
+pub use laws::resolved_law;
 pub use scope::{Step, TypedPath};
 pub use sort::{ParamType, Sort};
 pub use typed::{

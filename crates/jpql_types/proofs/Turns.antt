@@ -5,8 +5,8 @@ use Rattle.jpql_tree.specs.Values.{◌>>=◌}
 use Rattle.jpql_types.specs.Scope.{Scope}
 use Rattle.jpql_types.specs.Typing.{in_turn}
 use Rattle.jpql_types.specs.Trees as trees
-use Rattle.jpql_resolved.specs.Resolved as names
-use Rattle.jpql_resolved.proofs.Options.{value_in, none_some}
+use Rattle.jpql_types.specs.Resolved as names
+use Rattle.jpql_types.proofs.Options.{value_in, none_some}
 
 module _ {A T : Type 0} (scope_of : A → Scope → Option Scope) (name : A → Scope → Option (T × Scope)) (tree : A → Scope → T × Scope) where
   abbrev pub Turns : A → Type 0

@@ -7,7 +7,7 @@ use Rattle.jpa_model.specs.WellFormed.{is_some_that, if_some}
 use Rattle.jpql_tree.specs.Values.{◌>>=◌}
 use Rattle.jpql_types.specs.Typing.{all_some, pass_both}
 use Rattle.jpql_types.specs.Scope.{when}
-use Rattle.jpql_resolved.specs.Resolved.{both, if_written}
+use Rattle.jpql_types.specs.Resolved.{both, if_written}
 
 pub value_in : {A : Type 0} (x y : A) → Some x ≡ Some y → x ≡ y
 value_in x y e = cc

@@ -16,8 +16,8 @@ use Rattle.jpql_types.specs.Scope.{Scope, path_of, resolved}
 use Rattle.jpql_types.specs.Sorts.{integer, path_sort, collection_class, arithmetic_sort, call_sort, aggregate_sort}
 use Rattle.jpql_types.specs.Typing.{all_some, allows_aggregates, sort_of_path, collection, sort_step, value_sort}
 use Rattle.jpql_types.specs.Trees as trees
-use Rattle.jpql_resolved.specs.Resolved as names
-use Rattle.jpql_resolved.proofs.Options.{IsThere, there, there_before, there_if, all_there, both_of, more_of}
+use Rattle.jpql_types.specs.Resolved as names
+use Rattle.jpql_types.proofs.Options.{IsThere, there, there_before, there_if, all_there, both_of, more_of}
 
 module _ (m : PersistenceUnit) (ps : List (Text × Sort)) (groups : List Path) (scope : Scope) where
   -- ---- paths

@@ -36,12 +36,12 @@ use Rattle.jpql_types.specs.Typing.{all_some, value_sort, is_condition_typed, in
 use Rattle.jpql_types.specs.Statements.{select_clause, item_sort, sorted_sort, is_kept, is_key_typed, is_group_typed, is_filter_typed, is_select_typed_in, is_select_typed, is_settable, allows_value, is_value_of, is_set_typed, is_assignment_typed, is_update_typed, are_distinct, is_statement_typed, is_typed, has_distinct_names, are_given}
 use Rattle.jpql_types.specs.Trees as trees
 use Rattle.jpql_types.specs.Trees.{place, no_step, is_named}
-use Rattle.jpql_resolved.specs.Resolved as names
-use Rattle.jpql_resolved.specs.Resolved.{both, if_written}
-use Rattle.jpql_resolved.proofs.Options.{IsThere, there, there_before, there_that, there_both, that_at, both_of, each_of, each_tested, each_holds, written_of}
-use Rattle.jpql_resolved.proofs.Turns.{turns}
-use Rattle.jpql_resolved.proofs.Values.{value_resolved, sorted_path}
-use Rattle.jpql_resolved.proofs.Conditions.{S, condition_resolved, source_resolved}
+use Rattle.jpql_types.specs.Resolved as names
+use Rattle.jpql_types.specs.Resolved.{both, if_written}
+use Rattle.jpql_types.proofs.Options.{IsThere, there, there_before, there_that, there_both, that_at, both_of, each_of, each_tested, each_holds, written_of}
+use Rattle.jpql_types.proofs.Turns.{turns}
+use Rattle.jpql_types.proofs.ResolvedValues.{value_resolved, sorted_path}
+use Rattle.jpql_types.proofs.ResolvedConditions.{S, condition_resolved, source_resolved}
 
 -- what is found has a place
 found_by : {A : Type 0} (p : A → Bool) (x : A) (xs : List A) (n : ℕ) (b : Bool) → (IsThere (find p xs) → IsThere (position_from p (n + 1) xs)) → IsThere (cond b (Some x) (find p xs)) → IsThere (cond b (Some n) (position_from p (n + 1) xs))

@@ -37,11 +37,11 @@ use Rattle.jpql_types.specs.Typing as typing
 use Rattle.jpql_types.specs.Typing.{value_sort, sorts_of, collection, variable_path, is_of_hierarchy, allows_exists, is_one_character, related_class, origin_class, in_turn, with_variable}
 use Rattle.jpql_types.specs.Trees as trees
 use Rattle.jpql_types.specs.Trees.{place, no_step}
-use Rattle.jpql_resolved.specs.Resolved as names
-use Rattle.jpql_resolved.specs.Resolved.{both, if_written}
-use Rattle.jpql_resolved.proofs.Options.{IsThere, value_in, none_some, there, there_before, there_that, there_both, all_there, that_at, then_at, when_there, both_of, each_of, each_tested, each_paired}
-use Rattle.jpql_resolved.proofs.Turns.{Turns, turns}
-use Rattle.jpql_resolved.proofs.Values.{value_resolved, values_resolved, collected_path}
+use Rattle.jpql_types.specs.Resolved as names
+use Rattle.jpql_types.specs.Resolved.{both, if_written}
+use Rattle.jpql_types.proofs.Options.{IsThere, value_in, none_some, there, there_before, there_that, there_both, all_there, that_at, then_at, when_there, both_of, each_of, each_tested, each_paired}
+use Rattle.jpql_types.proofs.Turns.{Turns, turns}
+use Rattle.jpql_types.proofs.ResolvedValues.{value_resolved, values_resolved, collected_path}
 
 module _ (m : PersistenceUnit) (ps : List (Text × Sort)) (groups : List Path) where
   -- ---- what typing says, what names mean, and the tree

@@ -1,16 +1,10 @@
-//! That in a well-typed statement each name means something (Jakarta Persistence 3.1, chapter 4).
-//!
-//! The typed trees of `jpql_types` have places for names, and would have place 0 for one that means
-//! nothing. `specs/Resolved` makes the same trees, and none where a name means nothing;
-//! `resolved_law` carries the law that for what a check accepts both are the same.
-#![tactic(auto)]
-
+//! The law that in a well-typed statement each name means something.
 ghost use Rattle.std.specs.Prelude.{List};
 ghost use Rattle.jpa_model.specs.declared.unit.PersistenceUnit.{PersistenceUnit};
 ghost use Rattle.jpql_tree.specs.declared.Query.{Query};
 ghost use Rattle.jpql_tree.specs.Grammar.{Text};
 ghost use Rattle.jpql_types.specs.declared.sort.Sort.{Sort};
-ghost use Rattle.jpql_resolved.specs.Resolved.{IsResolved};
+ghost use Rattle.jpql_types.specs.Resolved.{IsResolved};
 
 /// The law of names (chapters 4.4.1 to 4.4.4), for contracts to cite; it does nothing. The typed
 /// tree of a statement that was checked is the one that its names mean: the entity of each name,

@@ -1,5 +1,0 @@
-pub mod Options
-pub mod Values
-pub mod Turns
-pub mod Conditions
-pub mod Statements
