@@ -15,11 +15,11 @@ use Rattle.jpa_model.proofs.Within.{length-declarers}
 use Rattle.jpa_row_laws.proofs.Elements.{Has, append_has, from_flat_map, from_map, has_append}
 use Rattle.jpa_row_laws.proofs.Facts.{some_none}
 use Rattle.jpa_row_laws.proofs.Lists.{any_has}
-use Rattle.jpa_view.specs.Unambiguous.{is_class}
-use Rattle.jpa_view.proofs.Classes.{below, is_below, item_at}
-use Rattle.jpa_view.proofs.Climb as climb
-use Rattle.jpa_view.proofs.Mapped.{IsMapped, last_has, lineage}
-use Rattle.jpa_view.proofs.Orders.{are_same_numbers}
+use Rattle.jpa_object_rows.specs.Unambiguous.{is_class}
+use Rattle.jpa_object_rows.proofs.Bytes.Classes.{below, is_below, item_at}
+use Rattle.jpa_object_rows.proofs.Bytes.Climb as climb
+use Rattle.jpa_object_rows.proofs.Bytes.Mapped.{IsMapped, last_has, lineage}
+use Rattle.jpa_object_rows.proofs.Bytes.Orders.{are_same_numbers}
 
 -- ---- a chain that climbs
 

@@ -22,10 +22,10 @@ use Rattle.jpa_model.specs.Described as of_draft
 use Rattle.jpa_model.specs.Kept.{IsDescribed}
 use Rattle.jpa_model.proofs.Within.{chain-within, relations-within}
 use Rattle.jpa_stored.specs.Sets.{each_fits, is_key_of}
-use Rattle.jpa_view.specs.Unambiguous.{is_class}
-use Rattle.jpa_view.proofs.Described.{described_mapped}
-use Rattle.jpa_view.proofs.Mapped.{kinds_root, same_root_class}
-use Rattle.jpa_view.proofs.Orders.{are_same_numbers}
+use Rattle.jpa_object_rows.specs.Unambiguous.{is_class}
+use Rattle.jpa_object_rows.proofs.Bytes.Described.{described_mapped}
+use Rattle.jpa_object_rows.proofs.Bytes.Mapped.{kinds_root, same_root_class}
+use Rattle.jpa_object_rows.proofs.Bytes.Orders.{are_same_numbers}
 use Rattle.jpa_fetch.specs.Orderly.{IsOrderly}
 use Rattle.jpa_consistent.proofs.Above.{relation_placed}
 

@@ -18,14 +18,14 @@ use Rattle.jpa_row_laws.proofs.Facts.{true_false, some_none, value_in}
 use Rattle.jpa_row_laws.proofs.Elements.{Has, found_has, has_found, from_filter, same_option}
 use Rattle.jpa_row_laws.proofs.Lists.{all_each, all_from}
 use Rattle.jpa_row_laws.proofs.Maps.{same_answers, same_key, found_put, found_other, put_rises}
-use Rattle.jpa_view.specs.Unambiguous.{IsUnambiguous, is_class, joins_of}
-use Rattle.jpa_view.specs.View.{is_storable}
-use Rattle.jpa_view.proofs.Classes.{item_at}
-use Rattle.jpa_view.proofs.Kept.{each_storable}
-use Rattle.jpa_view.proofs.Mapped.{IsMapped}
-use Rattle.jpa_view.proofs.MappedClasses.{unambiguous_mapped}
-use Rattle.jpa_view.proofs.Orders.{identities, are_same_numbers}
-use Rattle.jpa_view.proofs.Reading.{object_spelled}
+use Rattle.jpa_object_rows.specs.Unambiguous.{IsUnambiguous, is_class, joins_of}
+use Rattle.jpa_object_rows.specs.View.{is_storable}
+use Rattle.jpa_object_rows.proofs.Bytes.Classes.{item_at}
+use Rattle.jpa_object_rows.proofs.Bytes.Kept.{each_storable}
+use Rattle.jpa_object_rows.proofs.Bytes.Mapped.{IsMapped}
+use Rattle.jpa_object_rows.proofs.Bytes.MappedClasses.{unambiguous_mapped}
+use Rattle.jpa_object_rows.proofs.Bytes.Orders.{identities, are_same_numbers}
+use Rattle.jpa_object_rows.proofs.Bytes.Reading.{object_spelled}
 use Rattle.jpa_object_rows.specs.Raw.{raw, AreRowsOf, AreWhole}
 use Rattle.jpa_object_rows.specs.Objects.{is_discriminator, main_row, pair_row}
 use Rattle.jpa_object_rows.specs.Sets.{set_in, targets_in, AreOnes, HoldsOnes, StandsIn}

@@ -11,8 +11,8 @@ use Rattle.jpa_migration.specs.Migration.{opened_tables}
 use Rattle.jpa_rows.specs.declared.schema.Schema.{Schema}
 use Rattle.jpa_rows.specs.Rows.{RowId, Row, Rows}
 use Rattle.jpa_rows.specs.Tables.{schema_of}
-use Rattle.jpa_view.specs.Unambiguous.{is_class}
-use Rattle.jpa_view.proofs.Mapped.{IsMapped}
+use Rattle.jpa_object_rows.specs.Unambiguous.{is_class}
+use Rattle.jpa_object_rows.proofs.Bytes.Mapped.{IsMapped}
 use Rattle.jpa_object_rows.specs.Objects.{is_discriminator}
 use Rattle.jpa_cells_meaning.specs.Tables.{Tables}
 use Rattle.jpa_cells_meaning.specs.Store.{IsClean, IsOpen, tables_in}

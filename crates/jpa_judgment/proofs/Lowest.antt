@@ -8,7 +8,7 @@ use Rattle.jpa_rows.specs.declared.schema.TableRule.{TableRule}
 use Rattle.jpa_rows.specs.Rows.{RowId, Row, Rows, AreRising, table_of, table_rows}
 use Rattle.jpa_rows.specs.Tables.{schema_of}
 use Rattle.jpa_row_laws.proofs.Lists.{all_each, all_where}
-use Rattle.jpa_view.proofs.Classes.{below}
+use Rattle.jpa_object_rows.proofs.Bytes.Classes.{below}
 use Rattle.jpa_cells_meaning.specs.declared.CellRow.{CellRow}
 use Rattle.jpa_cells_meaning.specs.Tables.{Tables}
 use Rattle.jpa_rowspace.specs.Reading.{IsEntry, AreEntries, IsReadBy}

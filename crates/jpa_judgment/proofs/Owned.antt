@@ -25,15 +25,15 @@ use Rattle.jpa_row_laws.proofs.Each.{Each, each_put}
 use Rattle.jpa_row_laws.proofs.Facts.{true_false, and_second}
 use Rattle.jpa_row_laws.proofs.Elements.{Has, append_has, from_flat_map, into_flat_map, into_map, into_filter, has_found}
 use Rattle.jpa_row_laws.proofs.Lists.{all_each, has_any}
-use Rattle.jpa_view.specs.Identities.{declares, declarer_at}
-use Rattle.jpa_view.specs.Unambiguous.{IsUnambiguous}
-use Rattle.jpa_view.specs.View.{is_storable, AreStorable, PairsAre, SideHas}
-use Rattle.jpa_view.proofs.Keys.{table_is}
-use Rattle.jpa_view.proofs.Mapped.{IsMapped, root_above, one_class}
-use Rattle.jpa_view.proofs.MappedClasses.{unambiguous_mapped}
-use Rattle.jpa_view.proofs.Orders.{identities, same_number}
-use Rattle.jpa_view.proofs.Reading.{storable}
-use Rattle.jpa_view.proofs.Tables.{has_join_table, zero_join}
+use Rattle.jpa_object_rows.specs.Identities.{declares, declarer_at}
+use Rattle.jpa_object_rows.specs.Unambiguous.{IsUnambiguous}
+use Rattle.jpa_object_rows.specs.View.{is_storable, AreStorable, PairsAre, SideHas}
+use Rattle.jpa_object_rows.proofs.Bytes.Keys.{table_is}
+use Rattle.jpa_object_rows.proofs.Bytes.Mapped.{IsMapped, root_above, one_class}
+use Rattle.jpa_object_rows.proofs.Bytes.MappedClasses.{unambiguous_mapped}
+use Rattle.jpa_object_rows.proofs.Bytes.Orders.{identities, same_number}
+use Rattle.jpa_object_rows.proofs.Bytes.Reading.{storable}
+use Rattle.jpa_object_rows.proofs.Bytes.Tables.{has_join_table, zero_join}
 use Rattle.jpa_object_rows.specs.Objects.{pair_id, pair_row, side_pairs, pairs_along, number_id, number_row, object_entries, object_rows}
 use Rattle.jpa_object_rows.specs.Sets.{key_after, identity_of, target_in, if_any, targets_in, base_of, with_number, with_next, with_numbers, with_set, rows_of}
 use Rattle.jpa_object_rows.proofs.Kept.{over_each, along_each}

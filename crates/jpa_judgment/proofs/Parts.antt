@@ -9,7 +9,7 @@ use Rattle.jpa_value.specs.Value.{identity_cmp, key_cmp}
 use Rattle.jpa_rows.specs.Rows.{RowId, Row, Rows, AreRising, table_rows}
 use Rattle.jpa_rows.proofs.Splits.{all_then}
 use Rattle.jpa_row_laws.proofs.Facts.{is_less, first_holds, second_holds, both_hold}
-use Rattle.jpa_view.proofs.Classes.{below, is_below}
+use Rattle.jpa_object_rows.proofs.Bytes.Classes.{below, is_below}
 
 -- ---- lists
 

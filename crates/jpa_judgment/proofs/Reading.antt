@@ -9,7 +9,7 @@ use Rattle.jpa_rows.specs.Rows.{RowId, Row, Rows, AreRising, table_of, table_row
 use Rattle.jpa_row_laws.proofs.Facts.{true_false}
 use Rattle.jpa_row_laws.proofs.Elements.{Has, append_has, has_append}
 use Rattle.jpa_row_laws.proofs.Lists.{all_each, all_from, any_has, has_any}
-use Rattle.jpa_view.proofs.Orders.{are_same_numbers}
+use Rattle.jpa_object_rows.proofs.Bytes.Orders.{are_same_numbers}
 use Rattle.jpa_cells_meaning.specs.declared.CellRow.{CellRow}
 use Rattle.jpa_cells_meaning.specs.Tables.{Tables, key_cmp, AreRows}
 use Rattle.jpa_rowspace.specs.Reading.{AreEntries, IsReadBy}

@@ -25,8 +25,8 @@ use Rattle.jpa_row_laws.proofs.Facts.{is_less, first_holds, second_holds, both_h
 use Rattle.jpa_row_laws.proofs.Elements.{Has}
 use Rattle.jpa_row_laws.proofs.Lists.{all_each}
 use Rattle.jpa_stored.proofs.Entries.{rising_at}
-use Rattle.jpa_view.specs.Unambiguous.{IsUnambiguous, are_distinct_numbers}
-use Rattle.jpa_view.proofs.Classes.{below}
+use Rattle.jpa_object_rows.specs.Unambiguous.{IsUnambiguous, are_distinct_numbers}
+use Rattle.jpa_object_rows.proofs.Bytes.Classes.{below}
 use Rattle.jpa_object_rows.proofs.Tables.{numbers, unit_numbers}
 use Rattle.jpa_judgment.specs.Reads.{IsRising, AreNumbersOf}
 use Rattle.jpa_judgment.proofs.Parts.{one_of, same_number, apart_number}

@@ -20,9 +20,9 @@ use Rattle.jpa_rows.specs.Rows.{RowId, Row}
 use Rattle.jpa_row_laws.proofs.Facts.{true_false, some_none, value_in, and_first, and_second, and_both, by_cases}
 use Rattle.jpa_row_laws.proofs.Elements.{Has, found_has}
 use Rattle.jpa_row_laws.proofs.Lists.{all_each, any_has, has_any}
-use Rattle.jpa_view.specs.Identities.{declarer_at}
-use Rattle.jpa_view.proofs.Classes.{has_entity, is_below}
-use Rattle.jpa_view.proofs.Orders.{identities, are_same_numbers, same_number}
+use Rattle.jpa_object_rows.specs.Identities.{declarer_at}
+use Rattle.jpa_object_rows.proofs.Bytes.Classes.{has_entity, is_below}
+use Rattle.jpa_object_rows.proofs.Bytes.Orders.{identities, are_same_numbers, same_number}
 use Rattle.jpa_object_rows.specs.Objects.{number_id, number_row}
 use Rattle.jpa_object_rows.specs.Sets.{content_at, next_in, number_in}
 use Rattle.jpa_judgment.specs.Numbers.{natural, natural_in, only_number, only_part, table_named, generates, has_generator, zero_column}

@@ -14,17 +14,17 @@ use Rattle.jpa_rows.specs.Tables.{schema_of}
 use Rattle.jpa_row_laws.proofs.Facts.{true_false, and_second}
 use Rattle.jpa_row_laws.proofs.Elements.{Has, SameElements, same_back, has_from_contains, contains_from_has, from_flat_map, into_flat_map, from_filter, into_filter}
 use Rattle.jpa_row_laws.proofs.Lists.{all_each, all_from, flat_map-map}
-use Rattle.jpa_view.specs.Flat as flat
-use Rattle.jpa_view.specs.Identities.{root_at, is_within, declarer_at}
-use Rattle.jpa_view.specs.Unambiguous.{IsUnambiguous, is_class, joins_of}
-use Rattle.jpa_view.proofs.Orders.{are_same_numbers, same_number}
-use Rattle.jpa_view.proofs.Classes.{find_some}
-use Rattle.jpa_view.proofs.Keys.{table_is}
-use Rattle.jpa_view.proofs.Mapped.{IsMapped}
-use Rattle.jpa_view.proofs.MappedClasses.{unambiguous_mapped}
-use Rattle.jpa_view.proofs.Others.{join_no_root}
-use Rattle.jpa_view.proofs.Reading.{storable}
-use Rattle.jpa_view.proofs.Tables.{zero_join}
+use Rattle.jpa_object_rows.specs.Flat as flat
+use Rattle.jpa_object_rows.specs.Identities.{root_at, is_within, declarer_at}
+use Rattle.jpa_object_rows.specs.Unambiguous.{IsUnambiguous, is_class, joins_of}
+use Rattle.jpa_object_rows.proofs.Bytes.Orders.{are_same_numbers, same_number}
+use Rattle.jpa_object_rows.proofs.Bytes.Classes.{find_some}
+use Rattle.jpa_object_rows.proofs.Bytes.Keys.{table_is}
+use Rattle.jpa_object_rows.proofs.Bytes.Mapped.{IsMapped}
+use Rattle.jpa_object_rows.proofs.Bytes.MappedClasses.{unambiguous_mapped}
+use Rattle.jpa_object_rows.proofs.Bytes.Others.{join_no_root}
+use Rattle.jpa_object_rows.proofs.Bytes.Reading.{storable}
+use Rattle.jpa_object_rows.proofs.Bytes.Tables.{zero_join}
 use Rattle.jpa_object_rows.specs.Raw as objects
 use Rattle.jpa_object_rows.specs.Raw.{raw, raw_entry, is_key_by, AreNamed, AreWhole, AreFilled, IsRowBy}
 use Rattle.jpa_object_rows.specs.Objects.{pair_row, is_discriminator}

@@ -11,7 +11,7 @@ use Rattle.jpa_rows.specs.declared.schema.Schema.{Schema}
 use Rattle.jpa_rows.specs.declared.schema.TableRule.{TableRule}
 use Rattle.jpa_rows.specs.Rows.{RowId, Row, Rows, table_of}
 use Rattle.jpa_row_laws.proofs.Facts.{true_false}
-use Rattle.jpa_view.proofs.Orders.{are_same_numbers}
+use Rattle.jpa_object_rows.proofs.Bytes.Orders.{are_same_numbers}
 use Rattle.jpa_cells_meaning.specs.declared.CellChange.{CellChange}
 use Rattle.jpa_cells_meaning.specs.Tables.{Tables, AreRows}
 use Rattle.jpa_cells_meaning.specs.Store.{up_to_greatest, IsClean, IsOpen, tables_in}

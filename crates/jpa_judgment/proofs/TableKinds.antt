@@ -15,16 +15,16 @@ use Rattle.jpa_row_laws.proofs.Facts.{true_false, value_in}
 use Rattle.jpa_row_laws.proofs.Elements.{Has, append_has, from_flat_map, into_flat_map}
 use Rattle.jpa_row_laws.proofs.Lists.{any_has, has_any}
 use Rattle.jpa_rows.specs.Tables.{classes}
-use Rattle.jpa_view.specs.Identities.{declares, declarer_at, root_at, is_join_of}
-use Rattle.jpa_view.specs.Unambiguous.{IsUnambiguous, is_class, joins_of}
-use Rattle.jpa_view.specs.View.{is_storable}
-use Rattle.jpa_view.proofs.Classes.{has_entity, class_within, within_classes, find_some, find_missed}
-use Rattle.jpa_view.proofs.Keys.{table_is}
-use Rattle.jpa_view.proofs.Mapped.{last_has}
-use Rattle.jpa_view.proofs.Orders.{same_number}
-use Rattle.jpa_view.proofs.Others.{join_no_root}
-use Rattle.jpa_view.proofs.Reading.{storable}
-use Rattle.jpa_view.proofs.Tables.{own_tables, has_join_table, zero_root, zero_join, distinct_apart}
+use Rattle.jpa_object_rows.specs.Identities.{declares, declarer_at, root_at, is_join_of}
+use Rattle.jpa_object_rows.specs.Unambiguous.{IsUnambiguous, is_class, joins_of}
+use Rattle.jpa_object_rows.specs.View.{is_storable}
+use Rattle.jpa_object_rows.proofs.Bytes.Classes.{has_entity, class_within, within_classes, find_some, find_missed}
+use Rattle.jpa_object_rows.proofs.Bytes.Keys.{table_is}
+use Rattle.jpa_object_rows.proofs.Bytes.Mapped.{last_has}
+use Rattle.jpa_object_rows.proofs.Bytes.Orders.{same_number}
+use Rattle.jpa_object_rows.proofs.Bytes.Others.{join_no_root}
+use Rattle.jpa_object_rows.proofs.Bytes.Reading.{storable}
+use Rattle.jpa_object_rows.proofs.Bytes.Tables.{own_tables, has_join_table, zero_root, zero_join, distinct_apart}
 use Rattle.jpa_object_rows.specs.Objects.{pair_row, number_id}
 use Rattle.jpa_object_rows.proofs.Kept.{join_of_class}
 use Rattle.jpa_mapper.specs.Mapped.{IsMainRow}

@@ -23,15 +23,15 @@ use Rattle.jpa_row_laws.proofs.Each.{Each}
 use Rattle.jpa_row_laws.proofs.Elements.{Has, found_has, has_found}
 use Rattle.jpa_row_laws.proofs.Lists.{all_each, all_from, any_has, each_passes}
 use Rattle.jpa_row_laws.proofs.Maps.{found_put}
-use Rattle.jpa_view.specs.Unambiguous.{IsUnambiguous, is_class}
-use Rattle.jpa_view.specs.View.{is_storable, AreStorable}
-use Rattle.jpa_view.proofs.Classes.{below, has_entity}
-use Rattle.jpa_view.proofs.Kept.{each_storable}
-use Rattle.jpa_view.proofs.Mapped.{IsMapped}
-use Rattle.jpa_view.proofs.MappedClasses.{unambiguous_mapped}
-use Rattle.jpa_view.proofs.Orders.{identities, are_same_numbers}
-use Rattle.jpa_view.proofs.Reading.{storable, object_spelled}
-use Rattle.jpa_view.proofs.Rounds.{held_storable}
+use Rattle.jpa_object_rows.specs.Unambiguous.{IsUnambiguous, is_class}
+use Rattle.jpa_object_rows.specs.View.{is_storable, AreStorable}
+use Rattle.jpa_object_rows.proofs.Bytes.Classes.{below, has_entity}
+use Rattle.jpa_object_rows.proofs.Bytes.Kept.{each_storable}
+use Rattle.jpa_object_rows.proofs.Bytes.Mapped.{IsMapped}
+use Rattle.jpa_object_rows.proofs.Bytes.MappedClasses.{unambiguous_mapped}
+use Rattle.jpa_object_rows.proofs.Bytes.Orders.{identities, are_same_numbers}
+use Rattle.jpa_object_rows.proofs.Bytes.Reading.{storable, object_spelled}
+use Rattle.jpa_object_rows.proofs.Bytes.Rounds.{held_storable}
 use Rattle.jpa_object_rows.specs.Raw.{raw, AreRowsOf, AreWhole, AreFilled}
 use Rattle.jpa_object_rows.specs.Objects.{is_discriminator, number_id, number_row}
 use Rattle.jpa_object_rows.specs.Sets.{set_in, number_in, next_at, numbers_in, AreUnitRows, base_of, rows_of}

@@ -8,7 +8,7 @@ use Rattle.jpa_model.specs.declared.unit.PersistenceUnit.{PersistenceUnit}
 use Rattle.jpa_model.specs.Chains.{root_of}
 use Rattle.jpa_stored.specs.Sets.{StoredSet, stored_at, is_of}
 use Rattle.jpa_rows.specs.Rows.{RowId, Rows}
-use Rattle.jpa_view.specs.Identities.{declarer_at}
+use Rattle.jpa_object_rows.specs.Identities.{declarer_at}
 
 -- the identity whose key begins a pair's
 abbrev pub owner_of : Root → List Value → Identity

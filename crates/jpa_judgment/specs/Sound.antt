@@ -9,8 +9,8 @@ use Rattle.jpa_model.specs.Chains.{entity_at}
 use Rattle.jpa_behaviour.specs.Behaviour.{World}
 use Rattle.jpa_rows.specs.Rows.{RowId, Row, Rows}
 use Rattle.jpa_rows.specs.Tables.{classes}
-use Rattle.jpa_view.specs.Identities.{declares}
-use Rattle.jpa_view.specs.Unambiguous.{is_class}
+use Rattle.jpa_object_rows.specs.Identities.{declares}
+use Rattle.jpa_object_rows.specs.Unambiguous.{is_class}
 use Rattle.jpa_object_rows.specs.Objects.{pair_row, number_id, number_row}
 use Rattle.jpa_mapper.specs.Mapped.{IsMainRow}
 

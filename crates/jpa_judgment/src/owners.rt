@@ -4,7 +4,7 @@ ghost use Rattle.std.specs.List.{list_any};
 ghost use Rattle.jpa_value.specs.declared.refusal.Cause.{Cause};
 ghost use Rattle.jpa_rows.specs.Cells.{join_tables};
 ghost use Rattle.jpa_stored.specs.Sets as sets;
-ghost use Rattle.jpa_view.specs.Identities as identities;
+ghost use Rattle.jpa_object_rows.specs.Identities as identities;
 ghost use Rattle.jpa_judgment.specs.Owners as spec;
 ghost use Rattle.jpa_judgment.specs.Read.{AreOfClasses};
 ghost use Rattle.jpa_judgment.specs.Sound as sound;

@@ -14,8 +14,8 @@ use Rattle.jpa_model.specs.Kept.{IsDescribed}
 use Rattle.jpa_model.specs.WellFormed as well_formed
 use Rattle.jpa_row_laws.proofs.Facts.{and_first, and_second}
 use Rattle.jpa_row_laws.proofs.Lists.{each_passes}
-use Rattle.jpa_view.specs.Unambiguous.{is_class}
-use Rattle.jpa_view.proofs.Classes.{below, item_at}
+use Rattle.jpa_object_rows.specs.Unambiguous.{is_class}
+use Rattle.jpa_object_rows.proofs.Bytes.Classes.{below, item_at}
 
 each_short : (d : Draft) → well_formed.is_well_formed d ≡ true → list_all well_formed.is_discriminator_short d.entities ≡ true
 each_short d h =

@@ -13,10 +13,10 @@ use Rattle.jpa_stored.specs.Sets.{each_fits, owns_as, is_at_most_one}
 use Rattle.jpa_rows.specs.declared.row.Content.{Content}
 use Rattle.jpa_rows.specs.Rows.{Row}
 use Rattle.jpa_row_laws.proofs.Facts.{some_none, value_in, true_false, and_both}
-use Rattle.jpa_view.specs.Unambiguous.{IsUnambiguous, is_class}
-use Rattle.jpa_view.specs.View.{SideHas, PairsAre}
-use Rattle.jpa_view.proofs.Classes.{is_below}
-use Rattle.jpa_view.proofs.Reading.{storable}
+use Rattle.jpa_object_rows.specs.Unambiguous.{IsUnambiguous, is_class}
+use Rattle.jpa_object_rows.specs.View.{SideHas, PairsAre}
+use Rattle.jpa_object_rows.proofs.Bytes.Classes.{is_below}
+use Rattle.jpa_object_rows.proofs.Bytes.Reading.{storable}
 use Rattle.jpa_object_rows.specs.Objects.{main_row}
 use Rattle.jpa_mapper.specs.Guess.{link_in, class_in, side_in, links_in, guessed, is_sound}
 use Rattle.jpa_rows.specs.Same.{same_row}

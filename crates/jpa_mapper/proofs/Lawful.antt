@@ -17,16 +17,16 @@ use Rattle.jpa_rows.specs.Rows.{Rows}
 use Rattle.jpa_rows.specs.Rows as typed
 use Rattle.jpa_row_laws.proofs.Lists.{all_from}
 use Rattle.jpa_row_laws.proofs.Maps.{found_put}
-use Rattle.jpa_view.specs.Flat.{cells_of}
-use Rattle.jpa_view.specs.Unambiguous.{IsUnambiguous, joins_of}
-use Rattle.jpa_view.specs.View.{is_storable, pairs_of, PairsAre, SideHas, HoldsNone}
-use Rattle.jpa_view.proofs.Described.{unambiguous, described_mapped}
-use Rattle.jpa_view.proofs.Mapped.{IsMapped}
-use Rattle.jpa_view.proofs.MappedClasses.{unambiguous_mapped}
-use Rattle.jpa_view.proofs.Orders.{identities}
-use Rattle.jpa_view.proofs.Reading.{Storable, storable, object_spelled}
-use Rattle.jpa_view.proofs.Rounds.{held_storable}
-use Rattle.jpa_view.proofs.Whole.{read_pairs}
+use Rattle.jpa_object_rows.specs.Flat.{cells_of}
+use Rattle.jpa_object_rows.specs.Unambiguous.{IsUnambiguous, joins_of}
+use Rattle.jpa_object_rows.specs.View.{is_storable, pairs_of, PairsAre, SideHas, HoldsNone}
+use Rattle.jpa_object_rows.proofs.Bytes.Described.{unambiguous, described_mapped}
+use Rattle.jpa_object_rows.proofs.Bytes.Mapped.{IsMapped}
+use Rattle.jpa_object_rows.proofs.Bytes.MappedClasses.{unambiguous_mapped}
+use Rattle.jpa_object_rows.proofs.Bytes.Orders.{identities}
+use Rattle.jpa_object_rows.proofs.Bytes.Reading.{Storable, storable, object_spelled}
+use Rattle.jpa_object_rows.proofs.Bytes.Rounds.{held_storable}
+use Rattle.jpa_object_rows.proofs.Bytes.Whole.{read_pairs}
 use Rattle.jpa_object_rows.specs.Raw.{raw}
 use Rattle.jpa_object_rows.specs.Objects.{main_row, is_discriminator, pair_ids, as_pairs, with_rows, object_entries, object_rows, with_object}
 use Rattle.jpa_object_rows.specs.Sets.{set_in, numbers_in, targets_in, AreOnes, AreUnitRows, rows_of}

@@ -14,8 +14,8 @@ use Rattle.jpa_row_laws.proofs.Facts.{and_first}
 use Rattle.jpa_row_laws.proofs.Lists.{all_each, all_from, any_has}
 use Rattle.jpa_rows.specs.Cells.{join_tables}
 use Rattle.jpa_rows.specs.Rows.{RowId, Row, Rows, table_rows}
-use Rattle.jpa_view.specs.Unambiguous.{is_class, joins_of}
-use Rattle.jpa_view.proofs.Orders.{are_same_numbers, same_number}
+use Rattle.jpa_object_rows.specs.Unambiguous.{is_class, joins_of}
+use Rattle.jpa_object_rows.proofs.Bytes.Orders.{are_same_numbers, same_number}
 use Rattle.jpa_object_rows.specs.Objects.{pair_row}
 use Rattle.jpa_object_rows.specs.Sets.{AreOnes, HoldsOnes}
 use Rattle.jpa_mapper.specs.Own.{keeps_pairs_in, is_own_pair, OwnAreOnes, IsDamagedPair}

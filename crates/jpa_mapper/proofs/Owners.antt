@@ -18,9 +18,9 @@ use Rattle.jpa_rows.specs.Tables.{schema_of}
 use Rattle.jpa_row_laws.proofs.Elements.{Has}
 use Rattle.jpa_row_laws.proofs.Facts.{and_both, is_less, first_holds, second_holds}
 use Rattle.jpa_row_laws.proofs.Lists.{all_each}
-use Rattle.jpa_view.specs.Rows.{row_of}
-use Rattle.jpa_view.specs.Unambiguous.{IsUnambiguous, is_class}
-use Rattle.jpa_view.proofs.Spelling.{Paired, paired}
+use Rattle.jpa_object_rows.specs.Rows.{row_of}
+use Rattle.jpa_object_rows.specs.Unambiguous.{IsUnambiguous, is_class}
+use Rattle.jpa_object_rows.proofs.Bytes.Spelling.{Paired, paired}
 use Rattle.jpa_object_rows.specs.Raw.{is_id_of, AreRowsOf}
 use Rattle.jpa_object_rows.specs.Sets.{identity_of, if_any, targets_in}
 use Rattle.jpa_object_rows.proofs.Stored.{owns}

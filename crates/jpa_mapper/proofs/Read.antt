@@ -25,11 +25,11 @@ use Rattle.jpa_rows.specs.Rows.{Row}
 use Rattle.jpa_row_laws.proofs.Facts.{and_first, and_second, and_both, true_false}
 use Rattle.jpa_row_laws.proofs.Slots.{Holds, all_first, all_rest}
 use Rattle.jpa_rows.specs.Tables.{classes}
-use Rattle.jpa_view.specs.Unambiguous.{IsUnambiguous, is_class}
-use Rattle.jpa_view.specs.View.{number_of, SideHas, PairsAre}
-use Rattle.jpa_view.proofs.Classes.{find_missed, within_classes}
-use Rattle.jpa_view.proofs.Keys.{table_is}
-use Rattle.jpa_view.proofs.Reading.{storable}
+use Rattle.jpa_object_rows.specs.Unambiguous.{IsUnambiguous, is_class}
+use Rattle.jpa_object_rows.specs.View.{number_of, SideHas, PairsAre}
+use Rattle.jpa_object_rows.proofs.Bytes.Classes.{find_missed, within_classes}
+use Rattle.jpa_object_rows.proofs.Bytes.Keys.{table_is}
+use Rattle.jpa_object_rows.proofs.Bytes.Reading.{storable}
 use Rattle.jpa_object_rows.specs.Objects.{value_content, version_places, attribute_places, link_content, side_places, relation_places, places_of}
 use Rattle.jpa_object_rows.specs.Sets.{content_at, identity_of}
 use Rattle.jpa_object_rows.proofs.Named.{short_as_fits}

@@ -14,8 +14,8 @@ use Rattle.jpa_stored.specs.Sets.{each_fits, is_identity_of, is_rising, owns_as,
 use Rattle.jpa_rows.specs.Cells.{names_representable, version_representable}
 use Rattle.jpa_row_laws.proofs.Facts.{and_first, and_second, and_both, true_false}
 use Rattle.jpa_row_laws.proofs.Elements.{Has}
-use Rattle.jpa_view.specs.View.{is_storable, Pairs, PairsAre, SideHas}
-use Rattle.jpa_view.proofs.Reading.{Storable, storable}
+use Rattle.jpa_object_rows.specs.View.{is_storable, Pairs, PairsAre, SideHas}
+use Rattle.jpa_object_rows.proofs.Bytes.Reading.{Storable, storable}
 use Rattle.jpa_object_rows.specs.Objects.{version_places, attribute_places, side_places, relation_places, discriminator_content, row_of_places, main_row}
 use Rattle.jpa_mapper.specs.Mapped.{IsReadAs, no_pairs}
 use Rattle.jpa_mapper.specs.Pairs.{side_owned, owned_with, with_pairs}

@@ -15,9 +15,9 @@ use Rattle.jpa_stored.specs.declared.stored.Stored.{Stored}
 use Rattle.jpa_stored.specs.Sets.{each_fits, is_identity_of, owns_as, owns_well, is_shaped, version_there}
 use Rattle.jpa_rows.specs.Cells.{names_representable, version_representable, holds_representable}
 use Rattle.jpa_row_laws.proofs.Facts.{and_first, and_second, and_both, true_false}
-use Rattle.jpa_view.specs.Unambiguous.{is_class}
-use Rattle.jpa_view.specs.View.{is_storable}
-use Rattle.jpa_view.proofs.Reading.{storable}
+use Rattle.jpa_object_rows.specs.Unambiguous.{is_class}
+use Rattle.jpa_object_rows.specs.View.{is_storable}
+use Rattle.jpa_object_rows.proofs.Bytes.Reading.{storable}
 use Rattle.jpa_mapper.specs.Guess.{is_named_by, is_value, is_version, leads_well, is_sound}
 use Rattle.jpa_mapper.specs.Mapped.{all_pass}
 

@@ -15,7 +15,7 @@ use Rattle.jpa_value.specs.declared.value.Identity.{Identity}
 use Rattle.jpa_value.specs.Value.{value_cmp, key_cmp, identity_cmp, same_value}
 use Rattle.jpa_value.proofs.Orders.{value_total, value_exact}
 use Rattle.jpa_row_laws.proofs.Facts.{is_less, some_none, value_in, true_false, first_holds, second_holds}
-use Rattle.jpa_view.proofs.Orders.{are_same_numbers}
+use Rattle.jpa_object_rows.proofs.Bytes.Orders.{are_same_numbers}
 use Rattle.jpa_object_rows.proofs.Targets.{after_only}
 use Rattle.jpa_rows.proofs.Splits.{rest_rises}
 use Rattle.jpa_rows.specs.Rows.{RowId, Row, Rows, AreRising, table_rows}

@@ -21,7 +21,7 @@ use Rattle.jpa_rows.specs.declared.row.Content.{Content}
 use Rattle.jpa_rows.specs.Cells.{cell_value, version_representable}
 use Rattle.jpa_rows.specs.Rows.{Row}
 use Rattle.jpa_rows.specs.Tables.{classes}
-use Rattle.jpa_view.specs.View.{number_of}
+use Rattle.jpa_object_rows.specs.View.{number_of}
 use Rattle.jpa_object_rows.specs.Sets.{content_at, identity_of}
 
 -- ---- what a column says: nothing is null, or a link that leads nowhere

@@ -11,8 +11,8 @@ use Rattle.jpa_stored.specs.Sets.{StoredSet}
 use Rattle.jpa_rows.specs.Cells.{Cell, StandFor}
 use Rattle.jpa_rows.specs.Rows.{Row, Rows}
 use Rattle.jpa_rows.specs.Tables.{schema_of}
-use Rattle.jpa_view.specs.Unambiguous.{is_class}
-use Rattle.jpa_view.specs.View.{is_storable, Pairs}
+use Rattle.jpa_object_rows.specs.Unambiguous.{is_class}
+use Rattle.jpa_object_rows.specs.View.{is_storable, Pairs}
 use Rattle.jpa_object_rows.specs.Raw.{AreRowsOf}
 use Rattle.jpa_object_rows.specs.Objects.{main_row, is_discriminator, object_rows}
 use Rattle.jpa_object_rows.specs.Sets.{targets_in}

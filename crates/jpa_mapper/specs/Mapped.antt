@@ -8,7 +8,7 @@ use Rattle.jpa_behaviour.specs.Behaviour.{World}
 use Rattle.jpa_stored.specs.declared.stored.Stored.{Stored}
 use Rattle.jpa_rows.specs.Cells.{passes}
 use Rattle.jpa_rows.specs.Rows.{Row}
-use Rattle.jpa_view.specs.View.{is_storable, Pairs, PairsAre}
+use Rattle.jpa_object_rows.specs.View.{is_storable, Pairs, PairsAre}
 use Rattle.jpa_object_rows.specs.Objects.{main_row}
 
 -- no converter throws for a value of the object

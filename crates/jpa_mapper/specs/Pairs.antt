@@ -9,7 +9,7 @@ use Rattle.jpa_model.specs.declared.unit.Side.{Side}
 use Rattle.jpa_model.specs.Chains.{relations_of}
 use Rattle.jpa_stored.specs.declared.stored.Stored.{Stored}
 use Rattle.jpa_rows.specs.Rows.{RowId}
-use Rattle.jpa_view.specs.View.{Pairs}
+use Rattle.jpa_object_rows.specs.View.{Pairs}
 use Rattle.jpa_object_rows.specs.Sets.{key_after, identity_of}
 
 -- what of its key follows the owner's, in the target's table; nothing where the row is of another

@@ -4,7 +4,7 @@ ghost use Rattle.jpa_value.specs.declared.refusal.Cause.{Cause};
 ghost use Rattle.jpa_model.specs.Chains as chains;
 ghost use Rattle.jpa_behaviour.specs.Registered as registered;
 ghost use Rattle.jpa_rows.specs.Cells.{cell_value};
-ghost use Rattle.jpa_view.specs.View.{number_of};
+ghost use Rattle.jpa_object_rows.specs.View.{number_of};
 ghost use Rattle.jpa_object_rows.specs.Sets.{content_at};
 ghost use Rattle.jpa_mapper.specs.Guess as spec;
 

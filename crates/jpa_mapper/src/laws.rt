@@ -1,7 +1,7 @@
 //! The laws of objects and their rows.
 ghost use Rattle.std.specs.Prelude.{◌≡◌, ℕ, true};
 ghost use Rattle.jpa_model.specs.Chains.{entity_at};
-ghost use Rattle.jpa_view.specs.Unambiguous.{is_class};
+ghost use Rattle.jpa_object_rows.specs.Unambiguous.{is_class};
 ghost use Rattle.jpa_object_rows.specs.Objects.{is_discriminator};
 ghost use Rattle.jpa_mapper.specs.Laws.{ReadsWhatIsWritten, ReadsOne, StandForOne};
 

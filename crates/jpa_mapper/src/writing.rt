@@ -4,7 +4,7 @@ ghost use Rattle.jpa_value.specs.declared.refusal.Cause.{Cause};
 ghost use Rattle.jpa_value.specs.declared.refusal.Persist.{Persist};
 ghost use Rattle.jpa_behaviour.specs.Registered.{world_of};
 ghost use Rattle.jpa_stored.specs.Sets.{is_shaped};
-ghost use Rattle.jpa_view.specs.View.{is_storable};
+ghost use Rattle.jpa_object_rows.specs.View.{is_storable};
 ghost use Rattle.jpa_object_rows.specs.Objects as objects;
 ghost use Rattle.jpa_mapper.specs.Mapped.{all_pass};
 

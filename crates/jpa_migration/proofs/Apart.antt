@@ -14,7 +14,7 @@ use Rattle.jpa_row_laws.proofs.Elements.{Has, from_flat_map}
 use Rattle.jpa_row_laws.proofs.Lists.{all_each, has_any}
 use Rattle.jpa_cells_meaning.specs.declared.Cell.{Cell}
 use Rattle.jpa_cells_meaning.specs.Tables.{cell_cmp, ColumnsDiffer}
-use Rattle.jpa_view.specs.Unambiguous.{are_distinct_numbers}
+use Rattle.jpa_object_rows.specs.Unambiguous.{are_distinct_numbers}
 use Rattle.jpa_migration.specs.Migration.{is_new, was_in, default_in, default_bytes, cell_if, is_taken, column_after, cell_after}
 use Rattle.jpa_migration.specs.Changed.{default_cell}
 use Rattle.jpa_migration.proofs.Columns.{ascending-append, less_apart, not_later}

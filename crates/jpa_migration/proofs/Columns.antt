@@ -10,9 +10,9 @@ use Rattle.jpa_row_laws.proofs.Lists.{all_each, all_from, has_any}
 use Rattle.jpa_cells_meaning.specs.declared.Cell.{Cell}
 use Rattle.jpa_cells_meaning.specs.Tables.{cell_cmp}
 use Rattle.jpa_cells_meaning.proofs.Contents.{cell_cmp_total}
-use Rattle.jpa_view.specs.Unambiguous.{are_distinct_numbers}
-use Rattle.jpa_view.proofs.Orders.{same_number}
-use Rattle.jpa_view.proofs.Classes.{in_range}
+use Rattle.jpa_object_rows.specs.Unambiguous.{are_distinct_numbers}
+use Rattle.jpa_object_rows.proofs.Bytes.Orders.{same_number}
+use Rattle.jpa_object_rows.proofs.Bytes.Classes.{in_range}
 
 pub ascending-append : {A : Type 0} (R : A → A → Type 0) (xs ys : List A) → IsAscending R xs → IsAscending R ys → ((x y : A) → Has xs x → Has ys y → R x y) → IsAscending R (xs ++ ys)
 ascending-append R [] ys up down across = down

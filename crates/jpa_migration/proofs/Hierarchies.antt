@@ -14,14 +14,14 @@ use Rattle.jpa_row_laws.proofs.Elements.{Has, append_has, from_flat_map, into_fl
 use Rattle.jpa_row_laws.proofs.Lists.{filter_same, map-flat_map, flat_map_same}
 use Rattle.jpa_rows.specs.Tables.{classes, classes_below}
 use Rattle.jpa_cells_meaning.specs.Tables.{ColumnsDiffer}
-use Rattle.jpa_view.specs.Unambiguous.{are_distinct_numbers, is_class, version_columns, link_columns}
-use Rattle.jpa_view.proofs.Orders.{are_same_numbers, same_number}
-use Rattle.jpa_view.proofs.Classes.{class_within, within_classes}
-use Rattle.jpa_view.proofs.Tables.{distinct_rest}
-use Rattle.jpa_view.proofs.Distinct.{distinct_first, one_owner, distinct_at}
-use Rattle.jpa_view.proofs.Climb as climb
-use Rattle.jpa_view.proofs.Mapped.{own_version, own_columns, hierarchy, lineage}
-use Rattle.jpa_view.proofs.Described.{unambiguous, described_mapped}
+use Rattle.jpa_object_rows.specs.Unambiguous.{are_distinct_numbers, is_class, version_columns, link_columns}
+use Rattle.jpa_object_rows.proofs.Bytes.Orders.{are_same_numbers, same_number}
+use Rattle.jpa_object_rows.proofs.Bytes.Classes.{class_within, within_classes}
+use Rattle.jpa_object_rows.proofs.Bytes.Tables.{distinct_rest}
+use Rattle.jpa_object_rows.proofs.Bytes.Distinct.{distinct_first, one_owner, distinct_at}
+use Rattle.jpa_object_rows.proofs.Bytes.Climb as climb
+use Rattle.jpa_object_rows.proofs.Bytes.Mapped.{own_version, own_columns, hierarchy, lineage}
+use Rattle.jpa_object_rows.proofs.Bytes.Described.{unambiguous, described_mapped}
 use Rattle.jpa_migration.specs.Migration.{changes_below}
 use Rattle.jpa_migration.specs.Changed.{default_cell}
 use Rattle.jpa_migration.proofs.Columns.{distinct_items}

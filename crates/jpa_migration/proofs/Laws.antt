@@ -23,8 +23,8 @@ use Rattle.jpa_rows.specs.Rows.{Row, content_bytes, may_hold, is_field_by, rule_
 use Rattle.jpa_rows.specs.Tables.{classes}
 use Rattle.jpa_cells_meaning.specs.declared.CellRow.{CellRow}
 use Rattle.jpa_cells_meaning.specs.Tables.{Tables, AreRows, with_row, key_cmp, cell_cmp}
-use Rattle.jpa_view.specs.Unambiguous.{is_class}
-use Rattle.jpa_view.proofs.Classes.{find_some, class_within}
+use Rattle.jpa_object_rows.specs.Unambiguous.{is_class}
+use Rattle.jpa_object_rows.proofs.Bytes.Classes.{find_some, class_within}
 use Rattle.jpa_migration.specs.Migration.{revision_key, revision_row, is_revision_row, has_revision_row, has_table, root_with, row_after, rows_by, rows_migrated, is_due, opened_tables}
 use Rattle.jpa_migration.proofs.RowColumns.{after_rises, readable_some}
 

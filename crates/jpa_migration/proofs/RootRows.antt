@@ -17,7 +17,7 @@ use Rattle.jpa_cells_meaning.specs.declared.Cell.{Cell}
 use Rattle.jpa_cells_meaning.specs.declared.CellRow.{CellRow}
 use Rattle.jpa_cells_meaning.specs.declared.CellChange.{CellChange}
 use Rattle.jpa_cells_meaning.specs.Tables.{cell_cmp, ColumnsDiffer, row_of}
-use Rattle.jpa_view.specs.Unambiguous.{is_class}
+use Rattle.jpa_object_rows.specs.Unambiguous.{is_class}
 use Rattle.jpa_migration.specs.declared.plan.Plan.{Plan}
 use Rattle.jpa_migration.specs.Migration as migration
 use Rattle.jpa_migration.specs.Plans as plans

@@ -20,9 +20,9 @@ use Rattle.jpa_row_laws.proofs.Lists.{all_each, any_has}
 use Rattle.jpa_rows.specs.Tables.{classes, classes_below}
 use Rattle.jpa_cells_meaning.specs.declared.Cell.{Cell}
 use Rattle.jpa_cells_meaning.specs.Tables.{cell_cmp, placed, ColumnsDiffer}
-use Rattle.jpa_view.specs.Unambiguous.{is_class}
-use Rattle.jpa_view.proofs.Classes.{class_within}
-use Rattle.jpa_view.proofs.Described.{described_mapped}
+use Rattle.jpa_object_rows.specs.Unambiguous.{is_class}
+use Rattle.jpa_object_rows.proofs.Bytes.Classes.{class_within}
+use Rattle.jpa_object_rows.proofs.Bytes.Described.{described_mapped}
 use Rattle.jpa_migration.specs.Migration.{changes_below, is_of, is_taken, cell_after, class_defaults, default_cells, readable, cells_after}
 use Rattle.jpa_migration.specs.Changed.{default_cell}
 use Rattle.jpa_migration.proofs.Sorting.{placed_rises}

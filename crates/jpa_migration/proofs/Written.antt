@@ -27,10 +27,10 @@ use Rattle.jpa_cells_meaning.specs.declared.CellChange.{CellChange}
 use Rattle.jpa_cells_meaning.specs.Tables.{Tables, AreRows, row_of, with_row, key_cmp, cell_cmp, placed, rows_after, changed, tables_after}
 use Rattle.jpa_cells_meaning.proofs.Rows.{itself}
 use Rattle.jpa_cells_meaning.proofs.Placing.{placed_rising}
-use Rattle.jpa_view.specs.Unambiguous.{is_class, are_distinct_numbers}
-use Rattle.jpa_view.proofs.Orders.{are_same_numbers, same_number}
-use Rattle.jpa_view.proofs.Classes.{find_some, class_within, has_entity}
-use Rattle.jpa_view.proofs.Described.{described_mapped}
+use Rattle.jpa_object_rows.specs.Unambiguous.{is_class, are_distinct_numbers}
+use Rattle.jpa_object_rows.proofs.Bytes.Orders.{are_same_numbers, same_number}
+use Rattle.jpa_object_rows.proofs.Bytes.Classes.{find_some, class_within, has_entity}
+use Rattle.jpa_object_rows.proofs.Bytes.Described.{described_mapped}
 use Rattle.jpa_migration.specs.Migration as migration
 use Rattle.jpa_migration.proofs.Differing.{same_are}
 use Rattle.jpa_migration.proofs.RowColumns.{after_rises}

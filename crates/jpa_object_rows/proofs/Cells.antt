@@ -17,14 +17,14 @@ use Rattle.jpa_rows.specs.Tables.{schema_of}
 use Rattle.jpa_row_laws.proofs.Facts.{true_false}
 use Rattle.jpa_row_laws.proofs.Elements.{Has, into_flat_map}
 use Rattle.jpa_row_laws.proofs.Lists.{has_any}
-use Rattle.jpa_view.specs.Flat.{cells_of, IsRow, IsNormal, is_own_table, own_rows}
-use Rattle.jpa_view.specs.Unambiguous.{IsUnambiguous, is_class}
-use Rattle.jpa_view.proofs.Orders.{are_same_numbers, same_number}
-use Rattle.jpa_view.proofs.Classes.{find_some}
-use Rattle.jpa_view.proofs.Mapped.{IsMapped}
-use Rattle.jpa_view.proofs.MappedClasses.{unambiguous_mapped}
-use Rattle.jpa_view.proofs.Rounds.{held_storable}
-use Rattle.jpa_view.proofs.Stands.{rows_stand, stand_rows}
+use Rattle.jpa_object_rows.specs.Flat.{cells_of, IsRow, IsNormal, is_own_table, own_rows}
+use Rattle.jpa_object_rows.specs.Unambiguous.{IsUnambiguous, is_class}
+use Rattle.jpa_object_rows.proofs.Bytes.Orders.{are_same_numbers, same_number}
+use Rattle.jpa_object_rows.proofs.Bytes.Classes.{find_some}
+use Rattle.jpa_object_rows.proofs.Bytes.Mapped.{IsMapped}
+use Rattle.jpa_object_rows.proofs.Bytes.MappedClasses.{unambiguous_mapped}
+use Rattle.jpa_object_rows.proofs.Bytes.Rounds.{held_storable}
+use Rattle.jpa_object_rows.proofs.Bytes.Stands.{rows_stand, stand_rows}
 use Rattle.jpa_object_rows.specs.Raw.{raw, raw_entry, is_key_by, AreNamed, AreWhole, AreFilled, IsRowBy}
 use Rattle.jpa_object_rows.specs.Objects.{is_discriminator}
 use Rattle.jpa_object_rows.specs.Sets.{placed, AreUnitRows, rows_of}

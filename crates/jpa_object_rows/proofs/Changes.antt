@@ -11,7 +11,7 @@ use Rattle.jpa_rows.specs.Rows.{RowId, Row, Rows, rows_after, entry_of, IsChange
 use Rattle.jpa_row_laws.specs.Changes.{changed, over}
 use Rattle.jpa_row_laws.proofs.Maps.{same_answers}
 use Rattle.jpa_row_laws.proofs.Overlay.{found_seen, seen_rises}
-use Rattle.jpa_view.proofs.Orders.{identities}
+use Rattle.jpa_object_rows.proofs.Bytes.Orders.{identities}
 use Rattle.jpa_object_rows.specs.Raw.{is_key_by, AreFilled, AreNamed, AreRowsOf, AreWhole, IsRowBy}
 use Rattle.jpa_object_rows.specs.Objects.{with_rows, change_to, changes_to}
 use Rattle.jpa_object_rows.proofs.Renamed.{renamed, KeepsOrder, AreKeys, sorted_renamed}

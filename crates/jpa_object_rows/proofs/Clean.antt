@@ -29,15 +29,15 @@ use Rattle.jpa_row_laws.proofs.Each.{Each, each_put}
 use Rattle.jpa_row_laws.proofs.Elements.{Has, into_map, found_has, has_found}
 use Rattle.jpa_row_laws.proofs.Lists.{all_each}
 use Rattle.jpa_row_laws.proofs.Maps.{same_answers, found_put}
-use Rattle.jpa_view.specs.Identities.{root_at}
-use Rattle.jpa_view.specs.Unambiguous.{IsUnambiguous, is_class, joins_of}
-use Rattle.jpa_view.specs.View.{is_storable, AreStorable}
-use Rattle.jpa_view.proofs.Orders.{identities, are_same_numbers}
-use Rattle.jpa_view.proofs.Keys.{table_is}
-use Rattle.jpa_view.proofs.Kept.{each_storable}
-use Rattle.jpa_view.proofs.Mapped.{IsMapped}
-use Rattle.jpa_view.proofs.MappedClasses.{unambiguous_mapped}
-use Rattle.jpa_view.proofs.Reading.{storable, object_spelled}
+use Rattle.jpa_object_rows.specs.Identities.{root_at}
+use Rattle.jpa_object_rows.specs.Unambiguous.{IsUnambiguous, is_class, joins_of}
+use Rattle.jpa_object_rows.specs.View.{is_storable, AreStorable}
+use Rattle.jpa_object_rows.proofs.Bytes.Orders.{identities, are_same_numbers}
+use Rattle.jpa_object_rows.proofs.Bytes.Keys.{table_is}
+use Rattle.jpa_object_rows.proofs.Bytes.Kept.{each_storable}
+use Rattle.jpa_object_rows.proofs.Bytes.Mapped.{IsMapped}
+use Rattle.jpa_object_rows.proofs.Bytes.MappedClasses.{unambiguous_mapped}
+use Rattle.jpa_object_rows.proofs.Bytes.Reading.{storable, object_spelled}
 use Rattle.jpa_object_rows.specs.Raw.{raw}
 use Rattle.jpa_object_rows.specs.Objects.{is_discriminator, main_row, pair_row, pair_ids, as_pairs, object_entries, object_rows, number_id, number_row}
 use Rattle.jpa_object_rows.specs.Sets.{base_of, set_in, content_at, next_in, number_in, next_at, numbers_in, AreOnes, AreUnitRows, StandsIn, with_number, with_next, with_numbers, with_set, rows_of}

@@ -16,13 +16,13 @@ use Rattle.jpa_rows.specs.Tables.{version_rules, attribute_rule, link_rules, rul
 use Rattle.jpa_row_laws.proofs.Facts.{and_both}
 use Rattle.jpa_row_laws.proofs.Elements.{Has, has_append, append_has, from_flat_map, into_flat_map, from_filter, into_filter, into_map}
 use Rattle.jpa_row_laws.proofs.Lists.{filter_same, flat_map_same, flat_map-flat_map}
-use Rattle.jpa_view.specs.Unambiguous.{are_distinct_numbers, is_class, version_columns, link_columns}
-use Rattle.jpa_view.proofs.Orders.{are_same_numbers, same_number}
-use Rattle.jpa_view.proofs.Classes.{class_within, within_classes, find_only}
-use Rattle.jpa_view.proofs.Tables.{distinct_rest, distinct_apart}
-use Rattle.jpa_view.proofs.Distinct.{unless_any, distinct_first, distinct_joined, one_owner, distinct_at}
-use Rattle.jpa_view.proofs.Mapped.{IsMapped, own_version, own_columns, hierarchy, Lineage, lineage}
-use Rattle.jpa_view.proofs.Climb as climb
+use Rattle.jpa_object_rows.specs.Unambiguous.{are_distinct_numbers, is_class, version_columns, link_columns}
+use Rattle.jpa_object_rows.proofs.Bytes.Orders.{are_same_numbers, same_number}
+use Rattle.jpa_object_rows.proofs.Bytes.Classes.{class_within, within_classes, find_only}
+use Rattle.jpa_object_rows.proofs.Bytes.Tables.{distinct_rest, distinct_apart}
+use Rattle.jpa_object_rows.proofs.Bytes.Distinct.{unless_any, distinct_first, distinct_joined, one_owner, distinct_at}
+use Rattle.jpa_object_rows.proofs.Bytes.Mapped.{IsMapped, own_version, own_columns, hierarchy, Lineage, lineage}
+use Rattle.jpa_object_rows.proofs.Bytes.Climb as climb
 use Rattle.jpa_object_rows.proofs.Tables.{main_table}
 
 -- ---- their numbers

@@ -17,8 +17,8 @@ use Rattle.jpa_rows.specs.Rows.{Row, content_bytes, cells_of, is_key, may_hold, 
 use Rattle.jpa_row_laws.proofs.Facts.{and_first, and_second, true_false}
 use Rattle.std.specs.Cmp.Lexicographic.{slice_cmp, nat_list_cmp_total}
 use Rattle.std.specs.Ordering.{nat_cmp}
-use Rattle.jpa_view.specs.View.{value_from}
-use Rattle.jpa_view.proofs.Values.{value_read}
+use Rattle.jpa_object_rows.specs.View.{value_from}
+use Rattle.jpa_object_rows.proofs.Bytes.Values.{value_read}
 use Rattle.jpa_object_rows.proofs.Raw.{key_order}
 
 -- a value that is not null is read again from its bytes

@@ -14,8 +14,8 @@ use Rattle.jpa_row_laws.proofs.Facts.{value_in, some_none}
 use Rattle.jpa_row_laws.proofs.Each.{Each}
 use Rattle.jpa_row_laws.proofs.Elements.{Has, from_filter, from_flat_map, has_found}
 use Rattle.jpa_row_laws.proofs.Lists.{all_each}
-use Rattle.jpa_view.specs.View.{PairsAre, SideHas}
-use Rattle.jpa_view.proofs.Orders.{identities, are_same_numbers}
+use Rattle.jpa_object_rows.specs.View.{PairsAre, SideHas}
+use Rattle.jpa_object_rows.proofs.Bytes.Orders.{identities, are_same_numbers}
 use Rattle.jpa_object_rows.specs.Objects.{pair_id, pair_row, side_pairs, pairs_along, as_pairs}
 use Rattle.jpa_object_rows.specs.Sets.{key_after, identity_of, target_in, if_any, targets_in, AreOnes}
 use Rattle.jpa_object_rows.proofs.Targets.{after_only}

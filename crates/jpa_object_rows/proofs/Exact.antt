@@ -22,23 +22,23 @@ use Rattle.jpa_row_laws.proofs.Facts.{and_first, and_second, and_both}
 use Rattle.jpa_row_laws.proofs.Each.{each_put}
 use Rattle.jpa_row_laws.proofs.Elements.{Has, append_has, into_flat_map, found_has}
 use Rattle.jpa_row_laws.proofs.Lists.{all_each, all_from, all_where}
-use Rattle.jpa_view.specs.Rows as by_bytes
-use Rattle.jpa_view.specs.Rows.{row_cmp, row_of}
-use Rattle.jpa_view.specs.Written as written
-use Rattle.jpa_view.specs.View.{set_of, is_storable, AreStorable, numbers_of}
-use Rattle.jpa_view.specs.Unambiguous.{IsUnambiguous, is_class, joins_of}
-use Rattle.jpa_view.proofs.Orders.{identities, are_same_numbers}
-use Rattle.jpa_view.proofs.Mapped.{IsMapped}
-use Rattle.jpa_view.proofs.MappedClasses.{unambiguous_mapped}
-use Rattle.jpa_view.proofs.Reading.{storable}
-use Rattle.jpa_view.proofs.Owned.{owned_of}
-use Rattle.jpa_view.proofs.Tables.{own_tables}
-use Rattle.jpa_view.proofs.FlatNumbers.{small_each}
-use Rattle.jpa_view.proofs.Classes.{has_entity}
-use Rattle.jpa_view.proofs.Rounds.{set_read}
-use Rattle.jpa_view.proofs.NumbersRead.{numbers_read}
-use Rattle.jpa_view.proofs.Exact.{rows_put, rows_dropped, rows_replaced}
-use Rattle.jpa_view.proofs.ExactNumbers.{rows_numbered}
+use Rattle.jpa_object_rows.specs.Rows as by_bytes
+use Rattle.jpa_object_rows.specs.Rows.{row_cmp, row_of}
+use Rattle.jpa_object_rows.specs.Written as written
+use Rattle.jpa_object_rows.specs.View.{set_of, is_storable, AreStorable, numbers_of}
+use Rattle.jpa_object_rows.specs.Unambiguous.{IsUnambiguous, is_class, joins_of}
+use Rattle.jpa_object_rows.proofs.Bytes.Orders.{identities, are_same_numbers}
+use Rattle.jpa_object_rows.proofs.Bytes.Mapped.{IsMapped}
+use Rattle.jpa_object_rows.proofs.Bytes.MappedClasses.{unambiguous_mapped}
+use Rattle.jpa_object_rows.proofs.Bytes.Reading.{storable}
+use Rattle.jpa_object_rows.proofs.Bytes.Owned.{owned_of}
+use Rattle.jpa_object_rows.proofs.Bytes.Tables.{own_tables}
+use Rattle.jpa_object_rows.proofs.Bytes.FlatNumbers.{small_each}
+use Rattle.jpa_object_rows.proofs.Bytes.Classes.{has_entity}
+use Rattle.jpa_object_rows.proofs.Bytes.Rounds.{set_read}
+use Rattle.jpa_object_rows.proofs.Bytes.NumbersRead.{numbers_read}
+use Rattle.jpa_object_rows.proofs.Bytes.Exact.{rows_put, rows_dropped, rows_replaced}
+use Rattle.jpa_object_rows.proofs.Bytes.ExactNumbers.{rows_numbered}
 use Rattle.jpa_object_rows.specs.Raw.{raw, AreNamed, AreWhole, IsRowBy}
 use Rattle.jpa_object_rows.specs.Objects.{is_discriminator, number_id, number_row, with_object, without_pairs, without_object}
 use Rattle.jpa_object_rows.specs.Sets.{set_in, numbers_in, AreOnes, AreUnitRows, base_of, with_number, with_next, with_numbers, with_set, rows_of}

@@ -21,16 +21,16 @@ use Rattle.jpa_row_laws.proofs.Maps.{put_rises}
 use Rattle.jpa_row_laws.proofs.Each.{Each, each_put}
 use Rattle.jpa_row_laws.proofs.Elements.{Has}
 use Rattle.jpa_row_laws.proofs.Lists.{all_each, all_from, all_where}
-use Rattle.jpa_view.specs.Unambiguous.{IsUnambiguous, is_class, joins_of}
-use Rattle.jpa_view.specs.Identities.{root_at, declarer_at, is_within, is_join_of}
-use Rattle.jpa_view.specs.View.{is_storable}
-use Rattle.jpa_view.proofs.Orders.{identities, are_same_numbers}
-use Rattle.jpa_view.proofs.Keys.{table_is}
-use Rattle.jpa_view.proofs.Mapped.{IsMapped}
-use Rattle.jpa_view.proofs.MappedClasses.{unambiguous_mapped}
-use Rattle.jpa_view.proofs.Others.{join_no_root}
-use Rattle.jpa_view.proofs.Reading.{storable}
-use Rattle.jpa_view.proofs.Tables.{zero_join}
+use Rattle.jpa_object_rows.specs.Unambiguous.{IsUnambiguous, is_class, joins_of}
+use Rattle.jpa_object_rows.specs.Identities.{root_at, declarer_at, is_within, is_join_of}
+use Rattle.jpa_object_rows.specs.View.{is_storable}
+use Rattle.jpa_object_rows.proofs.Bytes.Orders.{identities, are_same_numbers}
+use Rattle.jpa_object_rows.proofs.Bytes.Keys.{table_is}
+use Rattle.jpa_object_rows.proofs.Bytes.Mapped.{IsMapped}
+use Rattle.jpa_object_rows.proofs.Bytes.MappedClasses.{unambiguous_mapped}
+use Rattle.jpa_object_rows.proofs.Bytes.Others.{join_no_root}
+use Rattle.jpa_object_rows.proofs.Bytes.Reading.{storable}
+use Rattle.jpa_object_rows.proofs.Bytes.Tables.{zero_join}
 use Rattle.jpa_object_rows.specs.Raw.{AreWhole, AreFilled, IsRowBy}
 use Rattle.jpa_object_rows.specs.Objects.{is_discriminator, pair_id, pair_row, side_pairs, pairs_along, pair_ids, number_id, number_row, with_rows, without_rows, as_pairs, object_entries, object_rows, with_object, without_pairs, without_object}
 use Rattle.jpa_object_rows.specs.Sets.{AreOnes, HoldsOnes, AreUnitRows}

@@ -1,3 +1,4 @@
+pub mod Bytes
 -- ---- rows by their bytes
 pub mod Renamed
 pub mod Raw

@@ -21,13 +21,13 @@ use Rattle.jpa_row_laws.proofs.Facts.{some_none, true_false, and_second}
 use Rattle.jpa_row_laws.proofs.Each.{Each}
 use Rattle.jpa_row_laws.proofs.Elements.{Has, append_has, into_flat_map}
 use Rattle.jpa_row_laws.proofs.Maps.{same_key, found_other}
-use Rattle.jpa_view.specs.Identities.{root_at, declarer_at, is_within}
-use Rattle.jpa_view.specs.Unambiguous.{IsUnambiguous}
-use Rattle.jpa_view.specs.View.{is_storable, AreStorable}
-use Rattle.jpa_view.proofs.Keys.{table_is}
-use Rattle.jpa_view.proofs.Orders.{identities}
-use Rattle.jpa_view.proofs.Reading.{storable}
-use Rattle.jpa_view.proofs.Tables.{own_tables, zero_root, zero_join, distinct_apart}
+use Rattle.jpa_object_rows.specs.Identities.{root_at, declarer_at, is_within}
+use Rattle.jpa_object_rows.specs.Unambiguous.{IsUnambiguous}
+use Rattle.jpa_object_rows.specs.View.{is_storable, AreStorable}
+use Rattle.jpa_object_rows.proofs.Bytes.Keys.{table_is}
+use Rattle.jpa_object_rows.proofs.Bytes.Orders.{identities}
+use Rattle.jpa_object_rows.proofs.Bytes.Reading.{storable}
+use Rattle.jpa_object_rows.proofs.Bytes.Tables.{own_tables, zero_root, zero_join, distinct_apart}
 use Rattle.jpa_object_rows.specs.Objects.{object_entries, object_rows, with_object, number_id, number_row}
 use Rattle.jpa_object_rows.specs.Sets.{base_of, with_number, with_next, with_numbers, with_set, rows_of}
 use Rattle.jpa_object_rows.proofs.Over.{found_over}

@@ -21,10 +21,10 @@ use Rattle.jpa_rows.specs.Rows.{is_key, table_of}
 use Rattle.jpa_rows.specs.Tables.{kinds_of, schema_of}
 use Rattle.jpa_row_laws.proofs.Facts.{and_first, and_second, and_both}
 use Rattle.jpa_row_laws.proofs.Elements.{Has}
-use Rattle.jpa_view.specs.View.{is_storable}
-use Rattle.jpa_view.specs.Unambiguous.{IsUnambiguous, is_class}
-use Rattle.jpa_view.proofs.Keys.{is_whole, table_is}
-use Rattle.jpa_view.proofs.Reading.{storable}
+use Rattle.jpa_object_rows.specs.View.{is_storable}
+use Rattle.jpa_object_rows.specs.Unambiguous.{IsUnambiguous, is_class}
+use Rattle.jpa_object_rows.proofs.Bytes.Keys.{is_whole, table_is}
+use Rattle.jpa_object_rows.proofs.Bytes.Reading.{storable}
 use Rattle.jpa_object_rows.specs.Raw.{is_key_by, is_id_of, AreIds}
 use Rattle.jpa_object_rows.specs.Objects.{pair_id, side_pairs, pairs_along, pair_ids, number_id}
 use Rattle.jpa_object_rows.proofs.Tables.{beginning, root_table_found, join_table_found}

@@ -17,11 +17,11 @@ use Rattle.jpa_rows.specs.Rows.{Row, Rows, content_bytes, cells_of, may_hold, ru
 use Rattle.jpa_rows.specs.Tables.{next_numbers, schema_of}
 use Rattle.jpa_row_laws.proofs.Facts.{and_first, and_second, value_in, some_none, is_equal}
 use Rattle.jpa_row_laws.proofs.Elements.{Has, append_has}
-use Rattle.jpa_view.specs.Unambiguous.{IsUnambiguous}
-use Rattle.jpa_view.specs.View as view
-use Rattle.jpa_view.proofs.Tables.{own_tables}
-use Rattle.jpa_view.proofs.FlatNumbers.{small_each}
-use Rattle.jpa_view.proofs.Values.{value_read}
+use Rattle.jpa_object_rows.specs.Unambiguous.{IsUnambiguous}
+use Rattle.jpa_object_rows.specs.View as view
+use Rattle.jpa_object_rows.proofs.Bytes.Tables.{own_tables}
+use Rattle.jpa_object_rows.proofs.Bytes.FlatNumbers.{small_each}
+use Rattle.jpa_object_rows.proofs.Bytes.Values.{value_read}
 use Rattle.jpa_object_rows.specs.Raw.{raw, AreRowsOf, AreWhole}
 use Rattle.jpa_object_rows.specs.Objects.{number_id}
 use Rattle.jpa_object_rows.specs.Sets.{placed, content_at, next_in, number_in, next_at, numbers_in}

@@ -20,9 +20,9 @@ use Rattle.jpa_rows.specs.declared.row.Content.{Content}
 use Rattle.jpa_rows.specs.Cells.{value_bytes, column_value}
 use Rattle.jpa_rows.specs.Rows.{content_bytes, cells_of}
 use Rattle.jpa_row_laws.specs.Slots.{filled}
-use Rattle.jpa_view.specs.Rows.{row_of}
-use Rattle.jpa_view.specs.Identities as identities
-use Rattle.jpa_view.specs.Written as written
+use Rattle.jpa_object_rows.specs.Rows.{row_of}
+use Rattle.jpa_object_rows.specs.Identities as identities
+use Rattle.jpa_object_rows.specs.Written as written
 use Rattle.jpa_object_rows.specs.Objects.{value_content, link_content, Places, version_places, attribute_places, side_places, relation_places, places_of, field_of, main_row, pair_id, pair_row, number_id, number_row}
 use Rattle.jpa_object_rows.proofs.Renamed.{renamed, KeepsOrder, AreKeys, filled_renamed}
 

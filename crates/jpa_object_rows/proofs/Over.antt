@@ -18,9 +18,9 @@ use Rattle.jpa_rows.specs.Rows.{RowId, Row, Rows, AreRising}
 use Rattle.jpa_row_laws.specs.Changes.{dropped}
 use Rattle.jpa_row_laws.proofs.Maps.{put_rises, dropped_rises, same_answers, find-dropped, ties_back}
 use Rattle.jpa_row_laws.proofs.Slots.{all_first, all_rest}
-use Rattle.jpa_view.specs.Rows.{row_cmp, row_of}
-use Rattle.jpa_view.specs.Written as written
-use Rattle.jpa_view.proofs.Orders.{identities}
+use Rattle.jpa_object_rows.specs.Rows.{row_cmp, row_of}
+use Rattle.jpa_object_rows.specs.Written as written
+use Rattle.jpa_object_rows.proofs.Bytes.Orders.{identities}
 use Rattle.jpa_object_rows.specs.Raw.{raw, is_id_of, AreIds, AreNamed, AreRowsOf}
 use Rattle.jpa_object_rows.specs.Objects.{main_row, pair_id, pair_row, side_pairs, pairs_along, pair_ids, with_rows, without_rows, as_pairs, object_entries, object_rows, with_object, without_pairs, without_object}
 use Rattle.jpa_object_rows.proofs.Raw.{raw_put, raw_dropped, named_put, named_dropped}

@@ -12,9 +12,9 @@ use Rattle.jpa_rows.specs.Rows.{cells_of}
 use Rattle.jpa_row_laws.specs.Slots.{filled, lacks, are_apart}
 use Rattle.jpa_row_laws.proofs.Facts.{value_in}
 use Rattle.jpa_row_laws.proofs.Slots.{Holds, all_hold, lacking}
-use Rattle.jpa_view.specs.View.{Pairs, PairsAre, is_storable, stored_from}
-use Rattle.jpa_view.specs.Unambiguous.{IsUnambiguous}
-use Rattle.jpa_view.proofs.Reading.{slots_apart, row_read}
+use Rattle.jpa_object_rows.specs.View.{Pairs, PairsAre, is_storable, stored_from}
+use Rattle.jpa_object_rows.specs.Unambiguous.{IsUnambiguous}
+use Rattle.jpa_object_rows.proofs.Bytes.Reading.{slots_apart, row_read}
 use Rattle.jpa_object_rows.specs.Objects.{Places, places_of, main_row}
 use Rattle.jpa_object_rows.specs.Sets.{content_at}
 use Rattle.jpa_object_rows.proofs.Objects.{number_order, spelled, places_spelled, main_row_spelled}

@@ -15,9 +15,9 @@ use Rattle.jpa_rows.specs.declared.schema.TableRule.{TableRule}
 use Rattle.jpa_rows.specs.Rows.{RowId, Row, Rows, AreRising, table_rows, cells_of, is_key, table_of}
 use Rattle.jpa_row_laws.specs.Changes.{dropped, changed, seen}
 use Rattle.jpa_row_laws.proofs.Facts.{and_first, true_false}
-use Rattle.jpa_view.specs.Rows as by_bytes
-use Rattle.jpa_view.specs.Rows.{row_cmp, row_of}
-use Rattle.jpa_view.specs.View as view
+use Rattle.jpa_object_rows.specs.Rows as by_bytes
+use Rattle.jpa_object_rows.specs.Rows.{row_cmp, row_of}
+use Rattle.jpa_object_rows.specs.View as view
 use Rattle.jpa_object_rows.specs.Raw.{raw, is_key_by, is_id_of, AreNamed}
 use Rattle.jpa_object_rows.proofs.Renamed.{renamed, KeepsOrder, found_renamed, sorted_renamed, put_renamed, where_renamed, dropped_renamed, changed_renamed, seen_renamed, keys_put, keys_dropped, keys_seen}
 

@@ -16,17 +16,17 @@ use Rattle.jpa_row_laws.specs.Entries.{read_by}
 use Rattle.jpa_row_laws.proofs.Facts.{some_none, given_if}
 use Rattle.jpa_row_laws.proofs.Elements.{found_has}
 use Rattle.jpa_row_laws.proofs.Lists.{all_each}
-use Rattle.jpa_view.specs.Rows as by_bytes
-use Rattle.jpa_view.specs.Rows.{same_columns, Columns}
-use Rattle.jpa_view.specs.Identities.{IsSpelled}
-use Rattle.jpa_view.specs.Written.{columns_of}
-use Rattle.jpa_view.specs.Unambiguous.{IsUnambiguous, is_class}
-use Rattle.jpa_view.specs.View.{stored_in, pairs_of, is_storable, guessed, class_from}
-use Rattle.jpa_view.proofs.Orders.{identities, are_same_columns}
-use Rattle.jpa_view.proofs.Mapped.{IsMapped}
-use Rattle.jpa_view.proofs.MappedClasses.{unambiguous_mapped}
-use Rattle.jpa_view.proofs.Reading.{storable, object_spelled, row_read}
-use Rattle.jpa_view.proofs.Whole.{read_storable, read_pairs}
+use Rattle.jpa_object_rows.specs.Rows as by_bytes
+use Rattle.jpa_object_rows.specs.Rows.{same_columns, Columns}
+use Rattle.jpa_object_rows.specs.Identities.{IsSpelled}
+use Rattle.jpa_object_rows.specs.Written.{columns_of}
+use Rattle.jpa_object_rows.specs.Unambiguous.{IsUnambiguous, is_class}
+use Rattle.jpa_object_rows.specs.View.{stored_in, pairs_of, is_storable, guessed, class_from}
+use Rattle.jpa_object_rows.proofs.Bytes.Orders.{identities, are_same_columns}
+use Rattle.jpa_object_rows.proofs.Bytes.Mapped.{IsMapped}
+use Rattle.jpa_object_rows.proofs.Bytes.MappedClasses.{unambiguous_mapped}
+use Rattle.jpa_object_rows.proofs.Bytes.Reading.{storable, object_spelled, row_read}
+use Rattle.jpa_object_rows.proofs.Bytes.Whole.{read_storable, read_pairs}
 use Rattle.jpa_object_rows.specs.Raw.{raw, is_id_of, AreRowsOf, AreWhole, IsRowBy}
 use Rattle.jpa_object_rows.specs.Objects.{main_row, is_discriminator}
 use Rattle.jpa_object_rows.specs.Sets.{set_in, HoldsOnes, StandsIn}

@@ -23,15 +23,15 @@ use Rattle.jpa_row_laws.proofs.Facts.{some_none}
 use Rattle.jpa_row_laws.proofs.Each.{Each}
 use Rattle.jpa_row_laws.proofs.Elements.{Has, into_flat_map}
 use Rattle.jpa_row_laws.proofs.Maps.{same_key, found_other, same_answers}
-use Rattle.jpa_view.specs.Identities.{root_at}
-use Rattle.jpa_view.specs.View.{is_storable, AreStorable}
-use Rattle.jpa_view.specs.Unambiguous.{IsUnambiguous}
-use Rattle.jpa_view.proofs.Orders.{identities, are_same_numbers}
-use Rattle.jpa_view.proofs.Others.{join_no_root}
-use Rattle.jpa_view.proofs.Reading.{storable}
-use Rattle.jpa_view.proofs.Tables.{zero_root}
+use Rattle.jpa_object_rows.specs.Identities.{root_at}
+use Rattle.jpa_object_rows.specs.View.{is_storable, AreStorable}
+use Rattle.jpa_object_rows.specs.Unambiguous.{IsUnambiguous}
+use Rattle.jpa_object_rows.proofs.Bytes.Orders.{identities, are_same_numbers}
+use Rattle.jpa_object_rows.proofs.Bytes.Others.{join_no_root}
+use Rattle.jpa_object_rows.proofs.Bytes.Reading.{storable}
+use Rattle.jpa_object_rows.proofs.Bytes.Tables.{zero_root}
 use Rattle.jpa_rows.specs.Tables.{schema_of}
-use Rattle.jpa_view.proofs.Inverse.{scan_is, leading_read}
+use Rattle.jpa_object_rows.proofs.Bytes.Inverse.{scan_is, leading_read}
 use Rattle.jpa_object_rows.specs.Raw.{raw, AreRowsOf}
 use Rattle.jpa_object_rows.specs.Objects.{main_row, pair_ids, as_pairs, object_entries, object_rows, with_object, number_id, number_row}
 use Rattle.jpa_object_rows.specs.Sets.{base_of, set_in, with_number, with_next, with_numbers, with_set, rows_of}

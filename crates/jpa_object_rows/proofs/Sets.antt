@@ -11,14 +11,14 @@ use Rattle.jpa_stored.specs.Sets.{stored_at, with_stored, without}
 use Rattle.jpa_rows.specs.Rows.{Row, Rows, cells_of}
 use Rattle.jpa_rows.specs.Tables.{schema_of}
 use Rattle.jpa_row_laws.specs.Entries.{read_by}
-use Rattle.jpa_view.specs.Rows as by_bytes
-use Rattle.jpa_view.specs.Written as written
-use Rattle.jpa_view.specs.View.{set_of, stored_in, is_storable, HoldsNone}
-use Rattle.jpa_view.specs.Identities.{IsSpelled}
-use Rattle.jpa_view.specs.Unambiguous.{IsUnambiguous}
-use Rattle.jpa_view.proofs.SetLaws.{set_rises, stored_read}
-use Rattle.jpa_view.proofs.Whole.{object_put, object_replaced, object_dropped}
-use Rattle.jpa_view.proofs.Numbers.{number_put}
+use Rattle.jpa_object_rows.specs.Rows as by_bytes
+use Rattle.jpa_object_rows.specs.Written as written
+use Rattle.jpa_object_rows.specs.View.{set_of, stored_in, is_storable, HoldsNone}
+use Rattle.jpa_object_rows.specs.Identities.{IsSpelled}
+use Rattle.jpa_object_rows.specs.Unambiguous.{IsUnambiguous}
+use Rattle.jpa_object_rows.proofs.Bytes.SetLaws.{set_rises, stored_read}
+use Rattle.jpa_object_rows.proofs.Bytes.Whole.{object_put, object_replaced, object_dropped}
+use Rattle.jpa_object_rows.proofs.Bytes.Numbers.{number_put}
 use Rattle.jpa_object_rows.specs.Raw.{raw, is_id_of, AreIds, AreRowsOf}
 use Rattle.jpa_object_rows.specs.Objects.{with_object, without_pairs, without_object, number_id}
 use Rattle.jpa_object_rows.specs.Objects as objects

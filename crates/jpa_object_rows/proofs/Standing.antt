@@ -14,13 +14,13 @@ use Rattle.jpa_rows.specs.Rows.{Rows, AreChanges, rows_after}
 use Rattle.jpa_rows.specs.Tables.{schema_of}
 use Rattle.jpa_row_laws.proofs.Elements.{Has, found_has, from_map}
 use Rattle.jpa_row_laws.proofs.Lists.{all_each}
-use Rattle.jpa_view.specs.Unambiguous.{IsUnambiguous, is_class}
-use Rattle.jpa_view.specs.View.{is_storable, AreStorable, PairsAre, HoldsNone}
-use Rattle.jpa_view.specs.View as view
-use Rattle.jpa_view.proofs.Orders.{identities}
-use Rattle.jpa_view.proofs.Mapped.{IsMapped}
-use Rattle.jpa_view.proofs.MappedClasses.{unambiguous_mapped}
-use Rattle.jpa_view.proofs.Reading.{storable, object_spelled}
+use Rattle.jpa_object_rows.specs.Unambiguous.{IsUnambiguous, is_class}
+use Rattle.jpa_object_rows.specs.View.{is_storable, AreStorable, PairsAre, HoldsNone}
+use Rattle.jpa_object_rows.specs.View as view
+use Rattle.jpa_object_rows.proofs.Bytes.Orders.{identities}
+use Rattle.jpa_object_rows.proofs.Bytes.Mapped.{IsMapped}
+use Rattle.jpa_object_rows.proofs.Bytes.MappedClasses.{unambiguous_mapped}
+use Rattle.jpa_object_rows.proofs.Bytes.Reading.{storable, object_spelled}
 use Rattle.jpa_object_rows.specs.Raw.{raw, AreRowsOf}
 use Rattle.jpa_object_rows.specs.Objects.{is_discriminator, object_entries, object_rows, with_object, changes_to}
 use Rattle.jpa_object_rows.specs.Sets.{set_in, targets_in, AreUnitRows, StandsIn, rows_of}

@@ -13,11 +13,11 @@ use Rattle.jpa_rows.specs.Rows.{Rows}
 use Rattle.jpa_rows.specs.Tables.{kinds_of, schema_of}
 use Rattle.jpa_row_laws.proofs.Elements.{Has, into_flat_map}
 use Rattle.jpa_row_laws.proofs.Lists.{all_each}
-use Rattle.jpa_view.specs.Identities.{is_join_of}
-use Rattle.jpa_view.specs.Unambiguous.{IsUnambiguous, is_class, joins_of}
-use Rattle.jpa_view.specs.View.{Pairs, SideHas, PairsAre}
-use Rattle.jpa_view.specs.View as view
-use Rattle.jpa_view.proofs.Keys.{table_is}
+use Rattle.jpa_object_rows.specs.Identities.{is_join_of}
+use Rattle.jpa_object_rows.specs.Unambiguous.{IsUnambiguous, is_class, joins_of}
+use Rattle.jpa_object_rows.specs.View.{Pairs, SideHas, PairsAre}
+use Rattle.jpa_object_rows.specs.View as view
+use Rattle.jpa_object_rows.proofs.Bytes.Keys.{table_is}
 use Rattle.jpa_object_rows.specs.Raw.{raw, AreRowsOf}
 use Rattle.jpa_object_rows.specs.Sets.{targets_in, AreOnes, HoldsOnes}
 use Rattle.jpa_object_rows.proofs.Tables.{join_table_found}

@@ -20,12 +20,12 @@ use Rattle.jpa_rows.specs.Tables.{kinds_of, rules_of, one_number, root_table, jo
 use Rattle.jpa_row_laws.proofs.Facts.{value_in, some_none, true_false}
 use Rattle.jpa_row_laws.proofs.Elements.{Has, append_has, from_flat_map, into_flat_map}
 use Rattle.jpa_row_laws.proofs.Lists.{has_any, flat_map_same, flat_map-map, flat_map-flat_map}
-use Rattle.jpa_view.specs.Identities.{has_table, root_at}
-use Rattle.jpa_view.specs.Unambiguous.{IsUnambiguous, are_distinct_numbers, is_class}
-use Rattle.jpa_view.proofs.Orders.{are_same_numbers, same_number}
-use Rattle.jpa_view.proofs.Classes.{class_within, within_classes, find_only, find_some}
-use Rattle.jpa_view.proofs.Tables.{own_tables}
-use Rattle.jpa_view.proofs.Distinct.{one_owner}
+use Rattle.jpa_object_rows.specs.Identities.{has_table, root_at}
+use Rattle.jpa_object_rows.specs.Unambiguous.{IsUnambiguous, are_distinct_numbers, is_class}
+use Rattle.jpa_object_rows.proofs.Bytes.Orders.{are_same_numbers, same_number}
+use Rattle.jpa_object_rows.proofs.Bytes.Classes.{class_within, within_classes, find_only, find_some}
+use Rattle.jpa_object_rows.proofs.Bytes.Tables.{own_tables}
+use Rattle.jpa_object_rows.proofs.Bytes.Distinct.{one_owner}
 
 -- ---- their numbers
 

@@ -26,15 +26,15 @@ use Rattle.jpa_row_laws.proofs.Facts.{and_first, and_second, and_both, value_in,
 use Rattle.jpa_row_laws.proofs.Elements.{from_filter}
 use Rattle.jpa_row_laws.proofs.Lists.{all_from, all_where}
 use Rattle.jpa_row_laws.proofs.Maps.{put_first}
-use Rattle.jpa_view.specs.Rows.{row_cmp, row_of}
-use Rattle.jpa_view.specs.Identities.{is_join_of, target_at}
-use Rattle.jpa_view.specs.Written as written
-use Rattle.jpa_view.specs.View.{pair_from}
-use Rattle.jpa_view.specs.View as view
-use Rattle.jpa_view.proofs.Orders.{identities, row_ids, same_columns_itself, same_number, are_same_numbers}
-use Rattle.jpa_view.proofs.Spelling.{pair_spelled}
-use Rattle.jpa_view.proofs.Others.{unless_paired}
-use Rattle.jpa_view.proofs.Joins.{elsewhere_unread}
+use Rattle.jpa_object_rows.specs.Rows.{row_cmp, row_of}
+use Rattle.jpa_object_rows.specs.Identities.{is_join_of, target_at}
+use Rattle.jpa_object_rows.specs.Written as written
+use Rattle.jpa_object_rows.specs.View.{pair_from}
+use Rattle.jpa_object_rows.specs.View as view
+use Rattle.jpa_object_rows.proofs.Bytes.Orders.{identities, row_ids, same_columns_itself, same_number, are_same_numbers}
+use Rattle.jpa_object_rows.proofs.Bytes.Spelling.{pair_spelled}
+use Rattle.jpa_object_rows.proofs.Bytes.Others.{unless_paired}
+use Rattle.jpa_object_rows.proofs.Bytes.Joins.{elsewhere_unread}
 use Rattle.jpa_object_rows.specs.Raw.{raw, is_key_by, is_id_of, AreNamed, AreRowsOf}
 use Rattle.jpa_object_rows.specs.Objects.{pair_id}
 use Rattle.jpa_object_rows.specs.Objects as objects

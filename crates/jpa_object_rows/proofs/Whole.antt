@@ -33,10 +33,10 @@ use Rattle.jpa_row_laws.proofs.Each.{Each, each_put}
 use Rattle.jpa_row_laws.proofs.Elements.{Has}
 use Rattle.jpa_row_laws.proofs.Maps.{found_put}
 use Rattle.jpa_row_laws.proofs.Slots.{filled_rises}
-use Rattle.jpa_view.specs.View.{is_storable}
-use Rattle.jpa_view.proofs.Keys.{table_is}
-use Rattle.jpa_view.proofs.Mapped.{IsMapped, lineage}
-use Rattle.jpa_view.proofs.Reading.{Storable, storable}
+use Rattle.jpa_object_rows.specs.View.{is_storable}
+use Rattle.jpa_object_rows.proofs.Bytes.Keys.{table_is}
+use Rattle.jpa_object_rows.proofs.Bytes.Mapped.{IsMapped, lineage}
+use Rattle.jpa_object_rows.proofs.Bytes.Reading.{Storable, storable}
 use Rattle.jpa_object_rows.specs.Raw.{IsRowBy}
 use Rattle.jpa_object_rows.specs.Objects.{value_content, link_content, Places, version_places, attribute_places, side_places, relation_places, discriminator_content, is_discriminator, places_of, field_of, row_of_places, main_row}
 use Rattle.jpa_object_rows.proofs.Tables.{main_table, has_main_table, table_found}

@@ -5,8 +5,8 @@ use Rattle.jpa_value.specs.declared.value.Value.{Value}
 use Rattle.jpa_rows.specs.declared.schema.Schema.{Schema}
 use Rattle.jpa_rows.specs.declared.schema.TableRule.{TableRule}
 use Rattle.jpa_rows.specs.Rows.{RowId, Row, Rows, AreRising, cells_of, is_key, table_of, IsRowOf}
-use Rattle.jpa_view.specs.Rows as by_bytes
-use Rattle.jpa_view.specs.Rows.{row_of}
+use Rattle.jpa_object_rows.specs.Rows as by_bytes
+use Rattle.jpa_object_rows.specs.Rows.{row_of}
 
 -- an id with the bytes of its key, and the cells of its row
 abbrev pub raw_entry : RowId × Row → by_bytes.Row

@@ -17,8 +17,8 @@ use Rattle.jpa_stored.specs.Sets.{StoredSet}
 use Rattle.jpa_rows.specs.declared.row.Content.{Content}
 use Rattle.jpa_rows.specs.Rows.{RowId, Row, Rows, table_rows}
 use Rattle.jpa_rows.specs.Tables.{schema_of}
-use Rattle.jpa_view.specs.Unambiguous.{is_class, joins_of}
-use Rattle.jpa_view.specs.View.{set_of, Pairs, PairsAre}
+use Rattle.jpa_object_rows.specs.Unambiguous.{is_class, joins_of}
+use Rattle.jpa_object_rows.specs.View.{set_of, Pairs, PairsAre}
 use Rattle.jpa_object_rows.specs.Raw.{raw, AreRowsOf, AreWhole, AreFilled}
 use Rattle.jpa_object_rows.specs.Objects.{main_row, number_id, number_row, pair_row, with_object}
 

@@ -16,10 +16,10 @@ use Rattle.jpa_row_laws.proofs.Elements.{Has, found_has}
 use Rattle.jpa_row_laws.proofs.Lists.{all_each}
 use Rattle.jpa_row_laws.proofs.Facts.{some_none, true_false}
 use Rattle.jpa_row_laws.proofs.Overlay.{found_seen, one_difference}
-use Rattle.jpa_view.specs.Unambiguous.{is_class}
-use Rattle.jpa_view.proofs.Mapped.{IsMapped}
-use Rattle.jpa_view.proofs.Orders.{identities}
-use Rattle.jpa_view.proofs.Rounds.{held_storable}
+use Rattle.jpa_object_rows.specs.Unambiguous.{is_class}
+use Rattle.jpa_object_rows.proofs.Bytes.Mapped.{IsMapped}
+use Rattle.jpa_object_rows.proofs.Bytes.Orders.{identities}
+use Rattle.jpa_object_rows.proofs.Bytes.Rounds.{held_storable}
 use Rattle.jpa_object_rows.specs.Raw.{is_key_by, is_id_of, IsRowBy}
 use Rattle.jpa_object_rows.specs.Objects.{is_discriminator}
 use Rattle.jpa_object_rows.specs.Sets.{AreUnitRows, rows_of}

@@ -8,7 +8,7 @@ use Rattle.jpa_rows.specs.Rows.{RowId, Row, Rows, AreRising}
 use Rattle.jpa_row_laws.specs.Changes.{dropped}
 use Rattle.jpa_row_laws.proofs.Each.{each_put}
 use Rattle.jpa_row_laws.proofs.Overlay.{seen_put}
-use Rattle.jpa_view.proofs.Orders.{identities}
+use Rattle.jpa_object_rows.proofs.Bytes.Orders.{identities}
 use Rattle.jpa_object_rows.specs.Raw.{is_id_of, AreNamed}
 use Rattle.jpa_object_rows.specs.Objects.{with_rows, without_rows}
 use Rattle.jpa_overlay.specs.Overlay.{Changes, with_change, rows_under}

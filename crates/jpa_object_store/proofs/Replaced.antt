@@ -18,12 +18,12 @@ use Rattle.jpa_row_laws.proofs.Each.{each_put}
 use Rattle.jpa_row_laws.proofs.Elements.{found_has}
 use Rattle.jpa_row_laws.proofs.Lists.{all_each, all_where}
 use Rattle.jpa_row_laws.proofs.Maps.{same_key, found_put, dropped_other, put_rises, dropped_rises, same_answers, drop_by_answers}
-use Rattle.jpa_view.specs.Unambiguous.{IsUnambiguous, is_class}
-use Rattle.jpa_view.specs.View.{is_storable, AreStorable}
-use Rattle.jpa_view.proofs.Mapped.{IsMapped}
-use Rattle.jpa_view.proofs.MappedClasses.{unambiguous_mapped}
-use Rattle.jpa_view.proofs.Orders.{identities}
-use Rattle.jpa_view.proofs.SetLaws.{is_without}
+use Rattle.jpa_object_rows.specs.Unambiguous.{IsUnambiguous, is_class}
+use Rattle.jpa_object_rows.specs.View.{is_storable, AreStorable}
+use Rattle.jpa_object_rows.proofs.Bytes.Mapped.{IsMapped}
+use Rattle.jpa_object_rows.proofs.Bytes.MappedClasses.{unambiguous_mapped}
+use Rattle.jpa_object_rows.proofs.Bytes.Orders.{identities}
+use Rattle.jpa_object_rows.proofs.Bytes.SetLaws.{is_without}
 use Rattle.jpa_object_rows.specs.Raw.{AreIds, AreNamed}
 use Rattle.jpa_object_rows.specs.Objects.{is_discriminator, main_row, pair_ids, as_pairs, with_rows, without_rows, object_entries, object_rows, with_object, without_pairs, without_object}
 use Rattle.jpa_object_rows.specs.Sets.{rows_of}

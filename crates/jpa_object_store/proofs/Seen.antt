@@ -11,11 +11,11 @@ use Rattle.jpa_behaviour.specs.Behaviour.{World}
 use Rattle.jpa_stored.specs.declared.stored.Stored.{Stored}
 use Rattle.jpa_stored.specs.Sets.{StoredSet, stored_at, all_distinct, is_below, is_rising}
 use Rattle.jpa_open.specs.Opened.{Opened, AreAllChanged}
-use Rattle.jpa_view.specs.View.{AreStorable}
+use Rattle.jpa_object_rows.specs.View.{AreStorable}
 use Rattle.jpa_row_laws.proofs.Facts.{and_first, and_second, is_less}
 use Rattle.jpa_row_laws.proofs.Maps.{same_key, found_put, dropped_rises, found_dropped, put_rises, same_answers}
-use Rattle.jpa_view.proofs.Orders.{identities}
-use Rattle.jpa_view.proofs.SetLaws.{is_without}
+use Rattle.jpa_object_rows.proofs.Bytes.Orders.{identities}
+use Rattle.jpa_object_rows.proofs.Bytes.SetLaws.{is_without}
 use Rattle.jpa_object_store.specs.Written.{entries_of, is_storable_if_any, with_or_without, set_after}
 use Rattle.jpa_object_store.proofs.Replaced.{old_storable}
 use Rattle.jpa_object_store.proofs.Written.{Entry, other_left}

@@ -19,10 +19,10 @@ use Rattle.jpa_rows.specs.Tables.{schema_of}
 use Rattle.jpa_row_laws.proofs.Each.{each_put}
 use Rattle.jpa_row_laws.proofs.Facts.{and_first, and_second, and_both, true_false}
 use Rattle.jpa_row_laws.proofs.Overlay.{seen_put}
-use Rattle.jpa_view.specs.Unambiguous.{is_class}
-use Rattle.jpa_view.proofs.Described.{described_mapped}
-use Rattle.jpa_view.proofs.Mapped.{IsMapped}
-use Rattle.jpa_view.proofs.Orders.{identities, are_same_numbers}
+use Rattle.jpa_object_rows.specs.Unambiguous.{is_class}
+use Rattle.jpa_object_rows.proofs.Bytes.Described.{described_mapped}
+use Rattle.jpa_object_rows.proofs.Bytes.Mapped.{IsMapped}
+use Rattle.jpa_object_rows.proofs.Bytes.Orders.{identities, are_same_numbers}
 use Rattle.jpa_object_rows.specs.Raw.{is_id_of}
 use Rattle.jpa_object_rows.specs.Objects.{is_discriminator, number_id, number_row}
 use Rattle.jpa_object_rows.proofs.Exact.{rows_numbered_in}

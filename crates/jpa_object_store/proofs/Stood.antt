@@ -10,7 +10,7 @@ use Rattle.jpa_row_laws.specs.Changes.{over}
 use Rattle.jpa_row_laws.proofs.Facts.{some_none}
 use Rattle.jpa_row_laws.proofs.Maps.{found_other}
 use Rattle.jpa_row_laws.proofs.Overlay.{found_seen}
-use Rattle.jpa_view.proofs.Orders.{identities}
+use Rattle.jpa_object_rows.proofs.Bytes.Orders.{identities}
 use Rattle.jpa_object_rows.proofs.Over.{found_over}
 use Rattle.jpa_overlay.specs.Overlay.{Changes, rows_under}
 use Rattle.jpa_object_store.specs.Shown.{with_puts, with_drops, Recall}

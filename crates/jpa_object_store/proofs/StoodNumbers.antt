@@ -21,12 +21,12 @@ use Rattle.jpa_row_laws.proofs.Elements.{found_has}
 use Rattle.jpa_row_laws.proofs.Facts.{and_first, and_second, some_none, true_false, value_in}
 use Rattle.jpa_row_laws.proofs.Lists.{all_each}
 use Rattle.jpa_row_laws.proofs.Maps.{found_put, same_key, ties_itself}
-use Rattle.jpa_view.specs.Unambiguous.{IsUnambiguous, is_class}
-use Rattle.jpa_view.specs.View.{AreStorable}
-use Rattle.jpa_view.proofs.Described.{described_mapped}
-use Rattle.jpa_view.proofs.Mapped.{IsMapped}
-use Rattle.jpa_view.proofs.MappedClasses.{unambiguous_mapped}
-use Rattle.jpa_view.proofs.Orders.{identities, are_same_numbers}
+use Rattle.jpa_object_rows.specs.Unambiguous.{IsUnambiguous, is_class}
+use Rattle.jpa_object_rows.specs.View.{AreStorable}
+use Rattle.jpa_object_rows.proofs.Bytes.Described.{described_mapped}
+use Rattle.jpa_object_rows.proofs.Bytes.Mapped.{IsMapped}
+use Rattle.jpa_object_rows.proofs.Bytes.MappedClasses.{unambiguous_mapped}
+use Rattle.jpa_object_rows.proofs.Bytes.Orders.{identities, are_same_numbers}
 use Rattle.jpa_object_rows.specs.Objects.{is_discriminator, number_id, number_row, object_entries, object_rows}
 use Rattle.jpa_object_rows.specs.Sets.{number_in, next_at, base_of, with_number, with_next, with_numbers, with_set, rows_of}
 use Rattle.jpa_object_rows.proofs.Exact.{rows_numbered_in, numbers_read_in}

@@ -15,11 +15,11 @@ use Rattle.jpa_rows.specs.Rows.{RowId, Row, Rows}
 use Rattle.jpa_row_laws.proofs.Each.{each_put}
 use Rattle.jpa_row_laws.proofs.Facts.{some_none}
 use Rattle.jpa_row_laws.proofs.Maps.{found_put, find-dropped, ties_back, put_rises, put_by_answers, put_again, drop_new}
-use Rattle.jpa_view.specs.Unambiguous.{is_class}
-use Rattle.jpa_view.specs.View.{is_storable, AreStorable}
-use Rattle.jpa_view.proofs.Mapped.{IsMapped}
-use Rattle.jpa_view.proofs.Orders.{identities}
-use Rattle.jpa_view.proofs.SetLaws.{is_without}
+use Rattle.jpa_object_rows.specs.Unambiguous.{is_class}
+use Rattle.jpa_object_rows.specs.View.{is_storable, AreStorable}
+use Rattle.jpa_object_rows.proofs.Bytes.Mapped.{IsMapped}
+use Rattle.jpa_object_rows.proofs.Bytes.Orders.{identities}
+use Rattle.jpa_object_rows.proofs.Bytes.SetLaws.{is_without}
 use Rattle.jpa_object_rows.specs.Objects.{is_discriminator, main_row, pair_row, pair_ids, as_pairs, object_entries, object_rows, without_pairs}
 use Rattle.jpa_object_rows.specs.Sets.{rows_of}
 use Rattle.jpa_object_rows.proofs.Exact.{rows_replaced_in, rows_dropped_in}

@@ -13,9 +13,9 @@ use Rattle.jpa_row_laws.proofs.Facts.{and_first, and_second, true_false}
 use Rattle.jpa_row_laws.proofs.Elements.{Has}
 use Rattle.jpa_row_laws.proofs.Lists.{has_any, all_each}
 use Rattle.jpa_row_laws.proofs.Maps.{found_other, dropped_other, ties_back}
-use Rattle.jpa_view.proofs.Classes.{item_at}
-use Rattle.jpa_view.proofs.Orders.{identities}
-use Rattle.jpa_view.proofs.SetLaws.{is_without}
+use Rattle.jpa_object_rows.proofs.Bytes.Classes.{item_at}
+use Rattle.jpa_object_rows.proofs.Bytes.Orders.{identities}
+use Rattle.jpa_object_rows.proofs.Bytes.SetLaws.{is_without}
 use Rattle.jpa_object_store.specs.declared.object_change.ObjectChange.{ObjectChange}
 use Rattle.jpa_object_store.specs.Written.{entry_in, entries_in, is_storable_if_any, with_or_without, set_after}
 

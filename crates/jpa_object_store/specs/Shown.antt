@@ -12,7 +12,7 @@ use Rattle.jpa_rows.specs.declared.schema.Schema.{Schema}
 use Rattle.jpa_rows.specs.Cells.{are_numbers, CanBeHeld}
 use Rattle.jpa_rows.specs.Rows.{Rows, AreRising}
 use Rattle.jpa_rows.specs.Tables.{schema_of}
-use Rattle.jpa_view.specs.View.{AreStorable}
+use Rattle.jpa_object_rows.specs.View.{AreStorable}
 use Rattle.jpa_object_rows.specs.Raw.{is_id_of}
 use Rattle.jpa_object_rows.specs.Objects.{number_id, number_row, object_entries}
 use Rattle.jpa_object_rows.specs.Sets.{rows_of}

@@ -5,7 +5,7 @@ use Rattle.jpa_value.specs.declared.value.Identity.{Identity}
 use Rattle.jpa_behaviour.specs.Behaviour.{World}
 use Rattle.jpa_stored.specs.declared.stored.Stored.{Stored}
 use Rattle.jpa_stored.specs.Sets.{StoredSet, stored_at, with_stored, without}
-use Rattle.jpa_view.specs.View.{is_storable}
+use Rattle.jpa_object_rows.specs.View.{is_storable}
 use Rattle.jpa_object_store.specs.declared.object_change.ObjectChange.{ObjectChange}
 
 -- ---- what is to stand under identities: an object, or none

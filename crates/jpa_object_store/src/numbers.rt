@@ -6,7 +6,7 @@ ghost use Rattle.jpa_stored.specs.Sets.{StoredSet, each_fits};
 ghost use Rattle.jpa_rows.specs.Cells.{is_next, are_numbers};
 ghost use Rattle.jpa_rows.specs.Numbers.{IsNarrowOrigin};
 ghost use Rattle.jpa_rows.specs.Rows.{Rows};
-ghost use Rattle.jpa_view.specs.View.{AreStorable};
+ghost use Rattle.jpa_object_rows.specs.View.{AreStorable};
 ghost use Rattle.jpa_object_rows.specs.Sets.{rows_of};
 ghost use Rattle.jpa_object_store.specs.Shown.{with_next, with_old_next, Show, Recall};
 

@@ -6,7 +6,7 @@ ghost use Rattle.jpa_value.specs.declared.refusal.Cause.{Cause};
 ghost use Rattle.jpa_value.specs.Value.{same_identity};
 ghost use Rattle.jpa_behaviour.specs.Registered.{world_of};
 ghost use Rattle.jpa_stored.specs.Sets as sets;
-ghost use Rattle.jpa_view.specs.View.{is_storable, AreStorable};
+ghost use Rattle.jpa_object_rows.specs.View.{is_storable, AreStorable};
 ghost use Rattle.jpa_object_rows.specs.Objects.{object_entries};
 ghost use Rattle.jpa_object_store.specs.Shown.{with_puts, with_drops, entries_at, entries_stood};
 ghost use Rattle.jpa_object_store.specs.Shown.{Replaces, Brings, RecallsStill};

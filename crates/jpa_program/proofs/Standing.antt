@@ -13,11 +13,11 @@ use Rattle.jpa_row_laws.proofs.Elements.{same_back}
 use Rattle.jpa_rows.specs.Cells.{CanBeHeld}
 use Rattle.jpa_rows.specs.Rows.{Rows}
 use Rattle.jpa_rows.specs.Tables.{schema_of}
-use Rattle.jpa_view.specs.Flat as flat
-use Rattle.jpa_view.specs.Unambiguous.{is_class}
-use Rattle.jpa_view.proofs.Described.{described_mapped}
-use Rattle.jpa_view.proofs.Mapped.{IsMapped}
-use Rattle.jpa_view.proofs.MappedClasses.{unambiguous_mapped}
+use Rattle.jpa_object_rows.specs.Flat as flat
+use Rattle.jpa_object_rows.specs.Unambiguous.{is_class}
+use Rattle.jpa_object_rows.proofs.Bytes.Described.{described_mapped}
+use Rattle.jpa_object_rows.proofs.Bytes.Mapped.{IsMapped}
+use Rattle.jpa_object_rows.proofs.Bytes.MappedClasses.{unambiguous_mapped}
 use Rattle.jpa_object_rows.specs.Objects.{is_discriminator}
 use Rattle.jpa_object_rows.specs.Raw.{raw}
 use Rattle.jpa_object_rows.specs.Sets.{rows_of}

@@ -6,7 +6,7 @@ ghost use Rattle.jpa_model.specs.Chains.{entity_at};
 ghost use Rattle.jpa_model.specs.Kept.{IsDescribed};
 ghost use Rattle.jpa_object_rows.specs.Objects.{is_discriminator};
 ghost use Rattle.jpa_object_rows.specs.Sets.{rows_of};
-ghost use Rattle.jpa_view.specs.Unambiguous.{is_class};
+ghost use Rattle.jpa_object_rows.specs.Unambiguous.{is_class};
 ghost use Rattle.jpa_protocol.specs.declared.call.Call.{Call};
 ghost use Rattle.jpa_rows.specs.Cells.{CanBeHeld};
 ghost use Rattle.jpa_rows.specs.Tables.{schema_of};

@@ -10,12 +10,12 @@ use Rattle.jpa_model.specs.Kept.{IsDescribed}
 use Rattle.jpa_row_laws.proofs.Elements.{Has, has_append}
 use Rattle.jpa_row_laws.proofs.Facts.{some_none}
 use Rattle.jpa_row_laws.proofs.Lists.{any_has}
-use Rattle.jpa_view.specs.Unambiguous.{is_class}
-use Rattle.jpa_view.proofs.Classes.{below}
-use Rattle.jpa_view.proofs.Climb as climb
-use Rattle.jpa_view.proofs.Described.{described_mapped}
-use Rattle.jpa_view.proofs.Mapped.{IsMapped, kinds_root}
-use Rattle.jpa_view.proofs.Orders.{are_same_numbers}
+use Rattle.jpa_object_rows.specs.Unambiguous.{is_class}
+use Rattle.jpa_object_rows.proofs.Bytes.Classes.{below}
+use Rattle.jpa_object_rows.proofs.Bytes.Climb as climb
+use Rattle.jpa_object_rows.proofs.Bytes.Described.{described_mapped}
+use Rattle.jpa_object_rows.proofs.Bytes.Mapped.{IsMapped, kinds_root}
+use Rattle.jpa_object_rows.proofs.Bytes.Orders.{are_same_numbers}
 use Rattle.jpql_kept.specs.Fits.{AreInherited}
 
 -- ---- a chain that climbs

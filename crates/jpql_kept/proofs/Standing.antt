@@ -22,7 +22,7 @@ use Rattle.jpa_row_laws.proofs.Lists.{each_passes}
 use Rattle.jpa_row_laws.proofs.Facts.{some_none, value_in}
 use Rattle.jpa_stored.specs.declared.stored.Stored.{Stored}
 use Rattle.jpa_stored.specs.Sets.{StoredSet, stored_at, all_shaped, is_shaped, all_lead, is_of, each_fits, is_identity_of, is_key_of, version_there, owns_well, owned_at, members, members_by, first_fault}
-use Rattle.jpa_view.proofs.Orders.{identities}
+use Rattle.jpa_object_rows.proofs.Bytes.Orders.{identities}
 use Rattle.jpql_tree.specs.declared.Path.{Path}
 use Rattle.jpql_tree.specs.Grammar.{Text}
 use Rattle.jpql_tree.specs.Values.{◌>>=◌}

@@ -1,7 +1,7 @@
 use Rattle.std.proofs.Common.{sym, subst, ◌∙◌}
 use Rattle.jpa_behaviour.specs.Registered.{world_of}
 use Rattle.jpa_row_laws.proofs.Facts.{true_false}
-use Rattle.jpa_view.proofs.Described.{described_mapped}
+use Rattle.jpa_object_rows.proofs.Bytes.Described.{described_mapped}
 use Rattle.jpa_judgment.specs.Read.{AreRead}
 use Rattle.jpa_judgment.specs.Together.{StandTogether}
 use Rattle.jpa_judgment.proofs.Together.{of_classes, read_storable, held, of_none}

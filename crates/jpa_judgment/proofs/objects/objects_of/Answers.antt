@@ -1,7 +1,7 @@
 use Rattle.std.proofs.Common.{subst}
 use Rattle.std.proofs.lemmas.List.{take_all}
 use Rattle.jpa_behaviour.specs.Registered.{world_of}
-use Rattle.jpa_view.proofs.Described.{unambiguous, described_mapped}
+use Rattle.jpa_object_rows.proofs.Bytes.Described.{unambiguous, described_mapped}
 use Rattle.jpa_judgment.specs.Read.{SaysIfSound}
 use Rattle.jpa_judgment.proofs.Built.{IsBuilt, first_unsound, step_built, all_built}
 use Rattle.jpa_judgment.proofs.objects.objects_of.Goals as goal

@@ -2,7 +2,7 @@ use Rattle.std.specs.Prelude.{◌<◌, List, length}
 use Rattle.std.proofs.Common.{sym, ap, subst, ◌∙◌}
 use Rattle.jpa_model.specs.declared.unit.Entity.{Entity}
 use Rattle.jpa_model.specs.Chains.{entity_at}
-use Rattle.jpa_view.specs.Identities.{declares}
+use Rattle.jpa_object_rows.specs.Identities.{declares}
 use Rattle.jpa_judgment.proofs.Said.{find_later}
 use Rattle.jpa_judgment.proofs.owners.declarer_of.Goals as goal
 

@@ -2,7 +2,7 @@ use Rattle.std.proofs.Common.{◌≡◌, ◌-◌, length}
 use Rattle.std.specs.Prelude.{find}
 use Rattle.std.specs.List.{range_with_len}
 use Rattle.jpa_model.specs.Chains.{entity_at}
-use Rattle.jpa_view.specs.Identities.{declares, declarer_at}
+use Rattle.jpa_object_rows.specs.Identities.{declares, declarer_at}
 use Rattle.jpa_judgment.proofs.owners.declarer_of.Given as goal
 
 abbrev pub invariant-loop-class : goal.invariant-loop-class

@@ -1,7 +1,7 @@
 use Rattle.std.proofs.Common.{◌≡◌, sym, ap, subst, ◌∙◌, ◌+◌, ◌++◌, slice_index_or}
 use Rattle.jpa_behaviour.specs.Registered.{world_of}
 use Rattle.jpa_row_laws.proofs.Facts.{some_none}
-use Rattle.jpa_view.proofs.Described.{unambiguous}
+use Rattle.jpa_object_rows.proofs.Bytes.Described.{unambiguous}
 use Rattle.jpa_cells_meaning.specs.Store.{tables_in}
 use Rattle.jpa_migration.specs.Migration.{opened_tables}
 use Rattle.jpa_judgment.specs.Reads.{AreReadInto}

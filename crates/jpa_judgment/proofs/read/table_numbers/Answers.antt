@@ -2,8 +2,8 @@ use Rattle.std.proofs.Common.{sym, subst, true, map, ◌≡◌}
 use Rattle.std.proofs.lemmas.List.Sorted.{IsNonDecreasingBy-from_sort}
 use Rattle.jpa_rows.specs.declared.schema.Schema.{Schema}
 use Rattle.jpa_rows.specs.declared.schema.TableRule.{TableRule}
-use Rattle.jpa_view.specs.Unambiguous.{are_distinct_numbers}
-use Rattle.jpa_view.proofs.Described.{unambiguous}
+use Rattle.jpa_object_rows.specs.Unambiguous.{are_distinct_numbers}
+use Rattle.jpa_object_rows.proofs.Bytes.Described.{unambiguous}
 use Rattle.jpa_judgment.proofs.Rising.{distinct_tables, sorted_numbers}
 use Rattle.jpa_judgment.proofs.read.table_numbers.Goals as goal
 

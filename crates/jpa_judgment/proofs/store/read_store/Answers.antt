@@ -3,7 +3,7 @@ use Rattle.jpa_value.specs.declared.refusal.Cause.{Cause}
 use Rattle.jpa_behaviour.specs.Registered.{world_of}
 use Rattle.jpa_rows.specs.declared.schema.Schema.{Schema}
 use Rattle.jpa_rows.specs.Rows.{Rows}
-use Rattle.jpa_view.proofs.Described.{described_mapped}
+use Rattle.jpa_object_rows.proofs.Bytes.Described.{described_mapped}
 use Rattle.jpa_cells_meaning.specs.Store.{IsClean, tables_in}
 use Rattle.jpa_migration.specs.Migration.{opened_tables}
 use Rattle.jpa_rowspace.specs.Space.{Space}

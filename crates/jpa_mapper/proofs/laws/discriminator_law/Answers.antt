@@ -2,7 +2,7 @@ use Rattle.std.proofs.Common.{◌≡◌, ◌<◌, ap, arith, length}
 use Rattle.std.specs.Str.{is_utf8}
 use Rattle.jpa_model.specs.Chains.{entity_at}
 use Rattle.jpa_row_laws.proofs.Facts.{and_both}
-use Rattle.jpa_view.proofs.Classes.{below}
+use Rattle.jpa_object_rows.proofs.Bytes.Classes.{below}
 use Rattle.jpa_mapper.proofs.Discriminators.{short_discriminator}
 use Rattle.jpa_mapper.proofs.laws.discriminator_law.Goals as goal
 

@@ -1,7 +1,7 @@
 use Rattle.std.proofs.Common.{◌∙◌, sym, ap}
 use Rattle.jpa_behaviour.specs.Registered.{world_of}
 use Rattle.jpa_row_laws.proofs.Facts.{true_false}
-use Rattle.jpa_view.proofs.Described.{unambiguous}
+use Rattle.jpa_object_rows.proofs.Bytes.Described.{unambiguous}
 use Rattle.jpa_mapper.specs.Guess.{class_in, guessed}
 use Rattle.jpa_mapper.proofs.Found.{no_class, no_shape, no_main, found}
 use Rattle.jpa_mapper.proofs.main_object.main_object.Goals as goal

@@ -1,8 +1,8 @@
 use Rattle.std.proofs.Common.{length}
 use Rattle.jpa_behaviour.specs.Behaviour.{World}
 use Rattle.jpa_behaviour.specs.Registered.{world_of}
-use Rattle.jpa_view.proofs.Classes.{below}
-use Rattle.jpa_view.proofs.Reading.{storable}
+use Rattle.jpa_object_rows.proofs.Bytes.Classes.{below}
+use Rattle.jpa_object_rows.proofs.Bytes.Reading.{storable}
 use Rattle.jpa_mapper.proofs.reading.from_rows.Goals as goal
 
 pub judge_own_pairs-requires : goal.judge_own_pairs-requires

@@ -7,9 +7,9 @@ use Rattle.jpa_stored.specs.declared.stored.Stored.{Stored}
 use Rattle.jpa_stored.specs.Sets.{owns_well}
 use Rattle.jpa_rows.specs.Rows.{Row}
 use Rattle.jpa_row_laws.proofs.Facts.{some_none}
-use Rattle.jpa_view.proofs.Classes.{below}
-use Rattle.jpa_view.proofs.Described.{unambiguous}
-use Rattle.jpa_view.proofs.Reading.{storable}
+use Rattle.jpa_object_rows.proofs.Bytes.Classes.{below}
+use Rattle.jpa_object_rows.proofs.Bytes.Described.{unambiguous}
+use Rattle.jpa_object_rows.proofs.Bytes.Reading.{storable}
 use Rattle.jpa_object_rows.specs.Sets.{targets_in}
 use Rattle.jpa_mapper.specs.Mapped.{IsReadAs, IsMainRow, no_pairs}
 use Rattle.jpa_mapper.specs.Pairs.{with_pairs}

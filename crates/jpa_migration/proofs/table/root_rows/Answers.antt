@@ -3,7 +3,7 @@ use Rattle.std.proofs.Common.{sym, ap, subst, ◌∙◌, append-nil, rules, SFit
 use Rattle.std.proofs.lemmas.Int.{to_z-of_z}
 use Rattle.std.specs.List.{AllByRecursion, flat_map}
 use Rattle.jpa_behaviour.specs.Registered.{world_of}
-use Rattle.jpa_view.proofs.Classes.{is_below}
+use Rattle.jpa_object_rows.proofs.Bytes.Classes.{is_below}
 use Rattle.jpa_migration.specs.declared.plan.Plan.{Plan}
 use Rattle.jpa_migration.specs.Plans.{is_idle, row_by, change_by}
 use Rattle.jpa_migration.specs.Orderly.{IsOrderly}

@@ -7,8 +7,8 @@ use Rattle.jpa_rows.specs.declared.row.RowChange.{RowChange}
 use Rattle.jpa_rows.specs.Rows.{Rows, AreRising, AreChanges, entry_of, rows_after}
 use Rattle.jpa_rows.specs.Tables.{schema_of}
 use Rattle.jpa_row_laws.specs.Changes.{AreDifference}
-use Rattle.jpa_view.proofs.Described.{described_mapped}
-use Rattle.jpa_view.proofs.Rounds.{held_storable}
+use Rattle.jpa_object_rows.proofs.Bytes.Described.{described_mapped}
+use Rattle.jpa_object_rows.proofs.Bytes.Rounds.{held_storable}
 use Rattle.jpa_object_rows.specs.Sets.{rows_of}
 use Rattle.jpa_overlay.specs.Overlay.{Changes, Recalls, rows_under}
 use Rattle.jpa_rows.specs.Commits.{IsDifference}

@@ -5,7 +5,7 @@ use Rattle.jpa_value.specs.Value.{same_identity}
 use Rattle.jpa_behaviour.specs.Registered.{world_of}
 use Rattle.jpa_stored.specs.Sets.{StoredSet, all_distinct}
 use Rattle.jpa_open.specs.Opened.{AreAllChanged}
-use Rattle.jpa_view.proofs.Rounds.{held_storable}
+use Rattle.jpa_object_rows.proofs.Bytes.Rounds.{held_storable}
 use Rattle.jpa_object_rows.specs.Sets.{rows_of}
 use Rattle.jpa_rows.specs.Commits.{Commits}
 use Rattle.jpa_rows.specs.Faults.{faults_after}

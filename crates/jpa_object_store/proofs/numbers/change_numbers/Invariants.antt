@@ -2,7 +2,7 @@ use Rattle.std.proofs.Common.{◌≡◌}
 use Rattle.jpa_behaviour.specs.Behaviour.{World, IsRegular}
 use Rattle.jpa_stored.specs.Sets.{StoredSet}
 use Rattle.jpa_rows.specs.Rows.{Rows}
-use Rattle.jpa_view.specs.View.{AreStorable}
+use Rattle.jpa_object_rows.specs.View.{AreStorable}
 use Rattle.jpa_object_rows.specs.Sets.{rows_of}
 use Rattle.jpa_object_store.specs.Shown.{Show, Recall}
 use Rattle.jpa_object_store.proofs.Stepped.{stepped}

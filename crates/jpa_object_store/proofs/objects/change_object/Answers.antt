@@ -2,8 +2,8 @@ use Rattle.std.specs.Option.{option_copied}
 use Rattle.std.proofs.Common.{refl, ◌∙◌, sym, subst, Result, Ok, Err, OnOk}
 use Rattle.jpa_behaviour.specs.Registered.{world_of}
 use Rattle.jpa_stored.specs.Sets.{stored_at}
-use Rattle.jpa_view.proofs.Described.{described_mapped}
-use Rattle.jpa_view.proofs.Rounds.{held_storable}
+use Rattle.jpa_object_rows.proofs.Bytes.Described.{described_mapped}
+use Rattle.jpa_object_rows.proofs.Bytes.Rounds.{held_storable}
 use Rattle.jpa_object_rows.specs.Sets.{rows_of}
 use Rattle.jpa_object_store.specs.Shown.{with_puts, with_drops, entries_at, Show, Recall}
 use Rattle.jpa_object_store.specs.Written.{with_or_without}

@@ -2,7 +2,7 @@ use Rattle.std.proofs.Common.{◌≡◌, ◌⊎◌, sym, ◌∙◌, inl, inr, Bo
 use Rattle.jpa_value.specs.declared.refusal.Cause.{Cause}
 use Rattle.jpa_behaviour.specs.Registered.{world_of}
 use Rattle.jpa_row_laws.proofs.Facts.{true_false}
-use Rattle.jpa_view.proofs.Reading.{storable}
+use Rattle.jpa_object_rows.proofs.Bytes.Reading.{storable}
 use Rattle.jpa_mapper.specs.Mapped.{all_pass}
 use Rattle.jpa_object_store.proofs.objects.rows_of.Goals as goal
 
