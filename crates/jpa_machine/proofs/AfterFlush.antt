@@ -14,7 +14,7 @@ use Rattle.jpa_machine.proofs.AtWork.{IsAtWork}
 use Rattle.jpa_consistent.proofs.Flushed.{flush_goes}
 use Rattle.jpa_consistent.proofs.Going.{More, only}
 use Rattle.jpa_fetch.specs.Orderly.{IsOrderly}
-use Rattle.jpa_isolation.specs.Differences.{merged}
+use Rattle.jpa_open.specs.Differences.{merged}
 use Rattle.jpa_consistent.proofs.Facts.{held_more}
 use Rattle.jpa_consistent.proofs.Flushed.{viewed_at_work}
 use Rattle.jpa_machine.specs.Machine.{begun_set}

@@ -23,7 +23,7 @@ use Rattle.jpa_flush.specs.Flush.{flush, reads_hold, sound_or}
 use Rattle.jpa_machine.specs.Calls.{object_numbered, handed, got, nothing, truth, object_told, object_or_null, told_as, give_or, class_named, key_given, is_short_given, whole_key}
 use Rattle.jpa_value.specs.declared.refusal.Persist.{Persist}
 use Rattle.jpa_stored.specs.Sets.{StoredSet, fault_of}
-use Rattle.jpa_isolation.specs.Differences.{merged}
+use Rattle.jpa_open.specs.Differences.{merged}
 use Rattle.jpa_updates.specs.Updates.{with_view}
 use Rattle.jpa_machine.specs.Transactions.{commit_work, is_current}
 use Rattle.jpa_machine.specs.Routes.{get_call, set_call, add_call, take_out_call, persist_call, remove_call, refresh_call, detach_call, merge_call, lock_call, lock_of, flush_call, find_call, get_reference_call, there_must_be}

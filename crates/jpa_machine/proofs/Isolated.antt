@@ -12,8 +12,8 @@ use Rattle.jpa_fetch.specs.Orderly.{IsOrderly}
 use Rattle.jpa_flush.specs.Flush.{flush}
 use Rattle.jpa_protocol.specs.declared.call.Call.{Call}
 use Rattle.jpa_protocol.specs.declared.reply.Reply.{Reply}
-use Rattle.jpa_isolation.specs.Differences.{all_agree, differing, merged}
-use Rattle.jpa_isolation.specs.Moves.{Snapshot, Move, Creates, Begins, Works, Ends, Commits, Rests, transaction_at, begun_in, begun_of, seen_in, after}
+use Rattle.jpa_open.specs.Differences.{all_agree, differing, merged}
+use Rattle.jpa_open.specs.Moves.{Snapshot, Move, Creates, Begins, Works, Ends, Commits, Rests, transaction_at, begun_in, begun_of, seen_in, after}
 use Rattle.jpa_consistent.specs.Going.{HoldsAfter}
 use Rattle.jpa_consistent.proofs.Changed.{HasSet}
 use Rattle.jpa_consistent.proofs.Instances.{at_work}

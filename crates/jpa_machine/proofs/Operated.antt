@@ -23,7 +23,7 @@ use Rattle.jpa_machine.proofs.Updated.{update_call_goes}
 use Rattle.jpa_machine.specs.Querying.{query_call, query_single_call}
 use Rattle.jpa_machine.proofs.Queried.{query_call_goes, query_single_call_goes}
 use Rattle.jpa_machine.specs.Transactions.{commit_work, is_current}
-use Rattle.jpa_isolation.specs.Differences.{merged}
+use Rattle.jpa_open.specs.Differences.{merged}
 use Rattle.jpa_machine.proofs.MergedHeld.{merged_held}
 use Rattle.jpa_consistent.proofs.Facts.{held_more, numbers_trans}
 use Rattle.jpa_flush.specs.Flush.{flush}

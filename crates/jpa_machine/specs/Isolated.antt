@@ -10,8 +10,8 @@ use Rattle.jpa_flush.specs.Flush.{flush}
 use Rattle.jpa_protocol.specs.declared.call.Call.{Call}
 use Rattle.jpa_protocol.specs.declared.reply.Answer.{Answer}
 use Rattle.jpa_protocol.specs.declared.reply.Reply.{Reply}
-use Rattle.jpa_isolation.specs.Moves.{Scene, Snapshot, Move, Creates, Begins, Works, Ends, Commits, Rests, IsAllowed}
-use Rattle.jpa_isolation.specs.Moves.{moved, after, is_apart, IsIsolated}
+use Rattle.jpa_open.specs.Moves.{Scene, Snapshot, Move, Creates, Begins, Works, Ends, Commits, Rests, IsAllowed}
+use Rattle.jpa_open.specs.Moves.{moved, after, is_apart, IsIsolated}
 use Rattle.jpa_machine.specs.Machine.{Machine, Manager, Transaction, work_of}
 use Rattle.jpa_machine.specs.Transactions.{locked_ids}
 use Rattle.jpa_machine.specs.Routes.{Route, OfManager, ToQuery, ToUpdate, InTransaction, OfObject, ToCreate, ToMake}

@@ -5,7 +5,7 @@ use Rattle.std.specs.List.{flat_map}
 use Rattle.jpa_value.specs.declared.value.Identity.{Identity}
 use Rattle.jpa_model.specs.declared.unit.PersistenceUnit.{PersistenceUnit}
 use Rattle.jpa_stored.specs.Sets.{StoredSet, fault_of}
-use Rattle.jpa_isolation.specs.Differences.{all_agree, differing, merged}
+use Rattle.jpa_open.specs.Differences.{all_agree, differing, merged}
 use Rattle.jpa_context.specs.declared.Entry.{Entry}
 use Rattle.jpa_context.specs.Work.{Work, state_of, is_managed, identity_at}
 use Rattle.jpa_updates.specs.Updates.{with_view}

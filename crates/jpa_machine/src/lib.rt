@@ -11,7 +11,7 @@ ghost use Rattle.jpa_machine.specs.Machine.{Machine};
 ghost use Rattle.jpa_machine.specs.Isolated.{IsIsolatedRun, RunsHeld};
 
 /// The law of isolation (chapters 3.4.2 and 7.5), for contracts to cite; it does nothing. Every run
-/// of the machine is one of moves, of which `isolation_law` of `jpa_isolation` holds: acknowledged
+/// of the machine is one of moves, of which `isolation_law` of `jpa_open` holds: acknowledged
 /// commits make what is committed, in their order; the first committer wins; and calls of others
 /// leave what a transaction sees.
 pub fn isolation_law()

@@ -11,8 +11,8 @@ use Rattle.jpa_value.specs.Value.{identity_cmp, same_identity}
 use Rattle.jpa_model.specs.declared.unit.PersistenceUnit.{PersistenceUnit}
 use Rattle.jpa_behaviour.specs.Behaviour.{World}
 use Rattle.jpa_stored.specs.Sets.{StoredSet, IsSound, stored_at, fault_of}
-use Rattle.jpa_isolation.specs.Differences.{agrees, differing, merged}
-use Rattle.jpa_isolation.proofs.Merged.{found_merged, is_differing}
+use Rattle.jpa_open.specs.Differences.{agrees, differing, merged}
+use Rattle.jpa_open.proofs.MergedSets.{found_merged, is_differing}
 use Rattle.jpa_judge.specs.declared.change.Change.{Change}
 use Rattle.jpa_judge.specs.Changed.{class_at, is_changed, IsChanged}
 use Rattle.jpa_open.specs.Opened.{SameElsewhere}

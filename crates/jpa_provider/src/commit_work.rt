@@ -10,7 +10,7 @@ ghost use Rattle.jpa_fetch.specs.Orderly.{IsOrderly};
 ghost use Rattle.jpa_flush.specs.Changes.{place_of};
 ghost use Rattle.jpa_flush.specs.Flush as flushes;
 ghost use Rattle.jpa_flush.specs.Marked.{is_calm, AreLooked, IsMarked, IsUntouched};
-ghost use Rattle.jpa_isolation.specs.Differences.{differing, merged};
+ghost use Rattle.jpa_open.specs.Differences.{differing, merged};
 ghost use Rattle.jpa_judge.specs.Changed.{class_at};
 ghost use Rattle.jpa_machine.specs.Transactions as transactions;
 ghost use Rattle.jpa_open.specs.Opened.{AreAllChanged};

@@ -6,8 +6,7 @@ ghost use Rattle.jpa_value.specs.Value.{identity_cmp};
 ghost use Rattle.jpa_value.specs.declared.refusal.Cause.{Cause};
 ghost use Rattle.jpa_open.specs.Opened.{unwritten};
 
-use jpa_open::OpenSet;
-use jpa_shared::Shared;
+use jpa_open::{OpenSet, Shared};
 use jpa_stored::{Stored, StoredSet};
 use jpa_value::{Boxed, Cause, Identity, TryCopy};
 use std::alloc::Global;

@@ -1,4 +1,4 @@
-use Rattle.jpa_isolation.proofs.Isolation.{isolated}
+use Rattle.jpa_open.proofs.IsolatedMoves.{isolated}
 use Rattle.jpa_machine.specs.Isolated.{scene_of}
 use Rattle.jpa_machine.proofs.Isolated.{run_moves}
 use Rattle.jpa_machine.proofs.isolation_law.Goals as goal

@@ -4,7 +4,7 @@ use Rattle.std.specs.FinMap.Entries.{is_sorted}
 use Rattle.jpa_value.specs.declared.refusal.Cause.{Cause}
 use Rattle.jpa_value.specs.Value.{identity_cmp}
 use Rattle.jpa_stored.specs.Sets.{StoredSet, fault_of}
-use Rattle.jpa_isolation.proofs.Merged.{merged_rises}
+use Rattle.jpa_open.proofs.MergedSets.{merged_rises}
 use Rattle.jpa_open.specs.Opened.{Opened, SameElsewhere}
 use Rattle.jpa_flush.specs.Changes.{place_of}
 use Rattle.jpa_context.specs.Steps.{Meets, after, change}
