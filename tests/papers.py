@@ -32,9 +32,7 @@ PAGES = ("*.md", "docs/*.md", "tests/*.md", "tests/*/*.md", "clients/python/*.md
          "examples/*/*.md", "crates/*/README.md")
 RUNS = "tests/runs/README.md"
 INDEXES = ("docs/CHAPTERS.md", "docs/PROMISES.md")
-EXAMPLES = dict.fromkeys(
-    ("mappings", "revisions", "limits", "functions", "stores", "migrations"), "jpa_examples")
-EXAMPLES.update(dict.fromkeys(("queries", "typed"), "jpql_examples"))
+EXAMPLES = ("mappings", "revisions", "limits", "functions", "stores", "migrations", "queries", "typed")
 TITLE = re.compile(r"^(?:mapping|limit|functions|store|query|typed) (.+)$", re.MULTILINE)
 VERSIONS = {
     "crates/jpa_settings/src/settings.rt": r'\.version\("([^"]+)"\)',
@@ -159,7 +157,7 @@ def check_index(page: str) -> None:
 
 
 def has_title(word: str, title: str) -> bool:
-    titles = TITLE.findall(read(f"crates/{EXAMPLES[word]}/data/{word}"))
+    titles = TITLE.findall(read(f"crates/jpa_examples/data/{word}"))
     if title.endswith(" .."):
         return any(name.startswith(title[:-3]) for name in titles)
     return title in titles

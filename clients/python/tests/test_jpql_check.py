@@ -13,7 +13,7 @@ from karzhoul.unit import entities_of
 
 from .support import TOP
 
-DATA = TOP / "crates" / "jpql_examples" / "data"
+DATA = TOP / "crates" / "jpa_examples" / "data"
 KINDS = {"int": INT, "text": TEXT, "bytes": BYTES, "null": None}
 
 

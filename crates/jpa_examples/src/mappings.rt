@@ -1,6 +1,6 @@
 //! Mappings: texts, which answer that they are read, or what is wrong with them.
+use crate::stop::Stop;
 use crate::texts::{filled, long_text};
-use examples::Stop;
 use jpa_functions::read_functions;
 use jpa_mapping::read_mapping;
 use jpa_value::Cause;

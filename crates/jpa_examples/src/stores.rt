@@ -7,7 +7,8 @@ ghost use Rattle.std.specs.Prelude.{◌≡◌, true, IfOk};
 ghost use Rattle.jpa_stored.specs.Sets.{is_shaped, all_shaped};
 ghost use Rattle.jpa_rows.specs.Tables.{schema_of};
 
-use examples::{Stop, Unit};
+use crate::stop::Stop;
+use crate::told::Unit;
 use hex::FromHexError;
 use jpa_behaviour::Registry;
 use jpa_cells::{Cell, CellChange, CellStore};

@@ -1,7 +1,8 @@
 //! Texts of queries, which answer whether a mapping gives them types.
 use crate::given::{number, text_of};
+use crate::stop::Stop;
+use crate::told::Unit;
 use crate::writer::Writer;
-use examples::{Stop, Unit};
 use jpa_mapping::read_mapping;
 use jpa_model::Metamodel;
 use jpa_value::{Argument, Cause, Kind, Seq, Text};

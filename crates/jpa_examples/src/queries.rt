@@ -1,8 +1,8 @@
 //! Texts of queries, which answer their trees or why they are refused.
 use crate::given::{add_text, number, text_of};
 use crate::shown::show;
+use crate::stop::Stop;
 use crate::writer::Writer;
-use examples::Stop;
 use jpa_value::{Argument, Cause};
 use jpql_text::{at_most_one_tree, read_query};
 use jpql_tree::Query;

@@ -1,6 +1,6 @@
 //! What stands on given lines.
+use crate::stop::Stop;
 use crate::writer::Writer;
-use examples::Stop;
 use std::alloc::Global;
 
 /// The character that two hexadecimal digits stand for.

@@ -1,0 +1,39 @@
+//! Texts of queries: the kinds `query` and `repeated` (src/queries.rt) answer their trees, and
+//! `typed` (src/typed.rt) what the mapping says of them. Each answers a line for each that is
+//! given; in a given line a backslash and two hexadecimal digits stand for a character
+//! (src/given.rt).
+use crate::stop::Stop;
+use crate::told::Unit;
+use crate::writer::Writer;
+use crate::{queries, typed};
+use std::alloc::Global;
+
+/// Adds the answer to an example of this kind.
+fn add_answer(
+    alloc: Global,
+    unit: Unit<'_>,
+    kind: &str,
+    rows: &str,
+    given: &str,
+    out: &mut Writer,
+) -> Result<(), Stop> {
+    match kind {
+        "query" => queries::query_answers(alloc, given, out),
+        "repeated" => queries::repeated_answer(alloc, rows, given, out),
+        "typed" => typed::typed_answers(alloc, unit, rows, given, out),
+        _ => Err(Stop::Form),
+    }
+}
+
+/// The answer to an example of this kind.
+pub(crate) fn statement_answer(
+    alloc: Global,
+    unit: Unit<'_>,
+    kind: &str,
+    rows: &str,
+    given: &str,
+) -> Result<String, Stop> {
+    let mut out = Writer::new(alloc);
+    add_answer(alloc, unit, kind, rows, given, &mut out)?;
+    Ok(out.finish()?)
+}
