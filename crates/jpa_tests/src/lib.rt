@@ -1,8 +1,11 @@
 //! Tests of what neither a run of the program nor an example shows: readers and writers that fail,
-//! the names of all refusals, and some functions by themselves. They stand in a crate of their own,
-//! so that they are proved over the libraries and not with them once more.
+//! the names of all refusals, some functions by themselves, and the store, from its cells to the
+//! rows and the changes over them. They stand in a crate of their own, so that they are proved over
+//! the libraries and not with them once more.
 #![tactic(auto)]
 
+#[cfg(test)]
+mod cells;
 #[cfg(test)]
 mod hearing;
 #[cfg(test)]
@@ -13,3 +16,7 @@ mod pairs;
 mod refusals;
 #[cfg(test)]
 mod related;
+#[cfg(test)]
+mod rows;
+#[cfg(test)]
+mod stops;

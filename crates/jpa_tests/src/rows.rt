@@ -4,7 +4,7 @@ ghost use Rattle.std.specs.Prelude.{◌≡◌, ◌∷◌, [], IfOk};
 ghost use Rattle.jpa_value.specs.declared.value.Kind.{Kind};
 ghost use Rattle.jpa_rows.specs.Tables as tables;
 ghost use Rattle.jpa_rowspace.specs.Samples as samples;
-ghost use Rattle.jpa_store_tests.specs.Samples.{drops_person};
+ghost use Rattle.jpa_tests.specs.Samples.{drops_person};
 
 use crate::cells::{Changed, Line, ONE, apply, in_memory, shows};
 use jpa_overlay::Overlay;

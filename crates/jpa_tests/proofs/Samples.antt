@@ -4,7 +4,7 @@ use Rattle.std.proofs.lemmas.List.Elements.{All-cons, All-nil}
 use Rattle.jpa_rows.specs.declared.row.RowChange.{RowChange}
 use Rattle.jpa_rows.specs.Rows.{table_of, IsChangeBy, AreChanges}
 use Rattle.jpa_rowspace.specs.Samples.{shop}
-use Rattle.jpa_store_tests.specs.Samples.{drops_person}
+use Rattle.jpa_tests.specs.Samples.{drops_person}
 
 abbrev Fits : RowChange → Type 0
 Fits change = IsChangeBy (table_of shop (change.id).table) change
