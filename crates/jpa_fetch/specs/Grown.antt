@@ -2,11 +2,13 @@
 -- keeps its class.
 use Rattle.std.specs.Prelude.{◌≡◌, ◌<◌, ◌≤◌, ◌==◌, ℕ, true, All, List, [], ◌∷◌, length}
 use Rattle.jpa_model.specs.declared.unit.PersistenceUnit.{PersistenceUnit}
+use Rattle.jpa_model.specs.Chains.{relations_of}
 use Rattle.jpa_stored.specs.Sets.{all_distinct}
 use Rattle.jpa_heap.specs.declared.Link.{Link}
 use Rattle.jpa_heap.specs.declared.Collection.{Collection}
 use Rattle.jpa_heap.specs.declared.Held.{Held}
 use Rattle.jpa_heap.specs.declared.LiveObject.{LiveObject}
+use Rattle.jpa_heap.specs.Objects.{object_at}
 use Rattle.jpa_context.specs.declared.Entry.{Entry}
 use Rattle.jpa_context.specs.Undo.{IsPlaced}
 use Rattle.jpa_context.specs.Work.{Work, object}
@@ -36,6 +38,24 @@ pub record IsReady (m : PersistenceUnit) (w : Work) : Type 0 where
   pub placed : IsPlaced m w
   pub linked : AreLinked w.objects
   pub distinct : AreDistinct w.context
+
+-- Operations can go on, and an object of the heap has a relation at this place.
+pub record HasRelation (m : PersistenceUnit) (w : Work) (n r : ℕ) : Type 0 where
+  pub ready : IsReady m w
+  pub object : n < length w.objects
+  pub relation : r < length (relations_of m (object_at w.objects n).class)
+
+-- So it has, and can hold these objects there: they stand in the heap.
+pub record CanHold (m : PersistenceUnit) (w : Work) (n r : ℕ) (targets : List ℕ) : Type 0 where
+  pub ready : IsReady m w
+  pub object : n < length w.objects
+  pub relation : r < length (relations_of m (object_at w.objects n).class)
+  pub within : All (λ k. k < length w.objects) targets
+
+-- What was read is a collection of an object, by the place of the relation, and its members stand in the heap.
+pub record IsRead (m : PersistenceUnit) (n : ℕ) (w : Work) (read : ℕ × List ℕ) : Type 0 where
+  pub relation : read.0 < length (relations_of m (object w n).class)
+  pub places : All (λ k. k < length w.objects) read.1
 
 -- objects are added, and each keeps its class; what was linked, and entries of different objects,
 -- are so still

@@ -2,3 +2,4 @@ pub mod Grown
 pub mod Load
 pub mod Members
 pub mod Orderly
+pub mod Finds

@@ -1,12 +1,10 @@
 //! What an object holds in a relation, and what its base knows of it, change.
-ghost use Rattle.std.specs.Prelude.{◌≡◌, ◌<◌, All, length, IfOk, IfErr, OnOk, Some};
+ghost use Rattle.std.specs.Prelude.{◌≡◌, ◌<◌, IfOk, IfErr, OnOk, Some};
 ghost use Rattle.jpa_value.specs.declared.refusal.Cause.{Cause};
-ghost use Rattle.jpa_model.specs.Chains.{relations_of};
 ghost use Rattle.jpa_heap.specs.declared.Collection.{Collection};
 ghost use Rattle.jpa_heap.specs.declared.Held.{Held};
-ghost use Rattle.jpa_heap.specs.Objects.{object_at};
 ghost use Rattle.jpa_context.specs.Undo.{now, since};
-ghost use Rattle.jpa_fetch.specs.Grown.{AreDistinct, GoesOn, IsReady};
+ghost use Rattle.jpa_fetch.specs.Grown.{AreDistinct, CanHold, GoesOn, HasRelation};
 ghost use Rattle.jpa_fetch.specs.Members as members;
 
 use jpa_context::{Base, Entry, UnitOfWork};
@@ -24,10 +22,7 @@ pub fn set_relation(
     relation: usize,
     held: Held,
 ) -> Result<(), Cause>
-    requires ready { IsReady _metamodel.now (now work.old) }
-    requires object { object < length work.old.objects.now }
-    requires relation { relation
-        < length (relations_of _metamodel.now (object_at work.old.objects.now object).class) }
+    requires { HasRelation _metamodel.now (now work.old) object relation }
     ensures ok { OnOk result
         (now work.new ≡ members.with_relation object relation held (now work.old)) }
     ensures err { IfErr result (λ cause. cause ≡ Cause.OutOfMemory) }
@@ -150,11 +145,7 @@ pub fn set_fetched(
     ids: &Seq<Identity>,
     places: &[usize],
 ) -> Result<(), Cause>
-    requires ready { IsReady metamodel.now (now work.old) }
-    requires object { object < length work.old.objects.now }
-    requires relation { relation
-        < length (relations_of metamodel.now (object_at work.old.objects.now object).class) }
-    requires places { All (λ k. k < length work.old.objects.now) places.now }
+    requires { CanHold metamodel.now (now work.old) object relation places.now }
     ensures ok { OnOk result (now work.new ≡ members.with_read object relation ids.now
         (members.with_relation object relation (Held.Many (Collection.Fetched places.now))
         (now work.old))) }

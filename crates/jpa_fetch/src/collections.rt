@@ -1,5 +1,5 @@
 //! Collections of objects, changed.
-ghost use Rattle.std.specs.Prelude.{◌≡◌, ◌<◌, ◌==◌, All, length, IfOk, IfSome, OnOk};
+ghost use Rattle.std.specs.Prelude.{◌≡◌, ◌<◌, ◌==◌, length, IfSome};
 ghost use Rattle.std.specs.List.{list_any, position};
 ghost use Rattle.jpa_model.specs.Chains.{relation_at, relations_of};
 ghost use Rattle.jpa_behaviour.specs.Served.{world_of_unit};
@@ -9,7 +9,8 @@ ghost use Rattle.jpa_heap.specs.Objects.{object_at};
 ghost use Rattle.jpa_heap.specs.Shape.{IsPlaced as IsMemberOf};
 ghost use Rattle.jpa_context.specs.Carries.{Carries};
 ghost use Rattle.jpa_context.specs.Undo.{now};
-ghost use Rattle.jpa_fetch.specs.Grown.{GoesOn, IsReady};
+ghost use Rattle.jpa_fetch.specs.Finds.{Finds};
+ghost use Rattle.jpa_fetch.specs.Grown.{IsRead, IsReady};
 ghost use Rattle.jpa_fetch.specs.Members as members;
 
 use crate::changing::set_relation;
@@ -78,13 +79,9 @@ fn read_for<B: Behaviour>(
     requires member { member < length work.old.objects.now }
     requires collection { IfSome collection (λ r. r
         < length (relations_of unit.now.metamodel (object_at work.old.objects.now object).class)) }
-    ensures carries { let world = world_of_unit B.meaning unit.now in
-        Carries (members.read_for world object member collection) result work.old work.new }
-    ensures relation { IfOk result (λ read. read.0
-        < length (relations_of unit.now.metamodel (object_at work.new.objects.now object).class)) }
-    ensures places { IfOk result
-        (λ read. All (λ k. k < length work.new.objects.now) read.1) }
-    ensures goes { OnOk result (GoesOn unit.now.metamodel (now work.old) (now work.new)) }
+    ensures { let world = world_of_unit B.meaning unit.now in
+        Finds unit.now.metamodel (members.read_for world object member collection)
+        (IsRead unit.now.metamodel object) result work.old work.new }
 {
     let Some(relation) = collection else {
         return Err(Cause::IllegalArgument(Argument::Name));
@@ -108,13 +105,9 @@ fn read_named<B: Behaviour>(
     requires ready { IsReady unit.now.metamodel (now work.old) }
     requires object { object < length work.old.objects.now }
     requires member { member < length work.old.objects.now }
-    ensures carries { let world = world_of_unit B.meaning unit.now in
-        Carries (members.read_named world object name.now member) result work.old work.new }
-    ensures relation { IfOk result (λ read. read.0
-        < length (relations_of unit.now.metamodel (object_at work.new.objects.now object).class)) }
-    ensures places { IfOk result
-        (λ read. All (λ k. k < length work.new.objects.now) read.1) }
-    ensures goes { OnOk result (GoesOn unit.now.metamodel (now work.old) (now work.new)) }
+    ensures { let world = world_of_unit B.meaning unit.now in
+        Finds unit.now.metamodel (members.read_named world object name.now member)
+        (IsRead unit.now.metamodel object) result work.old work.new }
 {
     let named = member_named(&unit.metamodel, work, object, name);
     let collection = collection_in(

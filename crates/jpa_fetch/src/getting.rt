@@ -2,13 +2,13 @@
 ghost use Rattle.std.specs.Prelude.{◌≡◌, ◌<◌, length, slice_index_or, IfOk, IfErr};
 ghost use Rattle.jpa_value.specs.declared.refusal.Cause.{Cause};
 ghost use Rattle.jpa_value.specs.declared.value.Value.{Value};
-ghost use Rattle.jpa_model.specs.Chains.{member_of, relations_of};
+ghost use Rattle.jpa_model.specs.Chains.{member_of};
 ghost use Rattle.jpa_behaviour.specs.Served.{world_of_unit};
 ghost use Rattle.jpa_heap.specs.Objects.{object_at};
 ghost use Rattle.jpa_heap.specs.Shape.{IsPlaced as IsMemberOf};
 ghost use Rattle.jpa_context.specs.Carries.{Carries};
 ghost use Rattle.jpa_context.specs.Undo.{now};
-ghost use Rattle.jpa_fetch.specs.Grown.{IsReady};
+ghost use Rattle.jpa_fetch.specs.Grown.{HasRelation, IsReady};
 ghost use Rattle.jpa_fetch.specs.Members as members;
 
 use crate::reading::{fetch, resolve};
@@ -93,10 +93,7 @@ fn get_relation<B: Behaviour>(
     relation: usize,
     to_one: bool,
 ) -> Result<Got, Cause>
-    requires ready { IsReady unit.now.metamodel (now work.old) }
-    requires object { object < length work.old.objects.now }
-    requires relation { relation
-        < length (relations_of unit.now.metamodel (object_at work.old.objects.now object).class) }
+    requires { HasRelation unit.now.metamodel (now work.old) object relation }
     ensures carries { let world = world_of_unit B.meaning unit.now in
         Carries (members.get_relation world object relation to_one) result work.old work.new }
     ensures within { IfOk result (members.IsGotWithin (length (now work.new).objects)) }

@@ -1,5 +1,5 @@
 //! What an object holds in a relation, read where it was not read yet.
-ghost use Rattle.std.specs.Prelude.{◌≡◌, ◌<◌, All, List, length, IfOk, IfSome, OnOk};
+ghost use Rattle.std.specs.Prelude.{◌≡◌, ◌<◌, All, length, IfOk, IfSome, OnOk};
 ghost use Rattle.jpa_value.specs.declared.refusal.Cause.{Cause};
 ghost use Rattle.jpa_model.specs.Chains.{relations_of};
 ghost use Rattle.jpa_behaviour.specs.Served.{world_of_unit};
@@ -11,7 +11,7 @@ ghost use Rattle.jpa_heap.specs.Objects.{object_at};
 ghost use Rattle.jpa_context.specs.Carries.{Carries};
 ghost use Rattle.jpa_context.specs.Undo.{now};
 ghost use Rattle.jpa_context.specs.Work as works;
-ghost use Rattle.jpa_fetch.specs.Grown.{GoesOn, IsReady, objects_held};
+ghost use Rattle.jpa_fetch.specs.Grown.{GoesOn, HasRelation, IsReady, objects_held};
 ghost use Rattle.jpa_fetch.specs.Load as load;
 ghost use Rattle.jpa_fetch.specs.Members as members;
 
@@ -44,10 +44,7 @@ pub fn held_at<'a>(
     object: usize,
     relation: usize,
 ) -> &'a Held
-    requires ready { IsReady _metamodel.now (now work.now) }
-    requires object { object < length work.now.objects.now }
-    requires relation { relation
-        < length (relations_of _metamodel.now (object_at work.now.objects.now object).class) }
+    requires { HasRelation _metamodel.now (now work.now) object relation }
     ensures held { result.now ≡ objects.held_at (works.object (now work.now) object) relation }
     ensures within { All (λ k. k < length work.now.objects.now) (objects_held result.now) }
 {
@@ -85,10 +82,7 @@ fn fetch_unread<B: Behaviour>(
     object: usize,
     relation: usize,
 ) -> Result<Seq<usize>, Cause>
-    requires ready { IsReady unit.now.metamodel (now work.old) }
-    requires object { object < length work.old.objects.now }
-    requires relation { relation
-        < length (relations_of unit.now.metamodel (object_at work.old.objects.now object).class) }
+    requires { HasRelation unit.now.metamodel (now work.old) object relation }
     ensures carries { let world = world_of_unit B.meaning unit.now in
         Carries (members.fetch_held world object relation (Held.Many Collection.Unfetched))
         result work.old work.new }
@@ -125,10 +119,7 @@ pub(crate) fn fetch<B: Behaviour>(
     object: usize,
     relation: usize,
 ) -> Result<Seq<usize>, Cause>
-    requires ready { IsReady unit.now.metamodel (now work.old) }
-    requires object { object < length work.old.objects.now }
-    requires relation { relation
-        < length (relations_of unit.now.metamodel (object_at work.old.objects.now object).class) }
+    requires { HasRelation unit.now.metamodel (now work.old) object relation }
     ensures carries { let world = world_of_unit B.meaning unit.now in
         Carries (members.fetch world object relation) result work.old work.new }
     ensures within { IfOk result (λ places. All (λ k. k < length (now work.new).objects) places) }
@@ -153,10 +144,7 @@ fn resolve_unread<B: Behaviour>(
     relation: usize,
     id: &Identity,
 ) -> Result<Option<usize>, Cause>
-    requires ready { IsReady unit.now.metamodel (now work.old) }
-    requires object { object < length work.old.objects.now }
-    requires relation { relation
-        < length (relations_of unit.now.metamodel (object_at work.old.objects.now object).class) }
+    requires { HasRelation unit.now.metamodel (now work.old) object relation }
     ensures carries { let world = world_of_unit B.meaning unit.now in
         Carries (members.resolve_link world object relation (Held.One (Link.Key id.now)))
         result work.old work.new }
@@ -212,10 +200,7 @@ pub(crate) fn resolve<B: Behaviour>(
     object: usize,
     relation: usize,
 ) -> Result<Option<usize>, Cause>
-    requires ready { IsReady unit.now.metamodel (now work.old) }
-    requires object { object < length work.old.objects.now }
-    requires relation { relation
-        < length (relations_of unit.now.metamodel (object_at work.old.objects.now object).class) }
+    requires { HasRelation unit.now.metamodel (now work.old) object relation }
     ensures carries { let world = world_of_unit B.meaning unit.now in
         Carries (members.resolve world object relation) result work.old work.new }
     ensures within { IfOk result

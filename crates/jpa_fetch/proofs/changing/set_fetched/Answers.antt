@@ -21,7 +21,7 @@ returns-clause-goes c =
     c.in_ok-set_relation.ensures.ok ∙ ap (λ xs. with_relation n r (Held.Many (Collection.Fetched xs)) w) (c.of-copies.ensures ∙ c.in_ok-from_slice.ensures.items) in
     on_ok_weaker c.set_read.result
     (λ read. record {
-      ready = fetched_ready m n r ids ks w u v c.requires.object c.requires.places held read c.requires.ready;
-      grown = fetched_grown m n r ids ks w u v c.requires.object c.requires.places held read;
+      ready = fetched_ready m n r ids ks w u v c.requires.object c.requires.within held read c.requires.ready;
+      grown = fetched_grown m n r ids ks w u v c.requires.object c.requires.within held read;
     })
     c.set_read.ensures.ok
