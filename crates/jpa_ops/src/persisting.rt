@@ -10,13 +10,14 @@ ghost use Rattle.jpa_heap.specs.Shape.{HasShape};
 ghost use Rattle.jpa_heap.specs.declared.Life.{Life};
 ghost use Rattle.jpa_context.specs.Carries.{Carries};
 ghost use Rattle.jpa_context.specs.Steps.{Meets};
-ghost use Rattle.jpa_context.specs.Undo.{now, since, IsPlaced};
+ghost use Rattle.jpa_context.specs.Undo.{now, IsPlaced};
 ghost use Rattle.jpa_context.specs.Work as works;
 ghost use Rattle.jpa_context.specs.declared.EntityState.{EntityState};
 ghost use Rattle.jpa_cascade.specs.There.{IsThere};
 ghost use Rattle.jpa_fetch.specs.Grown.{GoesOn, IsReady};
 ghost use Rattle.jpa_fetch.specs.Orderly.{IsOrderly};
 ghost use Rattle.jpa_ops.specs.Names.{has_distinct_entries};
+ghost use Rattle.jpa_ops.specs.Standing.{CanPersist, CanTakeKey, StaysPut};
 ghost use Rattle.jpa_ops.specs.States as states;
 
 use crate::context::{has_base, has_instance, set_life};
@@ -66,17 +67,13 @@ fn give_number(
     work: &mut UnitOfWork,
     object: usize,
 ) -> Result<(), Cause>
-    requires orderly { IsOrderly metamodel.now }
-    requires placed { IsPlaced metamodel.now (now work.old) }
-    requires object { object < length work.old.objects.now }
+    requires keyless { CanTakeKey metamodel.now (now work.old) object }
     requires generated { (root_of metamodel.now
         (works.object (now work.old) object).class).generated ≡ true }
     ensures meets { (world : World) → Meets result (now work.new)
         (states.give_key (record world { model = metamodel.now }) object true (now work.old)) }
     ensures placed { IsPlaced metamodel.now (now work.new) }
-    ensures count { length work.new.objects.now ≡ length work.old.objects.now }
-    ensures view { work.new.view ≡ work.old.view }
-    ensures since { since work.new ≡ since work.old }
+    ensures stays { StaysPut work.old work.new }
 {
     let unkeyed = &work.objects.as_slice()[object];
     if !is_unset(unkeyed.key.as_slice()) {
@@ -102,17 +99,13 @@ fn give_key(
     work: &mut UnitOfWork,
     object: usize,
 ) -> Result<(), Cause>
-    requires orderly { IsOrderly metamodel.now }
-    requires placed { IsPlaced metamodel.now (now work.old) }
-    requires object { object < length work.old.objects.now }
+    requires { CanTakeKey metamodel.now (now work.old) object }
     ensures meets { let w = now work.old in
         let generated = (root_of metamodel.now (works.object w object).class).generated in
         (world : World) → Meets result (now work.new)
         (states.give_key (record world { model = metamodel.now }) object generated w) }
     ensures placed { IsPlaced metamodel.now (now work.new) }
-    ensures count { length work.new.objects.now ≡ length work.old.objects.now }
-    ensures view { work.new.view ≡ work.old.view }
-    ensures since { since work.new ≡ since work.old }
+    ensures stays { StaysPut work.old work.new }
 {
     let fresh = &work.objects.as_slice()[object];
     if metamodel.root_of(fresh.class).generated {
@@ -135,18 +128,14 @@ pub fn become_managed(
     work: &mut UnitOfWork,
     object: usize,
 ) -> Result<(), Cause>
-    requires orderly { IsOrderly metamodel.now }
-    requires ready { IsReady metamodel.now (now work.old) }
-    requires object { object < length work.old.objects.now }
+    requires { CanPersist metamodel.now (now work.old) object }
     ensures meets { (world : World) → Meets result (now work.new)
         (states.become_managed (record world { model = metamodel.now }) object (now work.old)) }
     ensures shape { OnOk result (HasShape metamodel.now (works.object (now work.new) object)) }
     ensures goes { OnOk result (GoesOn metamodel.now (now work.old) (now work.new)) }
     ensures named { has_distinct_entries metamodel.now (now work.old) ≡ true →
         OnOk result (has_distinct_entries metamodel.now (now work.new) ≡ true) }
-    ensures count { length work.new.objects.now ≡ length work.old.objects.now }
-    ensures view { work.new.view ≡ work.old.view }
-    ensures since { since work.new ≡ since work.old }
+    ensures stays { StaysPut work.old work.new }
 {
     give_key(alloc, metamodel, work, object)?;
     if has_instance(metamodel, work, object)? {
@@ -171,9 +160,7 @@ fn persist_new<B: Behaviour>(
     work: &mut UnitOfWork,
     object: usize,
 ) -> Result<(), Cause>
-    requires orderly { IsOrderly unit.now.metamodel }
-    requires ready { IsReady unit.now.metamodel (now work.old) }
-    requires object { object < length work.old.objects.now }
+    requires { CanPersist unit.now.metamodel (now work.old) object }
     ensures { let world = world_of_unit B.meaning unit.now in
         Carries (states.persist_one world object EntityState.New) result work.old work.new }
 {
@@ -209,9 +196,7 @@ fn persist_one<B: Behaviour>(
     object: usize,
     state: EntityState,
 ) -> Result<(), Cause>
-    requires orderly { IsOrderly unit.now.metamodel }
-    requires ready { IsReady unit.now.metamodel (now work.old) }
-    requires object { object < length work.old.objects.now }
+    requires { CanPersist unit.now.metamodel (now work.old) object }
     ensures { let world = world_of_unit B.meaning unit.now in
         Carries (states.persist_one world object state) result work.old work.new }
 {
@@ -264,9 +249,7 @@ pub fn persist<B: Behaviour>(
     work: &mut UnitOfWork,
     object: usize,
 ) -> Result<(), Cause>
-    requires orderly { IsOrderly unit.now.metamodel }
-    requires ready { IsReady unit.now.metamodel (now work.old) }
-    requires object { object < length work.old.objects.now }
+    requires { CanPersist unit.now.metamodel (now work.old) object }
     ensures carries { let world = world_of_unit B.meaning unit.now in
         Carries (states.persist world object) result work.old work.new }
     ensures goes { OnOk result (GoesOn unit.now.metamodel (now work.old) (now work.new)) }

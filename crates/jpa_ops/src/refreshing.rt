@@ -10,6 +10,7 @@ ghost use Rattle.jpa_context.specs.Work as works;
 ghost use Rattle.jpa_context.specs.declared.EntityState.{EntityState};
 ghost use Rattle.jpa_cascade.specs.There.{IsThere};
 ghost use Rattle.jpa_fetch.specs.Grown.{AreDistinct, GoesOn, IsReady};
+ghost use Rattle.jpa_ops.specs.Standing.{StaysPut};
 ghost use Rattle.jpa_ops.specs.States as states;
 
 use jpa_behaviour::{Behaviour, ServedUnit};
@@ -61,9 +62,7 @@ fn reload(
     ensures ok { let w = now work.old in (world : World) → OnOk result (now work.new
         ≡ states.reloaded (record world { model = metamodel.now }) object id.now row w) }
     ensures err { IfErr result (λ cause. cause ≡ Cause.OutOfMemory) }
-    ensures count { length work.new.objects.now ≡ length work.old.objects.now }
-    ensures view { work.new.view ≡ work.old.view }
-    ensures since { since work.new ≡ since work.old }
+    ensures stays { StaysPut work.old work.new }
 {
     let (live, base) = object_of_row(alloc, metamodel, work.manager, &work.view, id, row)?;
     work.objects.set(object, live)?;
