@@ -16,7 +16,7 @@ use Rattle.jpa_heap.specs.declared.LiveObject.{LiveObject}
 use Rattle.jpa_heap.specs.Objects.{empty_held, new_object, no_object}
 use Rattle.jpa_heap.specs.Shape.{HasShape}
 use Rattle.jpa_context.specs.declared.Entry.{Entry}
-use Rattle.jpa_context.specs.Steps.{◌>>◌, Done, Op, Refused, after, change, give, require, IsRefusedAs}
+use Rattle.jpa_context.specs.Steps.{◌>>◌, Done, Op, Outcome, Refused, after, change, give, require, IsRefusedAs}
 use Rattle.jpa_context.specs.Undo.{IsPlaced}
 use Rattle.jpa_context.specs.Work.{Work, object}
 use Rattle.jpa_fetch.specs.Grown.{HasGrown, IsLinked, IsReady}
@@ -84,6 +84,14 @@ module _ (m : PersistenceUnit) (w : Work) (n : ℕ) (ready : IsReady m w) (l : n
 -- it is of the class of its node
 fresh_class : (m : PersistenceUnit) (w : Work) (n : ℕ) → (object (made (fresh_object m (object w n)) w) (length w.objects)).class ≡ (object w n).class
 fresh_class m w n = ap (λ (z : LiveObject). z.class) (get_or_push w.objects (fresh_object m (object w n)) no_object (length w.objects) refl)
+
+-- what a change leaves
+abbrev left_by : Work → Outcome (Unit {0}) → Work
+left_by w (Done a v) = v
+left_by w (Refused r events) = w
+
+pub changed : (f : Work → Work) (w v : Work) → change f w ≡ Done tt v → v ≡ f w
+changed f w v done = sym (ap (left_by w) done)
 
 -- ---- it becomes managed
 

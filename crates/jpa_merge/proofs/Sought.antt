@@ -4,7 +4,7 @@ use Rattle.jpa_value.specs.declared.value.Identity.{Identity}
 use Rattle.jpa_value.specs.declared.refusal.Cause.{Cause}
 use Rattle.jpa_behaviour.specs.Behaviour.{World}
 use Rattle.jpa_stored.specs.declared.stored.Stored.{Stored}
-use Rattle.jpa_context.specs.Steps.{◌>>◌, Meets, after, change, require}
+use Rattle.jpa_context.specs.Steps.{◌>>◌, Done, Meets, after, change, require}
 use Rattle.jpa_context.specs.Work.{Work, identity_at, instance, object, row}
 use Rattle.jpa_fetch.specs.Load.{load, reach, reached}
 use Rattle.jpa_merge.specs.declared.images.NodeImage.{NodeImage}
@@ -23,12 +23,12 @@ module _ (world : World) (id : Identity) (x y : Stored) (w new : Work) (none : i
       (sym (ap (λ o. image_by world n id o (row w id) w) none ∙ ap (λ s. image_by world n id None s w) stored ∙ ap (λ z. image_of_row world n id z w) (sym same))) met
 
 -- where the version is the image's, the values are copied, then the relations
-pub copies : (world : World) (images : List NodeImage) (x : NodeImage) (w u new : Work) (res : Result (Unit {0}) Cause) → version_is (object w x.node).version (object w x.image).version ≡ true → u ≡ with_values_of x w →
+pub copies : (world : World) (images : List NodeImage) (x : NodeImage) (w u new : Work) (res : Result (Unit {0}) Cause) → version_is (object w x.node).version (object w x.image).version ≡ true → change (with_values_of x) w ≡ Done tt u →
     Meets res new (copy_relations world images x u) → Meets res new (copy_to_other world images x w)
 copies world images x w u new res current valued met =
     subst (Meets res new)
     (sym (ap (λ b. after (require b Cause.OptimisticLock w) (λ _. change (with_values_of x) >> copy_relations world images x)) current
-    ∙ ap (copy_relations world images x) (sym valued))) met
+    ∙ ap (λ o. after o (λ _. copy_relations world images x)) valued)) met
 
 -- what has no identity has a new object as its image
 pub images_unnamed : (world : World) (n : ℕ) (w new : Work) (res : Result NodeImage Cause) → identity_at world.model w n ≡ None → Meets res new (fresh_image world n w) → Meets res new (image_elsewhere world n w)

@@ -64,6 +64,10 @@ fresh_object m x =
     let blank = new_object m x.class in
     record blank { key = image_key (root_of m x.class).generated x.key blank.key }
 
+-- a work with the new object of a node's class, last in the heap
+abbrev pub with_fresh : PersistenceUnit → ℕ → Work → Work
+with_fresh m n w = made (fresh_object m (object w n)) w
+
 -- whether a version is null
 abbrev pub is_unset : Option ℤ → Bool
 is_unset None = true
@@ -77,7 +81,7 @@ fresh_image world n = do
   require unset Cause.OptimisticLock
   k ← read (λ w. length w.objects)
   require (nat_lt k most_objects) Cause.Limit
-  change (λ w. made (fresh_object world.model (object w n)) w)
+  change (with_fresh world.model n)
   become_managed world k
   give (record { node = n; image = k; fresh = true })
 

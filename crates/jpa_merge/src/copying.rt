@@ -1,13 +1,12 @@
 //! The second pass of a merge: images take what their nodes hold.
-ghost use Rattle.std.specs.Prelude.{◌≡◌, IfErr, OnOk};
-ghost use Rattle.jpa_value.specs.declared.refusal.Cause.{Cause};
+ghost use Rattle.std.specs.Prelude.{◌≡◌};
 ghost use Rattle.jpa_behaviour.specs.Served.{world_of_unit};
-ghost use Rattle.jpa_context.specs.Carries.{Carries};
-ghost use Rattle.jpa_context.specs.Steps.{each};
-ghost use Rattle.jpa_context.specs.Undo.{now, since};
+ghost use Rattle.jpa_context.specs.Steps.{change, each};
+ghost use Rattle.jpa_context.specs.Undo.{now};
 ghost use Rattle.jpa_context.specs.Work as works;
-ghost use Rattle.jpa_fetch.specs.Grown.{GoesOn, IsReady};
-ghost use Rattle.jpa_merge.specs.Imaged.{AreImaged, IsImaged};
+ghost use Rattle.jpa_fetch.specs.Grown.{IsReady};
+ghost use Rattle.jpa_merge.specs.CarriesOn.{CarriesOn};
+ghost use Rattle.jpa_merge.specs.Imaged.{AreImaged, CanCopy, IsImaged};
 ghost use Rattle.jpa_merge.specs.Merge as merges;
 
 use crate::images::{Images, NodeImage};
@@ -44,12 +43,8 @@ fn is_current(work: &UnitOfWork, image: NodeImage) -> bool
 fn copy_values(_metamodel: &Metamodel, work: &mut UnitOfWork, image: NodeImage) -> Result<(), Cause>
     requires ready { IsReady _metamodel.now (now work.old) }
     requires imaged { IsImaged (now work.old) image }
-    ensures ok { OnOk result
-        (now work.new ≡ merges.with_values_of image (now work.old)) }
-    ensures err { IfErr result (λ cause. cause ≡ Cause.OutOfMemory) }
-    ensures goes { OnOk result (GoesOn _metamodel.now (now work.old) (now work.new)) }
-    ensures view { work.new.view ≡ work.old.view }
-    ensures since { since work.new ≡ since work.old }
+    ensures { CarriesOn _metamodel.now (change (merges.with_values_of image))
+        result work.old work.new }
 {
     let objects = work.objects.as_slice();
     let mut live = objects[image.image].try_copy()?;
@@ -75,12 +70,10 @@ fn copy_relations<B: Behaviour>(
     images: &Images,
     image: NodeImage,
 ) -> Result<(), Cause>
-    requires ready { IsReady unit.now.metamodel (now work.old) }
-    requires imaged { AreImaged (now work.old) images.now }
-    requires image { IsImaged (now work.old) image }
-    ensures carries { let world = world_of_unit B.meaning unit.now in
-        Carries (merges.copy_relations world images.now image) result work.old work.new }
-    ensures goes { OnOk result (GoesOn unit.now.metamodel (now work.old) (now work.new)) }
+    requires { CanCopy unit.now.metamodel (now work.old) images.now image }
+    ensures { let world = world_of_unit B.meaning unit.now in
+        CarriesOn unit.now.metamodel (merges.copy_relations world images.now image)
+        result work.old work.new }
 {
     let relations = unit
         .metamodel
@@ -102,12 +95,10 @@ fn copy_to_other<B: Behaviour>(
     images: &Images,
     image: NodeImage,
 ) -> Result<(), Cause>
-    requires ready { IsReady unit.now.metamodel (now work.old) }
-    requires imaged { AreImaged (now work.old) images.now }
-    requires image { IsImaged (now work.old) image }
-    ensures carries { let world = world_of_unit B.meaning unit.now in
-        Carries (merges.copy_to_other world images.now image) result work.old work.new }
-    ensures goes { OnOk result (GoesOn unit.now.metamodel (now work.old) (now work.new)) }
+    requires { CanCopy unit.now.metamodel (now work.old) images.now image }
+    ensures { let world = world_of_unit B.meaning unit.now in
+        CarriesOn unit.now.metamodel (merges.copy_to_other world images.now image)
+        result work.old work.new }
 {
     if !is_current(work, image) {
         return Err(Cause::OptimisticLock);
@@ -125,12 +116,10 @@ fn copy_node<B: Behaviour>(
     images: &Images,
     image: NodeImage,
 ) -> Result<(), Cause>
-    requires ready { IsReady unit.now.metamodel (now work.old) }
-    requires imaged { AreImaged (now work.old) images.now }
-    requires image { IsImaged (now work.old) image }
-    ensures carries { let world = world_of_unit B.meaning unit.now in
-        Carries (merges.copy_node world images.now image) result work.old work.new }
-    ensures goes { OnOk result (GoesOn unit.now.metamodel (now work.old) (now work.new)) }
+    requires { CanCopy unit.now.metamodel (now work.old) images.now image }
+    ensures { let world = world_of_unit B.meaning unit.now in
+        CarriesOn unit.now.metamodel (merges.copy_node world images.now image)
+        result work.old work.new }
 {
     if image.node == image.image {
         copy_relations(alloc, unit, work, images, image)
@@ -149,9 +138,9 @@ pub(crate) fn copy_nodes<B: Behaviour>(
 ) -> Result<(), Cause>
     requires ready { IsReady unit.now.metamodel (now work.old) }
     requires imaged { AreImaged (now work.old) images.now }
-    ensures carries { let world = world_of_unit B.meaning unit.now in
-        Carries (each (merges.copy_node world images.now) images.now) result work.old work.new }
-    ensures goes { OnOk result (GoesOn unit.now.metamodel (now work.old) (now work.new)) }
+    ensures { let world = world_of_unit B.meaning unit.now in
+        CarriesOn unit.now.metamodel (each (merges.copy_node world images.now) images.now)
+        result work.old work.new }
 {
     for image in images.as_slice() {
         copy_node(alloc, unit, work, images, *image)?;

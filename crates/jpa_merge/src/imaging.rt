@@ -1,18 +1,17 @@
 //! The first pass of a merge: the image of each node.
 ghost use Rattle.std.specs.Prelude.{◌≡◌, ◌<◌, All, length, suc, IfOk, IfErr, OnOk, Some};
 ghost use Rattle.jpa_value.specs.declared.refusal.Cause.{Cause};
-ghost use Rattle.jpa_behaviour.specs.Behaviour.{World};
 ghost use Rattle.jpa_behaviour.specs.Served.{world_of_unit};
 ghost use Rattle.jpa_context.specs.Carries.{Carries};
-ghost use Rattle.jpa_context.specs.Steps.{Meets};
-ghost use Rattle.jpa_context.specs.Undo.{now, since};
+ghost use Rattle.jpa_context.specs.Steps.{Meets, change};
+ghost use Rattle.jpa_context.specs.Undo.{now};
 ghost use Rattle.jpa_context.specs.Work as works;
 ghost use Rattle.jpa_cascade.specs.There.{IsThere};
 ghost use Rattle.jpa_cascade.specs.Waves.{live_nodes};
 ghost use Rattle.jpa_fetch.specs.Grown.{GoesOn, IsReady};
-ghost use Rattle.jpa_fetch.specs.Load as load;
 ghost use Rattle.jpa_fetch.specs.Members.{collect};
 ghost use Rattle.jpa_fetch.specs.Orderly.{IsOrderly};
+ghost use Rattle.jpa_merge.specs.CarriesOn.{CarriesOnBy};
 ghost use Rattle.jpa_merge.specs.Imaged.{AreImaged, IsImaged};
 ghost use Rattle.jpa_merge.specs.Merge as merges;
 
@@ -57,13 +56,10 @@ fn push_fresh(
 ) -> Result<(), Cause>
     requires ready { IsReady metamodel.now (now work.old) }
     requires node { node < length work.old.objects.now }
-    ensures ok { let w = now work.old in OnOk result (now work.new
-        ≡ load.made (merges.fresh_object metamodel.now (works.object w node)) w) }
-    ensures err { IfErr result (λ cause. cause ≡ Cause.OutOfMemory) }
+    ensures carries { Carries (change (merges.with_fresh metamodel.now node))
+        result work.old work.new }
     ensures count { OnOk result
         (length work.new.objects.now ≡ suc (length work.old.objects.now)) }
-    ensures view { work.new.view ≡ work.old.view }
-    ensures since { since work.new ≡ since work.old }
 {
     let fresh = fresh_object(alloc, metamodel, &work.objects.as_slice()[node])?;
     work.objects.push(fresh)?;
@@ -82,12 +78,9 @@ fn fresh_image(
     requires orderly { IsOrderly metamodel.now }
     requires ready { IsReady metamodel.now (now work.old) }
     requires node { node < length work.old.objects.now }
-    ensures meets { (world : World) → Meets result (now work.new)
-        (merges.fresh_image (record world { model = metamodel.now }) node (now work.old)) }
+    ensures carries { CarriesOnBy metamodel.now (λ world. merges.fresh_image world node)
+        result work.old work.new }
     ensures imaged { IfOk result (IsImaged (now work.new)) }
-    ensures goes { OnOk result (GoesOn metamodel.now (now work.old) (now work.new)) }
-    ensures view { work.new.view ≡ work.old.view }
-    ensures since { since work.new ≡ since work.old }
 {
     if work.objects.as_slice()[node].version.is_some() {
         return Err(Cause::OptimisticLock);

@@ -1,11 +1,12 @@
 //! Merging an object.
-ghost use Rattle.std.specs.Prelude.{◌≡◌, ◌<◌, All, length, IfOk, OnOk};
+ghost use Rattle.std.specs.Prelude.{◌≡◌, ◌<◌, length, IfOk, OnOk};
 ghost use Rattle.jpa_behaviour.specs.Served.{world_of_unit};
 ghost use Rattle.jpa_context.specs.Carries.{Carries};
 ghost use Rattle.jpa_context.specs.Steps.{each};
 ghost use Rattle.jpa_context.specs.Undo.{now};
 ghost use Rattle.jpa_fetch.specs.Grown.{GoesOn, IsReady};
 ghost use Rattle.jpa_fetch.specs.Orderly.{IsOrderly};
+ghost use Rattle.jpa_merge.specs.CarriesOn.{CarriesOn};
 ghost use Rattle.jpa_merge.specs.Imaged.{AreImaged, IsImaged};
 ghost use Rattle.jpa_merge.specs.Merge as merges;
 
@@ -29,9 +30,9 @@ fn pre_persist_fresh<B: Behaviour>(
 ) -> Result<(), Cause>
     requires ready { IsReady unit.now.metamodel (now work.old) }
     requires image { IsImaged (now work.old) image }
-    ensures carries { let world = world_of_unit B.meaning unit.now in
-        Carries (merges.pre_persist_fresh world image) result work.old work.new }
-    ensures goes { OnOk result (GoesOn unit.now.metamodel (now work.old) (now work.new)) }
+    ensures { let world = world_of_unit B.meaning unit.now in
+        CarriesOn unit.now.metamodel (merges.pre_persist_fresh world image)
+        result work.old work.new }
 {
     if !image.fresh {
         return Ok(());
@@ -50,9 +51,9 @@ fn pre_persist_each<B: Behaviour>(
 ) -> Result<(), Cause>
     requires ready { IsReady unit.now.metamodel (now work.old) }
     requires imaged { AreImaged (now work.old) images.now }
-    ensures carries { let world = world_of_unit B.meaning unit.now in
-        Carries (each (merges.pre_persist_fresh world) images.now) result work.old work.new }
-    ensures goes { OnOk result (GoesOn unit.now.metamodel (now work.old) (now work.new)) }
+    ensures { let world = world_of_unit B.meaning unit.now in
+        CarriesOn unit.now.metamodel (each (merges.pre_persist_fresh world) images.now)
+        result work.old work.new }
 {
     for image in images {
         pre_persist_fresh(alloc, unit, work, *image)?;

@@ -1,16 +1,14 @@
 //! What an object holds in a relation, copied into an image.
-ghost use Rattle.std.specs.Prelude.{◌≡◌, ◌<◌, All, length, IfErr, OnOk};
-ghost use Rattle.jpa_value.specs.declared.refusal.Cause.{Cause};
+ghost use Rattle.std.specs.Prelude.{◌<◌, [], ◌∷◌, length};
 ghost use Rattle.jpa_model.specs.Chains.{relations_of};
-ghost use Rattle.jpa_behaviour.specs.Behaviour.{World};
 ghost use Rattle.jpa_behaviour.specs.Served.{world_of_unit};
 ghost use Rattle.jpa_heap.specs.Objects.{object_at};
-ghost use Rattle.jpa_context.specs.Carries.{Carries};
-ghost use Rattle.jpa_context.specs.Steps.{Meets};
-ghost use Rattle.jpa_context.specs.Undo.{now, since};
-ghost use Rattle.jpa_fetch.specs.Grown.{GoesOn, IsReady, objects_held};
+ghost use Rattle.jpa_context.specs.Steps.{change};
+ghost use Rattle.jpa_context.specs.Undo.{now};
+ghost use Rattle.jpa_fetch.specs.Grown.{IsReady, objects_held};
 ghost use Rattle.jpa_fetch.specs.Members as members;
-ghost use Rattle.jpa_merge.specs.Imaged.{AreImaged, IsImaged};
+ghost use Rattle.jpa_merge.specs.CarriesOn.{CarriesOn, CarriesOnBy};
+ghost use Rattle.jpa_merge.specs.Imaged.{AreImaged, CanHold, IsImaged};
 ghost use Rattle.jpa_merge.specs.Merge as merges;
 
 use crate::images::{Images, NodeImage};
@@ -32,17 +30,9 @@ fn set_held(
     relation: usize,
     held: Held,
 ) -> Result<(), Cause>
-    requires ready { IsReady metamodel.now (now work.old) }
-    requires image { image < length work.old.objects.now }
-    requires relation { relation
-        < length (relations_of metamodel.now (object_at work.old.objects.now image).class) }
-    requires within { All (λ k. k < length work.old.objects.now) (objects_held held) }
-    ensures ok { OnOk result
-        (now work.new ≡ members.with_relation image relation held (now work.old)) }
-    ensures err { IfErr result (λ cause. cause ≡ Cause.OutOfMemory) }
-    ensures goes { OnOk result (GoesOn metamodel.now (now work.old) (now work.new)) }
-    ensures view { work.new.view ≡ work.old.view }
-    ensures since { since work.new ≡ since work.old }
+    requires { CanHold metamodel.now (now work.old) image relation (objects_held held) }
+    ensures { CarriesOn metamodel.now (change (members.with_relation image relation held))
+        result work.old work.new }
 {
     set_relation(metamodel, work, image, relation, held)
 }
@@ -57,16 +47,9 @@ fn settle_members(
     relation: usize,
     targets: Seq<usize>,
 ) -> Result<(), Cause>
-    requires ready { IsReady metamodel.now (now work.old) }
-    requires image { image < length work.old.objects.now }
-    requires relation { relation
-        < length (relations_of metamodel.now (object_at work.old.objects.now image).class) }
-    requires within { All (λ k. k < length work.old.objects.now) targets }
-    ensures meets { (world : World) → Meets result (now work.new) (merges.settle_members
-        (record world { model = metamodel.now }) image relation targets (now work.old)) }
-    ensures goes { OnOk result (GoesOn metamodel.now (now work.old) (now work.new)) }
-    ensures view { work.new.view ≡ work.old.view }
-    ensures since { since work.new ≡ since work.old }
+    requires { CanHold metamodel.now (now work.old) image relation targets }
+    ensures { CarriesOnBy metamodel.now
+        (λ world. merges.settle_members world image relation targets) result work.old work.new }
 {
     if let Held::Many(Collection::Unfetched) = held_at(metamodel, work, image, relation) {
         let ids = members_now(metamodel, work, image, relation)?;
@@ -87,16 +70,11 @@ fn copy_target<B: Behaviour>(
     relation: usize,
     target: usize,
 ) -> Result<(), Cause>
-    requires ready { IsReady unit.now.metamodel (now work.old) }
     requires imaged { AreImaged (now work.old) images.now }
-    requires image { image < length work.old.objects.now }
-    requires relation { relation
-        < length (relations_of unit.now.metamodel (object_at work.old.objects.now image).class) }
-    requires target { target < length work.old.objects.now }
-    ensures carries { let world = world_of_unit B.meaning unit.now in
-        Carries (merges.copy_target world images.now image relation target)
+    requires held { CanHold unit.now.metamodel (now work.old) image relation (target ∷ []) }
+    ensures { let world = world_of_unit B.meaning unit.now in
+        CarriesOn unit.now.metamodel (merges.copy_target world images.now image relation target)
         result work.old work.new }
-    ensures goes { OnOk result (GoesOn unit.now.metamodel (now work.old) (now work.new)) }
 {
     let object = replaced(alloc, unit, work, images, target)?;
     let held = Held::One(Link::Object(object));
@@ -114,16 +92,12 @@ fn copy_members<B: Behaviour>(
     relation: usize,
     members: &[usize],
 ) -> Result<(), Cause>
-    requires ready { IsReady unit.now.metamodel (now work.old) }
     requires imaged { AreImaged (now work.old) images.now }
-    requires image { image < length work.old.objects.now }
-    requires relation { relation
-        < length (relations_of unit.now.metamodel (object_at work.old.objects.now image).class) }
-    requires within { All (λ k. k < length work.old.objects.now) members.now }
-    ensures carries { let world = world_of_unit B.meaning unit.now in
-        Carries (merges.copy_members world images.now image relation members.now)
+    requires held { CanHold unit.now.metamodel (now work.old) image relation members.now }
+    ensures { let world = world_of_unit B.meaning unit.now in
+        CarriesOn unit.now.metamodel
+        (merges.copy_members world images.now image relation members.now)
         result work.old work.new }
-    ensures goes { OnOk result (GoesOn unit.now.metamodel (now work.old) (now work.new)) }
 {
     let targets = replace_all(alloc, unit, work, images, members)?;
     settle_members(alloc, &unit.metamodel, work, image, relation, targets)
@@ -140,16 +114,12 @@ fn copy_held<B: Behaviour>(
     relation: usize,
     held: &Held,
 ) -> Result<(), Cause>
-    requires ready { IsReady unit.now.metamodel (now work.old) }
     requires imaged { AreImaged (now work.old) images.now }
-    requires image { image < length work.old.objects.now }
-    requires relation { relation
-        < length (relations_of unit.now.metamodel (object_at work.old.objects.now image).class) }
-    requires within { All (λ k. k < length work.old.objects.now) (objects_held held.now) }
-    ensures carries { let world = world_of_unit B.meaning unit.now in
-        Carries (merges.copy_held world images.now image relation held.now)
+    requires held { CanHold unit.now.metamodel (now work.old) image relation
+        (objects_held held.now) }
+    ensures { let world = world_of_unit B.meaning unit.now in
+        CarriesOn unit.now.metamodel (merges.copy_held world images.now image relation held.now)
         result work.old work.new }
-    ensures goes { OnOk result (GoesOn unit.now.metamodel (now work.old) (now work.new)) }
 {
     match held {
         Held::One(Link::None) => {
@@ -188,9 +158,9 @@ pub(crate) fn copy_relation<B: Behaviour>(
     requires relation { relation
         < length (relations_of unit.now.metamodel
         (object_at work.old.objects.now image.node).class) }
-    ensures carries { let world = world_of_unit B.meaning unit.now in
-        Carries (merges.copy_at world images.now image relation) result work.old work.new }
-    ensures goes { OnOk result (GoesOn unit.now.metamodel (now work.old) (now work.new)) }
+    ensures { let world = world_of_unit B.meaning unit.now in
+        CarriesOn unit.now.metamodel (merges.copy_at world images.now image relation)
+        result work.old work.new }
 {
     let held = held_at(&unit.metamodel, work, image.node, relation).try_copy()?;
     copy_held(alloc, unit, work, images, image.image, relation, &held)

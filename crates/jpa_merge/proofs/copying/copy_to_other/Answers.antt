@@ -4,12 +4,15 @@ use Rattle.jpa_context.specs.Undo.{now}
 use Rattle.jpa_merge.proofs.Sought.{copies}
 use Rattle.jpa_merge.proofs.copying.copy_to_other.Goals as goal
 
-pub returns-clause-carries : goal.returns-clause-carries
-returns-clause-carries g c =
+pub returns : goal.returns
+returns g c =
     let world = world_of_unit g.B.Behaviour.meaning c.args.unit.now in
     record {
-      meets = copies world c.args.images.now c.args.image (now c.args.work.now) (now c.copy_values.new.work) (now c.copy_relations.new.work) c.copy_relations.result
-          (sym c.is_current.ensures ∙ c.if-not-is_current.false) c.in_ok-copy_values.ensures.ok c.copy_relations.ensures.carries.meets;
-      view = search rules;
-      since = search rules;
+      carries = record {
+        meets = copies world c.args.images.now c.args.image (now c.args.work.now) (now c.copy_values.new.work) (now c.copy_relations.new.work) c.copy_relations.result
+            (sym c.is_current.ensures ∙ c.if-not-is_current.false) c.in_ok-copy_values.ensures.carries.meets c.copy_relations.ensures.carries.meets;
+        view = search rules;
+        since = search rules;
+      };
+      goes = search rules;
     }

@@ -3,14 +3,15 @@ use Rattle.std.specs.Prelude.{slice_set}
 use Rattle.std.proofs.lemmas.List.{get_or_default}
 use Rattle.jpa_heap.specs.declared.LiveObject.{LiveObject}
 use Rattle.jpa_heap.specs.Objects.{no_object}
+use Rattle.jpa_context.specs.Steps.{Done}
 use Rattle.jpa_context.specs.Undo.{now}
 use Rattle.jpa_context.specs.Work.{object}
-use Rattle.jpa_fetch.specs.Grown.{IsReady}
-use Rattle.jpa_merge.proofs.Kept.{values_ready}
+use Rattle.jpa_fetch.specs.Grown.{HasGrown, IsReady}
+use Rattle.jpa_merge.proofs.Kept.{values_grown, values_ready}
 use Rattle.jpa_merge.proofs.copying.copy_values.Goals as goal
 
-pub returns-clause-goes : goal.returns-clause-goes
-returns-clause-goes c =
+pub returns : goal.returns
+returns c =
     let m = c.args._metamodel.now in
     let w = now c.args.work.now in
     let x = c.args.image in
@@ -24,6 +25,13 @@ returns-clause-goes c =
     let copied : live ≡ record (object w x.image) { values = (object w x.node).values } = λ i. record (own i) { values = values i } in
     let changed = c.in_ok-set.ensures.changed ∙ ap (slice_set w.objects x.image) copied in
     record {
-      ready = subst (λ (os : List LiveObject). IsReady m (record w { objects = os })) (sym changed) (values_ready m w x c.requires.ready c.requires.imaged);
-      grown = search rules;
+      carries = record {
+        meets = ap (λ (os : List LiveObject). Done tt (record w { objects = os })) (sym changed);
+        view = search rules;
+        since = search rules;
+      };
+      goes = record {
+        ready = subst (λ (os : List LiveObject). IsReady m (record w { objects = os })) (sym changed) (values_ready m w x c.requires.ready c.requires.imaged);
+        grown = subst (λ (os : List LiveObject). HasGrown w (record w { objects = os })) (sym changed) (values_grown m w x c.requires.ready c.requires.imaged);
+      };
     }

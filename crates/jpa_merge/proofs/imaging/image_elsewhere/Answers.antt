@@ -18,7 +18,7 @@ returns-in-None-clause-carries g c =
     let own : x ≡ object w n = c.index-as_slice-node.is ∙ ap (λ (os : List LiveObject). get_or os n x) c.as_slice.ensures ∙ get_or_default w.objects n x no_object c.requires.node in
     let unnamed : identity_at m w n ≡ None = ap (identity_of m) (sym own) ∙ sym c.in_ok-id.ensures.ok ∙ c.in-None.is in
     record {
-      meets = images_unnamed world n w (now c.fresh_image.new.work) c.fresh_image.result unnamed (c.fresh_image.ensures.meets world);
+      meets = images_unnamed world n w (now c.fresh_image.new.work) c.fresh_image.result unnamed (c.fresh_image.ensures.carries.meets world);
       view = search rules;
       since = search rules;
     }

@@ -6,7 +6,7 @@ use Rattle.jpa_merge.proofs.imaging.image_named.Goals as goal
 
 pub returns-in_default-get-clause-carries : goal.returns-in_default-get-clause-carries
 returns-in_default-get-clause-carries g c =
-    search (rules, c.fresh_image.ensures.meets (world_of_unit g.B.Behaviour.meaning c.args.unit.now))
+    search (rules, c.fresh_image.ensures.carries.meets (world_of_unit g.B.Behaviour.meaning c.args.unit.now))
 
 -- the row was loaded
 pub returns-clause-carries : goal.returns-clause-carries
