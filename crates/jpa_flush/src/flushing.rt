@@ -1,18 +1,13 @@
 //! The flush of a manager's context.
-ghost use Rattle.std.specs.Prelude.{◌≡◌, T, true};
-ghost use Rattle.std.specs.FinMap.Entries.{is_sorted};
+ghost use Rattle.std.specs.Prelude.{◌≡◌, true};
 ghost use Rattle.jpa_behaviour.specs.Served.{world_of_unit};
 ghost use Rattle.jpa_context.specs.Steps.{Meets};
 ghost use Rattle.jpa_context.specs.Undo.{now, since};
-ghost use Rattle.jpa_fetch.specs.Grown.{IsReady};
-ghost use Rattle.jpa_fetch.specs.Orderly.{IsOrderly};
 ghost use Rattle.jpa_flush.specs.Changes.{IsWritable};
 ghost use Rattle.jpa_flush.specs.Flush as flushes;
 ghost use Rattle.jpa_flush.specs.Marked as marked;
+ghost use Rattle.jpa_flush.specs.Passes.{IsFlushable, Performs};
 ghost use Rattle.jpa_flush.specs.Plan as plans;
-ghost use Rattle.jpa_ops.specs.Names.{has_distinct_entries};
-ghost use Rattle.jpa_stored.specs.Sets.{IsSound};
-ghost use Rattle.jpa_value.specs.Value.{identity_cmp};
 
 use crate::judging::judge_written;
 use crate::passes::{check_links_looked, persist_looked, remember_looked, remove_orphans_looked};
@@ -77,12 +72,7 @@ pub fn flush<B: Behaviour>(
     unit: &ServedUnit<B>,
     work: &mut UnitOfWork,
 ) -> Result<(), Cause>
-    requires orderly { IsOrderly unit.now.metamodel }
-    requires ready { IsReady unit.now.metamodel (now work.old) }
-    requires sound { IsSound unit.now.metamodel (now work.old).view }
-    requires rising { T (is_sorted identity_cmp (now work.old).view) }
-    requires distinct { has_distinct_entries unit.now.metamodel (now work.old) ≡ true }
-    requires marked { marked.IsMarked unit.now.metamodel work.old }
+    requires { IsFlushable unit.now.metamodel work.old }
     ensures meets { Meets result (now work.new)
         (flushes.flush (world_of_unit B.meaning unit.now) (now work.old)) }
     ensures since { since work.new ≡ since work.old }
@@ -104,15 +94,9 @@ pub fn flush_if<B: Behaviour>(
     work: &mut UnitOfWork,
     is_due: bool,
 ) -> Result<(), Cause>
-    requires orderly { IsOrderly unit.now.metamodel }
-    requires ready { IsReady unit.now.metamodel (now work.old) }
-    requires sound { IsSound unit.now.metamodel (now work.old).view }
-    requires rising { T (is_sorted identity_cmp (now work.old).view) }
-    requires distinct { has_distinct_entries unit.now.metamodel (now work.old) ≡ true }
-    requires marked { marked.IsMarked unit.now.metamodel work.old }
-    ensures meets { let world = world_of_unit B.meaning unit.now in
-        Meets result (now work.new) (flushes.flush_if is_due world (now work.old)) }
-    ensures since { since work.new ≡ since work.old }
+    requires { IsFlushable unit.now.metamodel work.old }
+    ensures { let world = world_of_unit B.meaning unit.now in
+        Performs (flushes.flush_if is_due world) result work.old work.new }
 {
     if is_due {
         flush(alloc, unit, work)

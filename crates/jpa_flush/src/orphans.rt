@@ -12,8 +12,8 @@ ghost use Rattle.jpa_context.specs.Steps.{each};
 ghost use Rattle.jpa_context.specs.Undo.{now};
 ghost use Rattle.jpa_context.specs.Work as works;
 ghost use Rattle.jpa_fetch.specs.Grown.{IsReady};
-ghost use Rattle.jpa_ops.specs.Names.{has_distinct_entries};
 ghost use Rattle.jpa_flush.specs.Flush as flushes;
+ghost use Rattle.jpa_flush.specs.Passes.{Passes};
 
 use crate::differing::known;
 use crate::held::held_now;
@@ -222,11 +222,8 @@ pub(crate) fn remove_orphans<B: Behaviour>(
     work: &mut UnitOfWork,
 ) -> Result<(), Cause>
     requires ready { IsReady unit.now.metamodel (now work.old) }
-    ensures carries { let world = world_of_unit B.meaning unit.now in
-        Carries (flushes.remove_orphans world) result work.old work.new }
-    ensures ready { OnOk result (IsReady unit.now.metamodel (now work.new)) }
-    ensures named { has_distinct_entries unit.now.metamodel (now work.old) ≡ true →
-        OnOk result (has_distinct_entries unit.now.metamodel (now work.new) ≡ true) }
+    ensures { let world = world_of_unit B.meaning unit.now in
+        Passes unit.now.metamodel (flushes.remove_orphans world) result work.old work.new }
 {
     // the entries of the start stay at their places
     for i in 0..work.context.len() {

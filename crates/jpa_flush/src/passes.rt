@@ -1,16 +1,15 @@
 //! The passes of a flush over the entries that it looks at, found anew where the pass before may
 //! have touched others.
-ghost use Rattle.std.specs.Prelude.{◌≡◌, true, IfErr, OnOk};
+ghost use Rattle.std.specs.Prelude.{◌≡◌, IfErr, OnOk};
 ghost use Rattle.jpa_behaviour.specs.Behaviour.{World};
 ghost use Rattle.jpa_behaviour.specs.Served.{world_of_unit};
-ghost use Rattle.jpa_context.specs.Carries.{Carries};
 ghost use Rattle.jpa_context.specs.Steps.{Meets};
 ghost use Rattle.jpa_context.specs.Undo.{now, since};
 ghost use Rattle.jpa_fetch.specs.Grown.{IsReady};
 ghost use Rattle.jpa_fetch.specs.Orderly.{IsOrderly};
 ghost use Rattle.jpa_flush.specs.Flush as flushes;
 ghost use Rattle.jpa_flush.specs.Marked as marked;
-ghost use Rattle.jpa_ops.specs.Names.{has_distinct_entries};
+ghost use Rattle.jpa_flush.specs.Passes.{Passes};
 ghost use Rattle.jpa_value.specs.declared.refusal.Cause.{Cause};
 
 use crate::chosen::Looked;
@@ -34,11 +33,8 @@ pub(crate) fn persist_looked<B: Behaviour>(
     requires orderly { IsOrderly unit.now.metamodel }
     requires ready { IsReady unit.now.metamodel (now work.old) }
     requires marked { marked.IsMarked unit.now.metamodel work.old }
-    ensures carries { let world = world_of_unit B.meaning unit.now in
-        Carries (flushes.persist_reachable world) result work.old work.new }
-    ensures ready { OnOk result (IsReady unit.now.metamodel (now work.new)) }
-    ensures named { has_distinct_entries unit.now.metamodel (now work.old) ≡ true →
-        OnOk result (has_distinct_entries unit.now.metamodel (now work.new) ≡ true) }
+    ensures { let world = world_of_unit B.meaning unit.now in
+        Passes unit.now.metamodel (flushes.persist_reachable world) result work.old work.new }
 {
     let found = looked(alloc, &unit.metamodel, work)?;
     if found.linked {
@@ -56,11 +52,8 @@ pub(crate) fn remove_orphans_looked<B: Behaviour>(
 ) -> Result<(), Cause>
     requires ready { IsReady unit.now.metamodel (now work.old) }
     requires marked { marked.AreMarkedBefore unit.now.metamodel work.old }
-    ensures carries { let world = world_of_unit B.meaning unit.now in
-        Carries (flushes.remove_orphans world) result work.old work.new }
-    ensures ready { OnOk result (IsReady unit.now.metamodel (now work.new)) }
-    ensures named { has_distinct_entries unit.now.metamodel (now work.old) ≡ true →
-        OnOk result (has_distinct_entries unit.now.metamodel (now work.new) ≡ true) }
+    ensures { let world = world_of_unit B.meaning unit.now in
+        Passes unit.now.metamodel (flushes.remove_orphans world) result work.old work.new }
 {
     let found = looked(alloc, &unit.metamodel, work)?;
     remove_orphans_at(alloc, unit, work, found.places.as_slice())

@@ -1,15 +1,14 @@
 //! Persist along cascades, as a flush begins.
-ghost use Rattle.std.specs.Prelude.{◌≡◌, ◌<◌, ◌≤◌, true, All, length, OnOk};
+ghost use Rattle.std.specs.Prelude.{◌<◌, All, length};
 ghost use Rattle.jpa_behaviour.specs.Served.{world_of_unit};
-ghost use Rattle.jpa_context.specs.Carries.{Carries};
 ghost use Rattle.jpa_context.specs.Steps.{each};
 ghost use Rattle.jpa_context.specs.Undo.{now};
 ghost use Rattle.jpa_context.specs.Work.{state_of};
 ghost use Rattle.jpa_fetch.specs.Grown.{IsReady};
 ghost use Rattle.jpa_fetch.specs.Orderly.{IsOrderly};
-ghost use Rattle.jpa_ops.specs.Names.{has_distinct_entries};
 ghost use Rattle.jpa_ops.specs.States as states;
 ghost use Rattle.jpa_flush.specs.Flush as flushes;
+ghost use Rattle.jpa_flush.specs.Passes.{Passes};
 
 use jpa_behaviour::{Behaviour, ServedUnit};
 use jpa_cascade::{Operation, live_targets, state_of};
@@ -28,11 +27,9 @@ fn persist_each<B: Behaviour>(
     requires orderly { IsOrderly unit.now.metamodel }
     requires ready { IsReady unit.now.metamodel (now work.old) }
     requires within { All (λ k. k < length work.old.objects.now) objects.now }
-    ensures carries { let world = world_of_unit B.meaning unit.now in
-        Carries (each (states.persist world) objects.now) result work.old work.new }
-    ensures ready { OnOk result (IsReady unit.now.metamodel (now work.new)) }
-    ensures named { has_distinct_entries unit.now.metamodel (now work.old) ≡ true →
-        OnOk result (has_distinct_entries unit.now.metamodel (now work.new) ≡ true) }
+    ensures { let world = world_of_unit B.meaning unit.now in
+        Passes unit.now.metamodel (each (states.persist world) objects.now)
+        result work.old work.new }
 {
     for object in objects {
         persist(alloc, unit, work, *object)?;
@@ -51,12 +48,10 @@ fn persist_targets<B: Behaviour>(
     requires orderly { IsOrderly unit.now.metamodel }
     requires ready { IsReady unit.now.metamodel (now work.old) }
     requires object { object < length work.old.objects.now }
-    ensures carries { let world = world_of_unit B.meaning unit.now in
-        Carries (flushes.persist_targets world object (state_of (now work.old) object))
+    ensures { let world = world_of_unit B.meaning unit.now in
+        Passes unit.now.metamodel
+        (flushes.persist_targets world object (state_of (now work.old) object))
         result work.old work.new }
-    ensures ready { OnOk result (IsReady unit.now.metamodel (now work.new)) }
-    ensures named { has_distinct_entries unit.now.metamodel (now work.old) ≡ true →
-        OnOk result (has_distinct_entries unit.now.metamodel (now work.new) ≡ true) }
 {
     match state_of(work, object) {
         EntityState::Managed => {
@@ -80,11 +75,8 @@ pub(crate) fn persist_reachable<B: Behaviour>(
 ) -> Result<(), Cause>
     requires orderly { IsOrderly unit.now.metamodel }
     requires ready { IsReady unit.now.metamodel (now work.old) }
-    ensures carries { let world = world_of_unit B.meaning unit.now in
-        Carries (flushes.persist_reachable world) result work.old work.new }
-    ensures ready { OnOk result (IsReady unit.now.metamodel (now work.new)) }
-    ensures named { has_distinct_entries unit.now.metamodel (now work.old) ≡ true →
-        OnOk result (has_distinct_entries unit.now.metamodel (now work.new) ≡ true) }
+    ensures { let world = world_of_unit B.meaning unit.now in
+        Passes unit.now.metamodel (flushes.persist_reachable world) result work.old work.new }
 {
     // only live objects enter, so their number bounds the places
     for i in 0..work.objects.len() {

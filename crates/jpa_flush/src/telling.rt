@@ -1,10 +1,10 @@
 //! The events of a flush.
-ghost use Rattle.std.specs.Prelude.{◌≡◌, ◌<◌, All, length};
+ghost use Rattle.std.specs.Prelude.{◌<◌, All, length};
 ghost use Rattle.jpa_behaviour.specs.Served.{world_of_unit};
-ghost use Rattle.jpa_context.specs.Steps.{Meets};
-ghost use Rattle.jpa_context.specs.Undo.{now, since};
+ghost use Rattle.jpa_context.specs.Undo.{now};
 ghost use Rattle.jpa_context.specs.Work as works;
 ghost use Rattle.jpa_heap.specs.Shape.{HasShape};
+ghost use Rattle.jpa_flush.specs.Passes.{Performs};
 ghost use Rattle.jpa_flush.specs.Plan as plans;
 
 use crate::planning::Planned;
@@ -25,9 +25,8 @@ pub(crate) fn tell_update<B: Behaviour>(
 ) -> Result<(), Cause>
     requires object { object < length work.old.objects.now }
     requires shape { HasShape unit.now.metamodel (works.object (now work.old) object) }
-    ensures meets { let world = world_of_unit B.meaning unit.now in
-        Meets result (now work.new) (plans.update world object step (now work.old)) }
-    ensures since { since work.new ≡ since work.old }
+    ensures { let world = world_of_unit B.meaning unit.now in
+        Performs (plans.update world object step) result work.old work.new }
 {
     match step {
         Step::Keep | Step::Insert | Step::Drop(_) => Ok(()),
@@ -48,9 +47,8 @@ pub fn tell_written<B: Behaviour>(
 ) -> Result<(), Cause>
     requires shaped { All (HasShape unit.now.metamodel) work.old.objects.now }
     requires objects { All (λ p. p.object < length work.old.objects.now) plan.now }
-    ensures meets { let world = world_of_unit B.meaning unit.now in
-        Meets result (now work.new) (plans.told_by world plan.now (now work.old)) }
-    ensures since { since work.new ≡ since work.old }
+    ensures { let world = world_of_unit B.meaning unit.now in
+        Performs (plans.told_by world plan.now) result work.old work.new }
 {
     for planned in plan {
         let event = planned.event;

@@ -1,18 +1,16 @@
 //! Walks over the entries that a flush looks at, in the place of walks over all.
-ghost use Rattle.std.specs.Prelude.{◌≡◌, ◌<◌, All, [], length, true, IfOk, IfErr, OnOk};
+ghost use Rattle.std.specs.Prelude.{◌≡◌, ◌<◌, All, length, true, IfOk, IfErr, OnOk};
 ghost use Rattle.jpa_value.specs.declared.refusal.Cause.{Cause};
 ghost use Rattle.jpa_behaviour.specs.Behaviour.{World};
 ghost use Rattle.jpa_behaviour.specs.Served.{world_of_unit};
-ghost use Rattle.jpa_context.specs.Carries.{Carries};
 ghost use Rattle.jpa_context.specs.Steps.{Ends, Meets};
 ghost use Rattle.jpa_context.specs.Undo.{now, since};
-ghost use Rattle.jpa_context.specs.Work as works;
 ghost use Rattle.jpa_fetch.specs.Grown.{IsReady};
 ghost use Rattle.jpa_fetch.specs.Orderly.{IsOrderly};
-ghost use Rattle.jpa_ops.specs.Names.{has_distinct_entries};
 ghost use Rattle.jpa_flush.specs.Flush as flushes;
 ghost use Rattle.jpa_flush.specs.Plan as plans;
 ghost use Rattle.jpa_flush.specs.Marked as marked;
+ghost use Rattle.jpa_flush.specs.Passes.{Passes};
 
 use crate::leading::is_linked;
 use crate::links::links_stored;
@@ -72,11 +70,8 @@ pub(crate) fn persist_from_looked<B: Behaviour>(
     requires entered { marked.AreEntered (now work.old) }
     requires looked { marked.AreLooked (λ e. marked.is_linked_if_managed unit.now.metamodel
         (now work.old) e.object ≡ true) work.old.context.now places.now }
-    ensures carries { let world = world_of_unit B.meaning unit.now in
-        Carries (flushes.persist_reachable world) result work.old work.new }
-    ensures ready { OnOk result (IsReady unit.now.metamodel (now work.new)) }
-    ensures named { has_distinct_entries unit.now.metamodel (now work.old) ≡ true →
-        OnOk result (has_distinct_entries unit.now.metamodel (now work.new) ≡ true) }
+    ensures { let world = world_of_unit B.meaning unit.now in
+        Passes unit.now.metamodel (flushes.persist_reachable world) result work.old work.new }
 {
     if are_linked(&unit.metamodel, work, places) {
         return Ok(());
@@ -215,11 +210,8 @@ pub(crate) fn remove_orphans_at<B: Behaviour>(
     requires ready { IsReady unit.now.metamodel (now work.old) }
     requires looked { marked.AreLooked (λ e. marked.has_no_orphan unit.now.metamodel
         (now work.old) e.object ≡ true) work.old.context.now places.now }
-    ensures carries { let world = world_of_unit B.meaning unit.now in
-        Carries (flushes.remove_orphans world) result work.old work.new }
-    ensures ready { OnOk result (IsReady unit.now.metamodel (now work.new)) }
-    ensures named { has_distinct_entries unit.now.metamodel (now work.old) ≡ true →
-        OnOk result (has_distinct_entries unit.now.metamodel (now work.new) ≡ true) }
+    ensures { let world = world_of_unit B.meaning unit.now in
+        Passes unit.now.metamodel (flushes.remove_orphans world) result work.old work.new }
 {
     if are_without_orphans(alloc, &unit.metamodel, work, places)? {
         return Ok(());

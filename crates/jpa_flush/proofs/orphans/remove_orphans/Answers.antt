@@ -11,8 +11,8 @@ use Rattle.jpa_flush.specs.Flush.{orphans_of}
 use Rattle.jpa_flush.proofs.Orphaned.{orphans_go, removed_of, turn_done, turn_refused}
 use Rattle.jpa_flush.proofs.orphans.remove_orphans.Goals as goal
 
-pub returns-in_err-remove_orphans_of-clause-carries : goal.returns-in_err-remove_orphans_of-clause-carries
-returns-in_err-remove_orphans_of-clause-carries g c =
+pub returns-in_err-remove_orphans_of : goal.returns-in_err-remove_orphans_of
+returns-in_err-remove_orphans_of g c =
     let world = world_of_unit g.B.Behaviour.meaning c.args.unit.now in
     let u = now c.args.work.now in
     let w = now c.loop-i.work in
@@ -25,10 +25,14 @@ returns-in_err-remove_orphans_of-clause-carries g c =
     let refused : IsRefusedAs r events (removed_of world e.object w) = search rules in
     let p = err_from_is_err_and c.from_residual.result c.from_residual.ensures.1 in
     record {
-      meets = rw (p.1, p.2)
-          (subst (IsRefusedAs r events) c.loop-i.invariant.rest (turn_refused world u w i e c.loop-i.invariant.goes within is r events refused));
-      view = search rules;
-      since = search rules;
+      carries = record {
+        meets = rw (p.1, p.2)
+            (subst (IsRefusedAs r events) c.loop-i.invariant.rest (turn_refused world u w i e c.loop-i.invariant.goes within is r events refused));
+        view = search rules;
+        since = search rules;
+      };
+      ready = search rules;
+      named = search rules;
     }
 
 pub loop-i-preserved : goal.loop-i-preserved

@@ -9,20 +9,24 @@ use Rattle.jpa_flush.specs.Flush.{persist_targets}
 use Rattle.jpa_flush.proofs.Reached.{past, turn_done, turn_refused}
 use Rattle.jpa_flush.proofs.reaching.persist_reachable.Goals as goal
 
-pub returns-then-i-len-clause-carries : goal.returns-then-i-len-clause-carries
-returns-then-i-len-clause-carries g c =
+pub returns-then-i-len : goal.returns-then-i-len
+returns-then-i-len g c =
     let world = world_of_unit g.B.Behaviour.meaning c.args.unit.now in
     let w = now c.loop-i.work in
     let bound = length (now c.args.work.now).objects in
     let ended : length w.context ≤ c.loop-i.i = omega (arith, c.if-i-len.true, c.len.ensures) in
     record {
-      meets = sym c.loop-i.invariant.rest ∙ past world (bound - c.loop-i.i) c.loop-i.i w ended;
-      view = search rules;
-      since = search rules;
+      carries = record {
+        meets = sym c.loop-i.invariant.rest ∙ past world (bound - c.loop-i.i) c.loop-i.i w ended;
+        view = search rules;
+        since = search rules;
+      };
+      ready = search rules;
+      named = search rules;
     }
 
-pub returns-in_err-persist_targets-clause-carries : goal.returns-in_err-persist_targets-clause-carries
-returns-in_err-persist_targets-clause-carries g c =
+pub returns-in_err-persist_targets : goal.returns-in_err-persist_targets
+returns-in_err-persist_targets g c =
     let world = world_of_unit g.B.Behaviour.meaning c.args.unit.now in
     let w = now c.loop-i.work in
     let bound = length (now c.args.work.now).objects in
@@ -36,10 +40,14 @@ returns-in_err-persist_targets-clause-carries g c =
     let refused : IsRefusedAs r events (persist_targets world e.object (state_of w e.object) w) = search rules in
     let p = err_from_is_err_and c.from_residual.result c.from_residual.ensures.1 in
     record {
-      meets = rw (p.1, p.2)
-          (subst (IsRefusedAs r events) c.loop-i.invariant.rest (turn_refused world bound i w e less within is r events refused));
-      view = search rules;
-      since = search rules;
+      carries = record {
+        meets = rw (p.1, p.2)
+            (subst (IsRefusedAs r events) c.loop-i.invariant.rest (turn_refused world bound i w e less within is r events refused));
+        view = search rules;
+        since = search rules;
+      };
+      ready = search rules;
+      named = search rules;
     }
 
 pub loop-i-preserved : goal.loop-i-preserved

@@ -5,10 +5,14 @@ use Rattle.jpa_flush.proofs.Unreached.{removes_none}
 use Rattle.jpa_flush.proofs.walking.remove_orphans_at.Goals as goal
 
 -- where none has an orphan, there is nothing to be done
-pub returns-then-branch-clause-carries : goal.returns-then-branch-clause-carries
-returns-then-branch-clause-carries g c =
+pub returns-then-branch : goal.returns-then-branch
+returns-then-branch g c =
     record {
-      meets = removes_none (world_of_unit g.B.Behaviour.meaning c.args.unit.now) (now c.args.work.now) (sym c.in_ok-are_without_orphans.ensures.ok ∙ c.if-branch.true);
-      view = search rules;
-      since = search rules;
+      carries = record {
+        meets = removes_none (world_of_unit g.B.Behaviour.meaning c.args.unit.now) (now c.args.work.now) (sym c.in_ok-are_without_orphans.ensures.ok ∙ c.if-branch.true);
+        view = search rules;
+        since = search rules;
+      };
+      ready = search rules;
+      named = search rules;
     }
