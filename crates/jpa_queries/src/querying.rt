@@ -1,18 +1,13 @@
 //! query and querySingle.
-ghost use Rattle.std.specs.Prelude.{◌≡◌, T, true, OnOk};
-ghost use Rattle.std.specs.FinMap.Entries.{is_sorted};
+ghost use Rattle.std.specs.Prelude.{OnOk};
 ghost use Rattle.jpa_behaviour.specs.Served.{world_of_unit};
 ghost use Rattle.jpa_context.specs.Steps.{Meets};
-ghost use Rattle.jpa_context.specs.Undo.{now, since};
+ghost use Rattle.jpa_context.specs.Undo.{now};
 ghost use Rattle.jpa_fetch.specs.Grown.{IsReady};
-ghost use Rattle.jpa_fetch.specs.Orderly.{IsOrderly};
-ghost use Rattle.jpa_flush.specs.Marked.{IsMarked};
-ghost use Rattle.jpa_ops.specs.Names.{has_distinct_entries};
+ghost use Rattle.jpa_flush.specs.Passes.{IsFlushable, Performs};
 ghost use Rattle.jpa_asked.specs.Premises.{AreInHeap};
 ghost use Rattle.jpa_queries.specs.Premises.{IsReadyToAsk, StaysReady};
 ghost use Rattle.jpa_queries.specs.Queries as queries;
-ghost use Rattle.jpa_stored.specs.Sets.{IsSound};
-ghost use Rattle.jpa_value.specs.Value.{identity_cmp};
 
 use crate::cut::{cut, is_count};
 use crate::results::{row_of, rows_of};
@@ -87,19 +82,13 @@ fn rows_asked<B: Behaviour>(
     flushes: bool,
     asked: &Asked,
 ) -> Result<Seq<Seq<Datum>>, Cause>
-    requires orderly { IsOrderly unit.now.metamodel }
-    requires ready { IsReady unit.now.metamodel (now work.old) }
-    requires sound { IsSound unit.now.metamodel (now work.old).view }
-    requires rising { T (is_sorted identity_cmp (now work.old).view) }
-    requires distinct { has_distinct_entries unit.now.metamodel (now work.old) ≡ true }
-    requires marked { IsMarked unit.now.metamodel work.old }
+    requires flushable { IsFlushable unit.now.metamodel work.old }
     requires then_ready { StaysReady flushes (world_of_unit B.meaning unit.now)
         (now work.old) }
     requires bound { AreInHeap work.old.objects.now asked.now.bindings }
-    ensures meets { let world = world_of_unit B.meaning unit.now in
-        Meets result (now work.new) (queries.rows_asked world flushes asked.now (now work.old)) }
+    ensures asks { let world = world_of_unit B.meaning unit.now in
+        Performs (queries.rows_asked world flushes asked.now) result work.old work.new }
     ensures ready { OnOk result (IsReady unit.now.metamodel (now work.new)) }
-    ensures since { since work.new ≡ since work.old }
 {
     let (select, arguments) = judged(alloc, &unit.metamodel, work, asked)?;
     flush_if(alloc, unit, work, flushes)?;
@@ -123,9 +112,8 @@ fn single_row<B: Behaviour>(
     rows: &[Seq<Datum>],
 ) -> Result<Seq<Item>, Cause>
     requires ready { IsReady unit.now.metamodel (now work.old) }
-    ensures meets { let world = world_of_unit B.meaning unit.now in
-        Meets result (now work.new) (queries.single_row world rows.now (now work.old)) }
-    ensures since { since work.new ≡ since work.old }
+    ensures { let world = world_of_unit B.meaning unit.now in
+        Performs (queries.single_row world rows.now) result work.old work.new }
 {
     match rows {
         [] => Err(Cause::NoResult),
@@ -154,18 +142,12 @@ pub fn query<B: Behaviour>(
     flushes: bool,
     asked: &Asked,
 ) -> Result<Seq<Seq<Item>>, Cause>
-    requires orderly { IsOrderly unit.now.metamodel }
-    requires ready { IsReady unit.now.metamodel (now work.old) }
-    requires sound { IsSound unit.now.metamodel (now work.old).view }
-    requires rising { T (is_sorted identity_cmp (now work.old).view) }
-    requires distinct { has_distinct_entries unit.now.metamodel (now work.old) ≡ true }
-    requires marked { IsMarked unit.now.metamodel work.old }
+    requires flushable { IsFlushable unit.now.metamodel work.old }
     requires then_ready { StaysReady flushes (world_of_unit B.meaning unit.now)
         (now work.old) }
     requires bound { AreInHeap work.old.objects.now asked.now.bindings }
-    ensures meets { let world = world_of_unit B.meaning unit.now in
-        Meets result (now work.new) (queries.query world flushes asked.now (now work.old)) }
-    ensures since { since work.new ≡ since work.old }
+    ensures { let world = world_of_unit B.meaning unit.now in
+        Performs (queries.query world flushes asked.now) result work.old work.new }
 {
     let rows = rows_asked(alloc, unit, work, flushes, asked)?;
     rows_of(alloc, unit, work, rows.as_slice())
@@ -181,18 +163,12 @@ pub fn query_single<B: Behaviour>(
     flushes: bool,
     asked: &Asked,
 ) -> Result<Seq<Item>, Cause>
-    requires orderly { IsOrderly unit.now.metamodel }
-    requires ready { IsReady unit.now.metamodel (now work.old) }
-    requires sound { IsSound unit.now.metamodel (now work.old).view }
-    requires rising { T (is_sorted identity_cmp (now work.old).view) }
-    requires distinct { has_distinct_entries unit.now.metamodel (now work.old) ≡ true }
-    requires marked { IsMarked unit.now.metamodel work.old }
+    requires flushable { IsFlushable unit.now.metamodel work.old }
     requires then_ready { StaysReady flushes (world_of_unit B.meaning unit.now)
         (now work.old) }
     requires bound { AreInHeap work.old.objects.now asked.now.bindings }
-    ensures meets { let world = world_of_unit B.meaning unit.now in
-        Meets result (now work.new) (queries.query_single world flushes asked.now (now work.old)) }
-    ensures since { since work.new ≡ since work.old }
+    ensures { let world = world_of_unit B.meaning unit.now in
+        Performs (queries.query_single world flushes asked.now) result work.old work.new }
 {
     let rows = rows_asked(alloc, unit, work, flushes, asked)?;
     single_row(alloc, unit, work, rows.as_slice())

@@ -5,6 +5,7 @@ ghost use Rattle.jpa_context.specs.Steps.{Meets};
 ghost use Rattle.jpa_context.specs.Undo.{now, since};
 ghost use Rattle.jpa_fetch.specs.Grown.{IsReady};
 ghost use Rattle.jpa_fetch.specs.Members.{collect};
+ghost use Rattle.jpa_flush.specs.Passes.{Performs};
 ghost use Rattle.jpa_queries.specs.Queries as queries;
 
 use jpa_behaviour::{Behaviour, ServedUnit};
@@ -70,9 +71,8 @@ pub(crate) fn rows_of<B: Behaviour>(
     rows: &[Seq<Datum>],
 ) -> Result<Seq<Seq<Item>>, Cause>
     requires ready { IsReady unit.now.metamodel (now work.old) }
-    ensures meets { let world = world_of_unit B.meaning unit.now in
-        Meets result (now work.new) (collect (queries.row_of world) rows.now (now work.old)) }
-    ensures since { since work.new ≡ since work.old }
+    ensures { let world = world_of_unit B.meaning unit.now in
+        Performs (collect (queries.row_of world) rows.now) result work.old work.new }
 {
     let mut found = Seq::new(alloc);
     for row in rows {

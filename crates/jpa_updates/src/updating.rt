@@ -1,20 +1,15 @@
 //! executeUpdate.
-ghost use Rattle.std.specs.Prelude.{◌≡◌, T, true, OnOk};
-ghost use Rattle.std.specs.FinMap.Entries.{is_sorted};
+ghost use Rattle.std.specs.Prelude.{◌≡◌, true, OnOk};
 ghost use Rattle.jpa_behaviour.specs.Served.{world_of_unit};
 ghost use Rattle.jpa_context.specs.Steps.{Meets, Done};
 ghost use Rattle.jpa_context.specs.Undo.{now, since};
 ghost use Rattle.jpa_context.specs.Work.{Work};
 ghost use Rattle.jpa_fetch.specs.Grown.{IsReady};
-ghost use Rattle.jpa_fetch.specs.Orderly.{IsOrderly};
-ghost use Rattle.jpa_ops.specs.Names.{has_distinct_entries};
 ghost use Rattle.jpa_asked.specs.Premises.{AreInHeap};
 ghost use Rattle.jpa_flush.specs.Flush.{flush_if};
-ghost use Rattle.jpa_flush.specs.Marked.{IsMarked};
+ghost use Rattle.jpa_flush.specs.Passes.{IsFlushable, Performs};
 ghost use Rattle.jpa_updates.specs.Updates as updates;
 ghost use Rattle.jpa_rows.specs.Cells.{all_representable};
-ghost use Rattle.jpa_stored.specs.Sets.{IsSound};
-ghost use Rattle.jpa_value.specs.Value.{identity_cmp};
 ghost use Rattle.jpql_types.specs.declared.typed.Typed.{Typed};
 
 use crate::finding::{made_by_update, taken_by_delete};
@@ -191,24 +186,18 @@ pub fn execute_update<B: Behaviour>(
     text: &str,
     bindings: &[Binding],
 ) -> Result<usize, Cause>
-    requires orderly { IsOrderly unit.now.metamodel }
-    requires ready { IsReady unit.now.metamodel (now work.old) }
+    requires flushable { IsFlushable unit.now.metamodel work.old }
     requires flushing { flushes ≡ true → is_active ≡ true }
-    requires sound { IsSound unit.now.metamodel (now work.old).view }
-    requires rising { T (is_sorted identity_cmp (now work.old).view) }
-    requires distinct { has_distinct_entries unit.now.metamodel (now work.old) ≡ true }
-    requires marked { IsMarked unit.now.metamodel work.old }
     requires then_sound { updates.StaysSound flushes
         (world_of_unit B.meaning unit.now) (now work.old) }
     requires bound { AreInHeap work.old.objects.now bindings.now }
-    ensures meets { let world = world_of_unit B.meaning unit.now in
-        Meets result (now work.new)
-        (updates.execute_update world is_active flushes text.now bindings.now (now work.old)) }
+    ensures executes { let world = world_of_unit B.meaning unit.now in
+        Performs (updates.execute_update world is_active flushes text.now bindings.now)
+        result work.old work.new }
     ensures representable { OnOk result ((v : Work)
         → flush_if flushes (world_of_unit B.meaning unit.now) (now work.old)
         ≡ Done tt v → all_representable v.view ≡ true
         → all_representable (now work.new).view ≡ true) }
-    ensures since { since work.new ≡ since work.old }
 {
     let statement = judged(alloc, &unit.metamodel, work, is_active, text, bindings)?;
     flush_if(alloc, unit, work, flushes)?;
