@@ -1,15 +1,19 @@
 //! The two SELECTs, and the readers of what they show.
 
-ghost use Rattle.std.specs.Prelude.{◌≡◌, [], ◌∷◌, ◌++◌, false, map, IsTrue, IfOk, IfErr, OnOk};
+ghost use Rattle.std.specs.Prelude.{◌≡◌, ◌≢◌, [], ◌∷◌, ◌++◌, false, map, option_to_list, IsTrue, IfOk, IfErr, OnOk};
 ghost use Rattle.std.specs.List.{All};
 ghost use Rattle.sqlite.specs.Held.{state};
 ghost use Rattle.sqlite.specs.State.{HasCleanDisk, Survives};
-ghost use Rattle.jpa_cells_meaning.specs.Tables.{cells_at, row_of, AreRows};
-ghost use Rattle.jpa_cells_meaning.specs.Content.{IsCellStore, KeepsContent, IsExcused, Leaves, ShowsCells, ShowsTable, tables_of, shown_cell, shown_entry, IsShownCell, IsShownEntry, added, grouped};
+ghost use Rattle.jpa_value.specs.declared.refusal.Cause.{Cause};
+ghost use Rattle.jpa_cells_meaning.specs.Tables.{cells_at, row_of};
+ghost use Rattle.jpa_cells_meaning.specs.Content.{IsCellStore, KeepsContent, IsExcused, Leaves, ShowsCells, tables_of, shown_cell, shown_entry, IsShownCell, IsShownEntry, added};
+ghost use Rattle.jpa_cells_meaning.specs.Store.{IsStoreCause, OnlyReads, HandsTable};
+ghost use Rattle.jpa_cells_meaning.specs.Reads.{ShowsOn};
 
+use crate::sink::{CellSink, hand_on};
 use jpa_cells_meaning::{Cell, CellRow};
-use jpa_value::{Bytes, Seq};
-use sqlite::{Alter, Connection, Error, ErrorCode, Row, params};
+use jpa_value::{Bytes, Cause, Seq};
+use sqlite::{Alter, Connection, Error, ErrorCode, Row, Rows, params};
 use std::alloc::{AllocError, Global};
 
 const SELECT_ROW: &str = "SELECT c, v FROM cell WHERE t = ?1 AND r = ?2 ORDER BY c";
@@ -59,60 +63,71 @@ fn cells_of(alloc: Global, rows: &[Row]) -> Result<Seq<Cell>, Error>
     Ok(Seq::of(cells))
 }
 
+/// Want of memory, or else a fault of the store.
+fn cause_of(error: Error) -> Cause
+    ensures told { IsStoreCause result }
+    ensures fault { result ≡ Cause.StoreFault →
+        error ≢ Error.SqliteFailure ErrorCode.OutOfMemory }
+{
+    match error {
+        Error::SqliteFailure(ErrorCode::OutOfMemory) => Cause::OutOfMemory,
+        _ => Cause::StoreFault,
+    }
+}
+
 /// A row of this one cell.
-fn begin_row(
-    alloc: Global,
-    rows: &mut Vec<CellRow>,
-    row: Bytes,
-    cell: Cell,
-) -> Result<(), AllocError>
-    ensures { OnOk result (rows.new.items ≡ rows.old.items ++ row_of row (cell ∷ []) ∷ []) }
+fn begin_row(alloc: Global, row: Bytes, cell: Cell) -> Result<CellRow, AllocError>
+    ensures { IfOk result (λ made. made ≡ row_of row (cell ∷ [])) }
 {
     let mut cells = Vec::new(alloc);
     cells.push(cell)?;
-    rows.push(CellRow {
+    Ok(CellRow {
         row,
         cells: Seq::of(cells),
-    })?;
-    Ok(())
+    })
 }
 
-/// Adds the cell to the last row, or begins a row with it.
-fn add_entry(
+/// The row whose cells are read so far, with one more cell; and the row before, where the cell is
+/// the first of another.
+fn take_entry(
     alloc: Global,
-    rows: &mut Vec<CellRow>,
+    begun: Option<CellRow>,
     row: Bytes,
     cell: Cell,
-) -> Result<(), AllocError>
-    ensures { OnOk result (rows.new.items ≡ added rows.old.items (row, cell)) }
+) -> Result<(Option<CellRow>, CellRow), AllocError>
+    ensures { IfOk result (λ taken. added (option_to_list begun) (row, cell)
+        ≡ option_to_list taken.0 ++ taken.1 ∷ []) }
 {
-    match rows.pop() {
+    match begun {
         Some(mut last) if last.row.as_slice() == row.as_slice() => {
             last.cells.push(cell)?;
-            rows.push(last)?;
-            Ok(())
+            Ok((None, last))
         }
-        Some(last) => {
-            rows.push(last)?;
-            begin_row(alloc, rows, row, cell)
-        }
-        None => begin_row(alloc, rows, row, cell),
+        Some(last) => Ok((Some(last), begin_row(alloc, row, cell)?)),
+        None => Ok((None, begin_row(alloc, row, cell)?)),
     }
 }
 
-/// The rows of shown cells. Each is dropped once it is read, so that what is made of the next finds
-/// its room.
-fn rows_of(alloc: Global, shown: Vec<Row>) -> Result<Seq<CellRow>, Error>
-    ensures rows { IfOk result (λ rows. rows ≡ grouped (map shown_entry shown.items)) }
-    ensures whole { All IsShownEntry shown.items →
-        IfErr result (λ e. e ≡ Error.SqliteFailure ErrorCode.OutOfMemory) }
+/// The next cell of the answer, after the bytes of its row; none after the last.
+fn next_entry<S: Alter>(rows: &mut Rows<'_, S>) -> Result<Option<(Bytes, Cell)>, Cause>
+    ensures same_reference { rows.new.conn.ghost_name ≡ rows.old.conn.ghost_name }
+    ensures shows { ShowsOn S.Store rows.old.conn.now rows.new.conn.now result }
+    ensures refused { IfErr result IsStoreCause }
+    ensures idle { rows.old.conn.now.in_transaction ≡ false →
+        rows.new.conn.now.in_transaction ≡ false }
+    ensures survives { Survives (state S.Store rows.old.conn.now) (state S.Store rows.new.conn.now)
+        (λ _. ⊥) }
 {
-    let mut rows = Vec::new(alloc);
-    'entries: for entry in shown {
-        let (row, cell) = entry_of(&entry)?;
-        add_entry(alloc, &mut rows, row, cell)?;
+    if let Err(error) = rows.advance() {
+        return Err(cause_of(error));
     }
-    Ok(Seq::of(rows))
+    match rows.get() {
+        Some(row) => match entry_of(row) {
+            Ok(entry) => Ok(Some(entry)),
+            Err(error) => Err(cause_of(error)),
+        },
+        None => Ok(None),
+    }
 }
 
 fn select_row<S: Alter>(conn: &mut Connection<S>, table: i64, row: &[u8]) -> Result<Vec<Row>, Error>
@@ -130,23 +145,6 @@ fn select_row<S: Alter>(conn: &mut Connection<S>, table: i64, row: &[u8]) -> Res
 {
     let _idle = conn.is_autocommit();
     conn.query_all(SELECT_ROW, params![table, row])
-}
-
-fn select_table<S: Alter>(conn: &mut Connection<S>, table: i64) -> Result<Vec<Row>, Error>
-    requires idle { conn.old.in_transaction ≡ false }
-    requires cells { IsCellStore (state S.Store conn.old) }
-    ensures idle { conn.new.in_transaction ≡ false }
-    ensures shows { HasCleanDisk (state S.Store conn.new) →
-        IfOk result (λ rows. ShowsTable (state S.Store conn.old) (state S.Store conn.new) table
-        rows.items) }
-    ensures kept { KeepsContent (state S.Store conn.old) (state S.Store conn.new) }
-    ensures cause { HasCleanDisk (state S.Store conn.new) →
-        IfErr result (IsExcused (state S.Store conn.old) (state S.Store conn.new)) }
-    ensures survives { Survives (state S.Store conn.old) (state S.Store conn.new)
-        (Leaves (λ _. ⊥)) }
-{
-    let _idle = conn.is_autocommit();
-    conn.query_all(SELECT_TABLE, params![table])
 }
 
 /// The cells of a row, in rising columns.
@@ -175,27 +173,36 @@ pub fn read_row<S: Alter>(
     cells_of(alloc, rows.as_slice())
 }
 
-/// The rows of a table, in rising order.
-pub fn read_table<S: Alter>(
+/// Hands the rows of a table on, each once its cells are read: `true` once all were taken and more
+/// are wanted, `false` after the first with which no more are wanted.
+pub fn hand_table<S: Alter, K: CellSink>(
     conn: &mut Connection<S>,
     alloc: Global,
     table: i64,
-) -> Result<Seq<CellRow>, Error>
+    sink: &mut K,
+) -> Result<bool, Cause>
     requires idle { conn.old.in_transaction ≡ false }
     requires cells { IsCellStore (state S.Store conn.old) }
-    ensures idle { conn.new.in_transaction ≡ false }
-    ensures rows { HasCleanDisk (state S.Store conn.new) →
-        IfOk result (λ rows. rows ≡ tables_of (state S.Store conn.old).now table) }
-    ensures rise { HasCleanDisk (state S.Store conn.new) → IfOk result AreRows }
-    ensures stays { HasCleanDisk (state S.Store conn.new) →
-        OnOk result (IsTrue (state S.Store conn.old).is_open
-        × IsTrue (state S.Store conn.new).is_open) }
-    ensures kept { KeepsContent (state S.Store conn.old) (state S.Store conn.new) }
-    ensures cause { HasCleanDisk (state S.Store conn.new) →
-        IfErr result (IsExcused (state S.Store conn.old) (state S.Store conn.new)) }
-    ensures survives { Survives (state S.Store conn.old) (state S.Store conn.new)
-        (Leaves (λ _. ⊥)) }
+    ensures handed { HandsTable S.Store K.takes IsStoreCause table conn.old conn.new sink.old result
+        sink.new }
+    ensures reads { OnlyReads S.Store conn.old conn.new result }
 {
-    let rows = select_table(conn, table)?;
-    rows_of(alloc, rows)
+    let _idle = conn.is_autocommit();
+    let mut rows = match conn.query(SELECT_TABLE, params![table]) {
+        Ok(rows) => rows,
+        Err(error) => return Err(cause_of(error)),
+    };
+    let mut begun = None;
+    // Nothing bounds the rows that a disk makes up.
+    'entries: for _ in 0..u64::MAX {
+        let Some((row, cell)) = next_entry(&mut rows)? else {
+            return hand_on(begun, sink);
+        };
+        let (whole, last) = take_entry(alloc, begun, row, cell)?;
+        begun = Some(last);
+        if !hand_on(whole, sink)? {
+            return Ok(false);
+        }
+    }
+    Err(Cause::OutOfMemory)
 }

@@ -2,7 +2,7 @@
 
 ghost use Rattle.jpa_value.specs.declared.refusal.Cause.{Cause};
 ghost use Rattle.jpa_row_laws.specs.Handing.{Hands};
-ghost use Rattle.std.specs.Prelude.{◌≢◌};
+ghost use Rattle.std.specs.Prelude.{◌≢◌, option_to_list};
 
 use jpa_cells_meaning::CellRow;
 use jpa_value::Cause;
@@ -23,15 +23,31 @@ pub trait CellSink {
         ensures own { result ≢ Err Cause.StoreFault };
 }
 
-/// Hands the rows on, up to the one after which the sink wants no more.
-pub fn hand_on<K: CellSink>(rows: Vec<CellRow>, sink: &mut K) -> Result<bool, Cause>
-    ensures handed { Hands K.takes (λ _. ⊥) sink.old rows.items result sink.new }
+/// Hands the row on, where there is one.
+pub fn hand_on<K: CellSink>(row: Option<CellRow>, sink: &mut K) -> Result<bool, Cause>
+    ensures handed { Hands K.takes (λ _. ⊥) sink.old (option_to_list row) result sink.new }
     ensures own { result ≢ Err Cause.StoreFault }
 {
-    'rows: for row in rows {
-        if !sink.row(row)? {
-            return Ok(false);
-        }
+    match row {
+        Some(row) => sink.row(row),
+        None => Ok(true),
     }
-    Ok(true)
+}
+
+/// Keeps each row that it takes.
+#[derive(Drop)]
+pub struct Kept {
+    pub rows: Vec<CellRow>,
+}
+
+impl CellSink for Kept {
+    ghost use Rattle.std.specs.Prelude.{◌≡◌, ◌++◌, ◌∷◌, [], MatchResult, true};
+    ghost use Rattle.jpa_value.specs.declared.refusal.Cause.TheVariants as cause;
+
+    ghost takes = { λ kept row out after. MatchResult out (λ more. (more ≡ true) × (after.rows.items ≡ kept.rows.items ++ row ∷ [])) (λ refused. (refused ≡ cause.OutOfMemory) × (after.rows.items ≡ kept.rows.items)) };
+
+    fn row(&mut self, row: CellRow) -> Result<bool, Cause> {
+        self.rows.push(row)?;
+        Ok(true)
+    }
 }

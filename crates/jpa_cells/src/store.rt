@@ -1,19 +1,17 @@
 //! The store of cells.
 
-ghost use Rattle.std.specs.Prelude.{◌≡◌, ◌≢◌, ◌⊎◌, ◌+◌, ◌<◌, List, false, [], length, sum_by, IsErr, IfOk, IfErr, OnOk, OnErr};
+ghost use Rattle.std.specs.Prelude.{◌≡◌, ◌≢◌, ◌⊎◌, ◌+◌, ◌<◌, false, [], length, sum_by, IfOk, IfErr, OnOk, OnErr};
 ghost use Rattle.std.specs.Result.{IsOk};
 ghost use Rattle.sqlite.specs.Held.{state};
 ghost use Rattle.jpa_cells_meaning.specs.Content.{KeepsContent};
 ghost use Rattle.jpa_cells_meaning.specs.Schema.{no_schema};
-ghost use Rattle.jpa_row_laws.specs.Handing.{Hands};
-ghost use Rattle.jpa_cells_meaning.specs.declared.CellRow.{CellRow};
 ghost use Rattle.jpa_cells_meaning.specs.Tables.{cells_at, tables_after, statements_of, AreRows, NameColumnsOnce};
-ghost use Rattle.jpa_cells_meaning.specs.Store.{up_to_greatest, Counts, Tells, TellsOf, faults_after, new_store, IsClean, IsOpen, tables_in, HoldsTable, IsOrderedIfFound, IsReady, Keeps, Becomes, Opens, Endures, Allows, HasFault, FaultHasCause, StaysOpen};
+ghost use Rattle.jpa_cells_meaning.specs.Store.{up_to_greatest, Counts, Tells, TellsOf, faults_after, IsStoreCause, HandsTable, new_store, IsClean, IsOpen, tables_in, HoldsTable, IsOrderedIfFound, IsReady, Keeps, Becomes, Opens, Endures, Allows, HasFault, FaultHasCause, StaysOpen};
 
 use crate::found;
 use crate::make::create;
-use crate::read::{read_row, read_table};
-use crate::sink::{CellSink, hand_on};
+use crate::read::{hand_table, read_row};
+use crate::sink::{CellSink, Kept};
 use crate::write::apply_all;
 use jpa_cells_meaning::{Cell, CellChange, CellRow};
 use jpa_value::{Cause, Seq};
@@ -67,6 +65,15 @@ fn refusal_of(error: Error, faults: &mut u64) -> Cause
             *faults = faults.saturating_add(1);
             Cause::StoreFault
         }
+    }
+}
+
+/// Counts the answer, where it is a fault of the store.
+fn count_fault<T>(answer: &Result<T, Cause>, faults: &mut u64)
+    ensures { faults.new ≡ faults_after answer.now faults.old }
+{
+    if let Err(Cause::StoreFault) = answer {
+        *faults = faults.saturating_add(1);
     }
 }
 
@@ -228,11 +235,11 @@ impl<S: Alter> CellStore<S> {
             } }
         ensures crash { Endures S.Store self.old.conn self.new.conn (λ _. ⊥) }
     {
-        self.table_selects = self.table_selects.saturating_add(1);
-        match read_table(&mut self.conn, self.alloc, table) {
-            Ok(rows) => Ok(rows),
-            Err(error) => Err(refusal_of(error, &mut self.faults)),
-        }
+        let mut kept = Kept {
+            rows: Vec::new(self.alloc),
+        };
+        self.each(table, &mut kept)?;
+        Ok(Seq::of(kept.rows))
     }
 
     /// Hands the rows of a table on, in rising order of their bytes, each with its cells in rising
@@ -240,11 +247,8 @@ impl<S: Alter> CellStore<S> {
     /// `false` after the first with which no more are wanted. A refusal of the sink is the answer;
     /// at any refusal the rows before it were taken.
     pub fn each<K: CellSink>(&mut self, table: i64, sink: &mut K) -> Result<bool, Cause>
-        ensures handed { (rows : List CellRow) × (IsClean S.Store self.new.conn →
-            (IsOpen S.Store self.old.conn × (rows ≡ tables_in S.Store self.old.conn table))
-            ⊎ (IsErr result × (rows ≡ []))) × Hands K.takes
-            (λ cause. (cause ≡ Cause.OutOfMemory) ⊎ (cause ≡ Cause.StoreFault)) sink.old rows result
-            sink.new }
+        ensures handed { HandsTable S.Store K.takes IsStoreCause table self.old.conn self.new.conn
+            sink.old result sink.new }
         ensures rise { IsClean S.Store self.new.conn →
             OnOk result (AreRows (tables_in S.Store self.old.conn table)) }
         ensures open { StaysOpen S.Store result self.old.conn self.new.conn }
@@ -262,8 +266,10 @@ impl<S: Alter> CellStore<S> {
             } }
         ensures crash { Endures S.Store self.old.conn self.new.conn (λ _. ⊥) }
     {
-        let rows = self.table(table)?;
-        hand_on(rows.into_vec(), sink)
+        self.table_selects = self.table_selects.saturating_add(1);
+        let answer = hand_table(&mut self.conn, self.alloc, table, sink);
+        count_fault(&answer, &mut self.faults);
+        answer
     }
 
     /// Makes the changes in turn, all in one transaction or none: a row's cells are replaced by one

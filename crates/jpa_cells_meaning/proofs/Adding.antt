@@ -1,5 +1,5 @@
 -- The rows of the entries so far, with one more entry.
-use Rattle.std.proofs.Common.{inl, inr, ◌≡◌, ℕ, Bool, true, false, cond, List, [], ◌∷◌, ◌++◌, refl, sym, ap, ◌∙◌, subst, is_eq}
+use Rattle.std.proofs.Common.{inl, inr, ◌≡◌, ℕ, Bool, true, false, cond, List, [], ◌∷◌, ◌++◌, Option, Some, None, option_to_list, append-nil, append_assoc, refl, sym, ap, ◌∙◌, subst, is_eq}
 use Rattle.std.proofs.lemmas.Bool.{cases_Bool}
 use Rattle.jpa_cells_meaning.specs.declared.Cell.{Cell}
 use Rattle.jpa_cells_meaning.specs.declared.CellRow.{CellRow}
@@ -51,3 +51,27 @@ pub added_after : (front : List CellRow) (last : CellRow) (key : List ℕ) (cell
 added_after front last key cell other =
     added_last front last (key, cell)
     ∙ elim (cases_Bool (same last.row key)) [ inl is ↦ absurd (other (equal last.row key is)) | inr not ↦ ap (λ b. front ++ Last b last (key, cell)) not ]
+
+-- an entry after rows goes to the last of them
+pub added_behind : (front : List CellRow) (begun : Option CellRow) (e : Entry) → (begun ≡ None → front ≡ []) → added (front ++ option_to_list begun) e ≡ front ++ added (option_to_list begun) e
+added_behind front None e fresh = subst (λ f. added (f ++ []) e ≡ f ++ added [] e) (sym (fresh refl)) refl
+added_behind front (Some last) e fresh = added_last front last e
+
+-- all rows but the last stay, whatever entries follow
+pub finished_stay : (es tail : List Entry) (front : List CellRow) (last : CellRow) → grouped es ≡ front ++ last ∷ [] → (rest : List CellRow) × (grouped (es ++ tail) ≡ front ++ rest)
+finished_stay es [] front last is = (last ∷ [], ap grouped (append-nil es) ∙ is)
+finished_stay es (e ∷ tail) front last is =
+    let more = go (finished_stay (es ++ e ∷ []) tail) (same last.row e.0) (grouped_added es e ∙ ap (λ l. added l e) is ∙ added_last front last e) in
+    (more.0, ap grouped (sym (append_assoc es (e ∷ []) tail)) ∙ more.1)
+  where
+    go : ((front : List CellRow) (last : CellRow) → grouped (es ++ e ∷ []) ≡ front ++ last ∷ [] → (rest : List CellRow) × (grouped ((es ++ e ∷ []) ++ tail) ≡ front ++ rest))
+        → (b : Bool) → grouped (es ++ e ∷ []) ≡ front ++ Last b last e → (rest : List CellRow) × (grouped ((es ++ e ∷ []) ++ tail) ≡ front ++ rest)
+    go next true here = next front (row_of last.row (last.cells ++ e.1 ∷ [])) here
+    go next false here =
+        let more = next (front ++ last ∷ []) (row_of e.0 (e.1 ∷ [])) (here ∙ sym (append_assoc front (last ∷ []) (row_of e.0 (e.1 ∷ []) ∷ []))) in
+        (last ∷ more.0, more.1 ∙ append_assoc front (last ∷ []) more.0)
+
+-- rows of which none but the one begun can change
+pub rest_of : (es tail : List Entry) (front : List CellRow) (begun : Option CellRow) → grouped es ≡ front ++ option_to_list begun → (begun ≡ None → front ≡ []) → (rest : List CellRow) × (grouped (es ++ tail) ≡ front ++ rest)
+rest_of es tail front None is fresh = (grouped (es ++ tail), sym (ap (λ f. f ++ grouped (es ++ tail)) (fresh refl)))
+rest_of es tail front (Some last) is fresh = finished_stay es tail front last is

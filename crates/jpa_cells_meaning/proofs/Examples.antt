@@ -1,10 +1,9 @@
 -- The definitions on worked examples, and in the words of a layer above.
-use Rattle.std.proofs.Common.{◌≡◌, ℕ, ℤ, pos, negsuc, Bool, false, not, nat_lt, length, List, [], ◌∷◌, codes, refl, sym, lit≤, true≢false, arith}
+use Rattle.std.proofs.Common.{◌≡◌, ℕ, ℤ, pos, negsuc, List, [], ◌∷◌, codes, refl, sym, lit≤, true≢false, arith}
 use Rattle.std.specs.List.{AllByRecursion}
 use Rattle.jpa_cells_meaning.specs.declared.Cell.{Cell}
-use Rattle.jpa_cells_meaning.specs.declared.CellRow.{CellRow}
 use Rattle.jpa_cells_meaning.specs.declared.CellChange.{CellChange}
-use Rattle.jpa_cells_meaning.specs.Tables.{Tables, row_of, cells_at, tables_after, ColumnsDiffer, AreShort, wanted, HandsOn, statements_of}
+use Rattle.jpa_cells_meaning.specs.Tables.{Tables, row_of, cells_at, tables_after, ColumnsDiffer, AreShort, statements_of}
 use Rattle.sqlite.specs.declared.types.Value.TheVariants.{Int, Blob}
 use Rattle.sqlite.specs.Order.{Row}
 use Rattle.jpa_cells_meaning.specs.Content.{IsFollowed, HasRowids, CanTake}
@@ -58,32 +57,6 @@ third = record { table = negsuc 0; row = 2 ∷ []; cells = discriminator ∷ [] 
 
 ordered : tables_after (first ∷ second ∷ third ∷ []) none (negsuc 0) ≡ row_of (1 ∷ 255 ∷ []) (name ∷ []) ∷ row_of (2 ∷ []) (discriminator ∷ []) ∷ []
 ordered = refl
-
--- ---- a sink that wants two rows
-
-abbrev two : List CellRow → Bool
-two taken = not (nat_lt (length taken) 2)
-
-abbrev row_at : ℕ → CellRow
-row_at key = row_of (key ∷ []) (name ∷ [])
-
-two_wanted : wanted two [] (row_at 1 ∷ row_at 2 ∷ row_at 3 ∷ []) ≡ row_at 1 ∷ row_at 2 ∷ []
-two_wanted = refl
-
--- it has one already
-one_wanted : wanted two (row_at 0 ∷ []) (row_at 1 ∷ row_at 2 ∷ row_at 3 ∷ []) ≡ row_at 1 ∷ []
-one_wanted = refl
-
-handed : HandsOn two (row_at 1 ∷ row_at 2 ∷ row_at 3 ∷ []) (row_at 0 ∷ []) (row_at 0 ∷ row_at 1 ∷ [])
-handed = refl
-
--- a sink that never stops gets all of them
-all_wanted : wanted (λ _. false) [] (row_at 1 ∷ row_at 2 ∷ row_at 3 ∷ []) ≡ row_at 1 ∷ row_at 2 ∷ row_at 3 ∷ []
-all_wanted = refl
-
--- one that wants two and has two takes one more before it can say so
-one_too_many : wanted two (row_at 0 ∷ row_at 1 ∷ []) (row_at 2 ∷ row_at 3 ∷ []) ≡ row_at 2 ∷ []
-one_too_many = refl
 
 -- ---- what can be written
 

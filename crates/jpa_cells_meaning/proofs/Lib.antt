@@ -24,6 +24,7 @@ pub mod Stops
 pub mod Refusals
 pub mod Room
 pub mod Taking
+pub mod Shown
 pub mod Handing
 pub mod Examples
 pub mod Placing

@@ -4,6 +4,7 @@ use Rattle.sqlite.specs.Order.{Row}
 use Rattle.sqlite.specs.Tree.{Trees}
 use Rattle.sqlite.specs.Listing.{understood, reads_listing, if_select, is_select, listing_schema}
 use Rattle.sqlite.specs.State.{State, CommitsShowing}
+use Rattle.sqlite.specs.Given.{Returns}
 use Rattle.sqlite_tied.specs.Compute.{everything}
 use Rattle.sqlite_resolve.specs.declared.compiled.Compiled.{Compiled}
 use Rattle.sqlite_resolve.specs.declared.error.CompileError.{CompileError}
@@ -93,3 +94,10 @@ unfolding CommitsShowing
 table_never_commits params s db h =
     let none = subst Quiet h.1.is (understood_quiet s.now.schema table_text table_selects) in
     subst (λ o. Rattle.std.proofs.Common.IsSome o → ⊥) (sym none) (λ x. true≢false (sym x)) h.2
+
+never_both : (r : Result Compiled CompileError) → Quiet r → Returns r → ⊥
+never_both (Ok c) none some = true≢false (sym (subst Rattle.std.proofs.Common.IsSome none some))
+never_both (Err e) none some = some
+
+pub table_returns_none : (schema : Schema) → Returns (understood schema table_text) → ⊥
+table_returns_none schema = never_both _ (understood_quiet schema table_text table_selects)

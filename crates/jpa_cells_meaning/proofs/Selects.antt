@@ -58,7 +58,7 @@ module _ (sql : List ℕ) (plain : IsPlain (understood cell_schema sql)) (params
       go (Some what) (inl it) = it.1.0.was_open
       go (Some what) (inr it) = it.3.was_open live
 
-  failed_keeps : (IsTrue old.is_open → old.now ≡ old.committed) → (e : Error) → FailsToQuery sql params old new e → IsTrue new.is_open → IsTrue old.is_open × (new.now ≡ old.now)
+  pub failed_keeps : (IsTrue old.is_open → old.now ≡ old.committed) → (e : Error) → FailsToQuery sql params old new e → IsTrue new.is_open → IsTrue old.is_open × (new.now ≡ old.now)
   unfolding FailsToQuery IsNotRun
   failed_keeps settled e (inl (inl h)) live = unchanged old new h.1 live
   failed_keeps settled e (inl (inr h)) live = rolled_back old new settled h.3 live

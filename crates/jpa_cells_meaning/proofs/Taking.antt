@@ -26,7 +26,7 @@ use Rattle.jpa_cells_meaning.specs.Schema.{cell_schema, insert_text, delete_text
 use Rattle.jpa_cells_meaning.specs.declared.Cell.{Cell}
 use Rattle.jpa_cells_meaning.specs.declared.CellChange.{CellChange}
 use Rattle.jpa_cells_meaning.specs.Tables.{cell_cmp, placed, ColumnsDiffer}
-use Rattle.jpa_cells_meaning.specs.Content.{HoldsCells, IsCellStore, IsExcused, Steps, content, loose_cells, with_cell, without_cells, replaced, HasRowids, TakesRowids, CanAdd, CanTake, cells_in_all}
+use Rattle.jpa_cells_meaning.specs.Content.{HoldsCells, IsCellStore, IsExcused, IsFault, Steps, content, loose_cells, with_cell, without_cells, replaced, HasRowids, TakesRowids, CanAdd, CanTake, cells_in_all}
 use Rattle.jpa_cells_meaning.proofs.Texts.{insert_terms, insert_is, insert_plain, delete_query, delete_is, delete_plain}
 use Rattle.jpa_cells_meaning.proofs.RowMeaning.{params}
 use Rattle.jpa_cells_meaning.proofs.Laws.{cells_in, obeys}
@@ -160,14 +160,17 @@ excused_still first mid last e up (inl memory) = inl memory
 excused_still first mid last e up (inr (inl more)) = inr (inl (still _ _ _ up more))
 excused_still first mid last e up (inr (inr other)) = inr (inr other)
 
+pub fault_later : (first mid last : State) (Commits : Trees → Type 0) → Survives first mid Commits → HasCleanDisk mid → mid.faults ≤ last.faults → IsFault mid last → IsFault first last
+fault_later first mid last Commits survived clean up (inl more) = inl (later _ _ _ survived.counts more)
+fault_later first mid last Commits survived clean up (inr (inr some)) = inr (inr (subst IsSome survived.limit some))
+fault_later first mid last Commits survived clean up (inr (inl shut)) = elim (cases_Bool first.is_open) [
+  | inr was_shut ↦ inr (inl was_shut)
+  | inl live ↦ elim (survived.closes clean live) [ inl stayed ↦ absurd (true≢false (sym stayed ∙ shut)) | inr more ↦ inl (still _ _ _ up more) ]
+]
+
 pub excused_later : (first mid last : State) (Commits : Trees → Type 0) (e : Error) → Survives first mid Commits → HasCleanDisk mid → mid.faults ≤ last.faults → IsExcused mid last e → IsExcused first last e
 excused_later first mid last Commits e survived clean up (inl memory) = inl memory
-excused_later first mid last Commits e survived clean up (inr (inl more)) = inr (inl (later _ _ _ survived.counts more))
-excused_later first mid last Commits e survived clean up (inr (inr (inr some))) = inr (inr (inr (subst IsSome survived.limit some)))
-excused_later first mid last Commits e survived clean up (inr (inr (inl shut))) = elim (cases_Bool first.is_open) [
-  | inr was_shut ↦ inr (inr (inl was_shut))
-  | inl live ↦ elim (survived.closes clean live) [ inl stayed ↦ absurd (true≢false (sym stayed ∙ shut)) | inr more ↦ inr (inl (still _ _ _ up more)) ]
-]
+excused_later first mid last Commits e survived clean up (inr fault) = inr (fault_later first mid last Commits survived clean up fault)
 
 pub commit_fault : (old new : State) (e : Error) → IsTrue old.in_transaction → FailsToCommit old new e → IsExcused old new e
 commit_fault old new e inside (inl fails) = fails_excused old new e fails

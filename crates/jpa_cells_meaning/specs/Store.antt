@@ -1,16 +1,20 @@
 -- A store of cells, in the words of the layers above it: which tables a connection stands for, and
 -- what a call leaves of them.
-use Rattle.std.specs.Prelude.{◌≡◌, ◌⊎◌, ◌+◌, ◌-◌, ◌^◌, ◌≤◌, min, ℕ, List, [], IsTrue, Result, Ok, Err, OnOk, refl}
+use Rattle.std.specs.Prelude.{◌≡◌, ◌⊎◌, ◌+◌, ◌-◌, ◌^◌, ◌≤◌, min, ℕ, ℤ, Bool, false, List, [], IsTrue, Result, Ok, Err}
+use Rattle.std.specs.Prelude.{IsErr, OnOk, refl}
 use Rattle.std.specs.Coded.{Coded, code_by, coded×, coded_ℕ}
 use Rattle.sqlite_trees.specs.declared.store.Store.{Ghosts}
 use Rattle.sqlite.specs.Held.{Held, held_code, state}
 use Rattle.sqlite.specs.State.{HasCleanDisk, Survives}
 use Rattle.jpa_value.specs.declared.refusal.Cause.{Cause}
 use Rattle.jpa_value.specs.declared.refusal.Cause.TheVariants as cause
+use Rattle.jpa_row_laws.specs.Handing.{Hands}
+use Rattle.jpa_cells_meaning.specs.declared.CellRow.{CellRow}
 use Rattle.jpa_cells_meaning.specs.declared.CellChange.{CellChange}
 use Rattle.jpa_cells_meaning.specs.Tables.{Tables}
 use Rattle.jpa_cells_meaning.specs.Schema.{cell_schema, no_schema}
-use Rattle.jpa_cells_meaning.specs.Content.{AreInOrder, IsCellStore, CanTake, IsFault as Faults, Leaves, tables_of}
+use Rattle.jpa_cells_meaning.specs.Content.{AreInOrder, IsCellStore, CanTake, KeepsContent, IsFault as Faults, Leaves}
+use Rattle.jpa_cells_meaning.specs.Content.{tables_of}
 
 -- the connection, and how often each kind of statement was run and a statement was refused
 pub record Stored (S : Type 0) : Type 0 where
@@ -63,6 +67,10 @@ Tells (Err e) old new = TellsOf e old new
 abbrev pub new_store : {S : Type 0} → Held S → ℕ → Stored S
 new_store conn creates =
     record { conn = conn; row_selects = 0; table_selects = 0; writes = 0; creates = creates; faults = 0 }
+
+-- want of memory, or a fault of the store
+abbrev pub IsStoreCause : Cause → Type 0
+IsStoreCause c = (c ≡ cause.OutOfMemory) ⊎ (c ≡ cause.StoreFault)
 
 -- a fault of the store is counted, and no other refusal
 abbrev pub faults_after : {T : Type 0} → Result T Cause → ℕ → ℕ
@@ -130,3 +138,20 @@ module _ {S : Type 0} (g : Ghosts S) where
   -- nothing but a fault stands against these changes
   abbrev pub Allows : Held S → List CellChange → Type 0
   Allows conn changes = CanTake (state g conn).now changes
+
+  -- What a SELECT leaves: the connection is in no transaction, and open where it answers; its content is as it was, and
+  -- a crash leaves nothing else. A StoreFault has a cause.
+  pub record OnlyReads {T : Type 0} (old new : Held S) (result : Result T Cause) : Type 0 where
+    pub idle : new.in_transaction ≡ false
+    pub stays : StaysOpen result old new
+    pub kept : KeepsContent (state g old) (state g new)
+    pub cause : FaultHasCause result old new
+    pub crash : Endures old new (λ _. ⊥)
+
+  -- The rows of a table are handed on in their order, and a failure may come before each of them: none are where the
+  -- connection was shut.
+  abbrev pub HandsTable : {K : Type 0} → (K → CellRow → Result Bool Cause → K → Type 0) → (Cause → Type 0) → ℤ →
+      Held S → Held S → K → Result Bool Cause → K → Type 0
+  HandsTable Takes Fails table old new first result last = (rows : List CellRow)
+      × (IsClean new → (IsOpen old × (rows ≡ tables_in old table)) ⊎ (IsErr result × (rows ≡ [])))
+      × Hands Takes Fails first rows result last

@@ -1,5 +1,5 @@
 -- Tables of rows of cells, and what changes make of them.
-use Rattle.std.specs.Prelude.{◌≡◌, ◌≢◌, ◌+◌, ◌^◌, ◌≤◌, ◌++◌, Bool, ℕ, ℤ, not, List, [], ◌∷◌, length, filter, fold}
+use Rattle.std.specs.Prelude.{◌≡◌, ◌≢◌, ◌+◌, ◌^◌, ◌≤◌, ℕ, ℤ, not, List, [], ◌∷◌, length, filter, fold}
 use Rattle.std.specs.Prelude.{if◌then◌else◌}
 use Rattle.std.specs.List.{AllByRecursion}
 use Rattle.std.specs.declared.cmp.Ordering.{Ordering}
@@ -81,22 +81,6 @@ changed change tables t =
 abbrev pub tables_after : List CellChange → Tables → Tables
 tables_after [] tables = tables
 tables_after (change ∷ changes) tables = tables_after changes (changed change tables)
-
--- the rows up to the first after which no more are wanted, with that one, where these were taken
--- before
-abbrev pub wanted : (List CellRow → Bool) → List CellRow → List CellRow → List CellRow
-wanted stops taken [] = []
-wanted stops taken (row ∷ rows) =
-    row ∷ (if stops (taken ++ row ∷ []) then [] else wanted stops (taken ++ row ∷ []) rows)
-
--- the rows that are wanted were handed on, and no other
-abbrev pub HandsOn : (List CellRow → Bool) → List CellRow → List CellRow → List CellRow → Type 0
-HandsOn stops rows before after = after ≡ before ++ wanted stops before rows
-
--- some of them were, from the first, but not the last
-abbrev pub HandsSome : (List CellRow → Bool) → List CellRow → List CellRow → List CellRow → Type 0
-HandsSome stops rows before after = (handed left : List CellRow) × (wanted stops before rows ≡ handed ++ left)
-    × (after ≡ before ++ handed) × (left ≡ [] → handed ≡ [])
 
 -- one DELETE for the row, and one INSERT for each cell
 abbrev pub statements_of : CellChange → ℕ

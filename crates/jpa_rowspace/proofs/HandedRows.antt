@@ -1,5 +1,5 @@
 -- Rows of cells that are handed on are rows that are handed on.
-use Rattle.std.proofs.Common.{◌≡◌, ◌∙◌, ◌⊎◌, inl, inr, refl, sym, ap, subst, Bool, true, false, List, [], ◌∷◌, map}
+use Rattle.std.proofs.Common.{◌≡◌, ◌∙◌, inl, inr, refl, sym, ap, subst, Bool, true, false, List, [], ◌∷◌, map}
 use Rattle.std.specs.Prelude.{⊤, Result, Ok, Err, IsErrAnd}
 use Rattle.std.specs.List.{AllByRecursion}
 use Rattle.jpa_value.specs.declared.refusal.Cause.{Cause}
@@ -11,7 +11,7 @@ use Rattle.jpa_rows.specs.Faults.{IsStoreCause}
 use Rattle.jpa_rows.specs.Rows.{RowId, Row, Rows}
 use Rattle.jpa_cells_meaning.specs.declared.CellRow.{CellRow}
 use Rattle.jpa_rowspace.specs.Stored.{stored_row}
-use Rattle.jpa_rowspace.specs.Reading.{ReadsRow, IsEntry, IsDamaged}
+use Rattle.jpa_rowspace.specs.Reading.{ReadsRow}
 use Rattle.jpa_rowspace.proofs.Ids.{IsIn}
 use Rattle.jpa_rowspace.proofs.Readings.{spells_own}
 

@@ -21,7 +21,7 @@ use Rattle.jpa_cells_meaning.specs.declared.CellChange.{CellChange}
 use Rattle.jpa_cells_meaning.specs.declared.CellRow.{CellRow}
 use Rattle.jpa_cells_meaning.specs.Tables.{Tables, cells_at, tables_after}
 use Rattle.jpa_cells_meaning.specs.Store.{IsClean, IsOpen, tables_in, Keeps, Becomes, Endures}
-use Rattle.jpa_rowspace.specs.Stored.{cells_in, cell_changes, stored_rows, table_if, table_for, IsEntryBy, AreRowsOf, AreStored}
+use Rattle.jpa_rowspace.specs.Stored.{cells_in, cell_changes, table_if, table_for, IsEntryBy, AreRowsOf, AreStored}
 use Rattle.jpa_rowspace.specs.Reading.{IsFound, IsIllFormed, ReadsRow}
 use Rattle.jpa_rowspace.specs.Space.{HoldsRows, IsStoreCause}
 use Rattle.jpa_rowspace.specs.Enduring.{EnduresRows, endures_weaker}

@@ -1,10 +1,7 @@
 //! From rows of cells to rows, one at a time.
-ghost use Rattle.std.specs.Prelude.{◌≡◌, ◌≢◌, ◌⊎◌, ◌+◌, [], pos, List, Err, IsErr, OnOk};
-ghost use Rattle.jpa_value.specs.declared.refusal.Cause.{Cause};
-ghost use Rattle.jpa_row_laws.specs.Handing.{Hands};
-ghost use Rattle.jpa_cells_meaning.specs.declared.CellRow.{CellRow};
+ghost use Rattle.std.specs.Prelude.{◌≡◌, ◌+◌, pos, OnOk};
 ghost use Rattle.jpa_cells_meaning.specs.Tables.{AreRows};
-ghost use Rattle.jpa_cells_meaning.specs.Store.{up_to_greatest, faults_after, IsClean, IsOpen, tables_in, Keeps, Endures, HasFault};
+ghost use Rattle.jpa_cells_meaning.specs.Store.{up_to_greatest, faults_after, HandsTable, IsClean, tables_in, Keeps, Endures, FaultHasCause, StaysOpen};
 ghost use Rattle.jpa_rowspace.specs.Reading.{ReadsRow};
 ghost use Rattle.jpa_rowspace.specs.Space.{IsStoreCause};
 
@@ -46,20 +43,15 @@ pub(crate) fn each_under<'l, 's, S: Alter, K: RowSink>(
     table: &'l TableRule,
     sink: &'s mut K,
 ) -> Result<bool, Cause>
-    ensures handed { (stored : List CellRow) × (IsClean S.Store store.new.conn →
-        (IsOpen S.Store store.old.conn
-        × (stored ≡ tables_in S.Store store.old.conn (pos table.now.table)))
-        ⊎ (IsErr result × (stored ≡ []))) × Hands (ReadsRow K.takes table.now) IsStoreCause
-        sink.old stored result sink.new }
+    ensures handed { HandsTable S.Store (ReadsRow K.takes table.now) IsStoreCause
+        (pos table.now.table) store.old.conn store.new.conn sink.old result sink.new }
     ensures rise { IsClean S.Store store.new.conn →
         OnOk result (AreRows (tables_in S.Store store.old.conn (pos table.now.table))) }
-    ensures open { IsClean S.Store store.new.conn →
-        OnOk result (IsOpen S.Store store.old.conn × IsOpen S.Store store.new.conn) }
+    ensures open { StaysOpen S.Store result store.old.conn store.new.conn }
     ensures kept { Keeps S.Store store.old.conn store.new.conn }
     ensures counted { store.new.table_selects ≡ up_to_greatest (store.old.table_selects + 1) }
     ensures told { store.new.faults ≡ faults_after result store.old.faults }
-    ensures cause { IsClean S.Store store.new.conn → result ≡ Err Cause.StoreFault →
-        HasFault S.Store store.old.conn store.new.conn }
+    ensures cause { FaultHasCause S.Store result store.old.conn store.new.conn }
     ensures others { store.new ≡ record store.old {
       conn = store.new.conn;
       table_selects = store.new.table_selects;

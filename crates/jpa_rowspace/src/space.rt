@@ -1,15 +1,13 @@
 //! The rows of a schema.
-ghost use Rattle.std.specs.Prelude.{◌≡◌, ◌≢◌, ◌⊎◌, ◌+◌, ◌<◌, [], pos, length, List, Ok, Err, None, Some, true, IsErr, IsSome, IfSome, IfOk, IfErr, OnOk, OnErr, sum_by};
+ghost use Rattle.std.specs.Prelude.{◌≡◌, ◌⊎◌, ◌+◌, ◌<◌, pos, length, Ok, Err, None, Some, true, IsSome, IfSome, IfOk, IfErr, OnOk, OnErr, sum_by};
 ghost use Rattle.jpa_value.specs.declared.refusal.Cause.{Cause};
 ghost use Rattle.jpa_key.specs.Keys.{key_bytes};
-ghost use Rattle.jpa_row_laws.specs.Handing.{Hands};
-ghost use Rattle.jpa_cells_meaning.specs.declared.CellRow.{CellRow};
 ghost use Rattle.jpa_rows.specs.Rows.{Rows, AreRising, AreChanges, rows_after, table_of};
 ghost use Rattle.jpa_rows.specs.Statements.{statements_of};
 ghost use Rattle.sqlite.specs.Held.{state};
 ghost use Rattle.jpa_cells_meaning.specs.Content.{KeepsContent};
 ghost use Rattle.jpa_cells_meaning.specs.Tables.{AreRows, cells_at, tables_after};
-ghost use Rattle.jpa_cells_meaning.specs.Store.{up_to_greatest, Counts, Tells, faults_after, IsClean, IsOpen, tables_in, Keeps, Becomes, Endures, Allows, HasFault, FaultHasCause, StaysOpen};
+ghost use Rattle.jpa_cells_meaning.specs.Store.{up_to_greatest, Counts, Tells, faults_after, HandsTable, IsClean, IsOpen, tables_in, Keeps, Becomes, Endures, Allows, HasFault, FaultHasCause, StaysOpen};
 ghost use Rattle.jpa_rowspace.specs.Stored as stored;
 ghost use Rattle.jpa_rowspace.specs.Reading.{IsFound, IsIllFormed, AreRead, ReadsRow};
 ghost use Rattle.jpa_rowspace.specs.Space.{HoldsRows, IsStoreCause};
@@ -92,8 +90,7 @@ impl<S: Alter> RowSpace<S> {
         ensures at_most_one { (self.new.store.row_selects ≡ self.old.store.row_selects)
             ⊎ (self.new.store.row_selects ≡ up_to_greatest (self.old.store.row_selects + 1)) }
         ensures told { self.new.store.faults ≡ faults_after result self.old.store.faults }
-        ensures cause { IsClean S.Store self.new.store.conn → result ≡ Err Cause.StoreFault →
-            HasFault S.Store self.old.store.conn self.new.store.conn }
+        ensures cause { FaultHasCause S.Store result self.old.store.conn self.new.store.conn }
         ensures others { self.new
             ≡ record self.old {
               store = record self.old.store {
@@ -170,11 +167,8 @@ impl<S: Alter> RowSpace<S> {
     /// answer.
     pub fn each<K: RowSink>(&mut self, table: u64, sink: &mut K) -> Result<bool, Cause>
         ensures handed { IfSome (table_of self.old.schema table) (λ rule.
-            (stored : List CellRow) × (IsClean S.Store self.new.store.conn →
-            (IsOpen S.Store self.old.store.conn
-            × (stored ≡ tables_in S.Store self.old.store.conn (pos table)))
-            ⊎ (IsErr result × (stored ≡ []))) × Hands (ReadsRow K.takes rule) IsStoreCause sink.old
-            stored result sink.new) }
+            HandsTable S.Store (ReadsRow K.takes rule) IsStoreCause (pos table)
+            self.old.store.conn self.new.store.conn sink.old result sink.new) }
         ensures rise { IsClean S.Store self.new.store.conn →
             OnOk result (IsSome (table_of self.old.schema table) →
             AreRows (tables_in S.Store self.old.store.conn (pos table))) }
@@ -190,8 +184,7 @@ impl<S: Alter> RowSpace<S> {
             ⊎ (self.new.store.table_selects
             ≡ up_to_greatest (self.old.store.table_selects + 1)) }
         ensures told { self.new.store.faults ≡ faults_after result self.old.store.faults }
-        ensures cause { IsClean S.Store self.new.store.conn → result ≡ Err Cause.StoreFault →
-            HasFault S.Store self.old.store.conn self.new.store.conn }
+        ensures cause { FaultHasCause S.Store result self.old.store.conn self.new.store.conn }
         ensures others { self.new
             ≡ record self.old {
               store = record self.old.store {

@@ -1,22 +1,16 @@
-use Rattle.std.specs.Prelude.{◌≡◌, ◌⊎◌, [], IsErr, IsErrAnd}
-use Rattle.std.proofs.Common.{◌∙◌, inl, inr, refl, to_z-of_z, rules}
-use Rattle.jpa_value.specs.declared.refusal.Cause.{Cause}
-use Rattle.jpa_value.specs.declared.refusal.Cause.TheVariants as cause
-use Rattle.jpa_row_laws.proofs.Handing.{hands_weaker}
+use Rattle.std.proofs.Common.{subst, to_z-of_z}
+use Rattle.std.specs.Prelude.{OnOk}
+use Rattle.jpa_cells_meaning.specs.Tables.{AreRows}
+use Rattle.jpa_cells_meaning.specs.Store.{Stored, IsStoreCause, HandsTable, tables_in}
+use Rattle.jpa_cells_meaning.proofs.Handing.{rises}
 use Rattle.jpa_cells.proofs.store.CellStore.each.Goals as goal
 
-abbrev Fails : Cause → Type 0
-Fails e = (e ≡ cause.OutOfMemory) ⊎ (e ≡ cause.StoreFault)
-
 pub returns-clause-handed : goal.returns-clause-handed
-returns-clause-handed g c = (
-  c.into_vec.result.items,
-  λ clean. inl ((c.in_ok-rows.ensures.open clean).0, c.into_vec.ensures ∙ rw (to_z-of_z c.ranges.table) at (c.in_ok-rows.ensures.rows clean)),
-  hands_weaker g.K.CellSink.takes (λ _. ⊥) Fails (λ e h. absurd h) c.args.sink.now c.into_vec.result.items c.hand_on.result c.hand_on.new.sink c.hand_on.ensures.handed,
-)
+returns-clause-handed g c =
+    subst (λ (o : Stored g.row.S.Denot). HandsTable g.S.Store g.K.CellSink.takes IsStoreCause c.args.table o.conn c.hand_table-answer.new.conn c.args.sink.now c.hand_table-answer.result c.hand_table-answer.new.sink) c.self.view_is
+    (rw (to_z-of_z c.ranges.table) at c.hand_table-answer.ensures.handed)
 
-pub returns-in_err-rows-clause-handed : goal.returns-in_err-rows-clause-handed
-returns-in_err-rows-clause-handed g c =
-    let cut : IsErrAnd c.from_residual.result Fails = search rules in
-    let failed : IsErr c.from_residual.result = search rules in
-    ([], λ _. inr (failed, refl), (inr cut, refl))
+pub returns-clause-rise : goal.returns-clause-rise
+returns-clause-rise g c clean =
+    subst (λ (o : Stored g.row.S.Denot). OnOk c.hand_table-answer.result (AreRows (tables_in g.S.Store o.conn c.args.table))) c.self.view_is
+    (rises g.S.Store g.K.CellSink.takes c.args.table c.self.inside.conn c.args.sink.now c.hand_table-answer.new.conn c.hand_table-answer.result c.self.invariant.1 c.hand_table-answer.ensures.reads clean)

@@ -1,0 +1,16 @@
+use Rattle.std.proofs.Common.{◌∙◌, sym, subst, rules, to_z-of_z}
+use Rattle.jpa_cells_meaning.specs.Tables.{AreRows}
+use Rattle.jpa_cells_meaning.proofs.Handing.{kept_table, kept_err, tells_err}
+use Rattle.jpa_cells.proofs.store.CellStore.table.Goals as goal
+
+pub returns-in_err-each-clause-told : goal.returns-in_err-each-clause-told
+returns-in_err-each-clause-told g c =
+    tells_err c.each.result c.from_residual.result _ c.args.self.now.faults c.each.new.self.faults c.in_err-each.was (search rules)
+    (kept_err (λ s. s.rows.items) g.S.Store c.args.table c.args.self.now.conn c.each.new.self.conn _ c.each.new.sink c.each.result _ c.in_err-each.was (rw (to_z-of_z c.ranges.table) at c.each.ensures.handed)) c.each.ensures.told
+
+pub returns-clause-rows : goal.returns-clause-rows
+returns-clause-rows g c clean =
+    c.of.ensures ∙ kept_table (λ s. s.rows.items) g.S.Store c.args.table c.args.self.now.conn c.each.new.self.conn _ c.each.new.sink c.each.result _ c.in_ok-each.was c.new.ensures.items (rw (to_z-of_z c.ranges.table) at c.each.ensures.handed) clean
+
+pub returns-clause-rise : goal.returns-clause-rise
+returns-clause-rise g c clean = subst AreRows (sym (returns-clause-rows g c clean)) (rw (to_z-of_z c.ranges.table) at (c.in_ok-each.ensures.rise clean))
