@@ -1,6 +1,6 @@
 -- What is known of a store after its judgment.
-use Rattle.std.specs.Prelude.{◌≡◌, ◌⊎◌, ℕ, suc, true, List, [], ◌∷◌, ◌++◌, take, drop, Option, Some, None}
-use Rattle.std.proofs.Common.{refl, sym, ap, subst, ◌∙◌, inl, inr, zero, get_or}
+use Rattle.std.specs.Prelude.{◌≡◌, ◌⊎◌, ℕ, pos, suc, true, List, [], ◌∷◌, ◌++◌, take, drop, Option, Some, None}
+use Rattle.std.proofs.Common.{refl, sym, ap, subst, ◌∙◌, inl, inr, zero, get_or, arith}
 use Rattle.sqlite_trees.specs.declared.store.Store.{Ghosts}
 use Rattle.jpa_value.specs.declared.refusal.Cause.{Cause}
 use Rattle.jpa_key.specs.Keys.{key_bytes}
@@ -9,14 +9,16 @@ use Rattle.jpa_behaviour.specs.Behaviour.{World, IsRegular}
 use Rattle.jpa_history.specs.declared.history.History.{History}
 use Rattle.jpa_migration.specs.Migration.{opened_tables}
 use Rattle.jpa_rows.specs.declared.schema.Schema.{Schema}
-use Rattle.jpa_rows.specs.Rows.{RowId, Row, Rows}
+use Rattle.jpa_rows.specs.declared.schema.TableRule.{TableRule}
+use Rattle.jpa_rows.specs.Rows.{RowId, Row, Rows, table_of, table_rows}
 use Rattle.jpa_rows.specs.Tables.{schema_of}
 use Rattle.jpa_object_rows.specs.Unambiguous.{is_class}
 use Rattle.jpa_object_rows.proofs.Bytes.Mapped.{IsMapped}
 use Rattle.jpa_object_rows.specs.Objects.{is_discriminator}
-use Rattle.jpa_cells_meaning.specs.Tables.{Tables}
+use Rattle.jpa_cells_meaning.specs.Tables.{Tables, AreRows}
 use Rattle.jpa_cells_meaning.specs.Store.{IsClean, IsOpen, tables_in}
 use Rattle.jpa_rowspace.specs.Stored.{AreRowsOf, AreStored}
+use Rattle.jpa_rowspace.specs.Reading.{IsReadBy}
 use Rattle.jpa_rowspace.specs.Space.{Space, IsStoreCause}
 use Rattle.jpa_rowspace.proofs.Whole.{reads_all}
 use Rattle.jpa_judgment.specs.declared.judge.Committed.{Committed}
@@ -26,8 +28,9 @@ use Rattle.jpa_judgment.specs.Damage.{AreDamagedAt, IsLowestDamage}
 use Rattle.jpa_judgment.specs.Opened.{HaveCommitted}
 use Rattle.jpa_judgment.specs.Reads.{AreNumbersOf, AreReadUpTo, IsFirstUnsound, IsTold, KeepsTables}
 use Rattle.jpa_judgment.proofs.Reading.{whole_all, into_all, into_rises, seen}
-use Rattle.jpa_judgment.proofs.Lowest.{lowest_unsound, lowest_ended, lowest_before}
-use Rattle.jpa_judgment.proofs.Standing.{stand_held, stand_none}
+use Rattle.jpa_judgment.proofs.Lowest.{lowest_unsound, lowest_ended, rows_reached, reached_table, lowest_before}
+use Rattle.jpa_judgment.proofs.Standing.{stand_held, stand_none, sound_none}
+use Rattle.jpa_judgment.proofs.Undamaged.{damaged_stand_for_none}
 
 -- ---- the row at a place
 
@@ -94,12 +97,27 @@ module _ {S : Type 0} (g : Ghosts S) (world : World) (mapped : IsMapped world.mo
   rows_named (Some at) r =
       (reads_all schema (seen schema opened numbers are.rising rows at.0 at.1 r) rows (into_rises schema opened numbers are.rising rows at.0 at.1 r) (into_all schema opened numbers are.rising rows at.0 at.1 r)).0
 
+  -- the place of a damaged row, of a table whose rows of cells rise
+  damaged_row : (t : ℕ) (bytes : List ℕ) → ((rule : TableRule) → table_of schema t ≡ Some rule → AreRows (opened (pos t))) → IsLowestDamage world opened t bytes → AreDamagedAt world opened t bytes
+  damaged_row t bytes rows_are d =
+      record { none = damaged_stand_for_none world mapped regular discriminators opened t bytes (rows_are d.rule d.own) d; place = inl d }
+
   damaged_at : (end : Option (ℕ × List ℕ)) → AreReadUpTo schema opened numbers rows end → (t : ℕ) (bytes : List ℕ) → IsTold world rows end t bytes → AreDamagedAt world opened t bytes
-  damaged_at None r t bytes (inl first) = inl (lowest_unsound world opened rows r.rising (whole_all schema opened numbers rows are r) t bytes first)
-  damaged_at None r t bytes (inr none) = inr (none.0, none.1, stand_none world mapped regular discriminators opened rows r.rising (whole_all schema opened numbers rows are r) none.2)
-  damaged_at (Some at) r t bytes (inl first) = inl (lowest_before world opened numbers are rows at.0 at.1 r t bytes first)
+  damaged_at None r t bytes (inl first) =
+      let reads = whole_all schema opened numbers rows are r in
+      damaged_row t bytes (λ rule own. (subst (λ o. IsReadBy o (opened (pos t)) (table_rows t rows)) own (reads t)).0) (lowest_unsound world opened rows r.rising reads t bytes first)
+  damaged_at None r t bytes (inr none) =
+      let reads = whole_all schema opened numbers rows are r in
+      record {
+        none = stand_none world mapped regular discriminators opened rows r.rising reads none.2;
+        place = inr (none.0, none.1, sound_none world mapped regular discriminators opened rows r.rising reads none.2);
+      }
+  damaged_at (Some at) r t bytes (inl first) =
+      damaged_row t bytes (λ rule own. rows_reached world opened numbers are rows at.0 at.1 r t rule (reached_table world opened numbers are rows at.0 at.1 r t bytes first) own)
+      (lowest_before world opened numbers are rows at.0 at.1 r t bytes first)
   damaged_at (Some at) r t bytes (inr ended) =
-      inl (subst (λ n. IsLowestDamage world opened n bytes) (sym ended.0) (subst (IsLowestDamage world opened at.0) (sym ended.1) (lowest_ended world opened numbers are rows at.0 at.1 r ended.2)))
+      damaged_row t bytes (λ rule own. rows_reached world opened numbers are rows at.0 at.1 r t rule (let same = ended.0 in omega (arith, same)) own)
+      (subst (λ n. IsLowestDamage world opened n bytes) (sym ended.0) (subst (IsLowestDamage world opened at.0) (sym ended.1) (lowest_ended world opened numbers are rows at.0 at.1 r ended.2)))
 
   -- ---- what is answered
 

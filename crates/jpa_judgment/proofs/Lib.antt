@@ -7,6 +7,7 @@ pub mod Parts
 pub mod Reading
 pub mod Lowest
 pub mod Standing
+pub mod Undamaged
 pub mod Rising
 pub mod Keeping
 pub mod Migrated

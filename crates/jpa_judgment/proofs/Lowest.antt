@@ -1,6 +1,7 @@
 -- The first row that is not sound, or the ill-formed one after sound ones, is the lowest damaged row of the tables.
 use Rattle.std.specs.Prelude.{◌≡◌, ℕ, pos, ◌<◌, ◌≤◌, Bool, true, false, cond, ◌==◌, T, List, [], ◌∷◌, ◌++◌, Option, Some, None, is_some, IsSome}
 use Rattle.std.proofs.Common.{refl, sym, ap, subst, ◌∙◌, arith, eqb→eq}
+use Rattle.std.proofs.lemmas.Bool.Decides.{nat_tests}
 use Rattle.std.specs.List.{AllByRecursion, list_any}
 use Rattle.jpa_behaviour.specs.Behaviour.{World}
 use Rattle.jpa_rows.specs.declared.schema.Schema.{Schema}
@@ -10,7 +11,7 @@ use Rattle.jpa_rows.specs.Tables.{schema_of}
 use Rattle.jpa_row_laws.proofs.Lists.{all_each, all_where}
 use Rattle.jpa_object_rows.proofs.Bytes.Classes.{below}
 use Rattle.jpa_cells_meaning.specs.declared.CellRow.{CellRow}
-use Rattle.jpa_cells_meaning.specs.Tables.{Tables}
+use Rattle.jpa_cells_meaning.specs.Tables.{Tables, AreRows}
 use Rattle.jpa_rowspace.specs.Reading.{IsEntry, AreEntries, IsReadBy}
 use Rattle.jpa_rowspace.proofs.Ids.{numbered}
 use Rattle.jpa_judgment.specs.Sound.{IsSoundRow, AreSoundRows}
@@ -19,6 +20,9 @@ use Rattle.jpa_judgment.specs.Reads.{AreNumbersOf, AreReadInto, IsFirstUnsound}
 use Rattle.jpa_rows.proofs.Splits.{all_then}
 use Rattle.jpa_judgment.proofs.Parts.{all_front, all_back, append_nil, rows_append, no_rows, rows_from, tables_from}
 use Rattle.jpa_judgment.proofs.Reading.{ReadsTables, into_all, seen, before, lower_front, seen_lower, seen_front, seen_own, into_rises, known_number}
+
+below_other : (u n : ℕ) → u ≤ n → u == n ≡ false → u < n
+below_other u n less apart = grind (arith, nat_tests)
 
 -- ---- the rows of cells that spell rows
 
@@ -113,6 +117,16 @@ module _ (world : World) where
     some_of : (u : ℕ) (rule : TableRule) → table_of schema u ≡ Some rule → IsSome (table_of schema u)
     some_of u rule own = ap is_some own
 
+    -- the rows of cells of each table that was reached rise
+    pub rows_reached : (u : ℕ) (rule : TableRule) → u ≤ n → table_of schema u ≡ Some rule → AreRows (tables (pos u))
+    rows_reached u rule less own =
+        elim (u == n) as (λ b. u == n ≡ b → AreRows (tables (pos u))) [
+          | true ↦ λ e. subst (λ v. AreRows (tables (pos v))) (sym (eqb→eq u n (subst T (sym e) tt))) h.rise
+          | false ↦ λ e.
+              let k = seen_lower schema tables ns numbers.rising rows n bytes h numbers u (below_other u n less e) (some_of u rule own) in
+              (subst (λ o. IsReadBy o (tables (pos u)) (table_rows u h.whole)) own (all_each (λ m. IsReadBy (table_of schema m) (tables (pos m)) (table_rows m h.whole)) h.front (h.read).each u k)).0
+        ] refl
+
     lower_seen : (u : ℕ) (rule : TableRule) → u < n → table_of schema u ≡ Some rule → As (pos u) ≡ tables (pos u)
     lower_seen u rule less own =
         seen_front schema tables ns numbers.rising rows n bytes h u (seen_lower schema tables ns numbers.rising rows n bytes h numbers u less (some_of u rule own))
@@ -182,6 +196,9 @@ module _ (world : World) where
       append_split : (xs : List CellRow) (x : CellRow) (ys zs : List CellRow) → (xs ++ x ∷ ys) ++ zs ≡ xs ++ x ∷ (ys ++ zs)
       append_split [] x ys zs = refl
       append_split (w ∷ xs) x ys zs = ap (λ l. w ∷ l) (append_split xs x ys zs)
+
+      pub reached_table : t ≤ n
+      reached_table = reached.up_to
 
       pub lowest_before : IsLowestDamage world tables t told
       lowest_before =

@@ -37,7 +37,7 @@ use Rattle.jpa_rowspace.specs.Stored.{cell_of, stored_row, IsEntryBy, AreRowsOf,
 use Rattle.jpa_rowspace.proofs.Whole.{reads_all}
 use Rattle.jpa_judgment.specs.Sound.{IsSoundRow, AreSoundRows}
 use Rattle.jpa_judgment.specs.Judged.{AreOfNone}
-use Rattle.jpa_judgment.specs.Damage.{cells_of_row, cells_in, StandForNone}
+use Rattle.jpa_judgment.specs.Damage.{cells_of_row, cells_in, AreSoundTables, StandForNone}
 use Rattle.jpa_judgment.proofs.Lowest.{sound_tables}
 use Rattle.jpa_judgment.proofs.Reading.{ReadsTables}
 
@@ -205,13 +205,13 @@ module _ (world : World) (mapped : IsMapped world.model) (regular : IsRegular wo
   held_standing set numbers h =
       (cells_exactly world mapped regular discriminators set numbers rows unit).0 (stand_same world (cells_in world tables) (flat.cells_of (raw rows)) same set numbers h)
 
-pub stand_none : (world : World) → IsMapped world.model → IsRegular world → ((class : ℕ) → is_class world.model class ≡ true → is_discriminator (entity_at world.model class) ≡ true)
-    → (tables : Tables) (rows : Rows) → AreRising rows → ReadsTables (schema_of world.model) tables rows → AreOfNone world rows → StandForNone world tables
-stand_none world mapped regular discriminators tables rows rising reads h =
-    let all = reads_all (schema_of world.model) tables rows rising reads in
-    record {
-      rows = sound_tables world tables rows reads h.sound;
-      none = λ set numbers k.
-          let held = held_standing world mapped regular discriminators tables rows all.0 all.1 h.sound set numbers k in
-          h.none set numbers held.0 held.1;
-    }
+module _ (world : World) (mapped : IsMapped world.model) (regular : IsRegular world) (discriminators : (class : ℕ) → is_class world.model class ≡ true → is_discriminator (entity_at world.model class) ≡ true)
+    (tables : Tables) (rows : Rows) (rising : AreRising rows) (reads : ReadsTables (schema_of world.model) tables rows) (h : AreOfNone world rows) where
+  pub stand_none : StandForNone world tables
+  stand_none set numbers k =
+      let all = reads_all (schema_of world.model) tables rows rising reads in
+      let held = held_standing world mapped regular discriminators tables rows all.0 all.1 h.sound set numbers k in
+      h.none set numbers held.0 held.1
+
+  pub sound_none : AreSoundTables world tables
+  sound_none = sound_tables world tables rows reads h.sound

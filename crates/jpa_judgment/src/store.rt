@@ -151,8 +151,9 @@ fn read_store<S: Alter, B: Behaviour>(
 /// The space is one of the metamodel's schema. What is answered can always be held; that the cells
 /// stand for it is sure where the disk is clean.
 ///
-/// Cells that stand for none are `Damaged`. Where a row of cells is one that no object, pair, next
-/// number or revision has, it is told by its table and its bytes, and so is the lowest of several:
+/// Cells that stand for none are `Damaged`, and no others are: where cells stand for a set, each of
+/// their rows is one that an object, a pair, a next number or the revision has (`standing_sound`).
+/// A row that is none of these is told by its table and its bytes, and so is the lowest of several:
 /// an ill-formed one, of an unknown class, with a column that its class lacks, without a version,
 /// of a converter's throw. Else each row may be one, and yet they are those of no sound set with
 /// its next numbers, as where an owner is missing, a generated key is not below the next number, or
