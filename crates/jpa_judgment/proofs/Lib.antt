@@ -15,3 +15,4 @@ pub mod OneTable
 pub mod Steps
 pub mod Writing
 pub mod Final
+pub mod OfSet

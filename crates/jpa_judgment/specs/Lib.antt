@@ -7,3 +7,4 @@ pub mod Together
 pub mod Damage
 pub mod Reads
 pub mod Opened
+pub mod OfSet

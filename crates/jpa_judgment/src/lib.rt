@@ -5,8 +5,9 @@
 //! they are migrated, judges their rows together, and writes the migration. `specs/Sound.antt` says
 //! which rows an object, a pair, a next number or the revision may have, `specs/Damage.antt` which
 //! place is told where the cells stand for nothing, and `specs/Opened.antt` what an opening makes
-//! of the tables. The crate stands on the rows of `jpa_rowspace`, the migration of cells
-//! (`jpa_migration`), objects as rows (`jpa_mapper`), and sound sets (`jpa_stored`).
+//! of the tables. `judge_rows` judges rows that were read already (`specs/OfSet.antt`). The crate
+//! stands on the rows of `jpa_rowspace`, the migration of cells (`jpa_migration`), objects as rows
+//! (`jpa_mapper`), and sound sets (`jpa_stored`).
 #![tactic(auto)]
 
 mod entries;
@@ -19,7 +20,10 @@ mod numbers;
 mod objects;
 mod owners;
 mod read;
+mod rows;
 mod store;
 
 pub use judge::Committed;
+pub use read::table_numbers;
+pub use rows::judge_rows;
 pub use store::open_store;

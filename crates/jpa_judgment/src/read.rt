@@ -32,7 +32,7 @@ fn unsorted_numbers(alloc: Global, schema: &Schema) -> Result<Vec<u64>, Cause>
 }
 
 /// The numbers of the tables of a metamodel's schema, in rising order.
-pub(crate) fn table_numbers(
+pub fn table_numbers(
     alloc: Global,
     metamodel: &Metamodel,
     schema: &Schema,

@@ -51,7 +51,7 @@ fn nothing_at_fault(alloc: Global) -> Cause
 /// What the rows of a schema stand for, which were read whole or up to an ill-formed row. Rows that
 /// are not the schema's, as a disk may answer that does not return what was written, are refused
 /// too.
-fn judge_read<B: Behaviour>(
+pub(crate) fn judge_read<B: Behaviour>(
     alloc: Global,
     metamodel: &Metamodel,
     registry: &Registry<B>,

@@ -1,0 +1,43 @@
+use Rattle.std.proofs.Common.{rules, refl, sym, ◌∙◌, inl}
+use Rattle.jpa_value.specs.declared.refusal.Cause.{Cause}
+use Rattle.jpa_row_laws.proofs.Facts.{some_none}
+use Rattle.jpa_rows.specs.Faults.{IsStoreCause}
+use Rattle.jpa_row_sets.specs.Looking.{IsReadingCause}
+use Rattle.jpa_row_sets.proofs.Looks.{if_passed, looks_none, match_err, memory_reading, none_at_one}
+use Rattle.jpa_row_queries.proofs.Asked.{GivesSame, asked_alone, asked_whole, held_looked_up, stands_alone}
+use Rattle.jpa_row_queries.proofs.running.set_asked.Goals as goal
+
+pub returns-in_err-asked-clause-asked : goal.returns-in_err-asked-clause-asked
+returns-in_err-asked-clause-asked g c clean set numbers sees =
+    match_err IsStoreCause (GivesSame c.args.metamodel.now c.args.parameters.now c.args.statement.now set) c.from_residual.result Cause.OutOfMemory c.from_residual.ensures.1 (inl refl)
+
+pub returns-in_err-asked-clause-err : goal.returns-in_err-asked-clause-err
+returns-in_err-asked-clause-err g c clean rows rise holds = if_passed IsReadingCause c.from_residual.result Cause.OutOfMemory c.from_residual.ensures.1 (memory_reading Cause.OutOfMemory refl)
+
+pub returns-in_err-asked-clause-looks : goal.returns-in_err-asked-clause-looks
+returns-in_err-asked-clause-looks g c = looks_none g.R.RowReader c.from_residual.result c.args.source.now (search rules) (g.met.R.RowReader.still c.args.source.now)
+
+pub returns-in_err-asked-clause-economy : goal.returns-in_err-asked-clause-economy
+returns-in_err-asked-clause-economy g c id key = none_at_one g.R.RowReader c.args.source.now
+
+pub returns-in-Some-clause-asked : goal.returns-in-Some-clause-asked
+returns-in-Some-clause-asked g c clean set numbers sees =
+    let m = c.args.metamodel.now in
+    let ps = c.args.parameters.now in
+    let q = c.args.statement.now in
+    let id = c.in-Some.id in
+    let laws = c.key_laws.ensures m ps q id (sym c.in_ok-asked.ensures ∙ c.in-Some.is) in
+    asked_alone m ps q set id laws (held_looked_up sees.of.held) c.alone_seen.result (c.alone_seen.ensures.seen clean (stands_alone m ps q id laws) set numbers sees)
+
+pub returns-in-Some-clause-err : goal.returns-in-Some-clause-err
+returns-in-Some-clause-err g c clean rows rise holds = c.alone_seen.ensures.err clean rows holds
+
+pub returns-in-Some-clause-economy : goal.returns-in-Some-clause-economy
+returns-in-Some-clause-economy g c id key = c.alone_seen.ensures.economy
+
+pub returns-in-None-clause-asked : goal.returns-in-None-clause-asked
+returns-in-None-clause-asked g c clean set numbers sees =
+    asked_whole c.args.metamodel.now c.args.parameters.now c.args.statement.now set c.whole_seen.result (c.whole_seen.ensures.seen clean set numbers sees)
+
+pub returns-in-None-clause-economy : goal.returns-in-None-clause-economy
+returns-in-None-clause-economy g c id key = absurd (some_none id (sym key ∙ sym c.in_ok-asked.ensures ∙ c.in-None.is))

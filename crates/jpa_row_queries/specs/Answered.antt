@@ -1,0 +1,23 @@
+-- What a result says of the answer that is wanted.
+use Rattle.std.specs.Prelude.{◌≡◌, ◌⊎◌, Result, Ok, Err}
+use Rattle.jpa_value.specs.declared.refusal.Cause.{Cause}
+use Rattle.jpa_value.specs.declared.refusal.Cause.TheVariants as cause
+use Rattle.jpa_row_sets.specs.Looking.{IsReadingCause}
+use Rattle.jpql_eval.specs.Answers.{Answer, gives, overflows}
+
+-- what a refusal says of the wanted answer: Overflow is the answer, want of memory and a fault of the store say
+-- nothing, and nothing else is refused
+abbrev pub Refuses : {A : Type 0} → Cause → Answer A → Type 0
+Refuses cause.OutOfMemory wanted = Unit {0}
+Refuses cause.StoreFault wanted = Unit {0}
+Refuses cause.Overflow wanted = wanted ≡ overflows
+Refuses _ wanted = ⊥
+
+-- the rows are the wanted ones, or it is refused so
+abbrev pub Answers : {A : Type 0} → Result A Cause → Answer A → Type 0
+Answers (Ok rows) wanted = wanted ≡ gives rows
+Answers (Err c) wanted = Refuses c wanted
+
+-- why a statement is not answered: its rows are not read, or it overflows
+abbrev pub IsAskingCause : Cause → Type 0
+IsAskingCause c = IsReadingCause c ⊎ (c ≡ cause.Overflow)

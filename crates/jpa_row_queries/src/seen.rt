@@ -1,0 +1,66 @@
+//! What is seen of a store, for statements to run over.
+ghost use Rattle.std.specs.Prelude.{◌≡◌, ℕ, List, IfOk, IfErr, MatchResult};
+ghost use Rattle.jpa_behaviour.specs.Registered.{world_of};
+ghost use Rattle.jpa_open.specs.Opened.{now};
+ghost use Rattle.jpa_rows.specs.Faults.{IsStoreCause};
+ghost use Rattle.jpa_rows.specs.Rows.{Rows, AreRising};
+ghost use Rattle.jpa_stored.specs.Sets.{StoredSet, stored_at};
+ghost use Rattle.jpql_by_key.specs.ByKey.{only};
+ghost use Rattle.jpql_run.specs.Keys.{CanBeLookedUp};
+ghost use Rattle.jpa_row_sets.specs.Looking.{IsReadingCause, LooksAtOneRow, LooksOnly};
+ghost use Rattle.jpa_row_sets.specs.Seen.{SeesSet, StandsAlone};
+
+use crate::opened::{opened_alone, opened_set};
+use jpa_behaviour::{Behaviour, Registry};
+use jpa_model::Metamodel;
+use jpa_open::OpenSet;
+use jpa_overlay::Overlay;
+use jpa_row_sets::{object_under, set_seen};
+use jpa_rows::RowReader;
+use jpa_value::{Cause, Identity};
+use std::alloc::Global;
+
+/// The set of what is seen under an identity, by one look at its row.
+pub(crate) fn alone_seen<R: RowReader, B: Behaviour>(
+    alloc: Global,
+    metamodel: &Metamodel,
+    registry: &Registry<B>,
+    overlay: &Overlay,
+    source: &mut R,
+    id: Identity,
+) -> Result<OpenSet, Cause>
+    ensures seen { R.clean source.new → StandsAlone metamodel.now id →
+        (set : StoredSet) (numbers : List ℕ) →
+        SeesSet R.RowReader (world_of B.meaning metamodel.now registry.now) overlay.now
+        source.old set numbers →
+        MatchResult result (λ found. now found ≡ only id (stored_at set id)) IsStoreCause }
+    ensures looked_up { IfOk result (λ found. CanBeLookedUp metamodel.now (now found)) }
+    ensures err { R.clean source.new → (rows : Rows) → R.holds source.old rows →
+        IfErr result IsReadingCause }
+    ensures looks { LooksOnly R.RowReader result source.old source.new }
+    ensures economy { LooksAtOneRow R.RowReader source.old source.new }
+{
+    let object = object_under(alloc, metamodel, registry, overlay, source, &id)?;
+    opened_alone(alloc, id, object)
+}
+
+/// The set that is seen, read whole.
+pub(crate) fn whole_seen<R: RowReader, B: Behaviour>(
+    alloc: Global,
+    metamodel: &Metamodel,
+    registry: &Registry<B>,
+    overlay: &Overlay,
+    source: &mut R,
+) -> Result<OpenSet, Cause>
+    ensures seen { R.clean source.new → (set : StoredSet) (numbers : List ℕ) →
+        SeesSet R.RowReader (world_of B.meaning metamodel.now registry.now) overlay.now
+        source.old set numbers →
+        MatchResult result (λ found. now found ≡ set) IsStoreCause }
+    ensures looked_up { IfOk result (λ found. CanBeLookedUp metamodel.now (now found)) }
+    ensures err { R.clean source.new → (rows : Rows) → AreRising rows →
+        R.holds source.old rows → IfErr result IsReadingCause }
+    ensures looks { LooksOnly R.RowReader result source.old source.new }
+{
+    let set = set_seen(alloc, metamodel, registry, overlay, source)?;
+    opened_set(alloc, set)
+}

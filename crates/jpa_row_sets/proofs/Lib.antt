@@ -1,0 +1,5 @@
+pub mod Gathered
+pub mod Handed
+pub mod Looks
+pub mod OneRow
+pub mod Whole

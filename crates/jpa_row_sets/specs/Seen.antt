@@ -1,0 +1,27 @@
+-- The set that is seen: the one whose rows a store holds under changes.
+use Rattle.std.specs.Prelude.{◌≡◌, ◌<◌, ℕ, true, List, [], length}
+use Rattle.jpa_value.specs.declared.value.Identity.{Identity}
+use Rattle.jpa_model.specs.declared.unit.PersistenceUnit.{PersistenceUnit}
+use Rattle.jpa_model.specs.Chains.{relations_of, root_of}
+use Rattle.jpa_behaviour.specs.Behaviour.{World}
+use Rattle.jpa_stored.specs.declared.stored.Stored.{Stored}
+use Rattle.jpa_stored.specs.Sets.{StoredSet, is_shaped}
+use Rattle.jpa_rows.specs.declared.reader.RowReader.{Ghosts}
+use Rattle.jpa_rows.specs.Rows.{Rows, AreRising}
+use Rattle.jpa_object_rows.specs.Unambiguous.{joins_of}
+use Rattle.jpa_overlay.specs.Overlay.{Changes, rows_under}
+use Rattle.jpa_judgment.specs.OfSet.{AreOf}
+
+-- the store's rows are under the changes those of this set and these next numbers, which a store can hold
+pub record SeesSet {S : Type 0} (store : Ghosts S) (world : World) (changes : Changes) (source : S) (set : StoredSet)
+    (numbers : List ℕ) : Type 0 where
+  pub rows : Rows
+  pub rising : AreRising rows
+  pub held : store.holds source rows
+  pub of : AreOf world (rows_under changes rows) set numbers
+
+-- an object under the identity is one row: the table is a class's, and its relations have no join
+-- tables (chapter 2.10)
+pub record StandsAlone (m : PersistenceUnit) (id : Identity) : Type 0 where
+  pub rooted : (class : ℕ) × (class < length m.entities) × ((root_of m class).table ≡ id.table)
+  pub unpaired : (x : Stored) → is_shaped m id x ≡ true → joins_of (relations_of m x.class) ≡ []
