@@ -1,8 +1,6 @@
 -- What a flush of the manager at work stands on, and what it leaves.
 use Rattle.std.proofs.Common.{◌≡◌, ◌<◌, ℕ, Bool, true, false, List, length, ap, sym, subst, ◌∙◌}
-use Rattle.std.specs.Prelude.{All, T}
-use Rattle.std.specs.FinMap.Entries.{is_sorted}
-use Rattle.jpa_value.specs.Value.{identity_cmp}
+use Rattle.std.specs.Prelude.{All}
 use Rattle.jpa_behaviour.specs.Behaviour.{World}
 use Rattle.jpa_stored.specs.Sets.{IsSound}
 use Rattle.jpa_rows.specs.Cells.{CanBeHeld, all_representable}
@@ -12,17 +10,20 @@ use Rattle.jpa_context.specs.Steps.{Outcome, Done, Refused}
 use Rattle.jpa_queries.specs.Premises.{StaysReady}
 use Rattle.jpa_flush.specs.Flush.{flush_if}
 use Rattle.jpa_updates.specs.Updates.{StaysSound}
-use Rattle.jpa_context.specs.Undo.{Since}
+use Rattle.jpa_context.specs.Undo.{now, Since}
 use Rattle.jpa_fetch.specs.Grown.{IsReady}
 use Rattle.jpa_flush.specs.Flush.{flush}
 use Rattle.jpa_ops.specs.Names.{has_distinct_entries}
 use Rattle.jpa_provider.specs.declared.session.Session.{Session}
 use Rattle.jpa_machine.specs.Machine.{work_of}
 use Rattle.jpa_machine.specs.Invariant.{IsMachine, context_of}
-use Rattle.jpa_provider.specs.Serving.{machine_of, IsServing}
+use Rattle.jpa_provider.specs.Beside.{Rises}
+use Rattle.jpa_provider.specs.Serving.{machine_of, AreMarkedAway, IsServing}
+use Rattle.jpa_provider.specs.Stages.{CanFlush}
 use Rattle.jpa_machine.proofs.AtWork.{each_manager, taken, work_ready}
 use Rattle.jpa_machine.proofs.AfterFlush.{flushed_at_work}
 use Rattle.jpa_consistent.proofs.Ready.{ready_at_work}
+use Rattle.jpa_provider.proofs.Marked.{taken_marked}
 use Rattle.jpa_provider.proofs.Serving.{entries_in}
 use Rattle.jpa_provider.proofs.Sessions.{manager_there}
 
@@ -32,16 +33,18 @@ pub entries_since : {world : World} (s : Session) (m : ℕ) (x : Since) → IsMa
 entries_since s m x h o c =
     subst (λ (p : List Entry × ℕ). All (λ (e : Entry). e.object < p.1) p.0) (λ i. ((sym (c ∙ ap (λ y. y.context) (manager_there s m))) i, length (sym o i))) (entries_in s h m)
 
--- each identity stands once in the manager's context
-pub entries_apart : (world : World) (s : Session) (m : ℕ) → IsServing world s → has_distinct_entries world.model (work_of (machine_of s) m) ≡ true
-entries_apart world s m h = (each_manager h.machine m).distinct
-
--- what the manager sees is sound
-pub view_sound : (world : World) (s : Session) (m : ℕ) → IsServing world s → IsSound world.model (work_of (machine_of s) m).view
-view_sound world s m h = ((taken m h.machine).view).sound
-
-pub view_rises : (world : World) (s : Session) (m : ℕ) → IsServing world s → T (is_sorted identity_cmp (work_of (machine_of s) m).view)
-view_rises world s m h = ((taken m h.machine).view).rising
+-- the manager went to work, and its work can be flushed
+pub can_flush : (world : World) (s t : Session) (m : ℕ) → IsServing world s → now t.work ≡ work_of (machine_of s) m → AreMarkedAway world.model (machine_of s) m t → CanFlush world.model t.work
+can_flush world s t m h work away =
+    let view = (taken m h.machine).view in
+    record {
+      orderly = h.orderly;
+      ready = subst (IsReady world.model) (sym work) (work_ready m h.machine);
+      sound = subst (λ (w : Work). IsSound world.model w.view) (sym work) view.sound;
+      rising = subst (λ (w : Work). Rises w.view) (sym work) view.rising;
+      distinct = subst (λ (w : Work). has_distinct_entries world.model w ≡ true) (sym work) (each_manager h.machine m).distinct;
+      marked = taken_marked world s t m h work away;
+    }
 
 -- the work of an outcome that is done
 abbrev work_in : Work → Outcome (Unit {0}) → Work

@@ -16,7 +16,7 @@ pub mod Held
 pub mod Commits
 pub mod Committed
 pub mod Active
-pub mod Crashed
+pub mod Stored
 pub mod Told
 pub mod Walks
 pub mod Freed

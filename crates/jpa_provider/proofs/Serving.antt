@@ -1,5 +1,5 @@
 -- What holds between calls holds after each step.
-use Rattle.std.proofs.Common.{◌≡◌, ◌<◌, inl, ℕ, Bool, true, false, List, length, refl, ap, sym, subst}
+use Rattle.std.proofs.Common.{◌≡◌, ◌<◌, ℕ, true, List, length, ap, sym, subst}
 use Rattle.std.specs.Prelude.{All, OnOk}
 use Rattle.jpql_kept.specs.Fits.{AreInherited}
 use Rattle.jpa_machine.specs.Updating.{MakesRepresentable}
@@ -11,17 +11,15 @@ use Rattle.jpa_context.specs.declared.Entry.{Entry}
 use Rattle.jpa_protocol.specs.declared.call.Call.{Call}
 use Rattle.jpa_protocol.specs.declared.reply.Reply.{Reply}
 use Rattle.jpa_provider.specs.declared.session.Session.{Session}
-use Rattle.jpa_machine.specs.Machine.{Machine, Manager, manager_at, opened, work_of, IsStoredAs}
+use Rattle.jpa_machine.specs.Machine.{Machine, Manager, manager_at, opened, work_of}
 use Rattle.jpa_consistent.specs.Consistent.{IsEntry}
 use Rattle.jpa_machine.specs.Invariant.{IsMachine, context_of, hands_representable}
-use Rattle.jpa_machine.specs.Routes.{is_commit}
 use Rattle.jpa_provider.specs.Serving.{machine_of, manager_in, marks_in, AreAllMarked, IsServing, IsSettled, Serves}
 use Rattle.jpa_machine.proofs.AtWork.{each_manager}
 use Rattle.jpa_provider.proofs.Marked.{nothing_marked}
 use Rattle.jpa_provider.proofs.Sessions.{manager_there}
 use Rattle.jpa_machine.proofs.Settled.{opened_holds}
 use Rattle.jpa_machine.proofs.Outcome.{step_keeps}
-use Rattle.jpa_machine.proofs.Still.{step_still}
 use Rattle.jpa_fetch.specs.Orderly.{IsOrderly}
 
 -- whichever call it was
@@ -36,20 +34,6 @@ serves_on world s t call reply h rep made step settled marked =
       settled = settled;
       marked = marked;
     }
-
-pub stored_other : (world : World) (s t : Session) (call : Call) (reply : Reply) → IsServing world s → is_commit call ≡ false → Serves world s call reply t → IsStoredAs (machine_of s) (machine_of t)
-stored_other world s t call reply h other step = step_still (machine_of s) world call reply (machine_of t) step (inl other)
-
-pub stores_all : (world : World) (s t : Session) (call : Call) (reply : Reply) (P : StoredSet → List ℕ → Type 0) → IsServing world s → Serves world s call reply t →
-    (is_commit call ≡ true → P (machine_of t).committed (machine_of t).stored_numbers) → (is_commit call ≡ false → P (machine_of s).committed (machine_of s).stored_numbers) →
-    P (machine_of t).committed (machine_of t).stored_numbers
-stores_all world s t call reply P h step stored kept = by_case (is_commit call) refl
-  where
-    by_case : (b : Bool) → is_commit call ≡ b → P (machine_of t).committed (machine_of t).stored_numbers
-    by_case true e = stored e
-    by_case false e =
-        let same = stored_other world s t call reply h e step in
-        subst (λ (set : StoredSet). P set (machine_of t).stored_numbers) (sym same.committed) (subst (P (machine_of s).committed) (sym same.numbers) (kept e))
 
 -- ---- what calls stand on
 

@@ -5,7 +5,7 @@ use Rattle.std.specs.FinMap.Entries.{is_sorted}
 use Rattle.jpa_value.specs.declared.value.Identity.{Identity}
 use Rattle.jpa_value.specs.Value.{identity_cmp}
 use Rattle.jpa_stored.specs.Sets.{StoredSet}
-use Rattle.jpa_open.specs.Opened.{IsKeptBack, IsUntouched}
+use Rattle.jpa_open.specs.Opened.{Opened, AreAllChanged, IsKeptBack, IsUndone, IsUntouched}
 use Rattle.jpa_provider.specs.declared.session.EntityManager.{EntityManager}
 use Rattle.jpa_provider.specs.declared.session.Session.{Session}
 use Rattle.jpa_provider.specs.Serving.{manager_in, is_begun_status}
@@ -44,3 +44,24 @@ AreTold m managers ids = (k : ℕ) → k < length managers → IsTold m managers
 -- committed
 abbrev pub IsBeside : ℕ → Session → Type 0
 IsBeside m s = AreHeld (s.work.view).committed s.managers.items m (s.work.view).seen s.managers.items
+
+-- it changed what is under these identities alone, and both sets are in order, so that what others see
+-- can be kept back
+pub record CanKeepBack (view : Opened) (ids : List Identity) : Type 0 where
+  pub elsewhere : AreAllChanged view ids
+  pub committed : Rises view.committed
+  pub seen : Rises view.seen
+
+-- the manager at work sees what it saw, undone too, and over what is committed the others are what they
+-- were
+pub record SeeStill (m : ℕ) (old : List EntityManager) (before : Opened) (new : List EntityManager)
+    (after : Opened) : Type 0 where
+  pub seen : after.seen ≡ before.seen
+  pub undone : IsUndone before after
+  pub held : AreHeld before.committed old m before.committed new
+
+-- there is room for what the manager at work sees, and once it is committed the others are what they
+-- are
+pub record HasRoom (m : ℕ) (managers : List EntityManager) (view : Opened) : Type 0 where
+  pub ready : view.is_ready ≡ true
+  pub beside : AreHeld view.committed managers m view.seen managers

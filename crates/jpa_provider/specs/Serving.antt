@@ -9,6 +9,8 @@ use Rattle.jpa_value.specs.declared.refusal.Refusal.{Refusal}
 use Rattle.jpa_behaviour.specs.Behaviour.{World, IsRegular}
 use Rattle.jpa_stored.specs.Sets.{StoredSet}
 use Rattle.jpa_rows.specs.Rows.{Rows}
+use Rattle.jpa_rows.specs.declared.source.RowSource.{Ghosts}
+use Rattle.jpa_rows.specs.Tables.{schema_of}
 use Rattle.jpa_object_rows.specs.Sets.{rows_of}
 use Rattle.jpa_open.specs.Opened.{Opened, no_layers, begun_over, seen_over}
 use Rattle.jpa_protocol.specs.declared.call.Call.{Call}
@@ -35,6 +37,7 @@ use Rattle.jpa_machine.specs.Step.{Step, gives_up}
 use Rattle.jpa_machine.specs.Invariant.{IsMachine, context_of}
 use Rattle.jpa_fetch.specs.Orderly.{IsOrderly}
 use Rattle.jpql_kept.specs.Fits.{AreInherited}
+use Rattle.jpa_provider.specs.Provided.{rows_kept}
 
 -- ---- managers
 
@@ -143,6 +146,12 @@ marks_in s k = ((manager_in s.managers.items k).context).marks
 abbrev pub AreAllMarked : PersistenceUnit → Session → Type 0
 AreAllMarked u s = (k : ℕ) → AreMarked u (work_of (machine_of s) k) (marks_in s k)
 
+-- no manager is at work: nothing is left to be undone or told, and the marks say of each manager's
+-- context what they are to say
+pub record IsAtRest (u : PersistenceUnit) (s : Session) : Type 0 where
+  pub settled : IsSettled s
+  pub marked : AreAllMarked u s
+
 -- what holds between calls
 pub record IsServing (world : World) (s : Session) : Type 0 where
   pub orderly : IsOrderly world.model
@@ -151,6 +160,13 @@ pub record IsServing (world : World) (s : Session) : Type 0 where
   pub machine : IsMachine world (machine_of s)
   pub settled : IsSettled s
   pub marked : AreAllMarked world.model s
+
+-- and over its store of rows, which is of the unit's schema: if it is clean it holds the rows of what
+-- is committed, and no others
+pub record IsServingOver {R : Type 0} (world : World) (store : Ghosts R) (s : Session) (rows : R) : Type 0 where
+  pub serving : IsServing world s
+  pub schema : store.schema rows ≡ schema_of world.model
+  pub holds : store.clean rows → store.holds rows (rows_kept world (machine_of s))
 
 -- the reply to a call, and what stands afterwards, are those of a step of the machine
 abbrev pub Serves : World → Session → Call → Reply → Session → Type 0

@@ -2,15 +2,16 @@
 //! work, and so do the layers of its open transaction.
 ghost use Rattle.std.specs.Prelude.{◌≡◌, ◌≢◌, ◌<◌, ℕ, [], false, true, length, IfErr, IfSome, OnErr, OnOk};
 ghost use Rattle.jpa_context.specs.Marks.{all_marked};
-ghost use Rattle.jpa_context.specs.Undo.{now, since, IsKept};
+ghost use Rattle.jpa_context.specs.Undo.{now, IsKept};
 ghost use Rattle.jpa_fetch.specs.Grown.{IsReady};
 ghost use Rattle.jpa_flush.specs.Marked.{AreMarkedBefore};
 ghost use Rattle.jpa_machine.specs.Faults.{is_store_fault, tells_fault};
 ghost use Rattle.jpa_machine.specs.Machine.{Machine, kept, marked, work_of};
 ghost use Rattle.jpa_model.specs.declared.unit.PersistenceUnit.{PersistenceUnit};
 ghost use Rattle.jpa_provider.specs.Operations.{Concludes};
+ghost use Rattle.jpa_provider.specs.Stages.{IsUndoneTo};
 ghost use Rattle.jpa_provider.specs.Serving as serving;
-ghost use Rattle.jpa_provider.specs.Serving.{machine_of, manager_in, marks_in, named, AreAllMarked, AreMarkedAway, AreMarkedNow, IsAway, IsSettled, IsWorking};
+ghost use Rattle.jpa_provider.specs.Serving.{machine_of, marks_in, named, AreAllMarked, AreMarkedAway, AreMarkedNow, IsAtRest, IsAway, IsSettled, IsWorking};
 
 use crate::handing::place_of;
 use crate::replies::{Rule, is_marked_by, told_of};
@@ -78,10 +79,7 @@ pub(crate) fn restore(alloc: Global, session: &mut Session, manager: usize)
     requires within { manager < length session.old.managers.items }
     ensures back { (M : Machine) → IsWorking M manager session.old → machine_of session.new
         ≡ M }
-    ensures count { length session.new.managers.items ≡ length session.old.managers.items }
-    ensures objects { session.new.work.objects.now ≡ (since session.old.work).objects }
-    ensures context { (manager_in session.new.managers.items manager).context.now ≡
-        (since session.old.work).context }
+    ensures undone { IsUndoneTo manager session.old session.new }
     ensures settled { (M : Machine) → IsWorking M manager session.old → IsSettled session.new }
     ensures marked { (u : PersistenceUnit) (M : Machine) → IsWorking M manager session.old
         → AreMarkedAway u M manager session.old → AreAllMarked u session.new }
@@ -186,11 +184,9 @@ pub(crate) fn conclude(
     ensures concludes { (M : Machine) → IsAway M manager session.old →
         OnErr answered (IsWorking M manager session.old) →
         Concludes rule M manager (now session.old.work) answered result (machine_of session.new) }
-    ensures settled { (M : Machine) → IsAway M manager session.old →
-        OnErr answered (IsWorking M manager session.old) → IsSettled session.new }
-    ensures marked { (M : Machine) → IsAway M manager session.old →
+    ensures rest { (M : Machine) → IsAway M manager session.old →
         OnErr answered (IsWorking M manager session.old) →
-        AreMarkedAway metamodel.now M manager session.old → AreAllMarked metamodel.now session.new }
+        AreMarkedAway metamodel.now M manager session.old → IsAtRest metamodel.now session.new }
     ensures untold { IfErr answered (λ cause. is_store_fault cause ≡ false)
         → tells_fault result ≡ false }
 {

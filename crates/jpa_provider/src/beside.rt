@@ -1,9 +1,9 @@
 //! What a commit keeps back for the transactions of other managers.
-ghost use Rattle.std.specs.Prelude.{◌≡◌, ◌≢◌, ◌<◌, ℕ, true, length, slice_set, OnOk, IfErr};
+ghost use Rattle.std.specs.Prelude.{◌≡◌, ◌≢◌, ◌<◌, ℕ, length, slice_set, OnOk, IfErr};
 ghost use Rattle.jpa_value.specs.declared.refusal.Cause.{Cause};
 ghost use Rattle.jpa_open.specs.Opened as opened;
-ghost use Rattle.jpa_open.specs.Opened.{AreAllChanged, IsKeptBack, IsUndone};
-ghost use Rattle.jpa_provider.specs.Beside.{AreHeld, AreTold, IsTold, Rises};
+ghost use Rattle.jpa_open.specs.Opened.{IsKeptBack};
+ghost use Rattle.jpa_provider.specs.Beside.{AreHeld, AreTold, CanKeepBack, HasRoom, IsTold, SeeStill};
 ghost use Rattle.jpa_provider.specs.Serving.{manager_in, open_places};
 
 use crate::session::{EntityManager, status_of};
@@ -87,16 +87,9 @@ pub(crate) fn make_room(
     ids: &[Identity],
 ) -> Result<(), Cause>
     requires counted { places.now ≡ open_places 0 managers.old.items }
-    requires elsewhere { AreAllChanged view.old ids.now }
-    requires committed { Rises view.old.committed }
-    requires seen { Rises view.old.seen }
-    ensures seen { view.new.seen ≡ view.old.seen }
-    ensures undone { IsUndone view.old view.new }
-    ensures held { AreHeld view.old.committed managers.old.items manager
-        view.old.committed managers.new.items }
-    ensures room { OnOk result (view.new.is_ready ≡ true) }
-    ensures beside { OnOk result (AreHeld view.new.committed managers.new.items manager
-        view.new.seen managers.new.items) }
+    requires changed { CanKeepBack view.old ids.now }
+    ensures still { SeeStill manager managers.old.items view.old managers.new.items view.new }
+    ensures ok { OnOk result (HasRoom manager managers.new.items view.new) }
     ensures err { IfErr result (λ cause. cause ≡ Cause.OutOfMemory) }
 {
     keep_back_others(managers, places, manager, view, ids)?;

@@ -1,25 +1,21 @@
 //! What a commit does before it stores (Jakarta Persistence 3.1, chapters 3.4 and 7.5).
-ghost use Rattle.std.specs.Prelude.{◌≡◌, ◌<◌, ◌&&◌, ◌++◌, T, length, map, true, IfErr, IfOk, OnOk};
-ghost use Rattle.std.specs.FinMap.Entries.{is_sorted};
+ghost use Rattle.std.specs.Prelude.{◌≡◌, ◌<◌, ◌&&◌, ◌++◌, length, map, true, IfErr, IfOk, OnOk};
 ghost use Rattle.jpa_behaviour.specs.Served.{world_of_unit};
 ghost use Rattle.jpa_context.specs.Steps.{after, change, Ends, Meets};
 ghost use Rattle.jpa_context.specs.Undo.{now, since};
 ghost use Rattle.jpa_context.specs.Work.{is_managed, state_from, state_of};
 ghost use Rattle.jpa_fetch.specs.Grown.{IsReady};
-ghost use Rattle.jpa_fetch.specs.Orderly.{IsOrderly};
 ghost use Rattle.jpa_flush.specs.Changes.{place_of};
 ghost use Rattle.jpa_flush.specs.Flush as flushes;
-ghost use Rattle.jpa_flush.specs.Marked.{is_calm, AreLooked, IsMarked, IsUntouched};
+ghost use Rattle.jpa_flush.specs.Marked.{is_calm, AreLooked};
 ghost use Rattle.jpa_open.specs.Differences.{differing, merged};
 ghost use Rattle.jpa_judge.specs.Changed.{class_at};
 ghost use Rattle.jpa_machine.specs.Transactions as transactions;
 ghost use Rattle.jpa_open.specs.Opened.{AreAllChanged};
-ghost use Rattle.jpa_ops.specs.Names.{has_distinct_entries};
-ghost use Rattle.jpa_queries.specs.Premises.{StaysReady};
-ghost use Rattle.jpa_stored.specs.Sets.{fault_of, is_rising, IsSound};
+ghost use Rattle.jpa_provider.specs.Stages.{CanCommit, CanMerge, IsFound};
+ghost use Rattle.jpa_stored.specs.Sets.{fault_of};
 ghost use Rattle.jpa_updates.specs.Updates.{with_view};
 ghost use Rattle.jpa_value.specs.declared.refusal.Cause.{Cause};
-ghost use Rattle.jpa_value.specs.Value.{identity_cmp};
 
 use jpa_behaviour::{Behaviour, ServedUnit};
 use jpa_context::{Entry, Lock, UnitOfWork};
@@ -164,10 +160,7 @@ fn merge(
     work: &mut UnitOfWork,
     ids: &[Identity],
 ) -> Result<(), Cause>
-    requires ids { ids.now ≡ differing work.old.view.begun (now work.old).view }
-    requires rising { T (is_sorted identity_cmp (now work.old).view) }
-    requires committed { IsSound metamodel.now work.old.view.committed }
-    requires committed_rising { T (is_sorted identity_cmp work.old.view.committed) }
+    requires { CanMerge metamodel.now work.old ids.now }
     ensures meets { let view = work.old.view in
         let set = merged view.committed view.begun view.seen in
         Meets result (now work.new) (after (flushes.sound_or (fault_of metamodel.now set)
@@ -200,23 +193,12 @@ pub(crate) fn commit_work<B: Behaviour>(
     unit: &ServedUnit<B>,
     work: &mut UnitOfWork,
 ) -> Result<Found, Cause>
-    requires orderly { IsOrderly unit.now.metamodel }
-    requires ready { IsReady unit.now.metamodel (now work.old) }
-    requires sound { IsSound unit.now.metamodel (now work.old).view }
-    requires rising { T (is_sorted identity_cmp (now work.old).view) }
-    requires distinct { has_distinct_entries unit.now.metamodel (now work.old) ≡ true }
-    requires goes { StaysReady true (world_of_unit B.meaning unit.now) (now work.old) }
-    requires committed { IsSound unit.now.metamodel work.old.view.committed }
-    requires committed_rising { T (is_sorted identity_cmp work.old.view.committed) }
-    requires marked { IsMarked unit.now.metamodel work.old }
+    requires { CanCommit (world_of_unit B.meaning unit.now) work.old }
     ensures meets { Ends result (now work.new)
         (transactions.commit_work (world_of_unit B.meaning unit.now) work.old.view.committed
         work.old.view.begun (now work.old)) }
     ensures since { since work.new ≡ since work.old }
-    ensures elsewhere { IfOk result (λ found. AreAllChanged work.new.view found.ids) }
-    ensures once { IfOk result (λ found. is_rising found.ids ≡ true) }
-    ensures looked { IfOk result (λ found. AreLooked (IsUntouched unit.now.metamodel
-        (now work.new) found.looked.linked) work.new.context.now found.looked.places) }
+    ensures found { IfOk result (λ found. IsFound unit.now.metamodel work.new found) }
 {
     flush(alloc, unit, work)?;
     calm_laws();

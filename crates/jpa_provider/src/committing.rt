@@ -1,28 +1,23 @@
 //! The call commit (Jakarta Persistence 3.1, chapters 7.5 and 3.4).
-ghost use Rattle.std.specs.Prelude.{◌≡◌, ◌<◌, ◌⊎◌, [], All, ℤ, false, true, length, map, not, nat_le, IfOk, OnOk, IsErr, Some};
+ghost use Rattle.std.specs.Prelude.{◌≡◌, ◌<◌, [], All, ℤ, false, true, length, map, not, IfOk, IsErr, Some};
 ghost use Rattle.std.specs.List.{filter};
 ghost use Rattle.jpa_behaviour.specs.Behaviour.{World};
 ghost use Rattle.jpa_behaviour.specs.Served.{world_of_unit};
 ghost use Rattle.jpa_context.specs.Undo.{now, since};
 ghost use Rattle.jpa_context.specs.Work.{is_managed, is_removed, state_from, state_of, unlocked};
 ghost use Rattle.jpa_context.specs.declared.Lock.{Lock};
-ghost use Rattle.jpa_fetch.specs.Grown.{IsReady};
-ghost use Rattle.jpa_flush.specs.Marked.{AreLooked, IsUntouched};
-ghost use Rattle.jpa_open.specs.Opened.{AreAllChanged};
+ghost use Rattle.jpa_flush.specs.Marked.{AreLooked};
 ghost use Rattle.jpa_protocol.specs.declared.call.Call.{Call};
 ghost use Rattle.jpa_machine.specs.Faults.{is_store_fault, tells_fault, faults_after_reply};
 ghost use Rattle.jpa_machine.specs.Invariant.{IsMachine};
 ghost use Rattle.jpa_machine.specs.Machine.{Machine, committed_after, is_gone};
-ghost use Rattle.jpa_rows.specs.Commits.{Commits, RunsAtMost, RunsDifference};
-ghost use Rattle.jpa_provider.specs.Provided.{rows_kept, rows_made};
+ghost use Rattle.jpa_rows.specs.Commits.{Commits};
+ghost use Rattle.jpa_provider.specs.Provided.{StoresCall};
 ghost use Rattle.jpa_machine.specs.Step.{IsGivenUp};
-ghost use Rattle.jpa_provider.specs.Beside.{IsBeside};
 ghost use Rattle.jpa_provider.specs.declared.session.Status.{Status};
+ghost use Rattle.jpa_provider.specs.Stages.{CanEnd, CanStore, StoresWork};
 ghost use Rattle.jpa_provider.specs.Serving as serving;
-ghost use Rattle.jpa_provider.specs.Serving.{machine_of, manager_in, named, rows_before, rows_seen, AreAllMarked, AreMarkedAway, IsCommitting, IsCounted, IsServing, IsSettled, Serves};
-ghost use Rattle.jpa_rows.specs.Cells.{CanBeHeld};
-ghost use Rattle.jpa_rows.specs.Tables.{schema_of};
-ghost use Rattle.jpa_stored.specs.Sets.{each_fits, is_rising};
+ghost use Rattle.jpa_provider.specs.Serving.{machine_of, manager_in, named, rows_before, rows_seen, AreAllMarked, AreMarkedAway, IsAtRest, IsCommitting, IsServingOver, IsSettled, Serves};
 
 use crate::at_work::{manager_named, mark_unless, restore, take_work};
 use crate::beside::make_room;
@@ -168,16 +163,7 @@ fn end_commit(
     gone: &[usize],
     looked: &Looked,
 )
-    requires within { manager < length session.old.managers.items }
-    requires next { next ≡ session.old.work.numbers.now }
-    requires gone { gone.now ≡ serving.gone_objects (now session.old.work) }
-    requires entries { All (λ e. e.object < length session.old.work.objects.now)
-        session.old.work.context.now }
-    requires room { (session.old.work.view).is_ready ≡ true }
-    requires beside { IsBeside manager session.old }
-    requires ready { IsReady metamodel.now (now session.old.work) }
-    requires looked { AreLooked (IsUntouched metamodel.now (now session.old.work)
-        looked.now.linked) session.old.work.context.now looked.now.places }
+    requires { CanEnd metamodel.now manager session.old next gone.now looked.now }
     ensures ended { (M : Machine) → IsCommitting M manager session.old
         → machine_of session.new ≡ committed_after M manager (now session.old.work) }
     ensures settled { (M : Machine) → IsCommitting M manager session.old
@@ -213,32 +199,11 @@ fn store_commit<R: RowSource, B: Behaviour>(
     ids: &[Identity],
     looked: &Looked,
 ) -> Reply
-    requires within { manager < length session.old.managers.items }
-    requires counted { IsCounted session.old }
-    requires elsewhere { AreAllChanged session.old.work.view ids.now }
-    requires once { is_rising ids.now ≡ true }
-    requires schema { R.schema rows.old ≡ schema_of unit.now.metamodel }
-    requires committed { CanBeHeld (world_of_unit B.meaning unit.now)
-        (session.old.work.view).committed session.old.stored }
-    requires seen { CanBeHeld (world_of_unit B.meaning unit.now)
-        (session.old.work.view).seen session.old.work.numbers.now }
-    requires rising { each_fits nat_le session.old.stored session.old.work.numbers.now ≡ true }
-    requires entries { All (λ e. e.object < length session.old.work.objects.now)
-        session.old.work.context.now }
-    requires ready { IsReady unit.now.metamodel (now session.old.work) }
-    requires looked { AreLooked (IsUntouched unit.now.metamodel (now session.old.work)
-        looked.now.linked) session.old.work.context.now looked.now.places }
-    ensures stores { (M : Machine) → IsCommitting M manager session.old
-        → serving.Stores M manager (now session.old.work) result (machine_of session.new) }
-    ensures settled { (M : Machine) → IsCommitting M manager session.old →
-        IsSettled session.new }
-    ensures marked { (M : Machine) → IsCommitting M manager session.old
-        → AreMarkedAway unit.now.metamodel M manager session.old
-        → AreAllMarked unit.now.metamodel session.new }
-    ensures holds { (M : Machine) → IsCommitting M manager session.old
-        → let world = world_of_unit B.meaning unit.now in
-        R.holds rows.old (rows_kept world M)
-        → R.holds rows.new (rows_kept world (machine_of session.new)) }
+    requires { CanStore (world_of_unit B.meaning unit.now) R.RowSource manager
+        session.old rows.old ids.now looked.now }
+    ensures ends { (M : Machine) → IsCommitting M manager session.old
+        → StoresWork (world_of_unit B.meaning unit.now) R.RowSource M manager
+        session.old result session.new rows.old rows.new }
     ensures commits { let world = world_of_unit B.meaning unit.now in
         Commits R.RowSource (faults_after_reply result) result.answer
         (rows_before world session.old) (rows_seen world session.old) rows.old rows.new }
@@ -304,7 +269,6 @@ fn at_hand(
 }
 
 /// Commits the open transaction of the manager.
-#[tactic(auto, using(crate::proofs::Told::none_more, crate::proofs::Told::of_operation))]
 fn commit_active<R: RowSource, B: Behaviour>(
     alloc: Global,
     unit: &ServedUnit<B>,
@@ -314,36 +278,16 @@ fn commit_active<R: RowSource, B: Behaviour>(
 ) -> Reply
     requires within { manager < length session.old.managers.items }
     requires active { (manager_in session.old.managers.items manager).status ≡ Status.Active }
-    requires serving { IsServing (world_of_unit B.meaning unit.now) session.old }
-    requires schema { R.schema rows.old ≡ schema_of unit.now.metamodel }
-    requires holds { let world = world_of_unit B.meaning unit.now in
-        R.clean rows.old → R.holds rows.old (rows_kept world (machine_of session.old)) }
+    requires over { IsServingOver (world_of_unit B.meaning unit.now) R.RowSource
+        session.old rows.old }
     ensures step { let world = world_of_unit B.meaning unit.now in
         (em : ℤ) → named session.old em ≡ Some manager
         → Serves world session.old (Call.Commit em) result session.new }
-    ensures settled { IsSettled session.new }
-    ensures marked { AreAllMarked unit.now.metamodel session.new }
-    ensures holds { let world = world_of_unit B.meaning unit.now in
-        R.clean rows.new → R.holds rows.new (rows_kept world (machine_of session.new)) }
-    ensures was_clean { R.clean rows.new → R.clean rows.old }
-    ensures schema { R.schema rows.new ≡ R.schema rows.old }
-    ensures crash { let world = world_of_unit B.meaning unit.now in
-        (em : ℤ) → named session.old em ≡ Some manager → R.clean rows.new
-        → R.endures rows.old rows.new (λ left.
-        left ≡ rows_made world (machine_of session.old) (Call.Commit em)) }
-    ensures counted { let world = world_of_unit B.meaning unit.now in
-        (em : ℤ) → named session.old em ≡ Some manager → OnOk result.answer
-        (RunsDifference (rows_kept world (machine_of session.old))
-        (rows_made world (machine_of session.old) (Call.Commit em))
-        (R.writes rows.old) (R.writes rows.new)) }
-    ensures bounded { let world = world_of_unit B.meaning unit.now in
-        (em : ℤ) → named session.old em ≡ Some manager → IsErr result.answer
-        → (rows.new ≡ rows.old) ⊎ RunsAtMost (rows_kept world (machine_of session.old))
-        (rows_made world (machine_of session.old) (Call.Commit em))
-        (R.writes rows.old) (R.writes rows.new) }
-    ensures unread { R.reads rows.new ≡ R.reads rows.old }
-    ensures told { R.faults rows.new ≡ faults_after_reply result (R.faults rows.old) }
-    ensures refused { IsErr result.answer → IsGivenUp result ⊎ (rows.new ≡ rows.old) }
+    ensures rest { IsAtRest unit.now.metamodel session.new }
+    ensures stores { let world = world_of_unit B.meaning unit.now in
+        (em : ℤ) → named session.old em ≡ Some manager
+        → StoresCall world R.RowSource (machine_of session.old) (Call.Commit em) result
+        (machine_of session.new) rows.old rows.new }
 {
     take_work(session, manager);
     match commit_work(alloc, unit, &mut session.work) {
@@ -356,7 +300,6 @@ fn commit_active<R: RowSource, B: Behaviour>(
 }
 
 /// The call commit.
-#[tactic(auto, using(crate::proofs::Told::none_more))]
 pub(crate) fn commit_call<R: RowSource, B: Behaviour>(
     alloc: Global,
     unit: &ServedUnit<B>,
@@ -364,33 +307,14 @@ pub(crate) fn commit_call<R: RowSource, B: Behaviour>(
     rows: &mut R,
     em: i64,
 ) -> Reply
-    requires serving { IsServing (world_of_unit B.meaning unit.now) session.old }
-    requires schema { R.schema rows.old ≡ schema_of unit.now.metamodel }
-    requires holds { let world = world_of_unit B.meaning unit.now in
-        R.clean rows.old → R.holds rows.old (rows_kept world (machine_of session.old)) }
+    requires { IsServingOver (world_of_unit B.meaning unit.now) R.RowSource
+        session.old rows.old }
     ensures step { let world = world_of_unit B.meaning unit.now in
         Serves world session.old (Call.Commit em) result session.new }
-    ensures settled { IsSettled session.new }
-    ensures marked { AreAllMarked unit.now.metamodel session.new }
-    ensures holds { let world = world_of_unit B.meaning unit.now in
-        R.clean rows.new → R.holds rows.new (rows_kept world (machine_of session.new)) }
-    ensures was_clean { R.clean rows.new → R.clean rows.old }
-    ensures schema { R.schema rows.new ≡ R.schema rows.old }
-    ensures crash { let world = world_of_unit B.meaning unit.now in
-        R.clean rows.new → R.endures rows.old rows.new (λ left.
-        left ≡ rows_made world (machine_of session.old) (Call.Commit em)) }
-    ensures counted { let world = world_of_unit B.meaning unit.now in
-        OnOk result.answer (RunsDifference (rows_kept world (machine_of session.old))
-        (rows_made world (machine_of session.old) (Call.Commit em))
-        (R.writes rows.old) (R.writes rows.new)) }
-    ensures bounded { let world = world_of_unit B.meaning unit.now in
-        IsErr result.answer → (rows.new ≡ rows.old)
-        ⊎ RunsAtMost (rows_kept world (machine_of session.old))
-        (rows_made world (machine_of session.old) (Call.Commit em))
-        (R.writes rows.old) (R.writes rows.new) }
-    ensures unread { R.reads rows.new ≡ R.reads rows.old }
-    ensures told { R.faults rows.new ≡ faults_after_reply result (R.faults rows.old) }
-    ensures refused { IsErr result.answer → IsGivenUp result ⊎ (rows.new ≡ rows.old) }
+    ensures rest { IsAtRest unit.now.metamodel session.new }
+    ensures stores { let world = world_of_unit B.meaning unit.now in
+        StoresCall world R.RowSource (machine_of session.old) (Call.Commit em) result
+        (machine_of session.new) rows.old rows.new }
 {
     let Some(manager) = manager_named(session, em) else {
         return because(alloc, Cause::NoSuchManager);

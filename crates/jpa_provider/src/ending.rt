@@ -1,14 +1,14 @@
 //! The ends of transactions but for commit (Jakarta Persistence 3.1, chapter 7.5).
-ghost use Rattle.jpa_context.specs.Marks.{none_marked};
-ghost use Rattle.std.specs.Prelude.{◌≡◌, ◌==◌, ◌<◌, [], ℕ, All, false, filter, not, true, length, slice_set};
+ghost use Rattle.std.specs.Prelude.{◌≡◌, ◌==◌, ◌<◌, All, false, filter, not, true, length};
 ghost use Rattle.jpa_behaviour.specs.Served.{world_of_unit};
 ghost use Rattle.jpa_ops.specs.States.{detach_each};
 ghost use Rattle.jpa_protocol.specs.declared.call.Call.{Call};
 ghost use Rattle.jpa_machine.specs.Faults.{tells_fault};
 ghost use Rattle.jpa_behaviour.specs.Behaviour.{World};
 ghost use Rattle.jpa_machine.specs.Invariant.{IsMachine};
-ghost use Rattle.jpa_machine.specs.Machine.{cleared, closed, rolled_back};
-ghost use Rattle.jpa_provider.specs.Serving.{machine_of, manager_in, detached_all, detached_at, is_begun_status, AreAllMarked, IsServing, IsSettled, Serves};
+ghost use Rattle.jpa_machine.specs.Machine.{closed, rolled_back};
+ghost use Rattle.jpa_provider.specs.Stages.{HasManager, IsCleared};
+ghost use Rattle.jpa_provider.specs.Serving.{machine_of, manager_in, detached_all, detached_at, is_begun_status, AreAllMarked, IsAtRest, IsServing, IsSettled, Serves};
 
 use crate::at_work::{manager_named, mark};
 use crate::replies::{accepted, because};
@@ -71,19 +71,11 @@ pub(crate) fn detach_objects(alloc: Global, objects: &mut UndoList<LiveObject>, 
 
 /// The manager's objects are detached as they are, and leave its context. Takes no memory.
 fn clear(alloc: Global, session: &mut Session, manager: usize)
-    requires within { manager < length session.old.managers.items }
-    requires entries { All (λ e. e.object < length session.old.work.objects.now)
-        (manager_in session.old.managers.items manager).context.now }
-    ensures cleared { machine_of session.new ≡ cleared (machine_of session.old) manager }
-    ensures managers { session.new.managers.items
-        ≡ slice_set session.old.managers.items manager
-        (record (manager_in session.old.managers.items manager)
-        { context = record { now = []; since = []; marks = none_marked } }) }
+    requires { HasManager session.old manager }
+    ensures cleared { IsCleared manager session.old session.new }
     ensures settled { IsSettled session.old → IsSettled session.new }
     ensures marked { (world : World) → IsMachine world (machine_of session.old)
         → AreAllMarked world.model session.old → AreAllMarked world.model session.new }
-    ensures view { session.new.work.view ≡ session.old.work.view }
-    ensures places { session.new.open_places.items ≡ session.old.open_places.items }
 {
     other_laws();
     detach_each(
@@ -103,15 +95,11 @@ pub(crate) fn clear_call<B: Behaviour>(
     session: &mut Session,
     em: i64,
 ) -> Reply
-    requires settled { IsSettled session.old }
-    requires entries { (k : ℕ) → All (λ e. e.object < length session.old.work.objects.now)
-        (manager_in session.old.managers.items k).context.now }
+    requires { IsServing (world_of_unit B.meaning _unit.now) session.old }
     ensures step { let world = world_of_unit B.meaning _unit.now in
         Serves world session.old (Call.Clear em) result session.new }
     ensures untold { tells_fault result ≡ false }
-    ensures settled { IsSettled session.new }
-    ensures marked { IsServing (world_of_unit B.meaning _unit.now) session.old
-        → AreAllMarked _unit.now.metamodel session.new }
+    ensures rest { IsAtRest _unit.now.metamodel session.new }
 {
     let Some(manager) = manager_named(session, em) else {
         return because(alloc, Cause::NoSuchManager);
@@ -129,15 +117,11 @@ pub(crate) fn close_call<B: Behaviour>(
     session: &mut Session,
     em: i64,
 ) -> Reply
-    requires settled { IsSettled session.old }
-    requires entries { (k : ℕ) → All (λ e. e.object < length session.old.work.objects.now)
-        (manager_in session.old.managers.items k).context.now }
+    requires { IsServing (world_of_unit B.meaning _unit.now) session.old }
     ensures step { Serves (world_of_unit B.meaning _unit.now) session.old
         (Call.Close em) result session.new }
     ensures untold { tells_fault result ≡ false }
-    ensures settled { IsSettled session.new }
-    ensures marked { IsServing (world_of_unit B.meaning _unit.now) session.old
-        → AreAllMarked _unit.now.metamodel session.new }
+    ensures rest { IsAtRest _unit.now.metamodel session.new }
 {
     let Some(manager) = manager_named(session, em) else {
         return because(alloc, Cause::NoSuchManager);
@@ -158,10 +142,8 @@ fn leave(places: &mut Vec<usize>, place: usize)
 
 /// Closes a manager that has no open transaction. Takes no memory.
 fn shut(alloc: Global, session: &mut Session, manager: usize)
-    requires within { manager < length session.old.managers.items }
+    requires manager { HasManager session.old manager }
     requires settled { IsSettled session.old }
-    requires entries { All (λ e. e.object < length session.old.work.objects.now)
-        (manager_in session.old.managers.items manager).context.now }
     requires idle { is_begun_status (manager_in session.old.managers.items manager).status
         ≡ false }
     ensures closed { machine_of session.new ≡ closed (machine_of session.old) manager }
@@ -177,9 +159,7 @@ fn shut(alloc: Global, session: &mut Session, manager: usize)
 /// Ends the manager's open transaction: its objects are detached as they are, and what it wrote
 /// goes with its layers. Takes no memory.
 pub(crate) fn release(alloc: Global, session: &mut Session, manager: usize)
-    requires within { manager < length session.old.managers.items }
-    requires entries { All (λ e. e.object < length session.old.work.objects.now)
-        (manager_in session.old.managers.items manager).context.now }
+    requires { HasManager session.old manager }
     ensures released { IsSettled session.old
         → is_begun_status (manager_in session.old.managers.items manager).status ≡ true
         → machine_of session.new ≡ rolled_back (machine_of session.old) manager }
@@ -201,15 +181,11 @@ pub(crate) fn rollback_call<B: Behaviour>(
     session: &mut Session,
     em: i64,
 ) -> Reply
-    requires settled { IsSettled session.old }
-    requires entries { (k : ℕ) → All (λ e. e.object < length session.old.work.objects.now)
-        (manager_in session.old.managers.items k).context.now }
+    requires { IsServing (world_of_unit B.meaning _unit.now) session.old }
     ensures step { let world = world_of_unit B.meaning _unit.now in
         Serves world session.old (Call.Rollback em) result session.new }
     ensures untold { tells_fault result ≡ false }
-    ensures settled { IsSettled session.new }
-    ensures marked { IsServing (world_of_unit B.meaning _unit.now) session.old
-        → AreAllMarked _unit.now.metamodel session.new }
+    ensures rest { IsAtRest _unit.now.metamodel session.new }
 {
     let Some(manager) = manager_named(session, em) else {
         return because(alloc, Cause::NoSuchManager);
@@ -229,13 +205,11 @@ pub(crate) fn set_rollback_only_call<B: Behaviour>(
     session: &mut Session,
     em: i64,
 ) -> Reply
-    requires settled { IsSettled session.old }
+    requires { IsServing (world_of_unit B.meaning _unit.now) session.old }
     ensures step { let world = world_of_unit B.meaning _unit.now in
         Serves world session.old (Call.SetRollbackOnly em) result session.new }
     ensures untold { tells_fault result ≡ false }
-    ensures settled { IsSettled session.new }
-    ensures marked { IsServing (world_of_unit B.meaning _unit.now) session.old
-        → AreAllMarked _unit.now.metamodel session.new }
+    ensures rest { IsAtRest _unit.now.metamodel session.new }
 {
     let Some(manager) = manager_named(session, em) else {
         return because(alloc, Cause::NoSuchManager);

@@ -1,19 +1,13 @@
 //! The call flush (Jakarta Persistence 3.1, chapter 3.2.4).
-ghost use Rattle.std.specs.Prelude.{◌≡◌, T, false, true};
-ghost use Rattle.std.specs.FinMap.Entries.{is_sorted};
+ghost use Rattle.std.specs.Prelude.{◌≡◌, false};
 ghost use Rattle.jpa_behaviour.specs.Served.{world_of_unit};
 ghost use Rattle.jpa_context.specs.Steps.{Meets};
 ghost use Rattle.jpa_context.specs.Undo.{now, since};
-ghost use Rattle.jpa_fetch.specs.Grown.{IsReady};
-ghost use Rattle.jpa_fetch.specs.Orderly.{IsOrderly};
-ghost use Rattle.jpa_flush.specs.Marked.{IsMarked};
-ghost use Rattle.jpa_ops.specs.Names.{has_distinct_entries};
 ghost use Rattle.jpa_protocol.specs.declared.call.Call.{Call};
 ghost use Rattle.jpa_machine.specs.Faults.{tells_fault};
 ghost use Rattle.jpa_machine.specs.Routes as routes;
-ghost use Rattle.jpa_stored.specs.Sets.{IsSound};
-ghost use Rattle.jpa_value.specs.Value.{identity_cmp};
-ghost use Rattle.jpa_provider.specs.Serving.{AreAllMarked, IsServing, IsSettled, Serves};
+ghost use Rattle.jpa_provider.specs.Stages.{CanFlush};
+ghost use Rattle.jpa_provider.specs.Serving.{IsAtRest, IsServing, Serves};
 
 use crate::at_work::{conclude, manager_named, take_work};
 use crate::replies::{Rule, because};
@@ -31,12 +25,7 @@ fn flush_work<B: Behaviour>(
     unit: &ServedUnit<B>,
     work: &mut UnitOfWork,
 ) -> Result<Answer, Cause>
-    requires orderly { IsOrderly unit.now.metamodel }
-    requires ready { IsReady unit.now.metamodel (now work.old) }
-    requires sound { IsSound unit.now.metamodel (now work.old).view }
-    requires rising { T (is_sorted identity_cmp (now work.old).view) }
-    requires distinct { has_distinct_entries unit.now.metamodel (now work.old) ≡ true }
-    requires marked { IsMarked unit.now.metamodel work.old }
+    requires { CanFlush unit.now.metamodel work.old }
     ensures meets { Meets result (now work.new)
         (routes.flush_call (world_of_unit B.meaning unit.now) (now work.old)) }
     ensures since { since work.new ≡ since work.old }
@@ -58,8 +47,7 @@ pub(crate) fn flush_call<B: Behaviour>(
     ensures step { Serves (world_of_unit B.meaning unit.now) session.old
         (Call.Flush em) result session.new }
     ensures untold { tells_fault result ≡ false }
-    ensures settled { IsSettled session.new }
-    ensures marked { AreAllMarked unit.now.metamodel session.new }
+    ensures rest { IsAtRest unit.now.metamodel session.new }
 {
     let Some(manager) = manager_named(session, em) else {
         return because(alloc, Cause::NoSuchManager);

@@ -5,7 +5,7 @@ ghost use Rattle.jpa_model.specs.declared.unit.PersistenceUnit.{PersistenceUnit}
 ghost use Rattle.jpa_protocol.specs.declared.call.Call.{Call};
 ghost use Rattle.jpa_machine.specs.Faults.{tells_fault};
 ghost use Rattle.jpa_machine.specs.Machine.{with_mode};
-ghost use Rattle.jpa_provider.specs.Serving.{machine_of, AreAllMarked, IsSettled, Serves};
+ghost use Rattle.jpa_provider.specs.Serving.{machine_of, AreAllMarked, IsAtRest, IsServing, IsSettled, Serves};
 
 use crate::at_work::manager_named;
 use crate::replies::{accepted, because};
@@ -35,13 +35,11 @@ pub(crate) fn set_flush_mode_call<B: Behaviour>(
     em: i64,
     mode: FlushMode,
 ) -> Reply
-    requires settled { IsSettled session.old }
+    requires { IsServing (world_of_unit B.meaning _unit.now) session.old }
     ensures step { Serves (world_of_unit B.meaning _unit.now) session.old
         (Call.SetFlushMode em mode) result session.new }
     ensures untold { tells_fault result ≡ false }
-    ensures settled { IsSettled session.new }
-    ensures marked { (u : PersistenceUnit) → AreAllMarked u session.old
-        → AreAllMarked u session.new }
+    ensures rest { IsAtRest _unit.now.metamodel session.new }
 {
     let Some(manager) = manager_named(session, em) else {
         return because(alloc, Cause::NoSuchManager);

@@ -2,10 +2,9 @@
 //! 3.1.1 and 7.5).
 ghost use Rattle.std.specs.Prelude.{◌≡◌, ◌++◌, ◌∷◌, [], false, is_ok, length, if◌then◌else◌};
 ghost use Rattle.jpa_behaviour.specs.Served.{world_of_unit};
-ghost use Rattle.jpa_model.specs.declared.unit.PersistenceUnit.{PersistenceUnit};
 ghost use Rattle.jpa_protocol.specs.declared.call.Call.{Call};
 ghost use Rattle.jpa_machine.specs.Faults.{tells_fault};
-ghost use Rattle.jpa_provider.specs.Serving.{AreAllMarked, IsSettled, Serves};
+ghost use Rattle.jpa_provider.specs.Serving.{IsAtRest, IsServing, Serves};
 
 use crate::at_work::manager_named;
 use crate::replies::{accepted, because};
@@ -49,13 +48,11 @@ pub(crate) fn create_call<B: Behaviour>(
     _unit: &ServedUnit<B>,
     session: &mut Session,
 ) -> Reply
-    requires settled { IsSettled session.old }
+    requires { IsServing (world_of_unit B.meaning _unit.now) session.old }
     ensures step { Serves (world_of_unit B.meaning _unit.now) session.old
         Call.CreateEntityManager result session.new }
     ensures untold { tells_fault result ≡ false }
-    ensures settled { IsSettled session.new }
-    ensures marked { (u : PersistenceUnit) → AreAllMarked u session.old
-        → AreAllMarked u session.new }
+    ensures rest { IsAtRest _unit.now.metamodel session.new }
 {
     let count = session.managers.len();
     if session.open_places.len() >= MOST_OPEN_MANAGERS || count >= MOST_MANAGERS {
@@ -81,13 +78,11 @@ pub(crate) fn begin_call<B: Behaviour>(
     session: &mut Session,
     em: i64,
 ) -> Reply
-    requires settled { IsSettled session.old }
+    requires { IsServing (world_of_unit B.meaning _unit.now) session.old }
     ensures step { Serves (world_of_unit B.meaning _unit.now) session.old
         (Call.Begin em) result session.new }
     ensures untold { tells_fault result ≡ false }
-    ensures settled { IsSettled session.new }
-    ensures marked { (u : PersistenceUnit) → AreAllMarked u session.old
-        → AreAllMarked u session.new }
+    ensures rest { IsAtRest _unit.now.metamodel session.new }
 {
     let Some(manager) = manager_named(session, em) else {
         return because(alloc, Cause::NoSuchManager);
@@ -106,13 +101,11 @@ pub(crate) fn new_call<B: Behaviour>(
     session: &mut Session,
     entity: &str,
 ) -> Reply
-    requires settled { IsSettled session.old }
+    requires { IsServing (world_of_unit B.meaning unit.now) session.old }
     ensures step { let world = world_of_unit B.meaning unit.now in
         Serves world session.old (Call.NewObject entity.now) result session.new }
     ensures untold { tells_fault result ≡ false }
-    ensures settled { IsSettled session.new }
-    ensures marked { (u : PersistenceUnit) → AreAllMarked u session.old
-        → AreAllMarked u session.new }
+    ensures rest { IsAtRest unit.now.metamodel session.new }
 {
     other_laws();
     let count = session.work.objects.len();

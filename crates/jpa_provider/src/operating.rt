@@ -15,6 +15,7 @@ ghost use Rattle.jpa_machine.specs.Calls as calls;
 ghost use Rattle.jpa_machine.specs.Routes as routes;
 ghost use Rattle.jpa_provider.specs.Operations as operations;
 ghost use Rattle.jpa_provider.specs.Serving.{KeepsMarks};
+ghost use Rattle.jpa_provider.specs.Stages.{CanOperate};
 ghost use Rattle.jpa_provider.specs.declared.operating.Operation.{Operation};
 
 use crate::handing::{are_short, given_representable, handed, place_of, whole_key};
@@ -484,9 +485,7 @@ pub(crate) fn operate<B: Behaviour>(
     work: &mut UnitOfWork,
     operation: Operation,
 ) -> Result<Answer, Cause>
-    requires orderly { IsOrderly unit.now.metamodel }
-    requires ready { IsReady unit.now.metamodel (now work.old) }
-    requires kept { IsKept work.old }
+    requires { CanOperate unit.now.metamodel work.old }
     ensures meets { let world = world_of_unit B.meaning unit.now in
         Meets result (now work.new) (operations.operation_of operation world (now work.old)) }
     ensures view { work.new.view ≡ work.old.view }

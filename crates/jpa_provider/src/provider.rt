@@ -1,5 +1,5 @@
 //! The provider.
-ghost use Rattle.std.specs.Prelude.{◌≡◌, ◌⊎◌, ℕ, nat_le, IsErr, IfOk, IfErr, OnOk, true, false};
+ghost use Rattle.std.specs.Prelude.{◌≡◌, ℕ, IfOk, IfErr, OnOk, true, false};
 ghost use Rattle.jpa_value.specs.declared.refusal.Cause.{Cause};
 ghost use Rattle.jpa_behaviour.specs.Served.{world_of_unit};
 ghost use Rattle.jpa_model.specs.Chains.{entity_at};
@@ -10,18 +10,15 @@ ghost use Rattle.jpa_object_rows.specs.Unambiguous.{is_class};
 ghost use Rattle.jpa_protocol.specs.declared.call.Call.{Call};
 ghost use Rattle.jpa_rows.specs.Cells.{CanBeHeld};
 ghost use Rattle.jpa_rows.specs.Tables.{schema_of};
-ghost use Rattle.jpa_stored.specs.Sets.{StoredSet, each_fits};
+ghost use Rattle.jpa_stored.specs.Sets.{StoredSet};
 ghost use Rattle.jpa_open.specs.Opened.{unwritten};
-ghost use Rattle.jpa_machine.specs.Faults.{faults_after_reply};
+ghost use Rattle.jpa_machine.specs.Faults.{tells_fault};
 ghost use Rattle.jpa_machine.specs.Invariant.{IsMachine};
-ghost use Rattle.jpa_machine.specs.Left.{HoldsSameValues, LivesAsBefore};
-ghost use Rattle.jpa_machine.specs.Machine.{opened, IsStoredAs};
-ghost use Rattle.jpa_machine.specs.Step.{IsGivenUp};
-ghost use Rattle.jpa_machine.specs.Routes.{is_commit, is_rollback};
-ghost use Rattle.jpa_rows.specs.Commits.{RunsAtMost, RunsDifference};
-ghost use Rattle.jpa_provider.specs.Provided.{rows_kept, rows_made, world_in, Stands};
+ghost use Rattle.jpa_machine.specs.Machine.{opened};
+ghost use Rattle.jpa_machine.specs.Routes.{is_commit};
+ghost use Rattle.jpa_provider.specs.Provided.{world_in, ChangesAtMost, IsOpened, Stands, StoresCall};
 ghost use Rattle.jpa_machine.specs.Updating.{MakesRepresentable, is_bulk};
-ghost use Rattle.jpa_provider.specs.Serving.{machine_of, AreAllMarked, IsServing, IsSettled, Serves};
+ghost use Rattle.jpa_provider.specs.Serving.{machine_of, IsAtRest, IsServingOver, IsSettled, Serves};
 
 use crate::asking::contains_call;
 use crate::committing::commit_call;
@@ -61,12 +58,9 @@ pub struct Provider<R: RowSource, B: Behaviour> {
 }
 
 impl<R: RowSource, B: Behaviour> Model for Provider<R, B> {
-    ghost use Rattle.std.specs.Prelude.{◌≡◌};
     ghost use Rattle.jpa_behaviour.specs.Served.{world_of_unit};
-    ghost use Rattle.jpa_object_rows.specs.Sets.{rows_of};
-    ghost use Rattle.jpa_rows.specs.Tables.{schema_of};
     ghost use Rattle.jpa_provider.specs.Provided.{Provided};
-    ghost use Rattle.jpa_provider.specs.Serving.{IsServing, machine_of};
+    ghost use Rattle.jpa_provider.specs.Serving.{IsServingOver, machine_of};
 
     ghost Value = { Provided R B.Listener B.Converter };
 
@@ -77,12 +71,8 @@ impl<R: RowSource, B: Behaviour> Model for Provider<R, B> {
       rows = p.rows;
     } };
 
-    ghost invariant = { λ p. record {
-      serving : IsServing (world_of_unit B.meaning p.unit) p.session;
-      schema : R.schema p.rows ≡ schema_of p.unit.metamodel;
-      holds : R.clean p.rows → R.holds p.rows (rows_of (world_of_unit B.meaning p.unit)
-          (machine_of p.session).committed (machine_of p.session).stored_numbers);
-    } };
+    ghost invariant = { λ p.
+        IsServingOver (world_of_unit B.meaning p.unit) R.RowSource p.session p.rows };
 }
 
 impl<R: RowSource + Drop, B: Behaviour> Provider<R, B> {
@@ -100,10 +90,7 @@ impl<R: RowSource + Drop, B: Behaviour> Provider<R, B> {
         requires held { CanBeHeld (world_of_unit B.meaning unit) committed numbers }
         requires holds { R.clean rows
             → R.holds rows (rows_of (world_of_unit B.meaning unit) committed numbers) }
-        ensures model { IfOk result (λ provider. provider.model ≡ unit.metamodel) }
-        ensures registry { IfOk result (λ provider. provider.registry ≡ unit.registry) }
-        ensures machine { IfOk result (λ provider. provider.machine ≡ opened committed numbers) }
-        ensures rows { IfOk result (λ provider. provider.rows ≡ rows) }
+        ensures ok { IfOk result (IsOpened unit.metamodel unit.registry committed numbers rows) }
         ensures refused { IfErr result (λ e. (e.0 ≡ Cause.OutOfMemory) × (e.1 ≡ rows)) }
     {
         unit.registry.laws();
@@ -195,7 +182,6 @@ fn opened(alloc: Global, view: OpenSet, next: UndoList<u64>, numbers: Seq<u64>) 
 }
 
 /// Serves a call; what stands between calls is shown where it is called.
-#[tactic(auto, using(crate::proofs::Told::none_more))]
 fn served<R: RowSource, B: Behaviour>(
     alloc: Global,
     unit: &ServedUnit<B>,
@@ -203,41 +189,19 @@ fn served<R: RowSource, B: Behaviour>(
     rows: &mut R,
     call: Call,
 ) -> Reply
-    requires serving { IsServing (world_of_unit B.meaning unit.now) session.old }
-    requires schema { R.schema rows.old ≡ schema_of unit.now.metamodel }
-    requires holds { let world = world_of_unit B.meaning unit.now in
-        R.clean rows.old → R.holds rows.old (rows_kept world (machine_of session.old)) }
+    requires { IsServingOver (world_of_unit B.meaning unit.now) R.RowSource
+        session.old rows.old }
     ensures step { let world = world_of_unit B.meaning unit.now in
         Serves world session.old call result session.new }
-    ensures settled { IsSettled session.new }
-    ensures marked { AreAllMarked unit.now.metamodel session.new }
-    ensures holds { let world = world_of_unit B.meaning unit.now in
-        is_commit call ≡ true → R.clean rows.new
-        → R.holds rows.new (rows_kept world (machine_of session.new)) }
-    ensures others { is_commit call ≡ false → rows.new ≡ rows.old }
-    ensures was_clean { R.clean rows.new → R.clean rows.old }
-    ensures crash { let world = world_of_unit B.meaning unit.now in
-        let made = rows_made world (machine_of session.old) call in
-        is_commit call ≡ true → R.clean rows.new
-        → R.endures rows.old rows.new (λ left. left ≡ made) }
-    ensures counted { let world = world_of_unit B.meaning unit.now in
-        let M = machine_of session.old in
-        is_commit call ≡ true → OnOk result.answer
-        (RunsDifference (rows_kept world M) (rows_made world M call)
-        (R.writes rows.old) (R.writes rows.new)) }
-    ensures bounded { let world = world_of_unit B.meaning unit.now in
-        let M = machine_of session.old in
-        is_commit call ≡ true → IsErr result.answer → (rows.new ≡ rows.old)
-        ⊎ RunsAtMost (rows_kept world M) (rows_made world M call)
-        (R.writes rows.old) (R.writes rows.new) }
-    ensures unread { R.reads rows.new ≡ R.reads rows.old }
-    ensures told { R.faults rows.new ≡ faults_after_reply result (R.faults rows.old) }
-    ensures refused { is_commit call ≡ true → IsErr result.answer
-        → IsGivenUp result ⊎ (rows.new ≡ rows.old) }
+    ensures rest { IsAtRest unit.now.metamodel session.new }
+    ensures stores { let world = world_of_unit B.meaning unit.now in
+        is_commit call ≡ true → StoresCall world R.RowSource (machine_of session.old) call result
+        (machine_of session.new) rows.old rows.new }
+    ensures others { is_commit call ≡ false
+        → (rows.new ≡ rows.old) × (tells_fault result ≡ false) }
     ensures made { let world = world_of_unit B.meaning unit.now in
         is_bulk call ≡ true
         → OnOk result.answer (MakesRepresentable world (machine_of session.old) call) }
-    ensures schema { R.schema rows.new ≡ schema_of unit.now.metamodel }
 {
     match call {
         Call::CreateEntityManager => create_call(alloc, unit, session),
@@ -369,44 +333,17 @@ fn serve<R: RowSource, B: Behaviour>(
     rows: &mut R,
     call: Call,
 ) -> Reply
-    requires serving { IsServing (world_of_unit B.meaning unit.now) session.old }
-    requires schema { R.schema rows.old ≡ schema_of unit.now.metamodel }
-    requires holds { let world = world_of_unit B.meaning unit.now in
-        R.clean rows.old → R.holds rows.old (rows_kept world (machine_of session.old)) }
-    ensures serving { IsServing (world_of_unit B.meaning unit.now) session.new }
+    requires { IsServingOver (world_of_unit B.meaning unit.now) R.RowSource
+        session.old rows.old }
+    ensures serving { IsServingOver (world_of_unit B.meaning unit.now) R.RowSource
+        session.new rows.new }
     ensures step { let world = world_of_unit B.meaning unit.now in
         Serves world session.old call result session.new }
-    ensures holds { let world = world_of_unit B.meaning unit.now in
-        R.clean rows.new → R.holds rows.new (rows_kept world (machine_of session.new)) }
-    ensures was_clean { R.clean rows.new → R.clean rows.old }
-    ensures crash { let world = world_of_unit B.meaning unit.now in
-        let made = rows_made world (machine_of session.old) call in
-        R.clean rows.new → R.endures rows.old rows.new (λ left. left ≡ made) }
-    ensures others { is_commit call ≡ false → rows.new ≡ rows.old }
-    ensures counted { let world = world_of_unit B.meaning unit.now in
-        let M = machine_of session.old in
-        is_commit call ≡ true → OnOk result.answer
-        (RunsDifference (rows_kept world M) (rows_made world M call)
-        (R.writes rows.old) (R.writes rows.new)) }
-    ensures bounded { let world = world_of_unit B.meaning unit.now in
-        let M = machine_of session.old in
-        is_commit call ≡ true → IsErr result.answer → (rows.new ≡ rows.old)
-        ⊎ RunsAtMost (rows_kept world M) (rows_made world M call)
-        (R.writes rows.old) (R.writes rows.new) }
-    ensures unread { R.reads rows.new ≡ R.reads rows.old }
-    ensures told { R.faults rows.new ≡ faults_after_reply result (R.faults rows.old) }
-    ensures still { (is_commit call ≡ false) ⊎ IsErr result.answer
-        → IsStoredAs (machine_of session.old) (machine_of session.new) }
-    ensures left { is_commit call ≡ false → IsErr result.answer
-        → LivesAsBefore (machine_of session.old) (machine_of session.new) }
-    ensures undone { (is_rollback call ≡ true)
-        ⊎ ((is_commit call ≡ true) × IsErr result.answer)
-        → HoldsSameValues (machine_of session.old) (machine_of session.new) }
-    ensures rising { let M = machine_of session.old in
-        let N = machine_of session.new in
-        each_fits nat_le M.numbers N.numbers ≡ true }
-    ensures refused { IsErr result.answer → IsGivenUp result ⊎ (rows.new ≡ rows.old) }
-    ensures schema { R.schema rows.new ≡ schema_of unit.now.metamodel }
+    ensures changes { ChangesAtMost (machine_of session.old) call result
+        (machine_of session.new) }
+    ensures stores { let world = world_of_unit B.meaning unit.now in
+        StoresCall world R.RowSource (machine_of session.old) call result
+        (machine_of session.new) rows.old rows.new }
 {
     hands_representable(&call);
     served(alloc, unit, session, rows, call)

@@ -1,7 +1,6 @@
 //! The calls query, querySingle and executeUpdate (Jakarta Persistence 3.1, chapters 3.10 and
 //! 4.11).
-ghost use Rattle.std.specs.Prelude.{◌≡◌, T, false, length, true, IfErr, IfOk, IfSome, OnOk};
-ghost use Rattle.std.specs.FinMap.Entries.{is_sorted};
+ghost use Rattle.std.specs.Prelude.{◌≡◌, false, length, true, IfErr, IfOk, IfSome, OnOk};
 ghost use Rattle.jpa_behaviour.specs.Served.{world_of_unit};
 ghost use Rattle.jpa_context.specs.Steps.{Done, Meets};
 ghost use Rattle.jpa_context.specs.Work.{Work};
@@ -10,22 +9,17 @@ ghost use Rattle.jpa_flush.specs.Flush.{flush_if};
 ghost use Rattle.jpa_updates.specs.Updates.{StaysSound};
 ghost use Rattle.jpa_machine.specs.Updating.{MakesRepresentable};
 ghost use Rattle.jpa_context.specs.Undo.{now, since};
-ghost use Rattle.jpa_fetch.specs.Grown.{IsReady};
-ghost use Rattle.jpa_fetch.specs.Orderly.{IsOrderly};
-ghost use Rattle.jpa_flush.specs.Marked.{IsMarked};
 ghost use Rattle.jpa_heap.specs.Shape.{IsInHeap};
-ghost use Rattle.jpa_ops.specs.Names.{has_distinct_entries};
 ghost use Rattle.jpa_protocol.specs.declared.call.Call.{Call};
 ghost use Rattle.jpa_machine.specs.Faults.{tells_fault};
 ghost use Rattle.jpa_machine.specs.Machine as machine;
 ghost use Rattle.jpa_machine.specs.Querying as querying;
 ghost use Rattle.jpa_provider.specs.Operations as operations;
 ghost use Rattle.jpa_machine.specs.Routes.{route, ToQuery};
-ghost use Rattle.jpa_provider.specs.Serving.{machine_of, AreAllMarked, IsServing, IsSettled, Serves, is_begun_status};
+ghost use Rattle.jpa_provider.specs.Stages.{CanFlush};
+ghost use Rattle.jpa_provider.specs.Serving.{machine_of, IsAtRest, IsServing, Serves, is_begun_status};
 ghost use Rattle.jpa_asked.specs.Premises.{AreInHeap};
 ghost use Rattle.jpa_queries.specs.Premises.{StaysReady};
-ghost use Rattle.jpa_stored.specs.Sets.{IsSound};
-ghost use Rattle.jpa_value.specs.Value.{identity_cmp};
 ghost use Rattle.jpa_value.specs.declared.refusal.Cause.{Cause};
 
 use crate::at_work::{conclude, manager_named, take_work};
@@ -150,12 +144,7 @@ fn query_work<B: Behaviour>(
     wanted: Wanted,
     told: Told,
 ) -> Result<Answer, Cause>
-    requires orderly { IsOrderly unit.now.metamodel }
-    requires ready { IsReady unit.now.metamodel (now work.old) }
-    requires sound { IsSound unit.now.metamodel (now work.old).view }
-    requires rising { T (is_sorted identity_cmp (now work.old).view) }
-    requires distinct { has_distinct_entries unit.now.metamodel (now work.old) ≡ true }
-    requires marked { IsMarked unit.now.metamodel work.old }
+    requires can_flush { CanFlush unit.now.metamodel work.old }
     requires then_ready { StaysReady flushes (world_of_unit B.meaning unit.now)
         (now work.old) }
     ensures meets { let world = world_of_unit B.meaning unit.now in
@@ -201,8 +190,7 @@ pub(crate) fn query_call<B: Behaviour>(
         (call : Call) → route call ≡ ToQuery em (operations.query_told told wanted)
         → Serves world session.old call result session.new }
     ensures untold { tells_fault result ≡ false }
-    ensures settled { IsSettled session.new }
-    ensures marked { AreAllMarked unit.now.metamodel session.new }
+    ensures rest { IsAtRest unit.now.metamodel session.new }
 {
     let Some(manager) = manager_named(session, em) else {
         return because(alloc, Cause::NoSuchManager);
@@ -235,13 +223,8 @@ fn update_work<B: Behaviour>(
     text: &str,
     parameters: &[Parameter],
 ) -> Result<Answer, Cause>
-    requires orderly { IsOrderly unit.now.metamodel }
-    requires ready { IsReady unit.now.metamodel (now work.old) }
+    requires can_flush { CanFlush unit.now.metamodel work.old }
     requires flushing { flushes ≡ true → is_active ≡ true }
-    requires sound { IsSound unit.now.metamodel (now work.old).view }
-    requires rising { T (is_sorted identity_cmp (now work.old).view) }
-    requires distinct { has_distinct_entries unit.now.metamodel (now work.old) ≡ true }
-    requires marked { IsMarked unit.now.metamodel work.old }
     requires then_sound { StaysSound flushes (world_of_unit B.meaning unit.now)
         (now work.old) }
     ensures meets { let world = world_of_unit B.meaning unit.now in
@@ -273,8 +256,7 @@ pub(crate) fn update_call<B: Behaviour>(
     ensures step { Serves (world_of_unit B.meaning unit.now) session.old
         (Call.ExecuteUpdate em text.now parameters.now) result session.new }
     ensures untold { tells_fault result ≡ false }
-    ensures settled { IsSettled session.new }
-    ensures marked { AreAllMarked unit.now.metamodel session.new }
+    ensures rest { IsAtRest unit.now.metamodel session.new }
     ensures made { let world = world_of_unit B.meaning unit.now in
         OnOk result.answer (MakesRepresentable world (machine_of session.old)
         (Call.ExecuteUpdate em text.now parameters.now)) }

@@ -14,7 +14,7 @@ ghost use Rattle.jpa_provider.specs.Operations as operations;
 ghost use Rattle.jpa_machine.specs.Routes.{route, OfManager, OfObject};
 ghost use Rattle.jpa_machine.specs.Routes as routes;
 ghost use Rattle.jpa_heap.specs.Objects as objects;
-ghost use Rattle.jpa_provider.specs.Serving.{machine_of, AreAllMarked, IsServing, IsSettled, Serves};
+ghost use Rattle.jpa_provider.specs.Serving.{machine_of, IsAtRest, IsServing, Serves};
 ghost use Rattle.jpa_provider.specs.declared.replies.Rule.{Rule};
 
 use crate::at_work::{conclude, manager_named, mark_unless, take_work};
@@ -48,8 +48,7 @@ fn at_work<B: Behaviour>(
         let outcome = operation_of operation world (work_of M manager) in
         EndsSo rule M manager outcome result (machine_of session.new) }
     ensures untold { tells_fault result ≡ false }
-    ensures settled { IsSettled session.new }
-    ensures marked { AreAllMarked unit.now.metamodel session.new }
+    ensures rest { IsAtRest unit.now.metamodel session.new }
 {
     sets_representable(&operation);
     take_work(session, manager);
@@ -72,8 +71,7 @@ fn unheld<B: Behaviour>(
         let outcome = operation_of operation world (work_of M nobody) in
         EndsSo Rule.OfObject M nobody outcome result (machine_of session.new) }
     ensures untold { tells_fault result ≡ false }
-    ensures settled { IsSettled session.new }
-    ensures marked { AreAllMarked unit.now.metamodel session.new }
+    ensures rest { IsAtRest unit.now.metamodel session.new }
 {
     session.work.manager = session.managers.len();
     session.work.context = PersistenceContext::new(alloc);
@@ -126,8 +124,7 @@ pub(crate) fn lock_call<B: Behaviour>(
     ensures step { Serves (world_of_unit B.meaning unit.now) session.old
         (Call.Lock em object mode) result session.new }
     ensures untold { tells_fault result ≡ false }
-    ensures settled { IsSettled session.new }
-    ensures marked { AreAllMarked unit.now.metamodel session.new }
+    ensures rest { IsAtRest unit.now.metamodel session.new }
 {
     let Some(manager) = manager_named(session, em) else {
         return because(alloc, Cause::NoSuchManager);
@@ -168,8 +165,7 @@ pub(crate) fn worked<B: Behaviour>(
         (call : Call) → route call ≡ OfManager em (operation_of operation)
         → Serves world session.old call result session.new }
     ensures untold { tells_fault result ≡ false }
-    ensures settled { IsSettled session.new }
-    ensures marked { AreAllMarked unit.now.metamodel session.new }
+    ensures rest { IsAtRest unit.now.metamodel session.new }
 {
     let Some(manager) = manager_named(session, em) else {
         return because(alloc, Cause::NoSuchManager);
@@ -191,8 +187,7 @@ pub(crate) fn held<B: Behaviour>(
         → operation_of operation ≡ on_numbered object op
         → Serves world session.old call result session.new }
     ensures untold { tells_fault result ≡ false }
-    ensures settled { IsSettled session.new }
-    ensures marked { AreAllMarked unit.now.metamodel session.new }
+    ensures rest { IsAtRest unit.now.metamodel session.new }
 {
     let Some(place) = place_of(session.work.objects.len(), object) else {
         return because(alloc, Cause::NoSuchObject);

@@ -17,12 +17,12 @@ returns-in-Err-clause-kept g c = inl c.in-Err.ensures.kept
 
 pub returns-in-Ok-new-clause-cells : goal.returns-in-Ok-new-clause-cells
 returns-in-Ok-new-clause-cells g c =
-    let new = c.in-Ok-new.ensures in
+    let new = c.in-Ok-new.ensures.ok in
     made_holds g.S.Store g.B.Behaviour.meaning c.args.unit.metamodel c.args.unit.registry c.in-Ok.opened.0 c.in-Ok.opened.1.set c.in-Ok.opened.1.numbers c.in-Ok-new.provider new.model new.registry new.machine new.rows c.in-Ok.ensures.stand
 
 pub returns-in-Ok-new-clause-opens : goal.returns-in-Ok-new-clause-opens
 returns-in-Ok-new-clause-opens g c =
-    subst (λ (space : Space g.row.S.Denot). Opened g.S.Store (world_of_unit g.B.Behaviour.meaning c.args.unit) c.args.history.now c.args.conn space.store.conn) (sym c.in-Ok-new.ensures.rows) c.in-Ok.ensures.opens
+    subst (λ (space : Space g.row.S.Denot). Opened g.S.Store (world_of_unit g.B.Behaviour.meaning c.args.unit) c.args.history.now c.args.conn space.store.conn) (sym c.in-Ok-new.ensures.ok.rows) c.in-Ok.ensures.opens
 
 pub returns-in-Ok-new-clause-thrown : goal.returns-in-Ok-new-clause-thrown
 returns-in-Ok-new-clause-thrown g c known thrown = absurd (accepted c.in-Ok.opened _ _ (c.in-Ok.ensures.thrown known thrown))

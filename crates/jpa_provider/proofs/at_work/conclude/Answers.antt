@@ -1,9 +1,9 @@
-use Rattle.std.proofs.Common.{refl, sym, subst}
+use Rattle.std.proofs.Common.{refl, sym, subst, ◌∙◌}
 use Rattle.std.specs.Prelude.{OnErr, OnOk}
 use Rattle.jpa_context.specs.declared.work.UnitOfWork.{UnitOfWork}
 use Rattle.jpa_context.specs.Undo.{now}
 use Rattle.jpa_fetch.specs.Grown.{IsReady}
-use Rattle.jpa_provider.specs.Serving.{AreAllMarked, IsWorking}
+use Rattle.jpa_provider.specs.Serving.{IsAtRest, IsWorking}
 use Rattle.jpa_provider.proofs.Marked.{ready_silent, still_marked}
 use Rattle.jpa_provider.proofs.Worked.{still_away, still_working}
 use Rattle.jpa_provider.proofs.at_work.conclude.Goals.{then-is_marked_by, else-is_marked_by}
@@ -15,19 +15,25 @@ keep_marked-requires-clause-ready c =
     ready_silent c.args.metamodel.now w c.replace-events.new.dest (subst (λ r. OnOk r (IsReady c.args.metamodel.now w)) c.in-Ok.is c.requires.ready)
 
 -- the events were taken out before
-pub returns-in-Ok-clause-marked : goal.returns-in-Ok-clause-marked
-returns-in-Ok-clause-marked c = λ M away working marked.
+pub returns-in-Ok-clause-rest : goal.returns-in-Ok-clause-rest
+returns-in-Ok-clause-rest c = λ M away working marked.
     let s = c.args.session.now in
     let w : UnitOfWork = record (s.work) { events = c.replace-events.new.dest } in
-    c.keep_marked.ensures.marked M (still_away s w away refl refl refl) (still_marked s w marked refl)
+    let there = still_away s w away refl refl refl in
+    record {
+      settled = c.keep_marked.ensures.settled M there (c.replace-events.ensures.after ∙ c.new.ensures);
+      marked = c.keep_marked.ensures.marked M there (still_marked s w marked refl);
+    }
 
-pub returns-after-is_marked_by-clause-marked : goal.returns-after-is_marked_by-clause-marked
-returns-after-is_marked_by-clause-marked c = λ M away working marked.
+pub returns-after-is_marked_by-clause-rest : goal.returns-after-is_marked_by-clause-rest
+returns-after-is_marked_by-clause-rest c = λ M away working marked.
     let s = c.args.session.now in
     let u = c.args.metamodel.now in
     let w : UnitOfWork = record (s.work) { events = c.replace-events.new.dest } in
-    let back = c.restore.ensures.marked u M (still_working s w (subst (λ r. OnErr r (IsWorking M c.args.manager s)) c.in-Err.is working) refl) (still_marked s w marked refl) in
+    let there = still_working s w (subst (λ r. OnErr r (IsWorking M c.args.manager s)) c.in-Err.is working) refl in
+    let settled = c.restore.ensures.settled M there in
+    let back = c.restore.ensures.marked u M there (still_marked s w marked refl) in
     elim c.if-is_marked_by.branch [
-      | then-is_marked_by v ↦ subst (AreAllMarked u) (sym v.session-is) (v.mark.ensures.marks u back)
-      | else-is_marked_by v ↦ subst (AreAllMarked u) (sym v.session-is) back
+      | then-is_marked_by v ↦ subst (IsAtRest u) (sym v.session-is) (record { settled = v.mark.ensures.settled settled; marked = v.mark.ensures.marks u back })
+      | else-is_marked_by v ↦ subst (IsAtRest u) (sym v.session-is) (record { settled = settled; marked = back })
     ]

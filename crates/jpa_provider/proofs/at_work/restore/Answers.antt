@@ -29,25 +29,22 @@ returns-clause-back c = λ M working.
     restored_back M s t m u.view u.context c.exchange_if_begun.new.managers.items working.away left turned e working refl (ap (λ (v : Opened). v.kept) c.undo.ensures.view)
     (ap (λ (w : Work). w.objects) same) (ap (λ (w : Work). w.numbers) same) (ap (λ (w : Work). w.context) same)
 
-pub returns-clause-count : goal.returns-clause-count
-returns-clause-count c =
-    let xs = c.args.session.now.managers.items in
-    let m = c.args.manager in
-    let zs = c.exchange_if_begun.new.managers.items in
-    let turned = c.exchange_if_begun.ensures in
-    ap length c.exchange.ensures.managers ∙ length-set zs m (record (manager_in zs m) { context = c.undo.new.self.context })
-    ∙ ap length turned.managers ∙ length-set xs m (record (manager_in xs m) { layers = turned.layers })
-
-pub returns-clause-context : goal.returns-clause-context
-returns-clause-context c =
+pub returns-clause-undone : goal.returns-clause-undone
+returns-clause-undone c =
     let xs = c.args.session.now.managers.items in
     let m = c.args.manager in
     let u = c.undo.new.self in
+    let zs = c.exchange_if_begun.new.managers.items in
     let turned = c.exchange_if_begun.ensures in
     let with : List EntityManager → List EntityManager = λ ys. slice_set ys m (record (manager_in ys m) { context = u.context }) in
-    ap (λ ys. (manager_in ys m).context.now) (c.exchange.ensures.managers ∙ ap with turned.managers ∙ both_set xs m turned.layers u.context c.requires.within)
-    ∙ ap (λ (y : EntityManager). y.context.now) (placed xs m (record (manager_in xs m) { layers = turned.layers; context = u.context }) c.requires.within)
-    ∙ ap (λ (w : Work). w.context) c.undo.ensures.now
+    record {
+      count = ap length c.exchange.ensures.managers ∙ length-set zs m (record (manager_in zs m) { context = u.context })
+          ∙ ap length turned.managers ∙ length-set xs m (record (manager_in xs m) { layers = turned.layers });
+      objects = ap (λ (w : Work). w.objects) c.undo.ensures.now;
+      context = ap (λ ys. (manager_in ys m).context.now) (c.exchange.ensures.managers ∙ ap with turned.managers ∙ both_set xs m turned.layers u.context c.requires.within)
+          ∙ ap (λ (y : EntityManager). y.context.now) (placed xs m (record (manager_in xs m) { layers = turned.layers; context = u.context }) c.requires.within)
+          ∙ ap (λ (w : Work). w.context) c.undo.ensures.now;
+    }
 
 pub returns-clause-settled : goal.returns-clause-settled
 returns-clause-settled c = λ M working.

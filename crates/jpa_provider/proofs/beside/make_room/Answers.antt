@@ -1,8 +1,9 @@
-use Rattle.std.proofs.Common.{◌≡◌, true, Result, Ok, Err, ap, sym, subst}
+use Rattle.std.proofs.Common.{◌≡◌, ℕ, List, Result, Ok, Err, ap, sym, subst, rules}
 use Rattle.std.specs.Prelude.{OnOk, OnErr}
 use Rattle.jpa_open.specs.Opened.{Opened, IsUndone, with_room}
 use Rattle.jpa_stored.specs.Sets.{StoredSet}
-use Rattle.jpa_provider.specs.Beside.{AreHeld}
+use Rattle.jpa_provider.specs.declared.session.EntityManager.{EntityManager}
+use Rattle.jpa_provider.specs.Beside.{AreHeld, HasRoom}
 use Rattle.jpa_provider.proofs.Held.{held_beside}
 use Rattle.jpa_provider.proofs.beside.make_room.Goals as goal
 
@@ -16,31 +17,29 @@ module _ {A B : Type 0} (v w : Opened) where
   undone_itself (Ok a) e f = record { committed = ap (λ (x : Opened). x.committed) e; begun = ap (λ (x : Opened). x.begun) e; kept = ap (λ (x : Opened). x.kept) e }
   undone_itself (Err b) e f = record { committed = ap (λ (x : Opened). x.committed) f; begun = ap (λ (x : Opened). x.begun) f; kept = ap (λ (x : Opened). x.kept) f }
 
-  has_room : (r : Result A B) → OnOk r (w ≡ with_room v) → OnOk r (w.is_ready ≡ true)
-  has_room (Ok a) e = ap (λ (x : Opened). x.is_ready) e
-  has_room (Err b) e = tt
+  has_room : {m : ℕ} {managers : List EntityManager} (r : Result A B) → OnOk r (w ≡ with_room v) → AreHeld w.committed managers m w.seen managers → OnOk r (HasRoom m managers w)
+  has_room (Ok a) e beside = record { ready = ap (λ (x : Opened). x.is_ready) e; beside = beside }
+  has_room (Err b) e beside = tt
 
-on_ok : {A B P : Type 0} (r : Result A B) → P → OnOk r P
-on_ok (Ok a) p = p
-on_ok (Err b) p = tt
+pub returns-clause-still : goal.returns-clause-still
+returns-clause-still c =
+    let v = c.args.view.now in
+    let w = c.prepare.new.self in
+    record {
+      seen = same_seen v w c.prepare.result c.prepare.ensures.ok c.prepare.ensures.unchanged;
+      undone = undone_itself v w c.prepare.result c.prepare.ensures.ok c.prepare.ensures.unchanged;
+      held = search rules;
+    }
 
-pub returns-clause-seen : goal.returns-clause-seen
-returns-clause-seen c = same_seen c.args.view.now c.prepare.new.self c.prepare.result c.prepare.ensures.ok c.prepare.ensures.unchanged
-
-pub returns-clause-undone : goal.returns-clause-undone
-returns-clause-undone c = undone_itself c.args.view.now c.prepare.new.self c.prepare.result c.prepare.ensures.ok c.prepare.ensures.unchanged
-
-pub returns-clause-room : goal.returns-clause-room
-returns-clause-room c = has_room c.args.view.now c.prepare.new.self c.prepare.result c.prepare.ensures.ok
-
-pub returns-clause-beside : goal.returns-clause-beside
-returns-clause-beside c =
+pub returns-clause-ok : goal.returns-clause-ok
+returns-clause-ok c =
     let v = c.args.view.now in
     let w = c.prepare.new.self in
     let m = c.args.manager in
     let ys = c.keep_back_others.new.managers.items in
+    let changed = c.requires.changed in
     let seen = same_seen v w c.prepare.result c.prepare.ensures.ok c.prepare.ensures.unchanged in
     let undone = undone_itself v w c.prepare.result c.prepare.ensures.ok c.prepare.ensures.unchanged in
-    on_ok c.prepare.result
+    has_room v w c.prepare.result c.prepare.ensures.ok
     (subst (λ (p : StoredSet × StoredSet). AreHeld p.0 ys m p.1 ys) (λ i. (sym undone.committed i, sym seen i))
-    (held_beside v.committed v.seen ys m c.args.ids.now c.requires.committed c.requires.seen c.requires.elsewhere c.in_ok-keep_back_others.ensures.told))
+    (held_beside v.committed v.seen ys m c.args.ids.now changed.committed changed.seen changed.elsewhere c.in_ok-keep_back_others.ensures.told))

@@ -1,7 +1,9 @@
-use Rattle.std.proofs.Common.{◌≡◌, true, sym, subst}
+use Rattle.std.proofs.Common.{◌≡◌, true, ap, sym, subst, rules}
 use Rattle.std.proofs.lemmas.Result.{err_from_is_err_and}
 use Rattle.jpa_value.specs.declared.refusal.Cause.{Cause}
 use Rattle.jpa_behaviour.specs.Served.{world_of_unit}
+use Rattle.jpa_stored.specs.Sets.{IsSound}
+use Rattle.jpa_provider.specs.Beside.{Rises}
 use Rattle.jpa_context.specs.Steps.{Outcome, Done, Refused, IsRefusedAs}
 use Rattle.jpa_context.specs.declared.Entry.{Entry}
 use Rattle.jpa_context.specs.declared.work.UnitOfWork.{UnitOfWork}
@@ -27,7 +29,7 @@ is_current-requires-clause-ready g c = (c.requires.goes (now c.flush.new.work) c
 
 -- nothing changes what undoing gives, nor marks
 pub looked-requires-clause-marked : goal.looked-requires-clause-marked
-looked-requires-clause-marked g c = subst (λ (x : Since). AreMarked c.args.unit.now.metamodel (undone x.manager x) x.marks) (sym c.flush.ensures.since) (c.requires.marked).before
+looked-requires-clause-marked g c = subst (λ (x : Since). AreMarked c.args.unit.now.metamodel (undone x.manager x) x.marks) (sym c.flush.ensures.since) c.requires.flush.marked.before
 
 pub looked-requires-clause-ready : goal.looked-requires-clause-ready
 looked-requires-clause-ready g c = (c.requires.goes (now c.flush.new.work) c.in_ok-flush.ensures.meets).ready
@@ -38,13 +40,18 @@ is_current-requires-clause-looked g c =
     subst (AreLooked (λ (e : Entry). is_calm c.args.unit.now.metamodel w e ≡ true) w.context) (sym c.as_slice-places.ensures)
     (c.calm_laws.ensures.looked c.args.unit.now.metamodel w c.in_ok-looked.looked.linked w.context c.in_ok-looked.looked.places c.in_ok-looked.ensures.ok)
 
-pub returns-clause-looked : goal.returns-clause-looked
-returns-clause-looked g c =
+pub returns-clause-found : goal.returns-clause-found
+returns-clause-found g c =
     let m = c.args.unit.now.metamodel in
     let w = now c.flush.new.work in
     let found = c.in_ok-looked.looked in
-    subst (λ (v : UnitOfWork). AreLooked (IsUntouched m (now v) found.linked) v.context.now found.places) (sym c.merge.ensures.others)
-    (looked_as (untouched_seen m w (c.merge.new.work.view).seen w.events found.linked) c.in_ok-looked.ensures.ok)
+    record {
+      elsewhere = search rules;
+      once = search rules;
+      looked =
+          subst (λ (v : UnitOfWork). AreLooked (IsUntouched m (now v) found.linked) v.context.now found.places) (sym c.merge.ensures.others)
+          (looked_as (untouched_seen m w (c.merge.new.work.view).seen w.events found.linked) c.in_ok-looked.ensures.ok);
+    }
 
 pub returns-then-not-branch-clause-meets : goal.returns-then-not-branch-clause-meets
 returns-then-not-branch-clause-meets g c =
@@ -54,8 +61,15 @@ returns-then-not-branch-clause-meets g c =
     subst (λ (x : Since). commit_work world x.committed x.begun w ≡ Refused Cause.OptimisticLock (now u).events) c.flush.ensures.since
     (not_current world u.view.committed u.view.begun w (now u) c.in_ok-flush.ensures.meets c.in_ok-is_current.field-0 c.in_ok-is_current.ensures.ok c.if-not-branch.true)
 
-pub merge-requires-clause-rising : goal.merge-requires-clause-rising
-merge-requires-clause-rising g c = (c.requires.goes (now c.flush.new.work) c.in_ok-flush.ensures.meets).rising
+pub merge-requires : goal.merge-requires
+merge-requires g c =
+    let committed = ap (λ (x : Since). x.committed) c.flush.ensures.since in
+    record {
+      changed = search rules;
+      rising = (c.requires.goes (now c.flush.new.work) c.in_ok-flush.ensures.meets).rising;
+      committed = subst (IsSound c.args.unit.now.metamodel) (sym committed) c.requires.committed;
+      committed_rising = subst Rises (sym committed) c.requires.committed_rising;
+    }
 
 pub returns-in_err-merge-clause-meets : goal.returns-in_err-merge-clause-meets
 returns-in_err-merge-clause-meets g c =

@@ -27,7 +27,7 @@ judge-requires-clause-changed c =
     let rebased = c.in_ok-rebase.ensures.ok in
     let places = ap (map place_of) c.as_slice.ensures.value ∙ c.in_ok-changes.ensures.ok ∙ ap (λ (x : Opened). map (place_at x.committed) ids) rebased in
     changed_from c.args.metamodel.now v.committed c.rebase.new.self.seen c.as_slice.result.now ids places c.requires.committed_rising c.requires.committed
-    (subst (λ (s : StoredSet). SameElsewhere s v.committed ids) (sym (ap (λ (x : Opened). x.seen) rebased)) (same_elsewhere v.committed v.begun v.seen ids c.requires.ids c.requires.rising))
+    (subst (λ (s : StoredSet). SameElsewhere s v.committed ids) (sym (ap (λ (x : Opened). x.seen) rebased)) (same_elsewhere v.committed v.begun v.seen ids c.requires.changed c.requires.rising))
 
 pub returns-clause-meets : goal.returns-clause-meets
 returns-clause-meets c =
@@ -47,4 +47,4 @@ returns-clause-elsewhere c =
     let ids = c.args.ids.now in
     let w = c.rebase.new.self in
     whether_or_not c.judge.result (SameElsewhere w.seen w.committed ids)
-    (subst (λ (x : Opened). SameElsewhere x.seen x.committed ids) (sym c.in_ok-rebase.ensures.ok) (same_elsewhere v.committed v.begun v.seen ids c.requires.ids c.requires.rising))
+    (subst (λ (x : Opened). SameElsewhere x.seen x.committed ids) (sym c.in_ok-rebase.ensures.ok) (same_elsewhere v.committed v.begun v.seen ids c.requires.changed c.requires.rising))

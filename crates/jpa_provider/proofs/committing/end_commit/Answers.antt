@@ -28,17 +28,17 @@ end_context-requires-clause-looked c =
     let w = now c.args.session.now.work in
     subst (λ (v : UnitOfWork). AreLooked (λ (e : Entry). e.lock ≡ Lock.Unlocked) v.context.now c.as_slice.result.now) (sym c.mark_committed.ensures.others)
     (subst (AreLooked (λ (e : Entry). e.lock ≡ Lock.Unlocked) w.context) (sym c.as_slice.ensures)
-    (looked_as (untouched_lock c.args.metamodel.now w c.args.looked.now.linked) c.requires.looked))
+    (looked_as (untouched_lock c.args.metamodel.now w c.args.looked.now.linked) c.requires.untouched))
 
 pub end_context-requires-clause-gone : goal.end_context-requires-clause-gone
-end_context-requires-clause-gone c = c.requires.gone ∙ ap (λ (v : UnitOfWork). gone_objects (now v)) (sym c.mark_committed.ensures.others)
+end_context-requires-clause-gone c = c.requires.removed ∙ ap (λ (v : UnitOfWork). gone_objects (now v)) (sym c.mark_committed.ensures.others)
 
 pub detach_objects-requires : goal.detach_objects-requires
 detach_objects-requires c =
     let u = c.args.session.now.work in
     let whole = same_work u c.mark_committed.new.work c.end_context.new.work c.mark_committed.ensures.others c.end_context.ensures.others in
     subst (λ (v : UnitOfWork). All (λ n. n < length v.objects.now) c.args.gone.now) (sym whole)
-    (subst (λ ns. All (λ n. n < length u.objects.now) ns) (sym c.requires.gone) (gone_within (now u) (length u.objects.now) c.requires.entries))
+    (subst (λ ns. All (λ n. n < length u.objects.now) ns) (sym c.requires.removed) (gone_within (now u) (length u.objects.now) c.requires.entries))
 
 pub commit-requires : goal.commit-requires
 commit-requires c =
@@ -62,11 +62,11 @@ returns-clause-ended c = λ M h.
     let same = c.keep.ensures.now in
     let stay = ap (λ (w : Work). w.context) same ∙ c.end_context.ensures.now ∙ ap (λ (v : UnitOfWork). (marking.ended (now v)).context) c.mark_committed.ensures.others in
     let gone =
-    ap (λ (w : Work). w.objects) same ∙ c.detach_objects.ensures.now ∙ (λ i. detached_all (c.requires.gone i) ((whole i).objects.now)) ∙ detached_entries (filter (is_gone (now u)) u.context.now) u.objects.now in
+    ap (λ (w : Work). w.objects) same ∙ c.detach_objects.ensures.now ∙ (λ i. detached_all (c.requires.removed i) ((whole i).objects.now)) ∙ detached_entries (filter (is_gone (now u)) u.context.now) u.objects.now in
     let view = ap (λ (v : Opened). v.committed) c.keep.ensures.view ∙ ap (λ (v : Opened). v.committed) c.commit.ensures ∙ ap (λ (v : UnitOfWork). (v.view).seen) whole in
     c.mark_unless.ensures.machine
     ∙ committed_there M s t m context h c.requires.beside (c.end_transaction.ensures ∙ ap end c.exchange.ensures.managers ∙ ended_twice xs m x c.requires.within) stay gone
-    (ap (λ (w : Work). w.numbers) same ∙ ap (λ (v : UnitOfWork). v.numbers.now) whole) view c.requires.next
+    (ap (λ (w : Work). w.numbers) same ∙ ap (λ (v : UnitOfWork). v.numbers.now) whole) view c.requires.numbers
 
 pub returns-clause-settled : goal.returns-clause-settled
 returns-clause-settled c = λ M h quiet.
@@ -107,7 +107,7 @@ returns-clause-marked c = λ M h away.
     let managers = c.end_transaction.ensures ∙ ap end c.exchange.ensures.managers ∙ ended_twice xs m x c.requires.within in
     let stay = ap (λ (v : Work). v.context) same ∙ c.end_context.ensures.now ∙ ap (λ (v : UnitOfWork). (marking.ended (now v)).context) c.mark_committed.ensures.others in
     let gone =
-    ap (λ (v : Work). v.objects) same ∙ c.detach_objects.ensures.now ∙ (λ i. detached_all (c.requires.gone i) ((whole i).objects.now)) ∙ detached_entries (filter (is_gone (now u)) u.context.now) u.objects.now in
+    ap (λ (v : Work). v.objects) same ∙ c.detach_objects.ensures.now ∙ (λ i. detached_all (c.requires.removed i) ((whole i).objects.now)) ∙ detached_entries (filter (is_gone (now u)) u.context.now) u.objects.now in
     let view = ap (λ (v : Opened). v.committed) c.keep.ensures.view ∙ ap (λ (v : Opened). v.committed) c.commit.ensures ∙ ap (λ (v : UnitOfWork). (v.view).seen) whole in
     let marks : context.marks ≡ w.context.marks = c.keep.ensures.marks ∙ c.end_context.ensures.marks in
     let anew : AreMarked c.args.metamodel.now (marking.ended (now u)) context.marks =
@@ -115,4 +115,4 @@ returns-clause-marked c = λ M h away.
     (subst (λ (v : UnitOfWork). AreMarked c.args.metamodel.now (marking.ended (now v)) w.context.marks) c.mark_committed.ensures.others c.mark_committed.ensures.marked) in
     c.mark_unless.ensures.marked c.args.metamodel.now (λ stays.
     committed_marks c.other_laws.ensures.own c.other_laws.ensures.let_go c.args.metamodel.now M s t m context c.requires.within away managers stay gone
-    (committed_there M s t m context h c.requires.beside managers stay gone (ap (λ (v : Work). v.numbers) same ∙ ap (λ (v : UnitOfWork). v.numbers.now) whole) view c.requires.next) anew (others_stay w.context.marks w c.mark_committed.ensures.others away (c.keep_others-stay.ensures stays)))
+    (committed_there M s t m context h c.requires.beside managers stay gone (ap (λ (v : Work). v.numbers) same ∙ ap (λ (v : UnitOfWork). v.numbers.now) whole) view c.requires.numbers) anew (others_stay w.context.marks w c.mark_committed.ensures.others away (c.keep_others-stay.ensures stays)))

@@ -1,5 +1,7 @@
-use Rattle.std.proofs.Common.{inl, inr, refl, ap, sym, subst, ◌∙◌}
-use Rattle.std.specs.Prelude.{Err}
+use Rattle.std.proofs.Common.{◌<◌, List, length, inl, inr, refl, ap, sym, subst, ◌∙◌}
+use Rattle.std.specs.Prelude.{All, Err}
+use Rattle.jpa_heap.specs.declared.LiveObject.{LiveObject}
+use Rattle.jpa_context.specs.declared.Entry.{Entry}
 use Rattle.jpa_value.specs.declared.refusal.Refusal.{Refusal}
 use Rattle.jpa_machine.specs.Machine.{Machine, rolled_back}
 use Rattle.jpa_machine.specs.Invariant.{IsMachine}
@@ -7,6 +9,15 @@ use Rattle.jpa_provider.proofs.Committed.{begun_still}
 use Rattle.jpa_provider.proofs.Marked.{still_marked}
 use Rattle.jpa_provider.proofs.Worked.{still_working}
 use Rattle.jpa_provider.proofs.committing.refuse_commit.Goals as goal
+
+pub release-requires : goal.release-requires
+release-requires c =
+    let back = c.restore.ensures.undone in
+    record {
+      within = subst (λ n. c.args.manager < n) (sym back.count) c.requires.within;
+      entries =
+          subst (λ (p : List LiveObject × List Entry). All (λ (e : Entry). e.object < length p.0) p.1) (λ i. (sym back.objects i, sym back.context i)) c.requires.entries;
+    }
 
 pub returns-then-gave_up-clause-refuses : goal.returns-then-gave_up-clause-refuses
 returns-then-gave_up-clause-refuses c = λ M h.

@@ -20,61 +20,64 @@ use Rattle.jpa_provider.proofs.committing.store_commit.Goals as goal
 pub returns-in-Err-clause-commits : goal.returns-in-Err-clause-commits
 returns-in-Err-clause-commits g c = none_tried g.R.RowSource _ _ _ c.because.result.answer c.args.rows.now (search rules) (g.met.R.RowSource.still c.args.rows.now) (search rules)
 
-pub returns-in-Err-clause-marked : goal.returns-in-Err-clause-marked
-returns-in-Err-clause-marked g c = λ M h away. c.restore.ensures.marked c.args.unit.now.metamodel M h.working away
+pub returns-in-Err-clause-ends : goal.returns-in-Err-clause-ends
+returns-in-Err-clause-ends g c = λ M h.
+    let world = world_of_unit g.B.Behaviour.meaning c.args.unit.now in
+    let back = c.restore.ensures.back M h.working in
+    record {
+      stores = inr (inl c.because.ensures, back);
+      settled = c.restore.ensures.settled M h.working;
+      marked = c.restore.ensures.marked c.args.unit.now.metamodel M h.working;
+      holds = subst (λ (N : Machine). g.R.RowSource.holds c.args.rows.now (rows_kept world N)) (sym back);
+    }
 
 -- ---- what it looks at
 
+pub make_room-room-requires-clause-changed : goal.make_room-room-requires-clause-changed
+make_room-room-requires-clause-changed g c = record { elsewhere = c.requires.elsewhere; committed = c.requires.committed.rising; seen = c.requires.seen.rising }
+
 pub at_hand-requires-clause-looked : goal.at_hand-requires-clause-looked
 at_hand-requires-clause-looked g c =
-    looked_as (untouched_managed c.args.unit.now.metamodel (now c.args.session.now.work) c.args.looked.now.linked) c.requires.looked
+    looked_as (untouched_managed c.args.unit.now.metamodel (now c.args.session.now.work) c.args.looked.now.linked) c.requires.untouched
 
-pub end_commit-requires-clause-ready : goal.end_commit-requires-clause-ready
-end_commit-requires-clause-ready g c =
+pub end_commit-requires : goal.end_commit-requires
+end_commit-requires g c =
+    let u = c.args.unit.now.metamodel in
+    let w = now c.args.session.now.work in
     let room = c.make_room-room in
-    ready_seen c.args.unit.now.metamodel (now c.args.session.now.work) room.new.view.seen c.replace-events.new.dest room.ensures.seen c.requires.ready
-
-pub end_commit-requires-clause-looked : goal.end_commit-requires-clause-looked
-end_commit-requires-clause-looked g c =
-    looked_as (untouched_seen c.args.unit.now.metamodel (now c.args.session.now.work) (c.make_room-room.new.view).seen c.replace-events.new.dest c.args.looked.now.linked) c.requires.looked
+    let events = c.replace-events.new.dest in
+    record {
+      within = search rules;
+      numbers = search rules;
+      removed = search rules;
+      entries = search rules;
+      room = (c.in_default.ensures.ok).ready;
+      beside = (c.in_default.ensures.ok).beside;
+      ready = ready_seen u w room.new.view.seen events room.ensures.still.seen c.requires.ready;
+      untouched = looked_as (untouched_seen u w room.new.view.seen events c.args.looked.now.linked) c.requires.untouched;
+    }
 
 -- ---- there was no room
 
 pub returns-in-Err-room-clause-commits : goal.returns-in-Err-room-clause-commits
 returns-in-Err-room-clause-commits g c = none_tried g.R.RowSource _ _ _ c.because-in-Err-room.result.answer c.args.rows.now (search rules) (g.met.R.RowSource.still c.args.rows.now) (search rules)
 
-pub returns-in-Err-room-clause-stores : goal.returns-in-Err-room-clause-stores
-returns-in-Err-room-clause-stores g c = λ M h.
-    let s = c.args.session.now in
-    let room = c.make_room-room in
-    let t : Session = record s { managers = room.new.managers; work = record s.work { view = room.new.view } } in
-    let there = still_committing s t room.ensures.undone room.ensures.held refl refl refl refl refl h in
-    inr (inl (c.because-in-Err-room.ensures ∙ ap gives_up c.in-Err-room.ensures.refused), c.restore-in-Err-room.ensures.back M there.working)
-
-pub returns-in-Err-room-clause-settled : goal.returns-in-Err-room-clause-settled
-returns-in-Err-room-clause-settled g c = λ M h.
-    let s = c.args.session.now in
-    let room = c.make_room-room in
-    let t : Session = record s { managers = room.new.managers; work = record s.work { view = room.new.view } } in
-    let there = still_committing s t room.ensures.undone room.ensures.held refl refl refl refl refl h in
-    c.restore-in-Err-room.ensures.settled M there.working
-
-pub returns-in-Err-room-clause-marked : goal.returns-in-Err-room-clause-marked
-returns-in-Err-room-clause-marked g c = λ M h away.
-    let s = c.args.session.now in
-    let room = c.make_room-room in
-    let t : Session = record s { managers = room.new.managers; work = record s.work { view = room.new.view } } in
-    let there = still_committing s t room.ensures.undone room.ensures.held refl refl refl refl refl h in
-    c.restore-in-Err-room.ensures.marked c.args.unit.now.metamodel M there.working (away_beside c.args.unit.now.metamodel M c.args.manager s t refl refl refl room.ensures.held away)
-
-pub returns-in-Err-room-clause-holds : goal.returns-in-Err-room-clause-holds
-returns-in-Err-room-clause-holds g c = λ M h held.
+pub returns-in-Err-room-clause-ends : goal.returns-in-Err-room-clause-ends
+returns-in-Err-room-clause-ends g c = λ M h.
+    let u = c.args.unit.now.metamodel in
     let s = c.args.session.now in
     let world = world_of_unit g.B.Behaviour.meaning c.args.unit.now in
     let room = c.make_room-room in
     let t : Session = record s { managers = room.new.managers; work = record s.work { view = room.new.view } } in
-    let there = still_committing s t room.ensures.undone room.ensures.held refl refl refl refl refl h in
-    subst (λ (N : Machine). g.R.RowSource.holds c.args.rows.now (rows_kept world N)) (sym (c.restore-in-Err-room.ensures.back M there.working)) held
+    let there = still_committing s t room.ensures.still.undone room.ensures.still.held refl refl refl refl refl h in
+    let restore = c.restore-in-Err-room.ensures in
+    let back = restore.back M there.working in
+    record {
+      stores = inr (inl (c.because-in-Err-room.ensures ∙ ap gives_up c.in-Err-room.ensures.err), back);
+      settled = restore.settled M there.working;
+      marked = λ away. restore.marked u M there.working (away_beside u M c.args.manager s t refl refl refl room.ensures.still.held away);
+      holds = subst (λ (N : Machine). g.R.RowSource.holds c.args.rows.now (rows_kept world N)) (sym back);
+    }
 
 -- ---- the store refused
 
@@ -82,76 +85,44 @@ given_up : (r : Cause) (reply : Reply) → (r ≡ Cause.OutOfMemory) ⊎ (r ≡ 
 given_up r reply (inl x) e = inl (e ∙ ap gives_up x)
 given_up r reply (inr x) e = inr (e ∙ ap gives_up x)
 
-pub returns-in-Err-stored-clause-stores : goal.returns-in-Err-stored-clause-stores
-returns-in-Err-stored-clause-stores g c = λ M h.
-    let s = c.args.session.now in
-    let room = c.make_room-room in
-    let t : Session = record s { managers = room.new.managers; work = record s.work { view = room.new.view } } in
-    let there = still_committing s t room.ensures.undone room.ensures.held refl refl refl refl refl h in
-    inr (given_up c.in-Err-stored.cause c.because-in-Err-stored.result c.in-Err-stored.ensures.cause c.because-in-Err-stored.ensures, c.restore-in-Err-stored.ensures.back M there.working)
-
-pub returns-in-Err-stored-clause-settled : goal.returns-in-Err-stored-clause-settled
-returns-in-Err-stored-clause-settled g c = λ M h.
-    let s = c.args.session.now in
-    let room = c.make_room-room in
-    let t : Session = record s { managers = room.new.managers; work = record s.work { view = room.new.view } } in
-    let there = still_committing s t room.ensures.undone room.ensures.held refl refl refl refl refl h in
-    c.restore-in-Err-stored.ensures.settled M there.working
-
-pub returns-in-Err-stored-clause-marked : goal.returns-in-Err-stored-clause-marked
-returns-in-Err-stored-clause-marked g c = λ M h away.
-    let s = c.args.session.now in
-    let room = c.make_room-room in
-    let t : Session = record s { managers = room.new.managers; work = record s.work { view = room.new.view } } in
-    let there = still_committing s t room.ensures.undone room.ensures.held refl refl refl refl refl h in
-    c.restore-in-Err-stored.ensures.marked c.args.unit.now.metamodel M there.working (away_beside c.args.unit.now.metamodel M c.args.manager s t refl refl refl room.ensures.held away)
-
-pub returns-in-Err-stored-clause-holds : goal.returns-in-Err-stored-clause-holds
-returns-in-Err-stored-clause-holds g c = λ M h held.
+pub returns-in-Err-stored-clause-ends : goal.returns-in-Err-stored-clause-ends
+returns-in-Err-stored-clause-ends g c = λ M h.
+    let u = c.args.unit.now.metamodel in
     let s = c.args.session.now in
     let world = world_of_unit g.B.Behaviour.meaning c.args.unit.now in
     let room = c.make_room-room in
     let t : Session = record s { managers = room.new.managers; work = record s.work { view = room.new.view } } in
-    let there = still_committing s t room.ensures.undone room.ensures.held refl refl refl refl refl h in
-    subst (λ (N : Machine). g.R.RowSource.holds c.write-stored.new.source (rows_kept world N)) (sym (c.restore-in-Err-stored.ensures.back M there.working)) (c.in-Err-stored.ensures.commits.makes.kept (rows_kept world M) held)
+    let there = still_committing s t room.ensures.still.undone room.ensures.still.held refl refl refl refl refl h in
+    let restore = c.restore-in-Err-stored.ensures in
+    let back = restore.back M there.working in
+    record {
+      stores = inr (given_up c.in-Err-stored.cause c.because-in-Err-stored.result c.in-Err-stored.ensures.cause c.because-in-Err-stored.ensures, back);
+      settled = restore.settled M there.working;
+      marked = λ away. restore.marked u M there.working (away_beside u M c.args.manager s t refl refl refl room.ensures.still.held away);
+      holds = λ held. subst (λ (N : Machine). g.R.RowSource.holds c.write-stored.new.source (rows_kept world N)) (sym back) (c.in-Err-stored.ensures.commits.makes.kept (rows_kept world M) held);
+    }
 
 -- ---- it was stored
 
-pub returns-clause-stores : goal.returns-clause-stores
-returns-clause-stores g c = λ M h.
-    let s = c.args.session.now in
-    let room = c.make_room-room in
-    let t : Session = record s { managers = room.new.managers; work = record s.work { view = room.new.view; events = c.replace-events.new.dest } } in
-    let there = still_committing s t room.ensures.undone room.ensures.held refl refl refl refl refl h in
-    inl (
-      (λ i. record { events = c.replace-events.ensures.value i; answer = Ok Answer.Null }),
-      c.end_commit.ensures.ended M there ∙ ap (λ (V : StoredSet). committed_after M c.args.manager (record (now s.work) { view = V })) room.ensures.seen,
-    )
-
-pub returns-clause-settled : goal.returns-clause-settled
-returns-clause-settled g c = λ M h.
-    let s = c.args.session.now in
-    let room = c.make_room-room in
-    let t : Session = record s { managers = room.new.managers; work = record s.work { view = room.new.view; events = c.replace-events.new.dest } } in
-    let there = still_committing s t room.ensures.undone room.ensures.held refl refl refl refl refl h in
-    c.end_commit.ensures.settled M there (c.replace-events.ensures.after ∙ c.new.ensures)
-
-pub returns-clause-marked : goal.returns-clause-marked
-returns-clause-marked g c = λ M h away.
-    let s = c.args.session.now in
-    let room = c.make_room-room in
-    let t : Session = record s { managers = room.new.managers; work = record s.work { view = room.new.view; events = c.replace-events.new.dest } } in
-    let there = still_committing s t room.ensures.undone room.ensures.held refl refl refl refl refl h in
-    c.end_commit.ensures.marked M there (away_beside c.args.unit.now.metamodel M c.args.manager s t refl refl refl room.ensures.held away)
-
-pub returns-clause-holds : goal.returns-clause-holds
-returns-clause-holds g c = λ M h held.
+pub returns-clause-ends : goal.returns-clause-ends
+returns-clause-ends g c = λ M h.
+    let u = c.args.unit.now.metamodel in
     let s = c.args.session.now in
     let world = world_of_unit g.B.Behaviour.meaning c.args.unit.now in
     let room = c.make_room-room in
     let t : Session = record s { managers = room.new.managers; work = record s.work { view = room.new.view; events = c.replace-events.new.dest } } in
-    let there = still_committing s t room.ensures.undone room.ensures.held refl refl refl refl refl h in
+    let there = still_committing s t room.ensures.still.undone room.ensures.still.held refl refl refl refl refl h in
+    let end = c.end_commit.ensures in
     let away = (there.working).away in
-    let had = subst (g.R.RowSource.holds c.args.rows.now) (λ i. rows_of world (sym away.committed i) ((sym away.stored ∙ sym c.as_slice-2.ensures) i)) held in
-    let made = ap (rows_of world (room.new.view).seen) (c.as_slice-3.ensures ∙ c.in-Ok.ensures.next) ∙ sym (ap (rows_kept world) (c.end_commit.ensures.ended M there)) in
-    subst (g.R.RowSource.holds c.write-stored.new.source) made (c.in_default-stored.ensures.commits.makes.done had)
+    record {
+      stores = inl (
+        (λ i. record { events = c.replace-events.ensures.value i; answer = Ok Answer.Null }),
+        end.ended M there ∙ ap (λ (V : StoredSet). committed_after M c.args.manager (record (now s.work) { view = V })) room.ensures.still.seen,
+      );
+      settled = end.settled M there (c.replace-events.ensures.after ∙ c.new.ensures);
+      marked = λ marks. end.marked M there (away_beside u M c.args.manager s t refl refl refl room.ensures.still.held marks);
+      holds = λ held.
+          let had = subst (g.R.RowSource.holds c.args.rows.now) (λ i. rows_of world (sym away.committed i) ((sym away.stored ∙ sym c.as_slice-2.ensures) i)) held in
+          let made = ap (rows_of world (room.new.view).seen) (c.as_slice-3.ensures ∙ c.in-Ok.ensures.next) ∙ sym (ap (rows_kept world) (end.ended M there)) in
+          subst (g.R.RowSource.holds c.write-stored.new.source) made (c.in_default-stored.ensures.commits.makes.done had);
+    }

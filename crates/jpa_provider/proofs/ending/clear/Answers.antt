@@ -16,16 +16,16 @@ pub returns-clause-cleared : goal.returns-clause-cleared
 returns-clause-cleared c =
     let s = c.args.session.now in
     let m = c.args.manager in
+    let xs = s.managers.items in
     let empty : Entries = c.new-empty.result in
+    let none : empty ≡ record { now = []; since = []; marks = none_marked } = λ i. record { now = c.new-empty.ensures.now i; since = c.new-empty.ensures.since i; marks = c.new-empty.ensures.marks i } in
     let t : Session = record s { managers = c.exchange.new.managers; work = record s.work { objects = c.detach_each.new.objects } } in
-    cleared_there s t m empty c.exchange.ensures.managers c.new-empty.ensures.now (c.detach_each.ensures.now ∙ ap (λ es. detach_each es s.work.objects.now) c.context_of.ensures) refl refl refl
-
-pub returns-clause-managers : goal.returns-clause-managers
-returns-clause-managers c =
-    let xs = c.args.session.now.managers.items in
-    let m = c.args.manager in
-    let empty : c.new-empty.result ≡ record { now = []; since = []; marks = none_marked } = λ i. record { now = c.new-empty.ensures.now i; since = c.new-empty.ensures.since i; marks = c.new-empty.ensures.marks i } in
-    c.exchange.ensures.managers ∙ ap (λ (e : Entries). slice_set xs m (record (manager_in xs m) { context = e })) empty
+    record {
+      machine = cleared_there s t m empty c.exchange.ensures.managers c.new-empty.ensures.now (c.detach_each.ensures.now ∙ ap (λ es. detach_each es s.work.objects.now) c.context_of.ensures) refl refl refl;
+      managers = c.exchange.ensures.managers ∙ ap (λ (e : Entries). slice_set xs m (record (manager_in xs m) { context = e })) none;
+      view = refl;
+      places = refl;
+    }
 
 pub returns-clause-settled : goal.returns-clause-settled
 returns-clause-settled c = λ settled.

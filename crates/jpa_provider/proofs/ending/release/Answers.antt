@@ -21,7 +21,7 @@ returns-clause-released c = λ settled begun.
     let x : EntityManager = record (manager_in s.managers.items m) { context = record { now = []; since = []; marks = none_marked } } in
     let t : Session = record u { managers = c.end_transaction.new.managers } in
     let over : List EntityManager → List EntityManager = λ ys. slice_set ys m (record (manager_in ys m) { status = Status.Inactive; layers = no_layers }) in
-    rolled_there s u t m begun c.clear.ensures.cleared c.clear.ensures.view (c.end_transaction.ensures ∙ ap over c.clear.ensures.managers ∙ ended_twice s.managers.items m x c.requires.within) refl refl
+    rolled_there s u t m begun c.clear.ensures.cleared.machine c.clear.ensures.cleared.view (c.end_transaction.ensures ∙ ap over c.clear.ensures.cleared.managers ∙ ended_twice s.managers.items m x c.requires.within) refl refl
 
 pub returns-clause-settled : goal.returns-clause-settled
 returns-clause-settled c = λ before begun.
@@ -34,13 +34,13 @@ returns-clause-settled c = λ before begun.
     let y : EntityManager = record x { status = Status.Inactive; layers = no_layers } in
     let t : Session = record u { managers = c.end_transaction.new.managers } in
     let over : List EntityManager → List EntityManager = λ ys. slice_set ys m (record (manager_in ys m) { status = Status.Inactive; layers = no_layers }) in
-    let e : t.managers.items ≡ slice_set xs m y = c.end_transaction.ensures ∙ ap over c.clear.ensures.managers ∙ ended_twice xs m x c.requires.within in
+    let e : t.managers.items ≡ slice_set xs m y = c.end_transaction.ensures ∙ ap over c.clear.ensures.cleared.managers ∙ ended_twice xs m x c.requires.within in
     record {
       kept = settled.kept;
       quiet = settled.quiet;
       resting = settled.resting;
       idle = idle_changed xs t.managers.items m y c.requires.within e (λ none. refl) before.idle;
-      counted = counted_same s t m y before.counted e (sym (begun_is_open (manager_in xs m) begun)) c.clear.ensures.places;
+      counted = counted_same s t m y before.counted e (sym (begun_is_open (manager_in xs m) begun)) c.clear.ensures.cleared.places;
     }
 
 pub returns-clause-marked : goal.returns-clause-marked
@@ -49,7 +49,7 @@ returns-clause-marked c = λ world machine all.
     let u = c.clear.new.session in
     let xs = c.args.session.now.managers.items in
     let x : EntityManager = record (manager_in xs m) { context = record { now = []; since = []; marks = none_marked } } in
-    let within = subst (λ n. m < n) (sym (ap (λ (ys : List EntityManager). length ys) c.clear.ensures.managers ∙ length-set xs m x)) c.requires.within in
+    let within = subst (λ n. m < n) (sym (ap (λ (ys : List EntityManager). length ys) c.clear.ensures.cleared.managers ∙ length-set xs m x)) c.requires.within in
     let y : EntityManager = record (manager_in u.managers.items m) { status = Status.Inactive; layers = no_layers } in
     let t : Session = record u { managers = c.end_transaction.new.managers } in
     same_marked world.model u t refl (context_kept u.managers.items t.managers.items m y within c.end_transaction.ensures refl) (c.clear.ensures.marked world machine all)

@@ -1,4 +1,7 @@
 use Rattle.jpa_provider.proofs.ending.set_rollback_only_call.Goals as goal
 
-pub returns-clause-marked : goal.returns-clause-marked
-returns-clause-marked g c = λ serving. c.mark.ensures.marks c.args._unit.now.metamodel serving.marked
+pub returns-clause-rest : goal.returns-clause-rest
+returns-clause-rest g c = record {
+  settled = c.mark.ensures.settled c.requires.settled;
+  marked = c.mark.ensures.marks c.args._unit.now.metamodel c.requires.marked;
+}

@@ -26,26 +26,22 @@ returns-clause-step g c =
     subst (λ r. Serves world s (Call.Begin c.args.em) r t) (sym c.accepted.ensures)
     (begin_begins world s t c.args.em m is shut ((c.requires.settled).idle m) c.set_status.ensures refl refl)
 
-pub returns-clause-settled : goal.returns-clause-settled
-returns-clause-settled g c =
+pub returns-clause-rest : goal.returns-clause-rest
+returns-clause-rest g c =
     let s = c.args.session.now in
     let m = c.in-Some.manager in
     let t : Session = record s { managers = c.set_status.new.managers } in
     let is : named s c.args.em ≡ Some m = ap (named s) (sym (to_z-of_z c.ranges.em)) ∙ sym c.in-Some.ensures.named in
     let settled = c.requires.settled in
     let y : EntityManager = record (manager_in s.managers.items m) { status = Status.Active } in
+    let within = c.in-Some.ensures.within in
     record {
-      kept = settled.kept;
-      quiet = settled.quiet;
-      resting = settled.resting;
-      idle = idle_changed s.managers.items t.managers.items m y c.in-Some.ensures.within c.set_status.ensures (λ none. absurd (true≢false none)) settled.idle;
-      counted = counted_same s t m y settled.counted c.set_status.ensures (sym (named_open s c.args.em m is)) refl;
+      settled = record {
+        kept = settled.kept;
+        quiet = settled.quiet;
+        resting = settled.resting;
+        idle = idle_changed s.managers.items t.managers.items m y within c.set_status.ensures (λ none. absurd (true≢false none)) settled.idle;
+        counted = counted_same s t m y settled.counted c.set_status.ensures (sym (named_open s c.args.em m is)) refl;
+      };
+      marked = same_marked c.args._unit.now.metamodel s t refl (context_kept s.managers.items t.managers.items m y within c.set_status.ensures refl) c.requires.marked;
     }
-
-pub returns-clause-marked : goal.returns-clause-marked
-returns-clause-marked g c = λ model marked.
-    let s = c.args.session.now in
-    let m = c.in-Some.manager in
-    let t : Session = record s { managers = c.set_status.new.managers } in
-    let y : EntityManager = record (manager_in s.managers.items m) { status = Status.Active } in
-    same_marked model s t refl (context_kept s.managers.items t.managers.items m y c.in-Some.ensures.within c.set_status.ensures refl) marked

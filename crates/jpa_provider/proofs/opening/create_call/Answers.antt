@@ -39,43 +39,38 @@ returns-clause-step g c =
     subst (λ (reply : Reply). Serves world s Call.CreateEntityManager reply t) (sym (c.accepted.ensures ∙ ap (λ n. told (Answer.Number n)) number))
     (created world s t x (c.requires.settled).counted few more c.in_default.ensures.managers refl refl c.new.ensures.now refl refl)
 
-pub returns-in-Err-clause-settled : goal.returns-in-Err-clause-settled
-returns-in-Err-clause-settled g c =
+pub returns-in-Err-clause-rest : goal.returns-in-Err-clause-rest
+returns-in-Err-clause-rest g c =
     let s = c.args.session.now in
     let t : Session = record s { managers = c.add_manager.new.managers; open_places = c.add_manager.new.places } in
     let settled = c.requires.settled in
+    let same = c.in-Err.ensures.managers in
     record {
-      kept = settled.kept;
-      quiet = settled.quiet;
-      resting = settled.resting;
-      idle = idle_here s.managers.items t.managers.items c.in-Err.ensures.managers settled.idle;
-      counted = counted_here s t settled.counted c.in-Err.ensures.managers c.in-Err.ensures.places;
+      settled = record {
+        kept = settled.kept;
+        quiet = settled.quiet;
+        resting = settled.resting;
+        idle = idle_here s.managers.items t.managers.items same settled.idle;
+        counted = counted_here s t settled.counted same c.in-Err.ensures.places;
+      };
+      marked = same_marked c.args._unit.now.metamodel s t refl (λ k. ap (λ ys. (manager_in ys k).context) same) c.requires.marked;
     }
 
-pub returns-clause-settled : goal.returns-clause-settled
-returns-clause-settled g c =
+pub returns-clause-rest : goal.returns-clause-rest
+returns-clause-rest g c =
     let s = c.args.session.now in
     let t : Session = record s { managers = c.add_manager.new.managers; open_places = c.add_manager.new.places } in
     let settled = c.requires.settled in
-    let x : EntityManager = record { status = Status.Inactive; mode = FlushMode.Auto; context = c.new.result; layers = c.new-2.result } in
-    record {
-      kept = settled.kept;
-      quiet = settled.quiet;
-      resting = settled.resting;
-      idle = idle_made s.managers.items t.managers.items x c.in_default.ensures.managers (λ none. c.new-2.ensures) settled.idle;
-      counted = counted_made s t x settled.counted c.in_default.ensures.managers refl c.in_default.ensures.places;
-    }
-
-pub returns-in-Err-clause-marked : goal.returns-in-Err-clause-marked
-returns-in-Err-clause-marked g c = λ model marked.
-    let s = c.args.session.now in
-    let t : Session = record s { managers = c.add_manager.new.managers; open_places = c.add_manager.new.places } in
-    same_marked model s t refl (λ k. ap (λ ys. (manager_in ys k).context) c.in-Err.ensures.managers) marked
-
-pub returns-clause-marked : goal.returns-clause-marked
-returns-clause-marked g c = λ model marked.
-    let s = c.args.session.now in
-    let t : Session = record s { managers = c.add_manager.new.managers; open_places = c.add_manager.new.places } in
     let x : EntityManager = record { status = Status.Inactive; mode = FlushMode.Auto; context = c.new.result; layers = c.new-2.result } in
     let fresh : x.context ≡ nobody.context = λ i. record { now = c.new.ensures.now i; since = c.new.ensures.since i; marks = c.new.ensures.marks i } in
-    same_marked model s t refl (context_made s.managers.items t.managers.items x c.in_default.ensures.managers fresh) marked
+    let more = c.in_default.ensures.managers in
+    record {
+      settled = record {
+        kept = settled.kept;
+        quiet = settled.quiet;
+        resting = settled.resting;
+        idle = idle_made s.managers.items t.managers.items x more (λ none. c.new-2.ensures) settled.idle;
+        counted = counted_made s t x settled.counted more refl c.in_default.ensures.places;
+      };
+      marked = same_marked c.args._unit.now.metamodel s t refl (context_made s.managers.items t.managers.items x more fresh) c.requires.marked;
+    }

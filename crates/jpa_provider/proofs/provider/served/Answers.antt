@@ -1,38 +1,23 @@
 use Rattle.std.proofs.Common.{◌≡◌, ℕ, rules, w64, to_z, of_z, refl, ap, sym, subst, ◌∙◌}
-use Rattle.std.specs.Prelude.{◌⊎◌}
 use Rattle.jpa_behaviour.specs.Behaviour.{World}
 use Rattle.jpa_behaviour.specs.Served.{world_of_unit}
 use Rattle.jpa_context.specs.Steps.{Op}
 use Rattle.jpa_protocol.specs.declared.reply.Answer.{Answer}
 use Rattle.jpa_machine.specs.Routes.{OfManager, OfObject, route, get_call, set_call, add_call, take_out_call, persist_call, remove_call, refresh_call, detach_call, find_call, get_reference_call}
 use Rattle.jpa_protocol.specs.declared.call.Call.{Call}
-use Rattle.jpa_rows.specs.Commits.{RunsAtMost}
-use Rattle.jpa_provider.specs.Provided.{rows_kept, rows_made}
+use Rattle.jpa_provider.specs.Provided.{StoresCall}
 use Rattle.jpa_provider.specs.Serving.{machine_of}
-use Rattle.jpa_provider.proofs.Serving.{entries_in}
 use Rattle.jpa_provider.proofs.provider.served.Goals as goal
 
-pub rollback_call-requires-clause-entries : goal.rollback_call-requires-clause-entries
-rollback_call-requires-clause-entries g c = entries_in c.args.session.now (c.requires.serving).machine
-
-pub returns-in-Commit-clause-crash : goal.returns-in-Commit-clause-crash
-returns-in-Commit-clause-crash g c = λ commits clean.
-    let world = world_of_unit g.B.Behaviour.meaning c.args.unit.now in
-    let em = c.in-Commit.em in
-    let same : to_z w64 (of_z w64 em) ≡ em = search rules in
-    subst (λ (call : Call). g.R.RowSource.endures c.args.rows.now c.commit_call.new.rows (λ left. left ≡ rows_made world (machine_of c.args.session.now) call)) (ap Call.Commit same ∙ sym c.in-Commit.is)
-    (c.commit_call.ensures.crash clean)
-
-pub returns-in-Commit-clause-bounded : goal.returns-in-Commit-clause-bounded
-returns-in-Commit-clause-bounded g c = λ commits refused.
+pub returns-in-Commit-clause-stores : goal.returns-in-Commit-clause-stores
+returns-in-Commit-clause-stores g c = λ commit.
     let world = world_of_unit g.B.Behaviour.meaning c.args.unit.now in
     let M = machine_of c.args.session.now in
-    let rows = c.args.rows.now in
-    let new = c.commit_call.new.rows in
+    let done = c.commit_call in
     let em = c.in-Commit.em in
     let same : to_z w64 (of_z w64 em) ≡ em = search rules in
-    subst (λ (call : Call). (new ≡ rows) ⊎ RunsAtMost (rows_kept world M) (rows_made world M call) (g.R.RowSource.writes rows) (g.R.RowSource.writes new)) (ap Call.Commit same ∙ sym c.in-Commit.is)
-    (c.commit_call.ensures.bounded refused)
+    subst (λ (call : Call). StoresCall world g.R.RowSource M call done.result (machine_of done.new.session) c.args.rows.now done.new.rows) (ap Call.Commit same ∙ sym c.in-Commit.is)
+    done.ensures.stores
 
 pub returns-in-SetValue-clause-step : goal.returns-in-SetValue-clause-step
 returns-in-SetValue-clause-step g c =
@@ -86,9 +71,6 @@ returns-in-GetReference-clause-step g c =
     let same : to_z w64 (of_z w64 em) ≡ em = search rules in
     c.worked-in-GetReference.ensures.step c.args.call (ap route c.in-GetReference.is ∙ ap (λ z. OfManager z (λ world. get_reference_call world c.in-GetReference.entity c.in-GetReference.key)) (sym same))
 
-pub clear_call-requires-clause-entries : goal.clear_call-requires-clause-entries
-clear_call-requires-clause-entries g c = entries_in c.args.session.now (c.requires.serving).machine
-
 pub returns-in-Remove-clause-step : goal.returns-in-Remove-clause-step
 returns-in-Remove-clause-step g c =
     let em = c.in-Remove.em in
@@ -112,6 +94,3 @@ returns-in-Detach-clause-step g c =
     let same : to_z w64 (of_z w64 em) ≡ em = search rules in
     let named : to_z w64 (of_z w64 object) ≡ object = search rules in
     c.worked-in-Detach.ensures.step c.args.call (ap route c.in-Detach.is ∙ (λ i. OfManager (sym same i) (λ world. detach_call world (sym named i))))
-
-pub close_call-requires-clause-entries : goal.close_call-requires-clause-entries
-close_call-requires-clause-entries g c = entries_in c.args.session.now (c.requires.serving).machine

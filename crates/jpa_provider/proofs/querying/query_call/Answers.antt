@@ -1,58 +1,34 @@
-use Rattle.std.proofs.Common.{◌≡◌, true, ap, sym, subst, ◌∙◌}
-use Rattle.std.specs.Prelude.{T, Some}
-use Rattle.std.specs.FinMap.Entries.{is_sorted}
+use Rattle.std.proofs.Common.{◌≡◌, ap, sym, subst, ◌∙◌}
+use Rattle.std.specs.Prelude.{Some}
 use Rattle.std.proofs.Math.Facts.{to_z-of_z}
-use Rattle.jpa_value.specs.Value.{identity_cmp}
 use Rattle.jpa_behaviour.specs.Served.{world_of_unit}
-use Rattle.jpa_stored.specs.Sets.{IsSound}
 use Rattle.jpa_context.specs.Work.{Work}
 use Rattle.jpa_context.specs.Steps.{Meets}
 use Rattle.jpa_context.specs.Undo.{now}
-use Rattle.jpa_fetch.specs.Grown.{IsReady}
-use Rattle.jpa_ops.specs.Names.{has_distinct_entries}
 use Rattle.jpa_queries.specs.Premises.{StaysReady}
 use Rattle.jpa_provider.specs.declared.replies.Rule.{Rule}
 use Rattle.jpa_machine.specs.Machine.{flushes_in, flushes_first, work_of}
 use Rattle.jpa_provider.specs.Operations.{query_told}
 use Rattle.jpa_provider.specs.Serving.{machine_of, is_begun_status, named}
-use Rattle.jpa_provider.proofs.Active.{entries_apart, view_sound, view_rises, query_ready}
-use Rattle.jpa_machine.proofs.AtWork.{work_ready}
+use Rattle.jpa_provider.proofs.Active.{can_flush, query_ready}
 use Rattle.jpa_provider.proofs.Routed.{asked_so}
 use Rattle.jpa_provider.proofs.Sessions.{begun_there, manager_there}
-use Rattle.jpa_provider.proofs.Marked.{ready_after, still_marked, taken_marked}
+use Rattle.jpa_provider.proofs.Marked.{ready_after, still_marked}
 use Rattle.jpa_provider.proofs.Operates.{asks}
 use Rattle.jpa_provider.proofs.Told.{no_fault}
 use Rattle.jpa_provider.proofs.Worked.{still_working, if_refused, ends_so}
 use Rattle.jpa_provider.proofs.querying.query_call.Goals as goal
 
-pub query_work-answered-requires-clause-ready : goal.query_work-answered-requires-clause-ready
-query_work-answered-requires-clause-ready g c = subst (IsReady c.args.unit.now.metamodel) (sym c.take_work.ensures.work) (work_ready c.in-Some.manager (c.requires.serving).machine)
-
-pub query_work-answered-requires-clause-sound : goal.query_work-answered-requires-clause-sound
-query_work-answered-requires-clause-sound g c =
+pub query_work-answered-requires-clause-can_flush : goal.query_work-answered-requires-clause-can_flush
+query_work-answered-requires-clause-can_flush g c =
     let world = world_of_unit g.B.Behaviour.meaning c.args.unit.now in
-    subst (λ (v : Work). IsSound c.args.unit.now.metamodel v.view) (sym c.take_work.ensures.work) (view_sound world c.args.session.now c.in-Some.manager c.requires.serving)
-
-pub query_work-answered-requires-clause-rising : goal.query_work-answered-requires-clause-rising
-query_work-answered-requires-clause-rising g c =
-    let world = world_of_unit g.B.Behaviour.meaning c.args.unit.now in
-    subst (λ (v : Work). T (is_sorted identity_cmp v.view)) (sym c.take_work.ensures.work) (view_rises world c.args.session.now c.in-Some.manager c.requires.serving)
-
-pub query_work-answered-requires-clause-distinct : goal.query_work-answered-requires-clause-distinct
-query_work-answered-requires-clause-distinct g c =
-    let world = world_of_unit g.B.Behaviour.meaning c.args.unit.now in
-    subst (λ (v : Work). has_distinct_entries c.args.unit.now.metamodel v ≡ true) (sym c.take_work.ensures.work) (entries_apart world c.args.session.now c.in-Some.manager c.requires.serving)
+    let serving = c.requires.serving in
+    can_flush world c.args.session.now c.take_work.new.session c.in-Some.manager serving c.take_work.ensures.work (c.take_work.ensures.marked world.model serving.marked)
 
 pub query_work-answered-requires-clause-then_ready : goal.query_work-answered-requires-clause-then_ready
 query_work-answered-requires-clause-then_ready g c =
     let world = world_of_unit g.B.Behaviour.meaning c.args.unit.now in
     subst (StaysReady c.flushes_first-flushes.result world) (sym c.take_work.ensures.work) (query_ready world c.args.session.now c.in-Some.manager c.requires.serving c.flushes_first-flushes.result)
-
-pub query_work-answered-requires-clause-marked : goal.query_work-answered-requires-clause-marked
-query_work-answered-requires-clause-marked g c =
-    let world = world_of_unit g.B.Behaviour.meaning c.args.unit.now in
-    let serving = c.requires.serving in
-    taken_marked world c.args.session.now c.take_work.new.session c.in-Some.manager serving c.take_work.ensures.work (c.take_work.ensures.marked world.model serving.marked)
 
 pub conclude-requires-clause-ready : goal.conclude-requires-clause-ready
 conclude-requires-clause-ready g c =
@@ -91,17 +67,11 @@ returns-clause-step g c = λ call e.
     (ends_so Rule.OfManager M (machine_of c.conclude.new.session) m (op (flushes_first M m) world (work_of M m)) done.result (now done.new.work) c.conclude.result met
     (c.conclude.ensures.concludes M working.away (if_refused done.result working)))
 
-pub returns-clause-settled : goal.returns-clause-settled
-returns-clause-settled g c =
+pub returns-clause-rest : goal.returns-clause-rest
+returns-clause-rest g c =
     let done = c.query_work-answered in
     let working = still_working c.take_work.new.session done.new.work c.take_work.ensures.working done.ensures.since in
-    c.conclude.ensures.settled (machine_of c.args.session.now) working.away (if_refused done.result working)
-
-pub returns-clause-marked : goal.returns-clause-marked
-returns-clause-marked g c =
-    let done = c.query_work-answered in
-    let working = still_working c.take_work.new.session done.new.work c.take_work.ensures.working done.ensures.since in
-    c.conclude.ensures.marked (machine_of c.args.session.now) working.away (if_refused done.result working)
+    c.conclude.ensures.rest (machine_of c.args.session.now) working.away (if_refused done.result working)
     (still_marked c.take_work.new.session done.new.work (c.take_work.ensures.marked c.args.unit.now.metamodel (c.requires.serving).marked) done.ensures.since)
 
 pub returns-clause-untold : goal.returns-clause-untold

@@ -1,16 +1,11 @@
 use Rattle.std.proofs.Common.{◌≡◌, Bool, true, ap, sym, subst, ◌∙◌}
-use Rattle.std.specs.Prelude.{T, OnOk, Some}
-use Rattle.std.specs.FinMap.Entries.{is_sorted}
+use Rattle.std.specs.Prelude.{OnOk, Some}
 use Rattle.std.proofs.Math.Facts.{to_z-of_z}
 use Rattle.std.proofs.lemmas.Bool.{false≢true}
-use Rattle.jpa_value.specs.Value.{identity_cmp}
 use Rattle.jpa_behaviour.specs.Served.{world_of_unit}
-use Rattle.jpa_stored.specs.Sets.{IsSound}
 use Rattle.jpa_context.specs.Work.{Work}
 use Rattle.jpa_context.specs.Steps.{Done, Meets}
 use Rattle.jpa_context.specs.Undo.{now}
-use Rattle.jpa_fetch.specs.Grown.{IsReady}
-use Rattle.jpa_ops.specs.Names.{has_distinct_entries}
 use Rattle.jpa_protocol.specs.declared.call.FlushMode.{FlushMode}
 use Rattle.jpa_flush.specs.Flush.{flush_if}
 use Rattle.jpa_updates.specs.Updates.{StaysSound}
@@ -22,12 +17,11 @@ use Rattle.jpa_machine.specs.Machine.{flushes_in, flushes_first, has_transaction
 use Rattle.jpa_machine.specs.Updating.{update_outcome}
 use Rattle.jpa_machine.specs.Querying.{update_call}
 use Rattle.jpa_provider.specs.Serving.{machine_of, is_begun_status, named}
-use Rattle.jpa_provider.proofs.Active.{entries_apart, view_sound, view_rises, update_sound, update_representable}
-use Rattle.jpa_machine.proofs.AtWork.{work_ready}
+use Rattle.jpa_provider.proofs.Active.{can_flush, update_sound, update_representable}
 use Rattle.jpa_provider.proofs.Routed.{update_so}
 use Rattle.jpa_machine.proofs.Updated.{made_so, ok_weaker}
 use Rattle.jpa_provider.proofs.Sessions.{begun_there, manager_there}
-use Rattle.jpa_provider.proofs.Marked.{ready_if, still_marked, taken_marked}
+use Rattle.jpa_provider.proofs.Marked.{ready_if, still_marked}
 use Rattle.jpa_provider.proofs.Operates.{updates}
 use Rattle.jpa_provider.proofs.Told.{no_fault}
 use Rattle.jpa_provider.proofs.Worked.{still_working, if_refused, ends_so, named_same, told_ok}
@@ -38,38 +32,20 @@ begun_then : (begun : Bool) (mode : FlushMode) → flushes_in begun mode ≡ tru
 begun_then begun FlushMode.Auto h = h
 begun_then begun FlushMode.Commit h = absurd (false≢true h)
 
-pub update_work-answered-requires-clause-ready : goal.update_work-answered-requires-clause-ready
-update_work-answered-requires-clause-ready g c = subst (IsReady c.args.unit.now.metamodel) (sym c.take_work.ensures.work) (work_ready c.in-Some.manager (c.requires.serving).machine)
+pub update_work-answered-requires-clause-can_flush : goal.update_work-answered-requires-clause-can_flush
+update_work-answered-requires-clause-can_flush g c =
+    let world = world_of_unit g.B.Behaviour.meaning c.args.unit.now in
+    let serving = c.requires.serving in
+    can_flush world c.args.session.now c.take_work.new.session c.in-Some.manager serving c.take_work.ensures.work (c.take_work.ensures.marked world.model serving.marked)
 
 pub update_work-answered-requires-clause-flushing : goal.update_work-answered-requires-clause-flushing
 update_work-answered-requires-clause-flushing g c = λ flushes.
     c.is_begun.ensures ∙ begun_then (is_begun_status c.status_of-status.result) c.mode_of.result (sym c.flushes_first-flushes.ensures ∙ flushes)
 
-pub update_work-answered-requires-clause-sound : goal.update_work-answered-requires-clause-sound
-update_work-answered-requires-clause-sound g c =
-    let world = world_of_unit g.B.Behaviour.meaning c.args.unit.now in
-    subst (λ (v : Work). IsSound c.args.unit.now.metamodel v.view) (sym c.take_work.ensures.work) (view_sound world c.args.session.now c.in-Some.manager c.requires.serving)
-
-pub update_work-answered-requires-clause-rising : goal.update_work-answered-requires-clause-rising
-update_work-answered-requires-clause-rising g c =
-    let world = world_of_unit g.B.Behaviour.meaning c.args.unit.now in
-    subst (λ (v : Work). T (is_sorted identity_cmp v.view)) (sym c.take_work.ensures.work) (view_rises world c.args.session.now c.in-Some.manager c.requires.serving)
-
-pub update_work-answered-requires-clause-distinct : goal.update_work-answered-requires-clause-distinct
-update_work-answered-requires-clause-distinct g c =
-    let world = world_of_unit g.B.Behaviour.meaning c.args.unit.now in
-    subst (λ (v : Work). has_distinct_entries c.args.unit.now.metamodel v ≡ true) (sym c.take_work.ensures.work) (entries_apart world c.args.session.now c.in-Some.manager c.requires.serving)
-
 pub update_work-answered-requires-clause-then_sound : goal.update_work-answered-requires-clause-then_sound
 update_work-answered-requires-clause-then_sound g c =
     let world = world_of_unit g.B.Behaviour.meaning c.args.unit.now in
     subst (StaysSound c.flushes_first-flushes.result world) (sym c.take_work.ensures.work) (update_sound world c.args.session.now c.in-Some.manager c.requires.serving c.flushes_first-flushes.result)
-
-pub update_work-answered-requires-clause-marked : goal.update_work-answered-requires-clause-marked
-update_work-answered-requires-clause-marked g c =
-    let world = world_of_unit g.B.Behaviour.meaning c.args.unit.now in
-    let serving = c.requires.serving in
-    taken_marked world c.args.session.now c.take_work.new.session c.in-Some.manager serving c.take_work.ensures.work (c.take_work.ensures.marked world.model serving.marked)
 
 pub conclude-requires-clause-ready : goal.conclude-requires-clause-ready
 conclude-requires-clause-ready g c =
@@ -144,17 +120,11 @@ returns-clause-made g c =
     subst (λ j. HoldsAfter (λ (a : Answer) v. all_representable v.view ≡ true) (update_outcome world M text ps j)) (named_same s c.args.em m k is place)
     (subst (λ (p : Bool × Bool). HoldsAfter (λ (a : Answer) v. all_representable v.view ≡ true) (update_call text ps p.0 p.1 world w)) (λ i. (active i, flushes i)) h)) made)
 
-pub returns-clause-settled : goal.returns-clause-settled
-returns-clause-settled g c =
+pub returns-clause-rest : goal.returns-clause-rest
+returns-clause-rest g c =
     let done = c.update_work-answered in
     let working = still_working c.take_work.new.session done.new.work c.take_work.ensures.working done.ensures.since in
-    c.conclude.ensures.settled (machine_of c.args.session.now) working.away (if_refused done.result working)
-
-pub returns-clause-marked : goal.returns-clause-marked
-returns-clause-marked g c =
-    let done = c.update_work-answered in
-    let working = still_working c.take_work.new.session done.new.work c.take_work.ensures.working done.ensures.since in
-    c.conclude.ensures.marked (machine_of c.args.session.now) working.away (if_refused done.result working)
+    c.conclude.ensures.rest (machine_of c.args.session.now) working.away (if_refused done.result working)
     (still_marked c.take_work.new.session done.new.work (c.take_work.ensures.marked c.args.unit.now.metamodel (c.requires.serving).marked) done.ensures.since)
 
 pub returns-clause-untold : goal.returns-clause-untold

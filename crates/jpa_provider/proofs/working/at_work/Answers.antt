@@ -15,9 +15,12 @@ use Rattle.jpa_provider.proofs.Told.{no_fault}
 use Rattle.jpa_provider.proofs.Worked.{still_away, still_working, on_err, ends_so}
 use Rattle.jpa_provider.proofs.working.at_work.Goals as goal
 
-pub operate-answered-requires-clause-ready : goal.operate-answered-requires-clause-ready
-operate-answered-requires-clause-ready g c =
-    subst (IsReady c.args.unit.now.metamodel) (sym c.take_work.ensures.work) (work_ready c.args.manager (c.requires.serving).machine)
+pub operate-answered-requires : goal.operate-answered-requires
+operate-answered-requires g c = record {
+  orderly = (c.requires.serving).orderly;
+  ready = subst (IsReady c.args.unit.now.metamodel) (sym c.take_work.ensures.work) (work_ready c.args.manager (c.requires.serving).machine);
+  kept = c.take_work.ensures.kept;
+}
 
 pub conclude-requires-clause-ready : goal.conclude-requires-clause-ready
 conclude-requires-clause-ready g c =
@@ -49,25 +52,17 @@ returns-clause-ends g c =
     ends_so c.args.rule M (machine_of c.conclude.new.session) m (op (work_of M m)) done.result (now done.new.work) c.conclude.result met
     (c.conclude.ensures.concludes M away working)
 
-pub returns-clause-settled : goal.returns-clause-settled
-returns-clause-settled g c =
-    let done = c.operate-answered in
-    let s = c.take_work.new.session in
-    c.conclude.ensures.settled (machine_of c.args.session.now)
-    (still_away s done.new.work (c.take_work.ensures.working).away (ap (λ (w : Opened). w.kept) done.ensures.view) (ap (λ (w : Opened). w.begun) done.ensures.view) (ap (λ (w : Opened). w.committed) done.ensures.view))
-    (on_err done.result (still_working s done.new.work c.take_work.ensures.working) done.ensures.since)
-
 pub returns-clause-untold : goal.returns-clause-untold
 returns-clause-untold g c =
     let world = world_of_unit g.B.Behaviour.meaning c.args.unit.now in
     let done = c.operate-answered in
     c.conclude.ensures.untold (no_fault done.result (now done.new.work) (operation_of c.args.operation world (now c.take_work.new.session.work)) done.ensures.meets)
 
-pub returns-clause-marked : goal.returns-clause-marked
-returns-clause-marked g c =
+pub returns-clause-rest : goal.returns-clause-rest
+returns-clause-rest g c =
     let done = c.operate-answered in
     let s = c.take_work.new.session in
-    c.conclude.ensures.marked (machine_of c.args.session.now)
+    c.conclude.ensures.rest (machine_of c.args.session.now)
     (still_away s done.new.work (c.take_work.ensures.working).away (ap (λ (w : Opened). w.kept) done.ensures.view) (ap (λ (w : Opened). w.begun) done.ensures.view) (ap (λ (w : Opened). w.committed) done.ensures.view))
     (on_err done.result (still_working s done.new.work c.take_work.ensures.working) done.ensures.since)
     (keeps_away s done.new.work done.ensures.marked (c.take_work.ensures.marked c.args.unit.now.metamodel (c.requires.serving).marked))

@@ -22,14 +22,19 @@ use Rattle.jpa_provider.proofs.Unheld.{still_resting, nobody_works, nobody_keeps
 use Rattle.jpa_provider.proofs.Worked.{ends_so}
 use Rattle.jpa_provider.proofs.working.unheld.Goals as goal
 
-pub operate-answered-requires-clause-ready : goal.operate-answered-requires-clause-ready
-operate-answered-requires-clause-ready g c =
+pub operate-answered-requires : goal.operate-answered-requires
+operate-answered-requires g c =
     let s = c.args.session.now in
     let n = length s.managers.items in
     let w : Work = record { manager = c.len-session.result; objects = s.work.objects.now; context = c.new.result.now; numbers = s.work.numbers.now; view = (s.work.view).seen; events = s.work.events } in
     let counted : c.len-session.result ≡ n = let a = c.len-session.ensures in omega (arith, a) in
     let same : w ≡ work_of (machine_of s) n = nobody_works s w (c.requires.serving).settled (λ i. record w { manager = counted i; context = c.new.ensures.now i }) in
-    subst (IsReady c.args.unit.now.metamodel) (sym same) (work_ready n (c.requires.serving).machine)
+    let kept = ((c.requires.serving).settled).kept in
+    record {
+      orderly = (c.requires.serving).orderly;
+      ready = subst (IsReady c.args.unit.now.metamodel) (sym same) (work_ready n (c.requires.serving).machine);
+      kept = record { objects = kept.objects; context = c.new.ensures.since ∙ sym c.new.ensures.now; numbers = kept.numbers; view = kept.view };
+    }
 
 pub returns-in-Ok-clause-ends : goal.returns-in-Ok-clause-ends
 returns-in-Ok-clause-ends g c =
@@ -77,62 +82,50 @@ returns-in-Err-clause-ends g c =
           (ap (λ (u : Work). u.objects) back ∙ ap (λ (x : Since). x.objects) since ∙ settled.objects) (ap (λ (u : Work). u.numbers) back ∙ ap (λ (x : Since). x.numbers) since ∙ settled.numbers),
     )
 
-pub returns-in-Ok-clause-settled : goal.returns-in-Ok-clause-settled
-returns-in-Ok-clause-settled g c =
-    let s = c.args.session.now in
-    let done = c.operate-answered in
-    let settled = (c.requires.serving).settled in
-    let t : Session = record s { work = c.keep.new.self } in
-    c.mark_unless.ensures.settled
-    (record {
-      kept = c.keep.ensures.kept;
-      quiet = ap (λ (u : Work). u.events) c.keep.ensures.now ∙ c.replace-events.ensures.after ∙ c.new-2.ensures;
-      resting = still_resting s.work.view c.keep.new.self.view settled.resting (c.keep.ensures.view ∙ ap (after_keeping false) done.ensures.view);
-      idle = settled.idle;
-      counted = counted_here s t settled.counted refl refl;
-    })
-
-pub returns-in-Err-clause-settled : goal.returns-in-Err-clause-settled
-returns-in-Err-clause-settled g c =
-    let s = c.args.session.now in
-    let done = c.operate-answered in
-    let settled = (c.requires.serving).settled in
-    let t : Session = record s { work = c.undo.new.self } in
-    record {
-      kept = c.undo.ensures.kept;
-      quiet = ap (λ (u : Work). u.events) c.undo.ensures.now;
-      resting = still_resting s.work.view c.undo.new.self.view settled.resting (c.undo.ensures.view ∙ ap after_undoing done.ensures.view);
-      idle = settled.idle;
-      counted = counted_here s t settled.counted refl refl;
-    }
-
-pub operate-answered-requires-clause-kept : goal.operate-answered-requires-clause-kept
-operate-answered-requires-clause-kept g c =
-    let kept = ((c.requires.serving).settled).kept in
-    record { objects = kept.objects; context = c.new.ensures.since ∙ sym c.new.ensures.now; numbers = kept.numbers; view = kept.view }
-
-pub returns-in-Ok-clause-marked : goal.returns-in-Ok-clause-marked
-returns-in-Ok-clause-marked g c =
+pub returns-in-Ok-clause-rest : goal.returns-in-Ok-clause-rest
+returns-in-Ok-clause-rest g c =
     let s = c.args.session.now in
     let n = length s.managers.items in
     let model = c.args.unit.now.metamodel in
     let serving = c.requires.serving in
+    let settled = serving.settled in
     let done = c.operate-answered in
     let counted : c.len-session.result ≡ n = let a = c.len-session.ensures in omega (arith, a) in
     let nowhere = nobody_in s.managers.items n (omega arith) in
     let t : Session = record s { work = record s.work { manager = c.len-session.result; context = c.new.result } } in
+    let kept : Session = record s { work = c.keep.new.self } in
     let away = keeps_away t done.new.work done.ensures.marked
-    (marked_away model s t n (serving.settled).kept counted refl (c.new.ensures.since ∙ sym (ap (λ (x : EntityManager). x.context.now) nowhere))
+    (marked_away model s t n settled.kept counted refl (c.new.ensures.since ∙ sym (ap (λ (x : EntityManager). x.context.now) nowhere))
     (c.new.ensures.marks ∙ sym (ap (λ (x : EntityManager). (x.context).marks) nowhere)) (λ k d. refl) serving.marked) in
     let silent : UnitOfWork = record (done.new.work) { events = c.replace-events.new.dest } in
-    c.mark_unless.ensures.marked model (λ stay. nobody_marked model s c.keep.new.self silent (ap (λ (w : Work). w.objects) c.keep.ensures.now) away.manager
-    (λ k es marks d h. c.keep_others-stay.ensures stay model k es marks d h) (λ k d. away.others k d))
+    record {
+      settled = c.mark_unless.ensures.settled
+          (record {
+            kept = c.keep.ensures.kept;
+            quiet = ap (λ (u : Work). u.events) c.keep.ensures.now ∙ c.replace-events.ensures.after ∙ c.new-2.ensures;
+            resting = still_resting s.work.view c.keep.new.self.view settled.resting (c.keep.ensures.view ∙ ap (after_keeping false) done.ensures.view);
+            idle = settled.idle;
+            counted = counted_here s kept settled.counted refl refl;
+          });
+      marked = c.mark_unless.ensures.marked model (λ stay. nobody_marked model s c.keep.new.self silent (ap (λ (w : Work). w.objects) c.keep.ensures.now) away.manager
+          (λ k es marks d h. c.keep_others-stay.ensures stay model k es marks d h) (λ k d. away.others k d));
+    }
 
-pub returns-in-Err-clause-marked : goal.returns-in-Err-clause-marked
-returns-in-Err-clause-marked g c =
+pub returns-in-Err-clause-rest : goal.returns-in-Err-clause-rest
+returns-in-Err-clause-rest g c =
     let s = c.args.session.now in
     let done = c.operate-answered in
     let serving = c.requires.serving in
+    let settled = serving.settled in
     let t : Session = record s { work = c.undo.new.self } in
     let since = subst (λ x. OnErr x (undoing.since done.new.work ≡ undoing.since (record s.work { manager = c.len-session.result; context = c.new.result }))) c.in-Err.is done.ensures.since in
-    same_marked c.args.unit.now.metamodel s t (ap (λ (u : Work). u.objects) c.undo.ensures.now ∙ ap (λ (x : Since). x.objects) since ∙ (serving.settled).kept.objects) (λ k. refl) serving.marked
+    record {
+      settled = record {
+        kept = c.undo.ensures.kept;
+        quiet = ap (λ (u : Work). u.events) c.undo.ensures.now;
+        resting = still_resting s.work.view c.undo.new.self.view settled.resting (c.undo.ensures.view ∙ ap after_undoing done.ensures.view);
+        idle = settled.idle;
+        counted = counted_here s t settled.counted refl refl;
+      };
+      marked = same_marked c.args.unit.now.metamodel s t (ap (λ (u : Work). u.objects) c.undo.ensures.now ∙ ap (λ (x : Since). x.objects) since ∙ settled.kept.objects) (λ k. refl) serving.marked;
+    }

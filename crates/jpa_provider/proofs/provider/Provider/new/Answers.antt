@@ -1,4 +1,4 @@
-use Rattle.std.proofs.Common.{◌≡◌, sym, subst, ◌∙◌}
+use Rattle.std.proofs.Common.{◌≡◌, sym, subst, ◌∙◌, rules}
 use Rattle.jpa_behaviour.specs.Served.{world_of_unit}
 use Rattle.jpa_open.specs.Opened.{unwritten}
 use Rattle.jpa_object_rows.specs.Sets.{rows_of}
@@ -23,7 +23,12 @@ invariant_of-result g c =
       holds = λ clean. subst (λ (M : Machine). g.R.RowSource.holds c.args.rows (rows_of world M.committed M.stored_numbers)) (sym e) (c.requires.holds clean);
     }
 
-pub returns-clause-machine : goal.returns-clause-machine
-returns-clause-machine g c =
+pub returns-clause-ok : goal.returns-clause-ok
+returns-clause-ok g c =
     let numbers = c.in-Ok.ensures in
-    c.opened-session.ensures.machine c.args.committed c.in-Ok-view_of.ensures.view (numbers.0 ∙ c.as_slice.ensures)
+    record {
+      model = search rules;
+      registry = search rules;
+      machine = c.opened-session.ensures.machine c.args.committed c.in-Ok-view_of.ensures.view (numbers.0 ∙ c.as_slice.ensures);
+      rows = search rules;
+    }
