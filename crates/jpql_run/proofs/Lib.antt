@@ -22,3 +22,4 @@ pub mod Parted
 pub mod Among
 pub mod ByKey
 pub mod Left
+pub mod LeftOne

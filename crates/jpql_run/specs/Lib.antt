@@ -1,3 +1,4 @@
+pub mod Blocks
 pub mod Keys
 pub mod Objects
 pub mod Runs

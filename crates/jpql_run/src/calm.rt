@@ -105,7 +105,7 @@ pub(crate) fn is_any_calm(condition: &Option<Boxed<TypedCondition>>) -> bool
 
 /// Whether a nested block can't, its item included.
 #[cycle(is_calm)]
-fn is_calm_block(block: &TypedBlock) -> bool
+pub(crate) fn is_calm_block(block: &TypedBlock) -> bool
     ensures { result ≡ calm.is_calm_block block.now }
 {
     is_calm_value(&block.item)

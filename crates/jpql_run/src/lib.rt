@@ -11,6 +11,7 @@ mod by_on;
 mod by_reference;
 mod by_value;
 mod calm;
+mod choosing;
 mod classes;
 mod collections;
 mod conditions;
@@ -20,6 +21,7 @@ mod from;
 mod gathering;
 mod holding;
 mod indexed;
+mod indexes;
 mod joins;
 mod known;
 mod laws;
@@ -39,8 +41,9 @@ mod values;
 
 pub use block::{objects_for, tuples_for};
 pub use drops::{any_drops, filter_drops, value_drops};
-pub use gathering::{Indexes, indexes_for};
+pub use gathering::indexes_for;
 pub use holding::{kept, truth, truth_by};
+pub use indexes::Indexes;
 pub use laws::{
     calm_laws, join_laws, key_laws, known_laws, leaving_out_laws, lookup_laws, refusal_laws,
 };
