@@ -31,8 +31,8 @@ from .unit import entities_of
 
 WRONG, REFUSED = 1, 3
 _QUERY = """Prints the rows that a SELECT finds in a store, as a table. docs/QUERIES.md has the
-language. Nothing is changed, but that the store is opened: a mapping of revision 2 brings one of
-revision 1 over."""
+language. Nothing is changed: a store of revision 1 is opened before it is asked by a mapping of
+revision 2. A program without --query opens it itself, and brings it over."""
 _PARAM = """the value of a parameter, :NAME or ?NAME in the text: n=7, name=Ada, n=null,
 code="7" for a text of digits, scan={"hex":"0aff"} for bytes"""
 

@@ -10,6 +10,8 @@ use Rattle.jpa_functions.specs.Known.{names_are_known}
 use Rattle.jpa_functions.specs.declared.make.Listener.{Listener}
 use Rattle.jpa_functions.specs.declared.make.Converter.{Converter}
 use Rattle.jpa_program.specs.Opening.{HoldsCells}
+use Rattle.jpa_value.specs.declared.refusal.Cause.{Cause}
+use Rattle.jpa_value.specs.declared.refusal.MappingFault.{MappingFault}
 use Rattle.jpa_history.specs.declared.history.History.{History}
 use Rattle.jpa_behaviour.specs.Served.{world_of_unit}
 use Rattle.jpa_migration.specs.Migration.{defaults_pass}
@@ -55,3 +57,10 @@ module _ {A E : Type 0} (answer : Result A E) (function memory : E) where
 pub gives_servable : {A E : Type 0} (mapping : Option (List ℕ)) (unit : ProgramUnit) (history : History) (answer : Result A E) → Ok (unit, history) ≡ unit_from mapping → OnOk answer (IsServable unit history) → OnOk answer (GivesServable mapping)
 gives_servable mapping unit history (Ok a) is serves = (unit, history, sym is, serves)
 gives_servable mapping unit history (Err e) is serves = serves
+
+-- the unit that bytes give can be served where no refusal of it was told
+pub asked_unit : {A : Type 0} (mapping : Option (List ℕ)) (unit : ProgramUnit) (history : History) (answer : Result A Cause) → Ok (unit, history) ≡ unit_from mapping
+    → (names_are_known unit.registry unit.metamodel ≡ false → answer ≡ Err (Cause.Mapping MappingFault.Function))
+    → (names_are_known unit.registry unit.metamodel ≡ true → defaults_pass (world_of_unit meaning unit) history ≡ false → (answer ≡ Err (Cause.Mapping MappingFault.Function)) ⊎ (answer ≡ Err Cause.OutOfMemory))
+    → (a : A) → answer ≡ Ok a → GivesServable mapping
+asked_unit mapping unit history answer is unknown thrown a ok = (unit, history, sym is, servable answer (Cause.Mapping MappingFault.Function) Cause.OutOfMemory unit history unknown thrown a ok)

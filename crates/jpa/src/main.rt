@@ -1,5 +1,6 @@
 //! The program: it serves the entities of a mapping over a store in memory or in a file, by the
-//! calls on standard input, and writes the replies to standard output.
+//! calls on standard input, and writes the replies to standard output; or it answers one question
+//! over a store's file.
 #![tactic(auto)]
 
 ghost use Rattle.std.specs.Prelude.{◌≡◌, ◌⊎◌, true, false, None, Ok, Err, option_copied, IsSome, IfOk, IfErr, IsErrAnd, OnOk};
@@ -10,16 +11,20 @@ ghost use Rattle.jpa_cells_meaning.specs.Store.{IsOrderedIfFound};
 ghost use Rattle.jpa_functions.specs.Known as known;
 ghost use Rattle.jpa.specs.Served as spec;
 
+use jpa_answers::{ask_store, check_unit, write_plan};
 use jpa_behaviour::{Registry, ServedUnit};
 use jpa_functions::{ProgramFunctions, read_functions, registry_of};
 use jpa_history::History;
+use jpa_lines::RunFault;
 use jpa_mapping::{Mapping, read_mapping};
 use jpa_program::{first_unit, open, run};
+use jpa_questions::{Misgiven, Parameter, Question, read_parameters, read_question, write_rows};
 use jpa_settings::{Settings, Stop, read_settings, status};
 use jpa_value::{Cause, MappingFault, Refusal, Seq, Text, refusal_text};
+use jpql_eval::Datum;
 use sqlite::{Alter, Connection, Error, ErrorCode, Unknown};
 use std::alloc::Global;
-use std::io::ErrorKind;
+use std::io::{ErrorKind, Write};
 use std::process::ExitCode;
 use std::{env, fs, io};
 
@@ -209,8 +214,119 @@ fn serve_mapping(rt: &HostRuntime, mapping: Option<&[u8]>, db: Option<&Text>) ->
     }
 }
 
-/// Serves what the settings say; what is refused is refused before the first line.
+/// The unit of a mapping's bytes, for which a question is judged.
+fn unit_to_ask(alloc: Global, mapping: Option<&[u8]>) -> Result<ServedUnit<ProgramFunctions>, Cause>
+    ensures served { OnOk result (spec.GivesServable (option_copied mapping.entry)) }
+    ensures refused { spec.RefusesUnit (option_copied mapping.entry) result }
+{
+    let (unit, history) = unit_from(alloc, mapping)?;
+    check_unit(&unit, &history)?;
+    Ok(unit)
+}
+
+/// The rows that a question finds in a store's file, which stays as it is; one that isn't there
+/// isn't made.
+fn rows_found(
+    rt: &HostRuntime,
+    path: &Text,
+    unit: &ServedUnit<ProgramFunctions>,
+    question: &Question,
+) -> Result<Seq<Seq<Datum>>, Cause> {
+    if !fs::exists(rt, path.as_str()).unwrap_or(false) {
+        return Err(Cause::StoreFault);
+    }
+    let conn = match Connection::open_from(rt, path.as_str(), false, Unknown) {
+        Ok(conn) => conn,
+        Err((error, _)) => return Err(cause_of(error)),
+    };
+    let (rows, _conn) = ask_store(rt.alloc(), conn, unit, question);
+    rows
+}
+
+/// What is told of a question: the lines of the rows that it finds, or how it would find them.
+fn told(
+    rt: &HostRuntime,
+    path: &Text,
+    unit: &ServedUnit<ProgramFunctions>,
+    question: &Question,
+    explain: bool,
+) -> Result<Vec<u8>, Cause> {
+    if explain {
+        return write_plan(rt.alloc(), &unit.metamodel, question);
+    }
+    let rows = rows_found(rt, path, unit, question)?;
+    write_rows(rt.alloc(), &unit.metamodel, rows.as_slice())
+}
+
+/// Writes a text on standard output.
+fn print_text(rt: &HostRuntime, text: &[u8]) -> Stop {
+    match io::writer(rt).write_all(text) {
+        Ok(()) => Stop::End,
+        Err(_) => Stop::Run(RunFault::Write),
+    }
+}
+
+/// Answers a question over a store's file: its mapping is refused before its text, and its text
+/// before the store is opened.
+fn answer(
+    rt: &HostRuntime,
+    mapping: Option<&[u8]>,
+    path: &Text,
+    text: &Text,
+    parameters: &[Parameter],
+    explain: bool,
+) -> Result<Stop, Cause>
+    ensures served { OnOk result (spec.GivesServable (option_copied mapping.entry)) }
+    ensures refused { spec.RefusesUnit (option_copied mapping.entry) result }
+{
+    let unit = unit_to_ask(rt.alloc(), mapping)?;
+    let question = read_question(rt.alloc(), &unit.metamodel, text.as_str(), parameters)?;
+    let answer = told(rt, path, &unit, &question, explain)?;
+    Ok(print_text(rt, answer.as_slice()))
+}
+
+/// The end for words that give no parameters.
+fn no_parameters(alloc: Global, misgiven: &Misgiven) -> Stop {
+    let Misgiven::Word(word) = misgiven else {
+        return Stop::Refused(Refusal::Because(Cause::OutOfMemory));
+    };
+    let word = word.as_str();
+    match format!(in alloc;
+        "error: '{word}' gives no parameter as '--param <NAME=VALUE>', with its value as JSON and each name once\n\nFor more information, try '--help'.\n"
+    ) {
+        Ok(text) => Stop::Words(text),
+        Err(_) => Stop::Refused(Refusal::Because(Cause::OutOfMemory)),
+    }
+}
+
+/// Answers the question of the settings. Parameters are judged before any file is read.
+fn ask_as_said(
+    rt: &HostRuntime,
+    settings: &Settings,
+    db: &Text,
+    query: &Text,
+) -> Result<Stop, Cause> {
+    let parameters = match read_parameters(rt.alloc(), settings.params.as_slice()) {
+        Ok(parameters) => parameters,
+        Err(misgiven) => return Ok(no_parameters(rt.alloc(), &misgiven)),
+    };
+    let mapping = mapping_bytes(rt, settings)?;
+    answer(
+        rt,
+        mapping.as_deref(),
+        db,
+        query,
+        parameters.as_slice(),
+        settings.explain,
+    )
+}
+
+/// Serves what the settings say, or answers their question; what is refused is refused before the
+/// first line.
 fn serve_as_said(rt: &HostRuntime, settings: &Settings) -> Result<Stop, Cause> {
+    if let (Some(db), Some(query)) = (&settings.db, &settings.query) {
+        return ask_as_said(rt, settings, db, query);
+    }
     let mapping = mapping_bytes(rt, settings)?;
     serve_mapping(rt, mapping.as_deref(), settings.db.as_ref())
 }

@@ -1,16 +1,17 @@
 -- What is found of an option is what the words give it, and what an error tells is the one fault of the words.
-use Rattle.std.proofs.Common.{◌≡◌, ◌∙◌, ◌⊎◌, inl, inr, ap, refl, sym, subst, true, List, [], ◌∷◌}
-use Rattle.clap.specs.Words.{App, HasKind, HasMatchesOf, IsAmong, Text, fault_of, first_of, first_value, found_of, is_simple, is_simple_and_free, kind_of, matches_of}
+use Rattle.std.proofs.Common.{◌≡◌, ◌∙◌, ◌⊎◌, inl, inr, ap, refl, sym, subst, true, List, [], ◌∷◌, Option, Some, None, option_map, unwrap_or, codes}
+use Rattle.clap.specs.Words.{App, HasKind, HasMatchesOf, IsAmong, Text, all_of, fault_of, first_of, first_value, found_of, is_simple, is_simple_and_free, kind_of, matched_of, matches_of, raw_values}
 use Rattle.clap.specs.declared.error.Error.{Error}
 use Rattle.clap.specs.declared.error.kind.ErrorKind.{ErrorKind}
 use Rattle.clap.specs.declared.error.kind.ErrorKind.TheVariants.{OutOfMemory}
 use Rattle.clap.specs.declared.parser.matches.ArgMatches.{ArgMatches}
-use Rattle.clap.proofs.WalkLemmas.{first_value-rows}
+use Rattle.clap.proofs.WalkLemmas.{first_value-rows, raw_values-rows}
 use Rattle.clap.proofs.OnLiterals.{clap_on_literals}
 use Rattle.jpa_value.specs.declared.refusal.Cause.{Cause}
 use Rattle.jpa_value.specs.declared.refusal.Refusal.{Refusal}
 use Rattle.jpa_settings.specs.declared.stop.Stop.{Stop}
-use Rattle.jpa_settings.specs.Words.{Tells, command, value_of}
+use Rattle.jpa_settings.specs.Words.{Asks, SaysWords, Tells, TellsOf, command, is_set, lack_of, lacking, value_of, values_of}
+use Rattle.jpa_settings.specs.declared.settings.Settings.{Settings}
 use Rattle.jpa_settings.proofs.OneFault.{one_fault}
 
 simple : is_simple command ≡ true
@@ -23,6 +24,12 @@ free = refl
 
 pub value_read : (c : App) (words : List Text) (m : ArgMatches) (name : Text) → c ≡ command → HasMatchesOf c words m → first_value (found_of m) name ≡ value_of name words
 value_read c words m name is h = first_value-rows (found_of m) name ∙ ap (first_of name) ((h (ap is_simple is ∙ simple)).0 ∙ ap (λ a. matches_of a words) is)
+
+pub values_read : (c : App) (words : List Text) (m : ArgMatches) (name : Text) → c ≡ command → HasMatchesOf c words m
+    → unwrap_or (option_map raw_values (matched_of (found_of m) name)) [] ≡ values_of name words
+values_read c words m name is h =
+    ap (λ (o : Option (List Text)). unwrap_or o [])
+    (raw_values-rows (found_of m) name ∙ ap (all_of name) ((h (ap is_simple is ∙ simple)).0 ∙ ap (λ a. matches_of a words) is))
 
 pub accepted_words : (c : App) (words : List Text) → c ≡ command → (is_simple_and_free c ≡ true → fault_of c words ≡ []) → fault_of command words ≡ []
 accepted_words c words is none = sym (ap (λ a. fault_of a words) is) ∙ none (ap is_simple_and_free is ∙ free)
@@ -38,3 +45,32 @@ pub told_words : (c : App) (words : List Text) (error : Error) (stop : Stop) →
 told_words c words error stop is kinds memory tells =
     let has : HasKind (fault_of command words) error = subst (λ a. HasKind (fault_of a words) error) is (kinds (ap is_simple_and_free is ∙ free)) in
     told words (kind_of error) stop has memory tells
+
+-- ---- what is found of all options
+
+module _ (c : App) (words : List Text) (m : ArgMatches) (s : Settings) (is : c ≡ command) (h : HasMatchesOf c words m)
+    (query : s.query ≡ first_value (found_of m) (codes "query")) (params : s.params ≡ unwrap_or (option_map raw_values (matched_of (found_of m) (codes "param"))) [])
+    (explain : s.explain ≡ is_set (first_value (found_of m) (codes "explain"))) where
+  pub asked : Asks words s
+  asked = record {
+    query = query ∙ value_read c words m (codes "query") is h;
+    params = params ∙ values_read c words m (codes "param") is h;
+    explain = explain ∙ ap is_set (value_read c words m (codes "explain") is h);
+  }
+
+  -- what the settings lack is what the words lack
+  pub lack_read : (db : Option Text) → db ≡ first_value (found_of m) (codes "db") → lacking s.query db s.params s.explain ≡ lack_of words
+  lack_read db of_db =
+      ap (λ q. lacking q db s.params s.explain) asked.query
+      ∙ ap (λ d. lacking (value_of (codes "query") words) d s.params s.explain) (of_db ∙ value_read c words m (codes "db") is h)
+      ∙ ap (λ ps. lacking (value_of (codes "query") words) (value_of (codes "db") words) ps s.explain) asked.params
+      ∙ ap (λ e. lacking (value_of (codes "query") words) (value_of (codes "db") words) (values_of (codes "param") words) e) asked.explain
+
+-- words that lack an option are refused in these words, or for want of memory
+pub told_lack : (words : List Text) (said : Text) (stop : Stop) → fault_of command words ≡ [] → lack_of words ≡ Some said
+    → (stop ≡ Stop.Refused (Refusal.Because Cause.OutOfMemory)) ⊎ SaysWords said stop → TellsOf words stop
+told_lack words said stop faultless lacks (inl memory) = inl (subst (Tells (fault_of command words)) (sym memory) refl)
+told_lack words said stop faultless lacks (inr says) = inr (faultless, (said, lacks, says))
+
+pub some_is_none : {A : Type 0} (x : A) → Some x ≡ None → ⊥
+some_is_none x e = cc

@@ -1,29 +1,62 @@
--- The command line: two options, each with a value. How words are read is clap's, and so are the
+-- The command line: options with values, and a flag. How words are read is clap's, and so are the
 -- faults of words.
-use Rattle.std.specs.Prelude.{◌≡◌, Bool, List, [], ◌∷◌, Option, Some, true, false, codes}
-use Rattle.clap.specs.Words.{App, Kinds, Rule, Text, first_of, matches_of, new_app, new_rule, with_rule}
+use Rattle.std.specs.Prelude.{◌≡◌, ◌⊎◌, Bool, List, [], ◌∷◌, ◌++◌, Option, Some, None, true, false, codes}
+use Rattle.std.specs.Prelude.{if◌then◌else◌, is_some, unwrap_or}
+use Rattle.std.specs.Str.{bytes_eq}
+use Rattle.std.specs.String.{string_bytes}
+use Rattle.clap.specs.Words.{App, Kinds, Rule, Text, all_of, fault_of, first_of, matches_of, new_app, new_rule}
+use Rattle.clap.specs.Words.{with_rule}
+use Rattle.clap.specs.declared.builder.action.ArgAction.TheVariants.{Append, SetTrue}
 use Rattle.clap.specs.declared.error.kind.ErrorKind.{ErrorKind}
 use Rattle.clap.specs.declared.error.kind.ErrorKind.TheVariants.{DisplayHelp, DisplayVersion}
 use Rattle.jpa_value.specs.declared.refusal.Cause.{Cause}
 use Rattle.jpa_value.specs.declared.refusal.Refusal.{Refusal}
+use Rattle.jpa_settings.specs.declared.settings.Settings.{Settings}
 use Rattle.jpa_settings.specs.declared.stop.Stop.{Stop}
 
 -- an option with a value
 abbrev pub option_rule : Text → Rule
 option_rule name = record (new_rule name) { long = Some name; value_names = 1 }
 
+-- an option with a value, which may stand more than once
+abbrev pub repeated_rule : Text → Rule
+repeated_rule name = record (option_rule name) { action = Some Append }
+
+-- a flag, which has no value
+abbrev pub flag_rule : Text → Rule
+flag_rule name = record (new_rule name) { long = Some name; action = Some SetTrue }
+
 -- the program, which tells its version
 abbrev pub plain : App
 plain = let bare = new_app (codes "jpa") in record bare { top = record bare.top { has_version = true } }
 
--- the program with its options --mapping and --db
+-- the program with its files: its options --mapping and --db
+abbrev pub with_files : App
+with_files = with_rule (with_rule plain (option_rule (codes "mapping"))) (option_rule (codes "db"))
+
+-- the program with its files, and with a question: --query, --param and --explain
 abbrev pub command : App
-command = with_rule (with_rule plain (option_rule (codes "mapping"))) (option_rule (codes "db"))
+command =
+    with_rule (with_rule (with_rule with_files (option_rule (codes "query"))) (repeated_rule (codes "param")))
+    (flag_rule (codes "explain"))
 
 -- the value that the words give an option, if they give one; the first word is the program's own
 -- name
 abbrev pub value_of : Text → List Text → Option Text
 value_of name words = first_of name (matches_of command words)
+
+-- the values that the words give an option, in their order
+abbrev pub values_of : Text → List Text → List Text
+values_of name words = unwrap_or (all_of name (matches_of command words)) []
+
+-- whether a flag's value says that it stands there
+abbrev pub is_set : Option Text → Bool
+is_set (Some value) = bytes_eq value (codes "true")
+is_set None = false
+
+-- whether the words have a flag
+abbrev pub has_flag : Text → List Text → Bool
+has_flag name words = is_set (value_of name words)
 
 -- clap counts a request among the faults: one for the help or for the version
 abbrev pub is_request : ErrorKind → Bool
@@ -42,3 +75,63 @@ Tells faults (Stop.Shown text) = IsFound true faults
 Tells faults (Stop.Words text) = IsFound false faults
 Tells faults (Stop.Refused refusal) = refusal ≡ Refusal.Because Cause.OutOfMemory
 Tells faults _ = ⊥
+
+-- ---- options that need another one
+
+-- where more is told, as clap says it of its faults
+abbrev pub hint : Text
+hint = 10 ∷ 10 ∷ codes "For more information, try '--help'." ++ 10 ∷ []
+
+-- what is said of a query without a store's file
+abbrev pub query_needs_db : Text
+query_needs_db = codes "error: '--query <TEXT>' needs '--db <FILE>'" ++ hint
+
+-- what is said of a parameter without a query
+abbrev pub param_needs_query : Text
+param_needs_query = codes "error: '--param <NAME=VALUE>' needs '--query <TEXT>'" ++ hint
+
+-- what is said of a plan without a query
+abbrev pub explain_needs_query : Text
+explain_needs_query = codes "error: '--explain' needs '--query <TEXT>'" ++ hint
+
+-- what is said of parameters, or of a plan, without a query
+abbrev pub stray : List Text → Bool → Option Text
+stray (param ∷ params) explain = Some param_needs_query
+stray [] explain = if explain then Some explain_needs_query else None
+
+-- a query asks a store's file, and parameters and a plan are those of a query; what is said else
+abbrev pub lacking : Option Text → Option Text → List Text → Bool → Option Text
+lacking (Some query) db params explain = if is_some db then None else Some query_needs_db
+lacking None db params explain = stray params explain
+
+-- what the words lack
+abbrev pub lack_of : List Text → Option Text
+lack_of words =
+    lacking (value_of (codes "query") words) (value_of (codes "db") words) (values_of (codes "param") words)
+    (has_flag (codes "explain") words)
+
+-- the settings ask what the words say: the query, its parameters and whether its plan is asked
+pub record Asks (words : List Text) (settings : Settings) : Type 0 where
+  pub query : settings.query ≡ value_of (codes "query") words
+  pub params : settings.params ≡ values_of (codes "param") words
+  pub explain : settings.explain ≡ has_flag (codes "explain") words
+
+-- clap finds no fault in the words, and they lack no option
+pub record AreTaken (words : List Text) : Type 0 where
+  pub faultless : fault_of command words ≡ []
+  pub whole : lack_of words ≡ None
+
+-- the program ends with this text for a command line that is refused
+abbrev pub SaysWords : Text → Stop → Type 0
+SaysWords said (Stop.Words text) = string_bytes text ≡ said
+SaysWords said _ = ⊥
+
+-- clap finds no fault in the words, which lack an option, and this is what is said of it
+abbrev pub TellsLack : List Text → Stop → Type 0
+TellsLack words stop =
+    (fault_of command words ≡ []) × ((said : Text) × (lack_of words ≡ Some said) × SaysWords said stop)
+
+-- what the program's end tells of words that are refused: of clap's fault, or of an option that
+-- lacks
+abbrev pub TellsOf : List Text → Stop → Type 0
+TellsOf words stop = Tells (fault_of command words) stop ⊎ TellsLack words stop

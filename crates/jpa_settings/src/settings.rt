@@ -1,17 +1,18 @@
 //! The words of the command line.
-ghost use Rattle.std.specs.Prelude.{◌≡◌, [], ◌∷◌, IfOk, IfErr, OnOk, codes, map, option_map, true};
+ghost use Rattle.std.specs.Prelude.{◌≡◌, ◌⊎◌, [], ◌∷◌, None, IfOk, IfErr, OnOk, codes, map, option_map, true, false, unwrap_or};
 ghost use Rattle.std.specs.String.{string_bytes};
-ghost use Rattle.clap.specs.Words.{app_of, fault_of, kind_of, takes};
+ghost use Rattle.clap.specs.Words.{app_of, first_value, found_of, kind_of, matched_of, raw_values, rule_of, takes};
 ghost use Rattle.clap.specs.declared.error.kind.ErrorKind.{ErrorKind};
 ghost use Rattle.jpa_value.specs.declared.refusal.Cause.{Cause};
 ghost use Rattle.jpa_value.specs.declared.refusal.Refusal.{Refusal};
 ghost use Rattle.jpa_settings.specs.declared.stop.Stop.{Stop};
-ghost use Rattle.jpa_settings.specs.Words.{Tells, command, value_of};
+ghost use Rattle.jpa_settings.specs.Words.{AreTaken, Asks, Tells, TellsOf, command, lack_of, value_of};
+ghost use Rattle.jpa_settings.specs.Words as words;
 
 use crate::stop::Stop;
 use clap::error::ErrorKind;
-use clap::{Arg, Command, Error};
-use jpa_value::{Cause, Refusal, Text};
+use clap::{Arg, ArgAction, ArgMatches, Command, Error};
+use jpa_value::{Cause, Refusal, Seq, Text};
 use std::alloc::{AllocError, Global};
 
 /// What the command line says.
@@ -21,11 +22,17 @@ pub struct Settings {
     pub mapping: Option<Text>,
     /// The file of the store.
     pub db: Option<Text>,
+    /// The one SELECT that is asked.
+    pub query: Option<Text>,
+    /// What is said of its parameters, each as `NAME=VALUE`.
+    pub params: Seq<Text>,
+    /// Whether its plan is asked, in place of its rows.
+    pub explain: bool,
 }
 
-/// The command as clap reads it.
-fn jpa<'a>(alloc: Global) -> Result<Command<'a>, AllocError>
-    ensures { IfOk result (λ c. app_of c ≡ command) }
+/// The program with its files, as clap reads it.
+fn with_files<'a>(alloc: Global) -> Result<Command<'a>, AllocError>
+    ensures { IfOk result (λ c. app_of c ≡ words.with_files) }
 {
     let mapping = Arg::new(alloc, "mapping")
         .long("mapping")
@@ -39,6 +46,52 @@ fn jpa<'a>(alloc: Global) -> Result<Command<'a>, AllocError>
     );
     let with_mapping = plain.arg(mapping)?;
     Ok(with_mapping.arg(db)?)
+}
+
+/// The option of the SELECT that is asked.
+fn query_option<'a>(alloc: Global) -> Arg<'a>
+    ensures rule { rule_of result ≡ words.option_rule (codes "query") }
+    ensures local { result.global ≡ false }
+{
+    Arg::new(alloc, "query")
+        .long("query")
+        .value_name("TEXT")
+        .help("Answers one SELECT off the store's file, a JSON line for each row; writes nothing")
+}
+
+/// The option of a parameter of the SELECT.
+fn param_option<'a>(alloc: Global) -> Arg<'a>
+    ensures rule { rule_of result ≡ words.repeated_rule (codes "param") }
+    ensures local { result.global ≡ false }
+{
+    Arg::new(alloc, "param")
+        .long("param")
+        .value_name("NAME=VALUE")
+        .action(ArgAction::Append)
+        .help("The value of a parameter of the query, as JSON; once for each")
+}
+
+/// The flag that asks for the plan of the SELECT.
+fn explain_flag<'a>(alloc: Global) -> Arg<'a>
+    ensures rule { rule_of result ≡ words.flag_rule (codes "explain") }
+    ensures local { result.global ≡ false }
+{
+    Arg::new(alloc, "explain")
+        .long("explain")
+        .action(ArgAction::SetTrue)
+        .help("Tells how the query is answered, in place of its rows")
+}
+
+/// The command as clap reads it.
+fn jpa<'a>(alloc: Global) -> Result<Command<'a>, AllocError>
+    ensures { IfOk result (λ c. app_of c ≡ command) }
+{
+    let query = query_option(alloc);
+    let param = param_option(alloc);
+    let explain = explain_flag(alloc);
+    let with_query = with_files(alloc)?.arg(query)?;
+    let with_param = with_query.arg(param)?;
+    Ok(with_param.arg(explain)?)
 }
 
 /// What clap answers in place of values: a request's text, or what it says of a fault.
@@ -72,32 +125,133 @@ fn copied(alloc: Global, value: Option<&str>) -> Result<Option<Text>, Stop>
     }
 }
 
-/// What the words of a command line say, of which the first is the program's own name:
-/// `--mapping FILE` and `--db FILE`, each at most once and in any order, as clap reads them.
+/// Texts of their own for values. It fails for want of memory alone.
+fn texts_of(alloc: Global, values: &[&str]) -> Result<Seq<Text>, AllocError>
+    ensures { IfOk result (λ texts. texts ≡ map (λ v. v.now) values.now) }
+{
+    let mut texts = Seq::new(alloc);
+    for value in values {
+        texts.push(Text::of(alloc, value)?)?;
+    }
+    Ok(texts)
+}
+
+/// Texts of their own for an option's values; no texts for none.
+fn copies(alloc: Global, values: Option<&[&str]>) -> Result<Seq<Text>, Stop>
+    ensures ok { IfOk result (λ texts. texts
+        ≡ unwrap_or (option_map (λ s. map (λ v. v.now) s.now) values.entry) []) }
+    ensures err { IfErr result (λ stop. stop ≡ Stop.Refused
+        (Refusal.Because Cause.OutOfMemory)) }
+{
+    match texts_of(alloc, values.unwrap_or(&[])) {
+        Ok(texts) => Ok(texts),
+        Err(_) => Err(Stop::Refused(Refusal::Because(Cause::OutOfMemory))),
+    }
+}
+
+/// Whether a flag's value says that it stands there.
+fn is_set(value: Option<&str>) -> bool
+    ensures { result ≡ words.is_set (option_map (λ v. v.now) value.entry) }
+{
+    match value {
+        Some(value) => value == "true",
+        None => false,
+    }
+}
+
+/// What clap found of the options.
+fn settings_in(alloc: Global, matches: &ArgMatches<'_>) -> Result<Settings, Stop>
+    ensures mapping { IfOk result (λ s. s.mapping
+        ≡ first_value (found_of matches.now) (codes "mapping")) }
+    ensures db { IfOk result (λ s. s.db ≡ first_value (found_of matches.now) (codes "db")) }
+    ensures query { IfOk result (λ s. s.query
+        ≡ first_value (found_of matches.now) (codes "query")) }
+    ensures params { IfOk result (λ s. s.params
+        ≡ unwrap_or (option_map raw_values (matched_of (found_of matches.now) (codes "param"))) []) }
+    ensures explain { IfOk result (λ s. s.explain
+        ≡ words.is_set (first_value (found_of matches.now) (codes "explain"))) }
+    ensures err { IfErr result (λ stop. stop ≡ Stop.Refused
+        (Refusal.Because Cause.OutOfMemory)) }
+{
+    Ok(Settings {
+        mapping: copied(alloc, matches.get_str("mapping"))?,
+        db: copied(alloc, matches.get_str("db"))?,
+        query: copied(alloc, matches.get_str("query"))?,
+        params: copies(alloc, matches.get_strs("param"))?,
+        explain: is_set(matches.get_str("explain")),
+    })
+}
+
+const QUERY_NEEDS_DB: &str =
+    "error: '--query <TEXT>' needs '--db <FILE>'\n\nFor more information, try '--help'.\n";
+
+const PARAM_NEEDS_QUERY: &str =
+    "error: '--param <NAME=VALUE>' needs '--query <TEXT>'\n\nFor more information, try '--help'.\n";
+
+const EXPLAIN_NEEDS_QUERY: &str =
+    "error: '--explain' needs '--query <TEXT>'\n\nFor more information, try '--help'.\n";
+
+/// What is said of an option that stands without the one that it needs.
+fn lacking(settings: &Settings) -> Option<&'static str>
+    ensures { option_map (λ v. v.now) result
+        ≡ words.lacking settings.now.query settings.now.db settings.now.params settings.now.explain }
+{
+    if settings.query.is_some() {
+        return match &settings.db {
+            Some(_) => None,
+            None => Some(QUERY_NEEDS_DB),
+        };
+    }
+    match settings.params.as_slice() {
+        [_, ..] => Some(PARAM_NEEDS_QUERY),
+        [] if settings.explain => Some(EXPLAIN_NEEDS_QUERY),
+        [] => None,
+    }
+}
+
+/// The end of a command line that is refused in these words.
+fn refused(alloc: Global, said: &str) -> Stop
+    ensures { (result ≡ Stop.Refused (Refusal.Because Cause.OutOfMemory))
+        ⊎ words.SaysWords said.now result }
+{
+    match String::from_str(alloc, said) {
+        Ok(text) => Stop::Words(text),
+        Err(_) => Stop::Refused(Refusal::Because(Cause::OutOfMemory)),
+    }
+}
+
+/// What the words of a command line say, of which the first is the program's own name: `--mapping
+/// FILE`, `--db FILE`, `--query TEXT` and `--explain`, each at most once, and `--param NAME=VALUE`
+/// as often as it stands there, in any order, as clap reads them.
 ///
-/// `Ok` only where clap finds no fault in the words. Where it finds one, that is the only one:
-/// `Shown` with the text that was asked for, where the fault is a request for the help or the
-/// version, and `Words` with what clap says of any other. For want of memory it is `Refused` with
-/// `OutOfMemory`, and so is each `Err` of words that clap takes.
-#[tactic(auto, using(crate::proofs::Found::value_read))]
+/// `Ok` only where clap finds no fault in the words, and they lack no option: a query needs a
+/// store's file, and parameters and a plan need a query. Where clap finds a fault, that is the only
+/// one: `Shown` with the text that was asked for, where the fault is a request for the help or the
+/// version, and `Words` with what clap says of any other. `Words` also where an option lacks the
+/// one that it needs. For want of memory it is `Refused` with `OutOfMemory`, and so is each `Err`
+/// of words that clap takes and that lack no option.
+#[tactic(auto, using(crate::proofs::Found::value_read, crate::proofs::Found::values_read))]
 pub fn read_settings(alloc: Global, words: &[String]) -> Result<Settings, Stop>
     ensures mapping { IfOk result (λ s. s.mapping ≡ value_of (codes "mapping")
         (map string_bytes words.now)) }
     ensures db { IfOk result (λ s. s.db ≡ value_of (codes "db") (map string_bytes words.now)) }
-    ensures accepted { OnOk result (fault_of command (map string_bytes words.now) ≡ []) }
-    ensures told { IfErr result (Tells (fault_of command (map string_bytes words.now))) }
+    ensures question { IfOk result (Asks (map string_bytes words.now)) }
+    ensures accepted { OnOk result (AreTaken (map string_bytes words.now)) }
+    ensures told { IfErr result (TellsOf (map string_bytes words.now)) }
     ensures taken { takes command (map string_bytes words.now) ≡ true →
+        lack_of (map string_bytes words.now) ≡ None →
         IfErr result (λ stop. stop ≡ Stop.Refused (Refusal.Because Cause.OutOfMemory)) }
 {
     let command = match jpa(alloc) {
         Ok(command) => command,
         Err(_) => return Err(Stop::Refused(Refusal::Because(Cause::OutOfMemory))),
     };
-    match command.try_get_matches_from(words) {
-        Ok(matches) => Ok(Settings {
-            mapping: copied(alloc, matches.get_str("mapping"))?,
-            db: copied(alloc, matches.get_str("db"))?,
-        }),
-        Err(error) => Err(stop_of(alloc, error)),
+    let settings = match command.try_get_matches_from(words) {
+        Ok(matches) => settings_in(alloc, &matches)?,
+        Err(error) => return Err(stop_of(alloc, error)),
+    };
+    match lacking(&settings) {
+        None => Ok(settings),
+        Some(said) => Err(refused(alloc, said)),
     }
 }

@@ -1,12 +1,8 @@
-use Rattle.std.proofs.Common.{rules, ◌≡◌, ◌∙◌, ap₂, codes}
-use Rattle.clap.specs.Words.{app_of, rule_of, with_rule}
-use Rattle.jpa_settings.specs.Words.{option_rule, plain}
+use Rattle.std.proofs.Common.{◌∙◌, ap₂}
+use Rattle.clap.specs.Words.{with_rule}
 use Rattle.jpa_settings.proofs.settings.jpa.Goals as goal
 
--- src/settings.rt:25:1
 pub returns : goal.returns
 returns c =
-    let mapping_is : rule_of c.help-mapping.result ≡ option_rule (codes "mapping") = search rules in
-    let db_is : rule_of c.help-db.result ≡ option_rule (codes "db") = search rules in
-    let plain_is : app_of c.about-plain.result ≡ plain = search rules in
-    c.in_ok-arg.ensures.shape (search rules) ∙ ap₂ with_rule (c.in_ok-with_mapping.ensures.shape (search rules) ∙ ap₂ with_rule plain_is mapping_is) db_is
+    c.in_ok-arg.ensures.shape c.explain_flag-explain.ensures.local
+    ∙ ap₂ with_rule (c.in_ok-with_param.ensures.shape c.param_option-param.ensures.local ∙ ap₂ with_rule (c.in_ok-with_query.ensures.shape c.query_option-query.ensures.local ∙ ap₂ with_rule c.in_ok-with_files.ensures c.query_option-query.ensures.rule) c.param_option-param.ensures.rule) c.explain_flag-explain.ensures.rule

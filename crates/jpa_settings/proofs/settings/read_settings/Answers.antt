@@ -1,19 +1,51 @@
-use Rattle.std.proofs.Common.{◌∙◌, ap, map}
+use Rattle.std.proofs.Common.{◌∙◌, inl, ap, sym, map, option_map}
 use Rattle.std.specs.String.{string_bytes}
 use Rattle.clap.specs.Words.{takes}
 use Rattle.jpa_settings.proofs.settings.read_settings.Goals as goal
-use Rattle.jpa_settings.proofs.Found.{accepted_words, told_words}
+use Rattle.jpa_settings.proofs.Found.{accepted_words, asked, lack_read, some_is_none, told_lack, told_words, value_read}
 
--- src/settings.rt:78:1
 pub returns-in-Err-try_get_matches_from-clause-taken :
     goal.returns-in-Err-try_get_matches_from-clause-taken
-returns-in-Err-try_get_matches_from-clause-taken c = λ taken. c.stop_of.ensures.memory (c.in-Err-try_get_matches_from.ensures.passes (ap (λ a. takes a (map string_bytes c.args.words.now)) c.in-Ok.ensures ∙ taken))
-
-pub returns-in_ok-copied-in-Ok-try_get_matches_from-2-clause-accepted :
-    goal.returns-in_ok-copied-in-Ok-try_get_matches_from-2-clause-accepted
-returns-in_ok-copied-in-Ok-try_get_matches_from-2-clause-accepted c = accepted_words _ (map string_bytes c.args.words.now) c.in-Ok.ensures c.in-Ok-try_get_matches_from.ensures.kinds
+returns-in-Err-try_get_matches_from-clause-taken c = λ taken whole. c.stop_of.ensures.memory (c.in-Err-try_get_matches_from.ensures.passes (ap (λ a. takes a (map string_bytes c.args.words.now)) c.in-Ok.ensures ∙ taken))
 
 pub returns-in-Err-try_get_matches_from-clause-told :
     goal.returns-in-Err-try_get_matches_from-clause-told
 returns-in-Err-try_get_matches_from-clause-told c =
-    told_words _ (map string_bytes c.args.words.now) c.in-Err-try_get_matches_from.error c.stop_of.result c.in-Ok.ensures c.in-Err-try_get_matches_from.ensures.kinds c.stop_of.ensures.memory c.stop_of.ensures.told
+    inl (told_words _ (map string_bytes c.args.words.now) c.in-Err-try_get_matches_from.error c.stop_of.result c.in-Ok.ensures c.in-Err-try_get_matches_from.ensures.kinds c.stop_of.ensures.memory c.stop_of.ensures.told)
+
+pub returns-in-None-clause-question : goal.returns-in-None-clause-question
+returns-in-None-clause-question c =
+    let s = c.in_ok-settings-in-Ok-try_get_matches_from in
+    asked _ _ _ s.settings c.in-Ok.ensures c.in-Ok-try_get_matches_from.ensures.matches s.ensures.query s.ensures.params s.ensures.explain
+
+pub returns-in-None-clause-mapping : goal.returns-in-None-clause-mapping
+returns-in-None-clause-mapping c =
+    c.in_ok-settings-in-Ok-try_get_matches_from.ensures.mapping ∙ value_read _ _ _ _ c.in-Ok.ensures c.in-Ok-try_get_matches_from.ensures.matches
+
+pub returns-in-None-clause-db : goal.returns-in-None-clause-db
+returns-in-None-clause-db c =
+    c.in_ok-settings-in-Ok-try_get_matches_from.ensures.db ∙ value_read _ _ _ _ c.in-Ok.ensures c.in-Ok-try_get_matches_from.ensures.matches
+
+pub returns-in-None-clause-accepted : goal.returns-in-None-clause-accepted
+returns-in-None-clause-accepted c =
+    let s = c.in_ok-settings-in-Ok-try_get_matches_from in
+    let lack = lack_read _ _ _ s.settings c.in-Ok.ensures c.in-Ok-try_get_matches_from.ensures.matches s.ensures.query s.ensures.params s.ensures.explain s.settings.db s.ensures.db in
+    record {
+      faultless = accepted_words _ (map string_bytes c.args.words.now) c.in-Ok.ensures c.in-Ok-try_get_matches_from.ensures.kinds;
+      whole = sym lack ∙ sym c.lacking.ensures ∙ ap (option_map (λ v. v.now)) c.in-None.is;
+    }
+
+pub returns-in-Some-clause-told : goal.returns-in-Some-clause-told
+returns-in-Some-clause-told c =
+    let s = c.in_ok-settings-in-Ok-try_get_matches_from in
+    let lack = lack_read _ _ _ s.settings c.in-Ok.ensures c.in-Ok-try_get_matches_from.ensures.matches s.ensures.query s.ensures.params s.ensures.explain s.settings.db s.ensures.db in
+    let faultless = accepted_words _ (map string_bytes c.args.words.now) c.in-Ok.ensures c.in-Ok-try_get_matches_from.ensures.kinds in
+    let lacks = sym lack ∙ sym c.lacking.ensures ∙ ap (option_map (λ v. v.now)) c.in-Some.is in
+    told_lack (map string_bytes c.args.words.now) c.in-Some.said.now c.refused.result faultless lacks c.refused.ensures
+
+pub returns-in-Some-clause-taken : goal.returns-in-Some-clause-taken
+returns-in-Some-clause-taken c taken whole =
+    let s = c.in_ok-settings-in-Ok-try_get_matches_from in
+    let lack = lack_read _ _ _ s.settings c.in-Ok.ensures c.in-Ok-try_get_matches_from.ensures.matches s.ensures.query s.ensures.params s.ensures.explain s.settings.db s.ensures.db in
+    let lacks = sym lack ∙ sym c.lacking.ensures ∙ ap (option_map (λ v. v.now)) c.in-Some.is in
+    absurd (some_is_none _ (sym lacks ∙ whole))

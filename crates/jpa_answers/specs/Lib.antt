@@ -1,0 +1,3 @@
+pub mod Revisions
+pub mod Asking
+pub mod Plans
