@@ -224,15 +224,23 @@ fn unit_to_ask(alloc: Global, mapping: Option<&[u8]>) -> Result<ServedUnit<Progr
     Ok(unit)
 }
 
-/// The rows that a question finds in a store's file, which stays as it is; one that isn't there
-/// isn't made.
+/// Whether a file holds anything. An opening would make one that isn't there, and begin a database
+/// in one that is empty.
+fn is_filled(rt: &HostRuntime, path: &Text) -> bool {
+    match fs::metadata(rt, path.as_str()) {
+        Ok(found) => found.len() > 0,
+        Err(_) => false,
+    }
+}
+
+/// The rows that a question finds in a store's file, which stays as it is.
 fn rows_found(
     rt: &HostRuntime,
     path: &Text,
     unit: &ServedUnit<ProgramFunctions>,
     question: &Question,
 ) -> Result<Seq<Seq<Datum>>, Cause> {
-    if !fs::exists(rt, path.as_str()).unwrap_or(false) {
+    if !is_filled(rt, path) {
         return Err(Cause::StoreFault);
     }
     let conn = match Connection::open_from(rt, path.as_str(), false, Unknown) {

@@ -26,19 +26,19 @@ use Rattle.jpa_row_laws.proofs.Facts.{and_first, and_second, both_hold}
 use Rattle.jpa_row_laws.proofs.Each.{Each, each_put}
 use Rattle.jpa_row_laws.proofs.Elements.{Has, append_has, SameElements, has_from_contains, contains_from_has, from_flat_map, into_flat_map, from_map, from_filter, into_filter}
 use Rattle.jpa_row_laws.proofs.Lists.{all_each, all_from, all_where, has_any, flat_map-map, flat_map_same}
-use Rattle.jpa_view.specs.Flat as flat
-use Rattle.jpa_view.specs.Flat.{IsRow, IsNormal}
-use Rattle.jpa_view.specs.Rows as by_bytes
-use Rattle.jpa_view.specs.Rows.{row_cmp}
-use Rattle.jpa_view.specs.Unambiguous.{IsUnambiguous, is_class}
-use Rattle.jpa_view.specs.View.{is_storable, AreStorable}
-use Rattle.jpa_view.proofs.Classes.{is_below, find_some}
-use Rattle.jpa_view.proofs.Mapped.{IsMapped}
-use Rattle.jpa_view.proofs.MappedClasses.{unambiguous_mapped}
-use Rattle.jpa_view.proofs.OneRows.{one_rows}
-use Rattle.jpa_view.proofs.Orders.{identities, are_same_numbers, same_number}
-use Rattle.jpa_view.proofs.Reading.{storable}
-use Rattle.jpa_view.proofs.Rounds.{held_storable}
+use Rattle.jpa_object_rows.specs.Flat as flat
+use Rattle.jpa_object_rows.specs.Flat.{IsRow, IsNormal}
+use Rattle.jpa_object_rows.specs.Rows as by_bytes
+use Rattle.jpa_object_rows.specs.Rows.{row_cmp}
+use Rattle.jpa_object_rows.specs.Unambiguous.{IsUnambiguous, is_class}
+use Rattle.jpa_object_rows.specs.View.{is_storable, AreStorable}
+use Rattle.jpa_object_rows.proofs.Bytes.Classes.{is_below, find_some}
+use Rattle.jpa_object_rows.proofs.Bytes.Mapped.{IsMapped}
+use Rattle.jpa_object_rows.proofs.Bytes.MappedClasses.{unambiguous_mapped}
+use Rattle.jpa_object_rows.proofs.Bytes.OneRows.{one_rows}
+use Rattle.jpa_object_rows.proofs.Bytes.Orders.{identities, are_same_numbers, same_number}
+use Rattle.jpa_object_rows.proofs.Bytes.Reading.{storable}
+use Rattle.jpa_object_rows.proofs.Bytes.Rounds.{held_storable}
 use Rattle.jpa_object_rows.specs.Raw.{raw, raw_entry, is_key_by, IsRowBy}
 use Rattle.jpa_object_rows.specs.Objects.{is_discriminator, number_id, number_row, object_entries, object_rows}
 use Rattle.jpa_object_rows.specs.Sets.{base_of, with_number, with_next, with_numbers, with_set, rows_of, AreUnitRows}
