@@ -27,9 +27,13 @@ entity_line e = if is_root e then codes "reads all rows of " ++ e.name ++ 10 ∷
 abbrev pub look_up : List ℕ
 look_up = codes "looks up by its key "
 
+-- what is told of an object that is looked up, by the line of a row that has it alone
+abbrev pub looked_up : PersistenceUnit → List Datum → List ℕ
+looked_up m row = look_up ++ row_text m row
+
 -- what is told of the object that is asked by its key, or of all tables
 abbrev pub told_by : PersistenceUnit → Option Identity → List ℕ
-told_by m (Some id) = look_up ++ row_text m (Datum.Entity id ∷ [])
+told_by m (Some id) = looked_up m (Datum.Entity id ∷ [])
 told_by m None = flat_map entity_line m.entities
 
 -- how a question is answered: the object that it asks by its key is looked up (chapters 4.4.2 and

@@ -1,12 +1,12 @@
 //! A question over a store of rows.
-ghost use Rattle.std.specs.Prelude.{◌≡◌, ℕ, [], List, Some, IfErr};
+ghost use Rattle.std.specs.Prelude.{◌≡◌, ℕ, [], List, Some};
 ghost use Rattle.jpa_behaviour.specs.Served.{world_of_unit};
 ghost use Rattle.jpa_value.specs.declared.value.Identity.{Identity};
-ghost use Rattle.jpa_rows.specs.Rows.{Rows, AreRising};
+ghost use Rattle.jpa_rows.specs.Rows.{Rows};
 ghost use Rattle.jpa_stored.specs.Sets.{StoredSet};
 ghost use Rattle.jpql_by_key.specs.ByKey.{key_of};
 ghost use Rattle.jpql_plan.specs.Selection.{selected};
-ghost use Rattle.jpa_row_queries.specs.Answered.{Answers, IsAskingCause};
+ghost use Rattle.jpa_row_queries.specs.Answered.{Answers, IsAskingCause, RefusesOnly};
 ghost use Rattle.jpa_row_sets.specs.Looking.{LooksOnly};
 ghost use Rattle.jpa_row_sets.specs.Seen.{SeesSet};
 ghost use Rattle.jpa_answers.specs.Asking.{LooksAtTwoRows, RefusesRevision};
@@ -44,8 +44,7 @@ pub fn ask<R: RowReader, B: Behaviour>(
         (selected unit.now.metamodel set question.now.arguments question.now.select) }
     ensures revision { R.clean source.new → (rows : Rows) → R.holds source.old rows →
         (AreOfRevision unit.now.metamodel rows → ⊥) → RefusesRevision result }
-    ensures err { R.clean source.new → (rows : Rows) → AreRising rows → R.holds source.old rows →
-        IfErr result IsAskingCause }
+    ensures err { RefusesOnly R.RowReader IsAskingCause result source.old source.new }
     ensures looks { LooksOnly R.RowReader result source.old source.new }
     ensures economy { (id : Identity) →
         key_of unit.now.metamodel question.now.arguments question.now.select ≡ Some id →

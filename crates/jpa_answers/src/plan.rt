@@ -3,7 +3,6 @@ ghost use Rattle.std.specs.Prelude.{◌≡◌, ◌++◌, IfOk, IfErr, OnOk};
 ghost use Rattle.std.specs.List.{flat_map};
 ghost use Rattle.jpa_value.specs.declared.refusal.Cause.{Cause};
 ghost use Rattle.jpql_by_key.specs.ByKey.{key_of};
-ghost use Rattle.jpa_questions.specs.Lines.{row_text};
 ghost use Rattle.jpa_answers.specs.Plans as spec;
 
 use jpa_model::{Entity, Metamodel, Origin};
@@ -66,7 +65,7 @@ fn tell_entities(alloc: Global, entities: &[Entity]) -> Result<Vec<u8>, Cause>
 
 /// Tells that one object is looked up, by the line of a row that has it alone.
 fn tell_object(alloc: Global, metamodel: &Metamodel, row: &[Datum]) -> Result<Vec<u8>, Cause>
-    ensures ok { IfOk result (λ text. text.items ≡ spec.look_up ++ row_text metamodel.now row.now) }
+    ensures ok { IfOk result (λ text. text.items ≡ spec.looked_up metamodel.now row.now) }
     ensures err { IfErr result (λ cause. cause ≡ Cause.OutOfMemory) }
 {
     let line = write_row(alloc, metamodel, row)?;

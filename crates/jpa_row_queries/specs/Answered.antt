@@ -1,7 +1,9 @@
 -- What a result says of the answer that is wanted.
-use Rattle.std.specs.Prelude.{◌≡◌, ◌⊎◌, Result, Ok, Err}
+use Rattle.std.specs.Prelude.{◌≡◌, ◌⊎◌, Result, Ok, Err, IfErr}
 use Rattle.jpa_value.specs.declared.refusal.Cause.{Cause}
 use Rattle.jpa_value.specs.declared.refusal.Cause.TheVariants as cause
+use Rattle.jpa_rows.specs.Rows.{Rows, AreRising}
+use Rattle.jpa_rows.specs.declared.reader.RowReader.{Ghosts}
 use Rattle.jpa_row_sets.specs.Looking.{IsReadingCause}
 use Rattle.jpql_eval.specs.Answers.{Answer, gives, overflows}
 
@@ -21,3 +23,8 @@ Answers (Err c) wanted = Refuses c wanted
 -- why a statement is not answered: its rows are not read, or it overflows
 abbrev pub IsAskingCause : Cause → Type 0
 IsAskingCause c = IsReadingCause c ⊎ (c ≡ cause.Overflow)
+
+-- where the store is clean at the end, and held rows in their order, it is refused for these causes alone
+abbrev pub RefusesOnly : {S A : Type 0} → Ghosts S → (Cause → Type 0) → Result A Cause → S → S → Type 0
+RefusesOnly store causes answer old new =
+    store.clean new → (rows : Rows) → AreRising rows → store.holds old rows → IfErr answer causes

@@ -1,15 +1,14 @@
 //! SELECT statements over a store of rows.
-ghost use Rattle.std.specs.Prelude.{◌≡◌, ℕ, List, Some, IfOk, IfErr, MatchResult};
+ghost use Rattle.std.specs.Prelude.{◌≡◌, ℕ, List, Some, IfOk, MatchResult};
 ghost use Rattle.jpa_behaviour.specs.Registered.{world_of};
 ghost use Rattle.jpa_value.specs.declared.value.Identity.{Identity};
 ghost use Rattle.jpa_open.specs.Opened.{now};
 ghost use Rattle.jpa_rows.specs.Faults.{IsStoreCause};
-ghost use Rattle.jpa_rows.specs.Rows.{Rows, AreRising};
 ghost use Rattle.jpa_stored.specs.Sets.{StoredSet};
 ghost use Rattle.jpql_by_key.specs.ByKey.{key_of};
 ghost use Rattle.jpql_plan.specs.Selection.{selected};
 ghost use Rattle.jpql_run.specs.Keys.{CanBeLookedUp};
-ghost use Rattle.jpa_row_queries.specs.Answered.{Answers, IsAskingCause};
+ghost use Rattle.jpa_row_queries.specs.Answered.{Answers, IsAskingCause, RefusesOnly};
 ghost use Rattle.jpa_row_sets.specs.Looking.{IsReadingCause, LooksAtOneRow, LooksOnly};
 ghost use Rattle.jpa_row_sets.specs.Seen.{SeesSet};
 
@@ -43,8 +42,7 @@ fn set_asked<R: RowReader, B: Behaviour>(
         (λ found. selected metamodel.now (now found) parameters.now statement.now
         ≡ selected metamodel.now set parameters.now statement.now) IsStoreCause }
     ensures looked_up { IfOk result (λ found. CanBeLookedUp metamodel.now (now found)) }
-    ensures err { R.clean source.new → (rows : Rows) → AreRising rows → R.holds source.old rows →
-        IfErr result IsReadingCause }
+    ensures err { RefusesOnly R.RowReader IsReadingCause result source.old source.new }
     ensures looks { LooksOnly R.RowReader result source.old source.new }
     ensures economy { (id : Identity) →
         key_of metamodel.now parameters.now statement.now ≡ Some id →
@@ -81,8 +79,7 @@ pub fn run<R: RowReader, B: Behaviour>(
         SeesSet R.RowReader (world_of B.meaning metamodel.now registry.now) overlay.now
         source.old set numbers →
         Answers result (selected metamodel.now set parameters.now statement.now) }
-    ensures err { R.clean source.new → (rows : Rows) → AreRising rows → R.holds source.old rows →
-        IfErr result IsAskingCause }
+    ensures err { RefusesOnly R.RowReader IsAskingCause result source.old source.new }
     ensures looks { LooksOnly R.RowReader result source.old source.new }
     ensures economy { (id : Identity) →
         key_of metamodel.now parameters.now statement.now ≡ Some id →
