@@ -7,9 +7,10 @@ ghost use Rattle.jpa_json.specs.Outcome.{Gives, same};
 ghost use Rattle.jpa_mapping.specs.MappingOf as mappings;
 
 use crate::members::Description;
+use jpa_description::check;
 use jpa_history::{DraftHistory, History, check_history};
 use jpa_json::{Described, Unread, json_of, or_refuse};
-use jpa_model::{Draft, Metamodel, check};
+use jpa_model::{Draft, Metamodel};
 use jpa_value::{Cause, MappingFault};
 use serde_json::Value as Json;
 use std::alloc::Global;

@@ -6,7 +6,7 @@ use crate::unit::{Attribute, Part, Relation, Root, VersionColumn};
 use jpa_value::{Cause, Text, TryCopy};
 
 /// An equal text, or none; `OutOfMemory` where a growth was refused.
-pub(crate) fn copy_option(text: &Option<Text>) -> Result<Option<Text>, Cause>
+pub fn copy_option(text: &Option<Text>) -> Result<Option<Text>, Cause>
     ensures equal { IfOk result (λ copy. copy ≡ text.now) }
     ensures err { IfErr result (λ cause. cause ≡ Cause.OutOfMemory) }
 {

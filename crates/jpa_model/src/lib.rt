@@ -7,32 +7,24 @@
 //!
 //! The definitions that contracts cite stand in `specs/`: in `Chains` the chains, members and sides
 //! of a unit, in `Drafted` what names mean in a description, in `WellFormed` the conditions on it,
-//! in `Described` the unit that it describes and what `check` answers. The crate stands on the
-//! crate of values alone.
+//! in `Described` the unit that it describes. That a description is well formed, `jpa_description`
+//! checks. The crate stands on the crate of values alone.
 #![tactic(auto)]
 
-mod alone;
-mod along;
-mod chains;
 mod class_index;
 mod copies;
-mod describe;
 mod draft;
-mod events;
 mod index;
 mod lineage;
 mod metamodel;
-mod names;
-mod numbers;
-mod relations;
 mod unit;
-mod well_formed;
 
+pub use copies::copy_option;
 pub use draft::{
     Cascade, Draft, DraftAttribute, DraftColumn, DraftEntity, DraftListener, DraftOrigin,
     DraftRelation, DraftRoot, DraftSide, DraftVersion, RelationKind,
 };
-pub use metamodel::{Metamodel, check};
+pub use metamodel::Metamodel;
 pub use unit::{
     Attribute, Cascades, Column, Entity, Listener, Member, Origin, Part, PersistenceUnit, Relation,
     Root, Side, VersionColumn,

@@ -1,13 +1,8 @@
 //! A persistence unit that is known to be well formed, and answers by name and by place.
-use crate::alone::has_entities;
-use crate::chains::chains_of;
 use crate::class_index::{ClassIndex, index_of};
-use crate::describe::unit_of;
-use crate::draft::Draft;
 use crate::index::entities_by_name;
 use crate::unit::{Attribute, Entity, Listener, Member, PersistenceUnit, Relation, Root};
-use crate::well_formed::stands_together;
-use jpa_value::{Cause, MappingFault, Seq};
+use jpa_value::{Cause, Seq};
 use std::alloc::Global;
 use std::collections::BTreeMap;
 use std::marker::Model;
@@ -40,9 +35,26 @@ impl Model for Metamodel {
 }
 
 impl Metamodel {
-    ghost use Rattle.std.specs.Prelude.{◌≡◌, ◌<◌, length, slice_index_or, All, IfSome};
+    ghost use Rattle.std.specs.Prelude.{◌≡◌, ◌<◌, length, slice_index_or, All, IfOk, IfErr, IfSome};
     ghost use Rattle.jpa_model.specs.Chains as chains;
     ghost use Rattle.jpa_model.specs.Kept.{IsDescribed, lineage_of};
+    ghost use Rattle.jpa_value.specs.declared.refusal.Cause.{Cause};
+
+    /// The metamodel of a unit that some well-formed description describes; `OutOfMemory` where a
+    /// growth was refused. `check` of `jpa_description` makes it of a description.
+    pub fn of(alloc: Global, unit: PersistenceUnit) -> Result<Metamodel, Cause>
+        requires { IsDescribed unit }
+        ensures found { IfOk result (λ found. found ≡ unit) }
+        ensures err { IfErr result (λ cause. cause ≡ Cause.OutOfMemory) }
+    {
+        let names = entities_by_name(alloc, unit.entities.as_slice())?;
+        let classes = index_of(alloc, &unit)?;
+        Ok(Metamodel {
+            unit,
+            names,
+            classes,
+        })
+    }
 
     /// The whole unit, which some well-formed description describes.
     pub fn unit(&self) -> &PersistenceUnit
@@ -198,31 +210,4 @@ impl Metamodel {
     {
         self.class_at(class).member(name)
     }
-}
-
-ghost use Rattle.jpa_model.specs.Described.{checked, IsUnlessMemory};
-
-/// The metamodel that a description describes.
-///
-/// `Mapping(Model)` exactly where the description isn't well formed; `OutOfMemory` where a growth
-/// was refused.
-pub fn check(alloc: Global, draft: &Draft) -> Result<Metamodel, Cause>
-    ensures { IsUnlessMemory result (checked draft.now) }
-{
-    let has_revision = draft.revision == 1 || draft.revision == 2;
-    if !has_revision || !has_entities(draft) {
-        return Err(Cause::Mapping(MappingFault::Model));
-    }
-    let chains = chains_of(alloc, draft)?;
-    if !stands_together(alloc, draft, chains.as_slice())? {
-        return Err(Cause::Mapping(MappingFault::Model));
-    }
-    let unit = unit_of(alloc, draft, chains.as_slice())?;
-    let names = entities_by_name(alloc, unit.entities.as_slice())?;
-    let classes = index_of(alloc, &unit)?;
-    Ok(Metamodel {
-        unit,
-        names,
-        classes,
-    })
 }

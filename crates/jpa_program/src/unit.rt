@@ -14,9 +14,10 @@ ghost use Rattle.jpa_program.specs.Persons.{
   person_of_draft,
 };
 
+use jpa_description::check;
 use jpa_model::{
     Cascade, Draft, DraftAttribute, DraftColumn, DraftEntity, DraftOrigin, DraftRelation,
-    DraftRoot, DraftSide, DraftVersion, Metamodel, Part, RelationKind, check,
+    DraftRoot, DraftSide, DraftVersion, Metamodel, Part, RelationKind,
 };
 use jpa_value::{Cause, Kind, Seq, Text};
 use std::alloc::Global;

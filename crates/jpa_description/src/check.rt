@@ -1,0 +1,28 @@
+//! The check of a description.
+ghost use Rattle.jpa_model.specs.Described.{checked, IsUnlessMemory};
+
+use crate::alone::has_entities;
+use crate::chains::chains_of;
+use crate::describe::unit_of;
+use crate::well_formed::stands_together;
+use jpa_model::{Draft, Metamodel};
+use jpa_value::{Cause, MappingFault};
+use std::alloc::Global;
+
+/// The metamodel that a description describes.
+///
+/// `Mapping(Model)` exactly where the description isn't well formed; `OutOfMemory` where a growth
+/// was refused.
+pub fn check(alloc: Global, draft: &Draft) -> Result<Metamodel, Cause>
+    ensures { IsUnlessMemory result (checked draft.now) }
+{
+    let has_revision = draft.revision == 1 || draft.revision == 2;
+    if !has_revision || !has_entities(draft) {
+        return Err(Cause::Mapping(MappingFault::Model));
+    }
+    let chains = chains_of(alloc, draft)?;
+    if !stands_together(alloc, draft, chains.as_slice())? {
+        return Err(Cause::Mapping(MappingFault::Model));
+    }
+    Metamodel::of(alloc, unit_of(alloc, draft, chains.as_slice())?)
+}
