@@ -20,6 +20,7 @@ rows_over g =
       faults = λ space. space.store.faults;
       reads = λ space. up_to_greatest (space.store.row_selects + space.store.table_selects);
       writes = λ space. space.store.writes;
+      creates = λ space. space.store.creates;
       endures = λ old new Holds. EnduresRows g old.schema old.store.conn new.store.conn Holds;
       wider = λ old new P Q weaker e. rows_wider g old.schema old.store.conn new.store.conn P Q weaker e;
       then = λ first second third P Q same a b. rows_then g first.schema first.store.conn second.store.conn

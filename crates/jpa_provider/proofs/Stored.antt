@@ -68,6 +68,7 @@ module _ {R : Type 0} (world : World) (store : Ghosts R) (M N : Machine) where
         refused = λ refusal. inl (given_up refusal);
         told = makes.told;
         unread = makes.unread;
+        unmade = makes.unmade;
       }
 
   -- the store was not reached: by no call but commit, nor by one that was refused before
@@ -84,4 +85,5 @@ module _ {R : Type 0} (world : World) (store : Ghosts R) (M N : Machine) where
     refused = λ refused. inr refl;
     told = none_more reply (store.faults rows) untold;
     unread = refl;
+    unmade = refl;
   }

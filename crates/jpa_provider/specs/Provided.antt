@@ -53,7 +53,7 @@ rows_made world M call = rows_kept world (outcome world M call).1
 -- a call leaves the second store of the first, as the machine goes from the first to the second. If it
 -- is clean it was clean before, and holds the rows of what is committed then, and no others. A crash
 -- leaves what it could leave before the call, or what the call commits. A call reads nothing of the
--- store, and a commit alone writes to it: where it is accepted just what changes, and where it is
+-- store and makes nothing for it to stand in, and a commit alone writes to it: where it is accepted just what changes, and where it is
 -- refused nothing, or, where it gave up, at most that. A fault of the store is told where it is one more
 pub record StoresCall {R : Type 0} (world : World) (store : Ghosts R) (M : Machine) (call : Call) (reply : Reply)
     (N : Machine) (old new : R) : Type 0 where
@@ -69,6 +69,7 @@ pub record StoresCall {R : Type 0} (world : World) (store : Ghosts R) (M : Machi
   pub refused : IsErr reply.answer → IsGivenUp reply ⊎ (new ≡ old)
   pub told : store.faults new ≡ faults_after_reply reply (store.faults old)
   pub unread : store.reads new ≡ store.reads old
+  pub unmade : store.creates new ≡ store.creates old
 
 -- what a call changes of the machine at most. Only a commit that is accepted changes what is
 -- committed. A refused call leaves all that lives as it was but for marks; a rollback, also that of a

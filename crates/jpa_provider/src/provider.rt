@@ -1,5 +1,5 @@
 //! The provider.
-ghost use Rattle.std.specs.Prelude.{◌≡◌, ℕ, IfOk, IfErr, OnOk, true, false};
+ghost use Rattle.std.specs.Prelude.{◌≡◌, ◌+◌, ℕ, IfOk, IfErr, OnOk, true, false};
 ghost use Rattle.jpa_value.specs.declared.refusal.Cause.{Cause};
 ghost use Rattle.jpa_behaviour.specs.Served.{world_of_unit};
 ghost use Rattle.jpa_model.specs.Chains.{entity_at};
@@ -9,6 +9,7 @@ ghost use Rattle.jpa_object_rows.specs.Sets.{rows_of};
 ghost use Rattle.jpa_object_rows.specs.Unambiguous.{is_class};
 ghost use Rattle.jpa_protocol.specs.declared.call.Call.{Call};
 ghost use Rattle.jpa_rows.specs.Cells.{CanBeHeld};
+ghost use Rattle.jpa_rows.specs.Statements.{up_to_greatest};
 ghost use Rattle.jpa_rows.specs.Tables.{schema_of};
 ghost use Rattle.jpa_stored.specs.Sets.{StoredSet};
 ghost use Rattle.jpa_open.specs.Opened.{unwritten};
@@ -127,6 +128,31 @@ impl<R: RowSource + Drop, B: Behaviour> Provider<R, B> {
 }
 
 impl<R: RowSource, B: Behaviour> Provider<R, B> {
+    /// How many SELECTs its store has run since it was opened, up to the greatest u64. No call runs
+    /// one. Takes no memory.
+    pub fn selects(&self) -> u64
+        ensures { result ≡ R.reads self.now.rows }
+    {
+        self.rows.selects()
+    }
+
+    /// How many DELETEs and INSERTs its store has run since it was opened, up to the greatest u64.
+    /// Takes no memory.
+    pub fn writes(&self) -> u64
+        ensures { result ≡ R.writes self.now.rows }
+    {
+        self.rows.writes()
+    }
+
+    /// How many statements its store has run since it was opened, with those that made what it
+    /// stands in, up to the greatest u64. Takes no memory.
+    pub fn statements(&self) -> u64
+        ensures { result ≡ up_to_greatest (R.reads self.now.rows + R.writes self.now.rows
+            + R.creates self.now.rows) }
+    {
+        self.rows.statements()
+    }
+
     /// What stands between calls, for contracts to cite; it does nothing. The store is of the
     /// unit's schema; what was committed can be held, and if the store is clean it holds the rows
     /// of just that. What lives is that of a machine, in which each identity has one instance in a

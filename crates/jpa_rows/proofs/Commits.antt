@@ -26,6 +26,7 @@ module _ {S : Type 0} (store : Ghosts S) (faults_then : ℕ → ℕ) (before mad
       was_clean = λ clean. clean;
       same = refl;
       unread = refl;
+      unmade = refl;
       told = told;
     };
     counted = tt;
@@ -48,10 +49,10 @@ module _ {S : Type 0} (store : Ghosts S) (faults_then : ℕ → ℕ) (before mad
     some_ran (Err e) counts = inr (changes, difference, counts.1, counts.2)
 
     -- the store made the changes of a difference
-    pub makes_difference : (r : Result A E) → Makes store.schema store.holds store.clean store.faults store.reads store.endures faults_then r before (rows_after changes before) old new
+    pub makes_difference : (r : Result A E) → Makes store.schema store.holds store.clean store.faults store.reads store.creates store.endures faults_then r before (rows_after changes before) old new
         → Counts r (store.writes old) (store.writes new) (sum_by statements_of changes) → (before ≡ made → new ≡ old) → Commits store faults_then r before made old new
     makes_difference r makes counts unchanged = record {
-      makes = subst (λ rows. Makes store.schema store.holds store.clean store.faults store.reads store.endures faults_then r before rows old new) difference.1 makes;
+      makes = subst (λ rows. Makes store.schema store.holds store.clean store.faults store.reads store.creates store.endures faults_then r before rows old new) difference.1 makes;
       counted = all_ran r counts;
       bounded = some_ran r counts;
       unchanged = unchanged;

@@ -24,13 +24,12 @@ RunsAtMost old new writes_before writes_after =
     (changes : List RowChange) × IsDifference old new changes × (writes_before ≤ writes_after)
     × (writes_after ≤ up_to_greatest (writes_before + sum_by statements_of changes))
 
--- it makes the second rows of the first by just the statements of the difference: all where it is
--- done, at most those where it is
--- refused, and none where nothing changes
+-- it makes the second rows of the first by just the statements of the difference: all where it is done, at most those
+-- where it is refused, and none where nothing changes
 pub record Commits {S A E : Type 0} (store : Ghosts S) (faults_then : ℕ → ℕ) (answer : Result A E) (before made : Rows)
     (old new : S) : Type 0 where
-  pub makes : Makes store.schema store.holds store.clean store.faults store.reads store.endures faults_then answer
-      before made old new
+  pub makes : Makes store.schema store.holds store.clean store.faults store.reads store.creates store.endures
+      faults_then answer before made old new
   pub counted : OnOk answer (RunsDifference before made (store.writes old) (store.writes new))
   pub bounded : OnErr answer ((new ≡ old) ⊎ RunsAtMost before made (store.writes old) (store.writes new))
   pub unchanged : before ≡ made → new ≡ old

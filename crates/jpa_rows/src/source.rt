@@ -1,11 +1,11 @@
 //! Where changes of rows are made: what a commit asks of the store of committed rows.
-ghost use Rattle.std.specs.Prelude.{◌≡◌, ◌⊎◌, ℕ, Ok, [], OnOk, OnErr, IfErr, sum_by};
+ghost use Rattle.std.specs.Prelude.{◌≡◌, ◌⊎◌, ◌+◌, ℕ, Ok, [], OnOk, OnErr, IfErr, sum_by};
 ghost use Rattle.jpa_value.specs.declared.refusal.Cause.{Cause};
 ghost use Rattle.jpa_rows.specs.declared.schema.Schema.{Schema};
 ghost use Rattle.jpa_rows.specs.Making.{Makes};
 ghost use Rattle.jpa_rows.specs.Faults.{faults_after};
 ghost use Rattle.jpa_rows.specs.Rows.{Rows, rows_after, AreChanges};
-ghost use Rattle.jpa_rows.specs.Statements.{Counts, statements_of};
+ghost use Rattle.jpa_rows.specs.Statements.{Counts, statements_of, up_to_greatest};
 
 use crate::row::RowChange;
 use jpa_value::Cause;
@@ -31,6 +31,9 @@ pub trait RowSource {
     /// How many statements that write it has run, up to the greatest u64.
     ghost writes: { Self → ℕ };
 
+    /// How many statements that make what it stands in were run at its opening.
+    ghost creates: { Self → ℕ };
+
     /// What a crash may leave of the second is what it could leave of the first, or rows of which
     /// this holds.
     ghost endures: { Self → Self → (Rows → Type 0) → Type 0 };
@@ -45,13 +48,27 @@ pub trait RowSource {
     /// Makes these changes in their order, all or none.
     fn commit(&mut self, changes: &[RowChange]) -> Result<(), Cause>
         requires { AreChanges (schema self.old) changes.now }
-        ensures makes { (rows : Rows) → Makes schema holds clean faults reads endures
+        ensures makes { (rows : Rows) → Makes schema holds clean faults reads creates endures
             (faults_after result) result rows (rows_after changes.now rows) self.old self.new }
         ensures cause { IfErr result (λ cause. (cause ≡ Cause.OutOfMemory)
             ⊎ (cause ≡ Cause.StoreFault)) }
         ensures nothing { changes.now ≡ [] → (result ≡ Ok tt) × (self.new ≡ self.old) }
         ensures counted { Counts result (writes self.old) (writes self.new)
             (sum_by statements_of changes.now) };
+
+    /// How many SELECTs were run since the opening, up to the greatest u64. Takes no memory.
+    fn selects(&self) -> u64
+        ensures { result ≡ reads self.now };
+
+    /// How many DELETEs and INSERTs were run since the opening, up to the greatest u64. Takes no
+    /// memory.
+    fn writes(&self) -> u64
+        ensures { result ≡ writes self.now };
+
+    /// How many statements were run since the opening, with those of the opening that made what it
+    /// stands in, up to the greatest u64. Takes no memory.
+    fn statements(&self) -> u64
+        ensures { result ≡ up_to_greatest (reads self.now + writes self.now + creates self.now) };
 
     /// Where nothing happened, a crash leaves what it could leave before.
     ghost still: { (source : Self) → endures source source (λ _. ⊥) };

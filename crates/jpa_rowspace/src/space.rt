@@ -298,6 +298,8 @@ impl<S: Alter> RowSource for RowSpace<S> {
 
     ghost writes = { λ space. space.store.writes };
 
+    ghost creates = { λ space. space.store.creates };
+
     ghost endures = { λ old new Holds. EnduresRows S.Store old.schema old.store.conn new.store.conn Holds };
 
     ghost wider = { λ old new P Q weaker e. rows_wider S.Store old.schema old.store.conn new.store.conn P Q weaker e };
@@ -306,6 +308,18 @@ impl<S: Alter> RowSource for RowSpace<S> {
 
     fn commit(&mut self, changes: &[RowChange]) -> Result<(), Cause> {
         RowSpace::commit(self, changes)
+    }
+
+    fn selects(&self) -> u64 {
+        self.store.selects()
+    }
+
+    fn writes(&self) -> u64 {
+        self.store.writes()
+    }
+
+    fn statements(&self) -> u64 {
+        self.store.statements()
     }
 
     ghost still = { λ space. survives_self _ _ };

@@ -28,6 +28,7 @@ returns-clause-makes g c rows =
       was_clean = search rules;
       same = same;
       unread = ap (λ (s : Space g.row.S.Denot). up_to_greatest (s.store.row_selects + s.store.table_selects)) c.commit.ensures.others;
+      unmade = ap (λ (s : Space g.row.S.Denot). s.store.creates) c.commit.ensures.others;
       told = told c.args.self.now.store.faults c.commit.new.self.store.faults r c.commit.ensures.told;
     }
 
