@@ -11,14 +11,16 @@ ghost use Rattle.jpa_cells_meaning.specs.Store.{IsOrderedIfFound};
 ghost use Rattle.jpa_functions.specs.Known as known;
 ghost use Rattle.jpa.specs.Served as spec;
 
-use jpa_answers::{ask_store, check_unit, write_plan};
 use jpa_behaviour::{Registry, ServedUnit};
 use jpa_functions::{ProgramFunctions, read_functions, registry_of};
 use jpa_history::History;
 use jpa_lines::RunFault;
 use jpa_mapping::{Mapping, read_mapping};
 use jpa_program::{first_unit, open, run};
-use jpa_questions::{Misgiven, Parameter, Question, read_parameters, read_question, write_rows};
+use jpa_questions::{
+    Misgiven, Parameter, Question, ask_store, check_unit, read_parameters, read_question,
+    write_plan, write_rows,
+};
 use jpa_settings::{Settings, Stop, read_settings, status};
 use jpa_value::{Cause, MappingFault, Refusal, Seq, Text, refusal_text};
 use jpql_eval::Datum;

@@ -8,15 +8,15 @@ use Rattle.jpa_context.specs.Steps.{Done}
 use Rattle.jpa_flush.specs.Flush.{flush}
 use Rattle.jpa_machine.specs.Machine.{Machine}
 use Rattle.jpa_machine.specs.Invariant.{IsMachine}
-use Rattle.jpa_consistent.proofs.Facts.{numbers_trans}
-use Rattle.jpa_consistent.specs.Going.{HoldsAfter}
+use Rattle.jpa_machine.proofs.Facts.{numbers_trans}
+use Rattle.jpa_machine.specs.Going.{HoldsAfter}
 use Rattle.jpa_machine.proofs.AtWork.{IsAtWork}
-use Rattle.jpa_consistent.proofs.Flushed.{flush_goes}
-use Rattle.jpa_consistent.proofs.Going.{More, only}
+use Rattle.jpa_machine.proofs.Flushed.{flush_goes}
+use Rattle.jpa_machine.proofs.Going.{More, only}
 use Rattle.jpa_fetch.specs.Orderly.{IsOrderly}
 use Rattle.jpa_open.specs.Differences.{merged}
-use Rattle.jpa_consistent.proofs.Facts.{held_more}
-use Rattle.jpa_consistent.proofs.Flushed.{viewed_at_work}
+use Rattle.jpa_machine.proofs.Facts.{held_more}
+use Rattle.jpa_machine.proofs.Flushed.{viewed_at_work}
 use Rattle.jpa_machine.specs.Machine.{begun_set}
 use Rattle.jpa_machine.specs.Transactions.{commit_work}
 use Rattle.jpa_machine.proofs.Handed.{commit_work_holds}

@@ -15,14 +15,14 @@ use Rattle.jpa_heap.specs.Objects.{object_at}
 use Rattle.jpa_context.specs.declared.Entry.{Entry}
 use Rattle.jpa_context.specs.Work.{Work, object}
 use Rattle.jpa_fetch.specs.Grown.{IsReady}
-use Rattle.jpa_consistent.specs.Consistent.{Others, IsContext, IsConsistent, contexts, IsEntry, stands_in}
-use Rattle.jpa_consistent.proofs.Going.{stands_same}
-use Rattle.jpa_consistent.proofs.Ready.{ready_at_work}
-use Rattle.jpa_consistent.proofs.Kept.{KeepsHeld, others_kept}
+use Rattle.jpa_machine.specs.Consistent.{Others, IsContext, IsConsistent, contexts, IsEntry, stands_in}
+use Rattle.jpa_machine.proofs.Going.{stands_same}
+use Rattle.jpa_machine.proofs.Ready.{ready_at_work}
+use Rattle.jpa_machine.proofs.Kept.{KeepsHeld, others_kept}
 use Rattle.jpa_machine.specs.Machine.{Machine, Manager, Transaction, manager_at, no_manager, work_of, kept, seen_in, view_in}
 use Rattle.jpa_machine.specs.Routes.{holder_in}
 use Rattle.jpa_machine.specs.Invariant.{IsMachine, IsManager, IsTransaction, is_idle, context_of}
-use Rattle.jpa_consistent.proofs.Facts.{held_more, numbers_same, numbers_trans}
+use Rattle.jpa_machine.proofs.Facts.{held_more, numbers_same, numbers_trans}
 
 -- ---- a manager at work
 

@@ -10,8 +10,8 @@ use Rattle.jpa_model.specs.declared.unit.PersistenceUnit.{PersistenceUnit}
 use Rattle.jpa_model.specs.Chains.{class_of, same_name}
 use Rattle.jpa_behaviour.specs.Behaviour.{World}
 use Rattle.jpa_heap.specs.Objects.{new_object}
-use Rattle.jpa_consistent.proofs.Facts.{numbers_same}
-use Rattle.jpa_consistent.proofs.Kept.{holds_more, live_more, placed_more, new_live}
+use Rattle.jpa_machine.proofs.Facts.{numbers_same}
+use Rattle.jpa_machine.proofs.Kept.{holds_more, live_more, placed_more, new_live}
 use Rattle.jpa_machine.specs.Machine.{Machine}
 use Rattle.jpa_machine.specs.Invariant.{IsMachine, context_of}
 use Rattle.jpa_machine.proofs.AtWork.{manager_kept}

@@ -14,11 +14,11 @@ use Rattle.jpa_heap.specs.Objects.{object_at}
 use Rattle.jpa_context.specs.declared.Entry.{Entry}
 use Rattle.jpa_context.specs.Work.{Work, object, state_of, is_removed, unlocked}
 use Rattle.jpa_ops.specs.States.{detach_each}
-use Rattle.jpa_consistent.specs.Consistent.{IsLive, IsEntry, is_held_by, stands_in, are_one, name_of, contexts}
-use Rattle.jpa_consistent.proofs.Facts.{numbers_same}
-use Rattle.jpa_consistent.proofs.Going.{stands_same}
-use Rattle.jpa_consistent.proofs.Kept.{others_kept, distinct_same, HaveNames}
-use Rattle.jpa_consistent.proofs.Detached.{stands, freed, length_detached, detached_at, detached_live, same_object, holds_detached, held_once, stands_held, leaving, staying, leaves_not, stays, staying_each, any_part, distinct_part, any_unlocked, distinct_unlocked, unlocked_entry, entry_stays}
+use Rattle.jpa_machine.specs.Consistent.{IsLive, IsEntry, is_held_by, stands_in, are_one, name_of, contexts}
+use Rattle.jpa_machine.proofs.Facts.{numbers_same}
+use Rattle.jpa_machine.proofs.Going.{stands_same}
+use Rattle.jpa_machine.proofs.Kept.{others_kept, distinct_same, HaveNames}
+use Rattle.jpa_machine.proofs.Detached.{stands, freed, length_detached, detached_at, detached_live, same_object, holds_detached, held_once, stands_held, leaving, staying, leaves_not, stays, staying_each, any_part, distinct_part, any_unlocked, distinct_unlocked, unlocked_entry, entry_stays}
 use Rattle.jpa_machine.specs.Machine.{Machine, Manager, manager_at, no_manager, rolled_back, committed_after, cleared, closed, is_begun, has_transaction, Transaction}
 use Rattle.jpa_machine.specs.Invariant.{IsMachine, IsManager, context_of, is_idle}
 use Rattle.jpa_machine.proofs.Settled.{same_context, with_transaction}

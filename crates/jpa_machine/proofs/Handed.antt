@@ -28,15 +28,15 @@ use Rattle.jpa_updates.specs.Updates.{with_view}
 use Rattle.jpa_machine.specs.Transactions.{commit_work, is_current}
 use Rattle.jpa_machine.specs.Routes.{get_call, set_call, add_call, take_out_call, persist_call, remove_call, refresh_call, detach_call, merge_call, lock_call, lock_of, flush_call, find_call, get_reference_call, there_must_be}
 use Rattle.jpa_machine.specs.Invariant.{given_representable}
-use Rattle.jpa_consistent.specs.Going.{HoldsAfter}
+use Rattle.jpa_machine.specs.Going.{HoldsAfter}
 use Rattle.jpa_fetch.specs.Orderly.{IsOrderly}
-use Rattle.jpa_consistent.proofs.Going.{after_holds, require_holds, More, only}
-use Rattle.jpa_consistent.proofs.Setting.{handed_representable}
-use Rattle.jpa_consistent.proofs.Changed.{HasSet, set_holds}
-use Rattle.jpa_consistent.proofs.Fetching.{get_goes, add_goes, take_out_goes}
-use Rattle.jpa_consistent.proofs.Unheld.{get_unheld, add_unheld, take_out_unheld}
-use Rattle.jpa_consistent.proofs.Laws.{Steps, persist_goes, remove_goes, refresh_goes, detach_goes, lock_goes, find_goes}
-use Rattle.jpa_consistent.proofs.Merging.{merge_goes}
+use Rattle.jpa_machine.proofs.Going.{after_holds, require_holds, More, only}
+use Rattle.jpa_machine.proofs.Setting.{handed_representable}
+use Rattle.jpa_machine.proofs.Changed.{HasSet, set_holds}
+use Rattle.jpa_machine.proofs.Fetching.{get_goes, add_goes, take_out_goes}
+use Rattle.jpa_machine.proofs.Unheld.{get_unheld, add_unheld, take_out_unheld}
+use Rattle.jpa_machine.proofs.Laws.{Steps, persist_goes, remove_goes, refresh_goes, detach_goes, lock_goes, find_goes}
+use Rattle.jpa_machine.proofs.Merging.{merge_goes}
 
 -- ---- what is handed in
 

@@ -14,9 +14,9 @@ use Rattle.jpa_protocol.specs.declared.call.Call.{Call}
 use Rattle.jpa_protocol.specs.declared.reply.Reply.{Reply}
 use Rattle.jpa_open.specs.Differences.{all_agree, differing, merged}
 use Rattle.jpa_open.specs.Moves.{Snapshot, Move, Creates, Begins, Works, Ends, Commits, Rests, transaction_at, begun_in, begun_of, seen_in, after}
-use Rattle.jpa_consistent.specs.Going.{HoldsAfter}
-use Rattle.jpa_consistent.proofs.Changed.{HasSet}
-use Rattle.jpa_consistent.proofs.Instances.{at_work}
+use Rattle.jpa_machine.specs.Going.{HoldsAfter}
+use Rattle.jpa_machine.proofs.Changed.{HasSet}
+use Rattle.jpa_machine.proofs.Instances.{at_work}
 use Rattle.jpa_machine.specs.Machine as machine
 use Rattle.jpa_machine.specs.Machine.{Machine, Manager, Transaction, no_manager, manager_at, has_transaction, begun_set, work_of, marked_in, view}
 use Rattle.jpa_value.specs.declared.refusal.Refusal.{Refusal}

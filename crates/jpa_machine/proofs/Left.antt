@@ -22,7 +22,7 @@ use Rattle.jpa_machine.specs.Routes.{Route, commits, rolls_back, route, is_commi
 use Rattle.jpa_machine.specs.Step.{Step}
 use Rattle.jpa_machine.specs.Invariant.{IsMachine, hands_representable}
 use Rattle.jpa_machine.specs.Left.{unmarked, unmarked_in, stateless, LivesAsBefore, HoldsSameValues}
-use Rattle.jpa_consistent.proofs.Facts.{numbers_same}
+use Rattle.jpa_machine.proofs.Facts.{numbers_same}
 use Rattle.jpa_machine.proofs.Ways.{IsOther, Ways, does_something, on_route, on_step}
 use Rattle.jpa_machine.proofs.Operated.{IsDone, does}
 use Rattle.jpa_fetch.specs.Orderly.{IsOrderly}

@@ -9,7 +9,7 @@ use Rattle.jpa_stored.specs.Sets.{StoredSet, stored_at, fault_of}
 use Rattle.jpa_rows.specs.Cells.{CanBeHeld}
 use Rattle.jpa_open.specs.Differences.{with_or_without, set_after, entries_of, differing, merged}
 use Rattle.jpa_open.proofs.MergedSets.{merged_rises}
-use Rattle.jpa_consistent.proofs.Loaded.{row_holds}
+use Rattle.jpa_machine.proofs.Loaded.{row_holds}
 use Rattle.jpa_machine.proofs.Whole.{all_with, all_without}
 
 module _ (p : Identity × Stored → Bool) (seen : StoredSet) (all : list_all p seen ≡ true) where

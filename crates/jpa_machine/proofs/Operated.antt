@@ -10,13 +10,13 @@ use Rattle.jpa_heap.specs.Objects.{object_at}
 use Rattle.jpa_context.specs.Work.{Work}
 use Rattle.jpa_context.specs.Steps.{Outcome, Done, Refused}
 use Rattle.jpa_protocol.specs.declared.call.Call.{Call}
-use Rattle.jpa_consistent.specs.Going.{HoldsAfter}
-use Rattle.jpa_consistent.proofs.Changed.{HasSet}
-use Rattle.jpa_consistent.proofs.Laws.{Steps}
-use Rattle.jpa_consistent.proofs.Going.{only}
-use Rattle.jpa_consistent.proofs.Instances.{at_work}
-use Rattle.jpa_consistent.proofs.Unheld.{empty_unheld}
-use Rattle.jpa_consistent.proofs.Flushed.{flush_goes, viewed_at_work}
+use Rattle.jpa_machine.specs.Going.{HoldsAfter}
+use Rattle.jpa_machine.proofs.Changed.{HasSet}
+use Rattle.jpa_machine.proofs.Laws.{Steps}
+use Rattle.jpa_machine.proofs.Going.{only}
+use Rattle.jpa_machine.proofs.Instances.{at_work}
+use Rattle.jpa_machine.proofs.Unheld.{empty_unheld}
+use Rattle.jpa_machine.proofs.Flushed.{flush_goes, viewed_at_work}
 use Rattle.jpa_machine.specs.Machine.{Machine, manager_at, has_transaction, flushes_first, begun_set, work_of}
 use Rattle.jpa_machine.specs.Updating.{MakesRepresentable, update_outcome}
 use Rattle.jpa_machine.proofs.Updated.{update_call_goes}
@@ -25,7 +25,7 @@ use Rattle.jpa_machine.proofs.Queried.{query_call_goes, query_single_call_goes}
 use Rattle.jpa_machine.specs.Transactions.{commit_work, is_current}
 use Rattle.jpa_open.specs.Differences.{merged}
 use Rattle.jpa_machine.proofs.MergedHeld.{merged_held}
-use Rattle.jpa_consistent.proofs.Facts.{held_more, numbers_trans}
+use Rattle.jpa_machine.proofs.Facts.{held_more, numbers_trans}
 use Rattle.jpa_flush.specs.Flush.{flush}
 use Rattle.jpa_machine.specs.Routes.{route, holder_in, get_call, set_call, add_call, take_out_call, persist_call, remove_call, refresh_call, detach_call, merge_call, lock_call, flush_call, find_call, get_reference_call}
 use Rattle.jpa_machine.specs.Invariant.{IsMachine, hands_representable}

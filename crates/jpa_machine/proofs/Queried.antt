@@ -29,10 +29,10 @@ use Rattle.jpa_flush.specs.Flush.{flush_if}
 use Rattle.jpa_queries.specs.Queries.{answer, judged, table_of, rows_found, rows_asked, item_of, row_of, query, the_one, query_single, is_count}
 use Rattle.jpa_machine.specs.Calls as calls
 use Rattle.jpa_machine.specs.Querying.{are_short, asked_of, bindings_in, bound, query_call, query_single_call}
-use Rattle.jpa_consistent.specs.Going.{HoldsAfter}
-use Rattle.jpa_consistent.proofs.Going.{More, after_holds, require_holds}
-use Rattle.jpa_consistent.proofs.Members.{Leads}
-use Rattle.jpa_consistent.proofs.Laws.{Steps, reach_goes}
+use Rattle.jpa_machine.specs.Going.{HoldsAfter}
+use Rattle.jpa_machine.proofs.Going.{More, after_holds, require_holds}
+use Rattle.jpa_machine.proofs.Members.{Leads}
+use Rattle.jpa_machine.proofs.Laws.{Steps, reach_goes}
 use Rattle.jpa_machine.proofs.Handed.{told_holds}
 
 -- ---- what only reads

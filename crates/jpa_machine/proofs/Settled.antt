@@ -14,10 +14,10 @@ use Rattle.jpa_heap.specs.Objects.{object_at}
 use Rattle.jpa_context.specs.declared.Entry.{Entry}
 use Rattle.jpa_machine.specs.Machine.{Machine, Manager, Transaction, opened, manager_at, no_manager, new_manager, marked, marked_in, with_mode}
 use Rattle.jpa_machine.specs.Transactions.{begun}
-use Rattle.jpa_consistent.specs.Consistent.{IsLive, IsEntry, are_one}
+use Rattle.jpa_machine.specs.Consistent.{IsLive, IsEntry, are_one}
 use Rattle.jpa_machine.specs.Invariant.{IsMachine, IsManager, IsTransaction, is_idle, context_of}
-use Rattle.jpa_consistent.proofs.Facts.{held_more, numbers_same}
-use Rattle.jpa_consistent.proofs.Going.{stands_same}
+use Rattle.jpa_machine.proofs.Facts.{held_more, numbers_same}
+use Rattle.jpa_machine.proofs.Going.{stands_same}
 use Rattle.jpa_machine.proofs.AtWork.{manager_set, managers_set}
 
 -- ---- as it is opened

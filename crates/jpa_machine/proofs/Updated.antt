@@ -28,9 +28,9 @@ use Rattle.jpa_flush.specs.Flush.{flush_if}
 use Rattle.jpa_updates.specs.Held.{HaveKeys}
 use Rattle.jpa_updates.specs.Updates.{is_bulk, judged_bulk, with_view, run_bulk, execute_update}
 use Rattle.jpa_updates.proofs.Executed.{executed}
-use Rattle.jpa_consistent.specs.Going.{HoldsAfter}
-use Rattle.jpa_consistent.proofs.Going.{after_holds, require_holds}
-use Rattle.jpa_consistent.proofs.Laws.{Steps}
+use Rattle.jpa_machine.specs.Going.{HoldsAfter}
+use Rattle.jpa_machine.proofs.Going.{after_holds, require_holds}
+use Rattle.jpa_machine.proofs.Laws.{Steps}
 use Rattle.jpa_machine.specs.Calls as calls
 use Rattle.jpa_machine.specs.Querying.{are_short, before, bindings_in, bound, handed_in, object_handed, update_call}
 use Rattle.jpa_machine.proofs.Handed.{place_within, told_holds}

@@ -23,7 +23,7 @@ use Rattle.jpa_machine.specs.Transactions.{begin, begin_in, begun, commit, commi
 use Rattle.jpa_machine.specs.Routes.{Route, OfManager, ToQuery, ToUpdate, InTransaction, OfObject, ToCreate, ToMake, ToBegin, ToCommit, ToRollBack, ToMark, ToAsk, ToClear, ToSetMode, ToClose, answered, by_route, if_open, if_begun, transaction_required, by_manager, close, made_new, holder, holder_in, commits, rolls_back}
 use Rattle.jpa_machine.specs.Step.{Step, outcome}
 use Rattle.jpa_machine.specs.Isolated.{named_in}
-use Rattle.jpa_consistent.specs.Going.{HoldsAfter}
+use Rattle.jpa_machine.specs.Going.{HoldsAfter}
 use Rattle.jpa_machine.proofs.AtWork.{IsOpen}
 use Rattle.jpa_machine.proofs.Created.{class_within}
 use Rattle.jpa_machine.proofs.Handed.{place_within}

@@ -11,7 +11,7 @@ use Rattle.jpa_rows.specs.Cells.{CanBeHeld, are_numbers}
 use Rattle.jpa_heap.specs.declared.LiveObject.{LiveObject}
 use Rattle.jpa_heap.specs.Objects.{object_at}
 use Rattle.jpa_context.specs.declared.Entry.{Entry}
-use Rattle.jpa_consistent.specs.Consistent.{IsLive, IsEntry, are_one, stands_in}
+use Rattle.jpa_machine.specs.Consistent.{IsLive, IsEntry, are_one, stands_in}
 use Rattle.jpa_protocol.specs.declared.call.Call.{Call}
 use Rattle.jpa_protocol.specs.declared.call.Given.{Given}
 use Rattle.jpa_protocol.specs.declared.call.Parameter.{Parameter}

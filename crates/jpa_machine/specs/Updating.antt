@@ -5,7 +5,7 @@ use Rattle.jpa_behaviour.specs.Behaviour.{World}
 use Rattle.jpa_rows.specs.Cells.{all_representable}
 use Rattle.jpa_heap.specs.Objects.{place_of}
 use Rattle.jpa_context.specs.Steps.{Outcome}
-use Rattle.jpa_consistent.specs.Going.{HoldsAfter}
+use Rattle.jpa_machine.specs.Going.{HoldsAfter}
 use Rattle.jpa_protocol.specs.declared.call.Call.{Call}
 use Rattle.jpa_protocol.specs.declared.call.Parameter.{Parameter}
 use Rattle.jpa_protocol.specs.declared.reply.Answer.{Answer}

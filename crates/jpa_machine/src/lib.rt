@@ -1,5 +1,6 @@
 //! The machine of a provider, as definitions and laws: what each call replies and leaves, and that
-//! what holds of the machine between calls holds after each of them.
+//! what holds of the machine between calls holds after each of them; what holds of the work of a
+//! manager, and that the operations keep it.
 #![tactic(auto)]
 
 ghost use Rattle.std.specs.Prelude.{List};

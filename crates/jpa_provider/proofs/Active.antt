@@ -22,7 +22,7 @@ use Rattle.jpa_provider.specs.Serving.{machine_of, AreMarkedAway, IsServing}
 use Rattle.jpa_provider.specs.Stages.{CanFlush}
 use Rattle.jpa_machine.proofs.AtWork.{each_manager, taken, work_ready}
 use Rattle.jpa_machine.proofs.AfterFlush.{flushed_at_work}
-use Rattle.jpa_consistent.proofs.Ready.{ready_at_work}
+use Rattle.jpa_machine.proofs.Ready.{ready_at_work}
 use Rattle.jpa_provider.proofs.Marked.{taken_marked}
 use Rattle.jpa_provider.proofs.Serving.{entries_in}
 use Rattle.jpa_provider.proofs.Sessions.{manager_there}

@@ -4,8 +4,8 @@ use Rattle.std.specs.Prelude.{All, nat_le}
 use Rattle.std.proofs.lemmas.Bool.{false≢true}
 use Rattle.std.proofs.lemmas.List.Elements.{All-weaker}
 use Rattle.jpa_behaviour.specs.Behaviour.{World}
-use Rattle.jpa_consistent.specs.Consistent.{IsEntry}
-use Rattle.jpa_consistent.proofs.Ready.{ready_at_work}
+use Rattle.jpa_machine.specs.Consistent.{IsEntry}
+use Rattle.jpa_machine.proofs.Ready.{ready_at_work}
 use Rattle.jpa_fetch.specs.Grown.{IsReady}
 use Rattle.jpa_context.specs.declared.Entry.{Entry}
 use Rattle.jpa_context.specs.Work.{Work}

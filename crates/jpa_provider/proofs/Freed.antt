@@ -13,9 +13,9 @@ use Rattle.jpa_context.specs.declared.Entry.{Entry}
 use Rattle.jpa_context.specs.declared.EntityState.{EntityState}
 use Rattle.jpa_context.specs.Work.{Work, is_managed, is_removed, state_from, state_of}
 use Rattle.jpa_ops.specs.States.{detach_each}
-use Rattle.jpa_consistent.specs.Consistent.{IsEntry}
-use Rattle.jpa_consistent.specs.Consistent as consistent
-use Rattle.jpa_consistent.proofs.Detached.{detached_at, freed, length_detached, stands, stands_held}
+use Rattle.jpa_machine.specs.Consistent.{IsEntry}
+use Rattle.jpa_machine.specs.Consistent as consistent
+use Rattle.jpa_machine.proofs.Detached.{detached_at, freed, length_detached, stands, stands_held}
 use Rattle.jpa_marking.specs.Shared.{LetsGo, is_held_by, is_removed_by}
 use Rattle.jpa_machine.specs.Machine.{Machine, is_gone, manager_at}
 use Rattle.jpa_machine.specs.Invariant.{IsMachine}

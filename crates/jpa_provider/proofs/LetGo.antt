@@ -15,7 +15,7 @@ use Rattle.jpa_context.specs.Steps.{after, each, Outcome, Done, Refused}
 use Rattle.jpa_context.specs.Work.{Work, is_managed, is_removed, state_of}
 use Rattle.jpa_ops.specs.States.{detach, detach_node, detach_one, let_go}
 use Rattle.jpa_marking.specs.Shared.{LetsGo, is_held_by}
-use Rattle.jpa_consistent.specs.Going.{HoldsAfter}
+use Rattle.jpa_machine.specs.Going.{HoldsAfter}
 
 module _ (test : Life → Bool) where
   abbrev IsFreed : LiveObject → LiveObject → Type 0

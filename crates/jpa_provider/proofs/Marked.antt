@@ -24,9 +24,9 @@ use Rattle.jpa_protocol.specs.declared.event.Told.{Told}
 use Rattle.jpa_fetch.specs.Grown.{IsReady}
 use Rattle.jpa_flush.specs.Marked.{AreEntered, AreMarked, GoesOn, IsMarked, IsNamedStill, IsUntouched, before}
 use Rattle.jpa_marking.specs.Shared.{OthersGoOn, seen_by}
-use Rattle.jpa_consistent.specs.Consistent.{contexts, stands_in}
-use Rattle.jpa_consistent.specs.Going.{HoldsAfter}
-use Rattle.jpa_consistent.proofs.Ready.{ready_at_work}
+use Rattle.jpa_machine.specs.Consistent.{contexts, stands_in}
+use Rattle.jpa_machine.specs.Going.{HoldsAfter}
+use Rattle.jpa_machine.proofs.Ready.{ready_at_work}
 use Rattle.jpa_machine.specs.Machine.{Machine, Manager, kept, manager_at, no_manager, seen_in, with_manager, work_of}
 use Rattle.jpa_machine.specs.Invariant.{context_of}
 use Rattle.jpa_machine.proofs.AtWork.{IsAtWork, others_of, taken}

@@ -9,12 +9,12 @@ use Rattle.jpa_rows.specs.Cells.{all_representable}
 use Rattle.jpql_kept.specs.Fits.{AreInherited}
 use Rattle.jpa_protocol.specs.declared.call.Parameter.{Parameter}
 use Rattle.jpa_protocol.specs.declared.reply.Answer.{Answer}
-use Rattle.jpa_consistent.specs.Going.{HoldsAfter}
-use Rattle.jpa_consistent.proofs.Changed.{HasSet}
-use Rattle.jpa_consistent.proofs.Flushed.{flush_goes, viewed_at_work}
-use Rattle.jpa_consistent.proofs.Going.{after_holds, only}
-use Rattle.jpa_consistent.proofs.Instances.{at_work}
-use Rattle.jpa_consistent.proofs.Laws.{Steps}
+use Rattle.jpa_machine.specs.Going.{HoldsAfter}
+use Rattle.jpa_machine.proofs.Changed.{HasSet}
+use Rattle.jpa_machine.proofs.Flushed.{flush_goes, viewed_at_work}
+use Rattle.jpa_machine.proofs.Going.{after_holds, only}
+use Rattle.jpa_machine.proofs.Instances.{at_work}
+use Rattle.jpa_machine.proofs.Laws.{Steps}
 use Rattle.jpa_machine.specs.Machine.{Machine, work_of}
 use Rattle.jpa_machine.specs.Calls.{object_numbered}
 use Rattle.jpa_machine.specs.Invariant.{IsMachine}

@@ -21,7 +21,7 @@ use Rattle.jpa_machine.specs.Machine.{Machine, flushes_first, work_of}
 use Rattle.jpa_machine.specs.Calls.{because, ended, marks, marks_if_callback, give_or}
 use Rattle.jpa_machine.specs.Routes.{OfManager, ToQuery, InTransaction, OfObject, by_route, holder, holder_in, if_begun, transaction_required, required_of, stands_numbered, flush_call, lock_call, is_free, route}
 use Rattle.jpa_provider.specs.Operations.{on_numbered, operation_of, manager_holding, EndsSo}
-use Rattle.jpa_consistent.specs.Consistent.{stands_in}
+use Rattle.jpa_machine.specs.Consistent.{stands_in}
 use Rattle.jpa_machine.specs.Invariant.{IsMachine, context_of}
 use Rattle.jpa_provider.specs.Serving.{machine_of, manager_in, is_begun_status, named, Serves}
 use Rattle.jpa_machine.proofs.AtWork.{IsOpen, holding_open}

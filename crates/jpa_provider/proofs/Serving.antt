@@ -12,7 +12,7 @@ use Rattle.jpa_protocol.specs.declared.call.Call.{Call}
 use Rattle.jpa_protocol.specs.declared.reply.Reply.{Reply}
 use Rattle.jpa_provider.specs.declared.session.Session.{Session}
 use Rattle.jpa_machine.specs.Machine.{Machine, Manager, manager_at, opened, work_of}
-use Rattle.jpa_consistent.specs.Consistent.{IsEntry}
+use Rattle.jpa_machine.specs.Consistent.{IsEntry}
 use Rattle.jpa_machine.specs.Invariant.{IsMachine, context_of, hands_representable}
 use Rattle.jpa_provider.specs.Serving.{machine_of, manager_in, marks_in, AreAllMarked, IsServing, IsSettled, Serves}
 use Rattle.jpa_machine.proofs.AtWork.{each_manager}

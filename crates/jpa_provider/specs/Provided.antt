@@ -53,8 +53,9 @@ rows_made world M call = rows_kept world (outcome world M call).1
 -- a call leaves the second store of the first, as the machine goes from the first to the second. If it
 -- is clean it was clean before, and holds the rows of what is committed then, and no others. A crash
 -- leaves what it could leave before the call, or what the call commits. A call reads nothing of the
--- store and makes nothing for it to stand in, and a commit alone writes to it: where it is accepted just what changes, and where it is
--- refused nothing, or, where it gave up, at most that. A fault of the store is told where it is one more
+-- store and makes nothing for it to stand in, and a commit alone writes to it: where it is accepted
+-- just what changes, and where it is refused nothing, or, where it gave up, at most that. A fault of
+-- the store is told where it is one more
 pub record StoresCall {R : Type 0} (world : World) (store : Ghosts R) (M : Machine) (call : Call) (reply : Reply)
     (N : Machine) (old new : R) : Type 0 where
   pub same : store.schema new ≡ store.schema old

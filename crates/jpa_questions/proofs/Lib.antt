@@ -1,0 +1,3 @@
+mod Revised
+mod Looked
+mod Kept

@@ -1,3 +1,6 @@
+pub mod Revisions
+pub mod Asking
+pub mod Plans
 pub mod Parameters
 pub mod Questions
 pub mod Lines

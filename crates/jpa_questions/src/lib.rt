@@ -1,16 +1,27 @@
-//! One SELECT that is asked without a manager: its text and its parameters as a command line says
-//! them, and its rows as lines of JSON (Jakarta Persistence 3.1, chapters 3.10 and 4).
+//! One SELECT that is asked without a manager, off the rows of a store (Jakarta Persistence 3.1,
+//! chapters 3.10 and 4).
 //!
 //! `read_parameters` reads words as parameters, `read_question` judges a text with them as a
-//! provider's query does, and `write_rows` writes the rows that were found. The definitions stand in
-//! `specs/`: `Parameters`, `Questions` and `Lines`. The crate stands on the reader and the typer of
-//! the query language, on the readers of JSON and on the values of replies, and knows no store.
+//! provider's query does, `ask` answers it over any store of rows and `ask_store` over the cells of
+//! a database, and `write_rows` writes the rows that were found. Both refuse a store of another
+//! revision than the unit's, and write nothing. `write_plan` tells how a question is answered. The
+//! definitions stand in `specs/`: `Parameters`, `Questions` and `Lines` for what is asked and
+//! written, `Revisions`, `Asking` and `Plans` for the answer. `jpa_row_queries` runs the statement.
 #![tactic(auto)]
 
+mod asking;
 mod line;
 mod parameter;
+mod plan;
 mod question;
+mod revision;
+mod store;
+mod unit;
 
+pub use asking::ask;
 pub use line::{write_row, write_rows};
 pub use parameter::{Misgiven, Parameter, read_parameters};
+pub use plan::write_plan;
 pub use question::{Question, read_question};
+pub use store::ask_store;
+pub use unit::check_unit;

@@ -24,9 +24,9 @@ use Rattle.jpql_eval.specs.declared.datum.Datum.{Datum}
 use Rattle.jpql_plan.specs.Selection.{selected}
 use Rattle.jpql_run.specs.Keys.{CanBeLookedUp}
 use Rattle.jpql_types.specs.declared.typed.TypedSelect.{TypedSelect}
-use Rattle.jpa_row_sets.specs.Looking.{IsReadingCause}
-use Rattle.jpa_row_sets.specs.Seen.{StandsAlone}
-use Rattle.jpa_row_sets.proofs.Looks.{IsOwnCause}
+use Rattle.jpa_row_queries.specs.Looking.{IsReadingCause}
+use Rattle.jpa_row_queries.specs.Seen.{StandsAlone}
+use Rattle.jpa_row_queries.proofs.Looks.{IsOwnCause}
 use Rattle.jpa_row_queries.specs.Answered.{Answers, IsAskingCause, Refuses}
 
 -- a set that a store can hold is found by its keys

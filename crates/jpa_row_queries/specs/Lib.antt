@@ -1,1 +1,4 @@
+pub mod Looking
+pub mod Seen
+pub mod Gathering
 pub mod Answered

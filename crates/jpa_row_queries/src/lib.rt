@@ -1,18 +1,24 @@
-//! SELECT statements over a store of rows, for one who has no provider (Jakarta Persistence 3.1,
-//! chapter 4.2.1).
+//! Stored objects read off a store of rows under changes, and SELECT statements over them, for one
+//! who has no provider (Jakarta Persistence 3.1, chapters 2.4, 2.10 to 2.12 and 4.2.1).
 //!
-//! `run` gives what a statement gives over the set whose rows a store holds under changes of its
-//! own. A statement that asks one object by its key reads that object's row alone; another reads
-//! all rows, one table after another. The program's `--query` calls it.
+//! `object_under` reads one object off its row, by one look at it, and `set_seen` the whole set, one
+//! table after another. `run` gives what a statement gives over the set whose rows a store holds
+//! under changes of its own: a statement that asks one object by its key reads that object's row
+//! alone; another reads all rows. The program's `--query` calls it.
 //!
-//! `specs/Answered.antt` says what a refusal says of the answer; which set is seen and what a look
-//! leaves of the store stands in `jpa_row_sets`, which reads the objects. The crate stands on that,
+//! `specs/Seen.antt` says which set is seen, `specs/Looking.antt` what a look leaves of the store,
+//! and `specs/Answered.antt` what a refusal says of the answer. The crate stands on the overlay of
+//! rows (`jpa_overlay`), on objects as rows (`jpa_mapper`), on the judgment of rows (`jpa_judgment`)
 //! and on `jpql_select`, the one evaluator.
 #![tactic(auto)]
 
+mod alone;
 mod answering;
+mod gathering;
 mod opened;
 mod running;
 mod seen;
 
+pub use alone::object_under;
+pub use gathering::set_seen;
 pub use running::run;

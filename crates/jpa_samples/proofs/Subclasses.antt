@@ -24,7 +24,7 @@ use Rattle.jpa_protocol.specs.declared.reply.Reply.{Reply}
 use Rattle.jpa_machine.specs.Machine.{Machine, opened}
 use Rattle.jpa_machine.specs.Step.{replies_of, machine_after}
 use Rattle.jpa_fetch.specs.Orderly.{IsOrderly}
-use Rattle.jpa_consistent.proofs.Units.{described_orderly}
+use Rattle.jpa_machine.proofs.Units.{described_orderly}
 use Rattle.jpql_kept.specs.Fits.{AreInherited}
 use Rattle.jpql_kept.proofs.Inherited.{described_inherited}
 use Rattle.jpa_samples.proofs.Sample.{text, int, saw, ok, quiet, no}

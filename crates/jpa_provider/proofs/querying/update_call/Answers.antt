@@ -10,7 +10,7 @@ use Rattle.jpa_protocol.specs.declared.call.FlushMode.{FlushMode}
 use Rattle.jpa_flush.specs.Flush.{flush_if}
 use Rattle.jpa_updates.specs.Updates.{StaysSound}
 use Rattle.jpa_rows.specs.Cells.{all_representable}
-use Rattle.jpa_consistent.specs.Going.{HoldsAfter}
+use Rattle.jpa_machine.specs.Going.{HoldsAfter}
 use Rattle.jpa_protocol.specs.declared.reply.Answer.{Answer}
 use Rattle.jpa_provider.specs.declared.replies.Rule.{Rule}
 use Rattle.jpa_machine.specs.Machine.{flushes_in, flushes_first, has_transaction, manager_at, work_of}

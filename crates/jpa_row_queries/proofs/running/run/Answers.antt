@@ -2,7 +2,7 @@ use Rattle.std.proofs.Common.{subst, List}
 use Rattle.jpql_eval.specs.Answers.{Answer}
 use Rattle.jpql_eval.specs.declared.datum.Datum.{Datum}
 use Rattle.jpql_plan.specs.Selection.{selected}
-use Rattle.jpa_row_sets.proofs.Looks.{err_is, if_err, if_passed, looks_own, looks_passed}
+use Rattle.jpa_row_queries.proofs.Looks.{err_is, if_err, if_passed, looks_own, looks_passed}
 use Rattle.jpa_row_queries.specs.Answered.{Answers, IsAskingCause}
 use Rattle.jpa_row_queries.proofs.Asked.{asking, err_answers, own_asking, reading_asking}
 use Rattle.jpa_row_queries.proofs.running.run.Goals as goal

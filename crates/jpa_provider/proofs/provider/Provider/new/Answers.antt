@@ -4,7 +4,7 @@ use Rattle.jpa_open.specs.Opened.{unwritten}
 use Rattle.jpa_object_rows.specs.Sets.{rows_of}
 use Rattle.jpa_machine.specs.Machine.{Machine, opened}
 use Rattle.jpa_provider.specs.Serving.{machine_of}
-use Rattle.jpa_consistent.proofs.Units.{described_orderly}
+use Rattle.jpa_machine.proofs.Units.{described_orderly}
 use Rattle.jpql_kept.proofs.Inherited.{described_inherited}
 use Rattle.jpa_provider.proofs.Serving.{opened_serving}
 use Rattle.jpa_provider.proofs.provider.Provider.new.Goals as goal

@@ -1,3 +1,0 @@
-mod Revised
-mod Looked
-mod Kept

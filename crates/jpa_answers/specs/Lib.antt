@@ -1,3 +1,0 @@
-pub mod Revisions
-pub mod Asking
-pub mod Plans

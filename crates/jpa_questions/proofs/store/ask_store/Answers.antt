@@ -1,0 +1,23 @@
+use Rattle.std.proofs.Common.{ap, refl, subst, ◌∙◌}
+use Rattle.jpa_behaviour.specs.Served.{world_of_unit}
+use Rattle.jpa_cells_meaning.specs.Store.{IsClean, Stored}
+use Rattle.jpa_object_rows.specs.Sets.{rows_of}
+use Rattle.jpa_rows.specs.Tables.{schema_of}
+use Rattle.jpa_rowspace.specs.Space.{Space}
+use Rattle.jpa_questions.proofs.Kept.{holds_over}
+use Rattle.jpa_questions.proofs.store.ask_store.Goals as goal
+
+pub returns-clause-answer : goal.returns-clause-answer
+returns-clause-answer g c clean set numbers holds =
+    let world = world_of_unit g.B.Behaviour.meaning c.args.unit.now in
+    let handed = c.into_connection.ensures.same ∙ ap (λ (r : Space g.row.S.Denot). (r.store).conn) c.space.view_is in
+    let is_conn = ap (λ (s : Stored g.row.S.Denot). s.conn) c.in-Ok.ensures.same in
+    let still = subst (IsClean g.S.Store) handed clean in
+    let held = holds_over g.S.Store (schema_of world.model) c.args.conn c.in-Ok.space (rows_of world set numbers) c.in-Ok.ensures.schema is_conn holds.rows in
+    c.ask-answer.ensures.answer still set numbers
+    (record {
+      rows = rows_of world set numbers;
+      rising = (held.whole (c.ask-answer.ensures.looks.was_clean still)).rising;
+      held = held;
+      of = record { held = holds.held; same = refl };
+    })

@@ -1,0 +1,109 @@
+-- Looks one after another.
+use Rattle.std.specs.Prelude.{◌≡◌, ◌⊎◌, ℕ, Result, Ok, Err, IfErr, IsErrAnd, MatchResult}
+use Rattle.std.proofs.Common.{refl, sym, ap, subst, ◌∙◌, inl, inr}
+use Rattle.jpa_value.specs.declared.refusal.Cause.{Cause}
+use Rattle.jpa_value.specs.declared.refusal.Cause.TheVariants as cause
+use Rattle.jpa_rows.specs.declared.reader.RowReader.{Ghosts}
+use Rattle.jpa_rows.specs.Faults.{IsStoreCause, faults_after}
+use Rattle.jpa_row_queries.specs.Looking.{IsDamage, IsReadingCause, LooksOnly, LooksAtOneRow}
+
+-- an answer, whichever it is
+abbrev pub done : Result (Unit {0}) Cause
+done = Ok tt
+
+module _ {S : Type 0} (store : Ghosts S) where
+  -- where nothing was looked at
+  pub looks_none : {A : Type 0} (r : Result A Cause) (s : S) → faults_after r (store.faults s) ≡ store.faults s → store.endures s s (λ _. ⊥) → LooksOnly store r s s
+  looks_none r s same still = record { kept = λ rows held. held; told = sym same; unwritten = refl; crash = still; was_clean = λ clean. clean; schema = refl }
+
+  pub none_at_one : (s : S) → LooksAtOneRow store s s
+  none_at_one s = record { row = inl refl; tables = refl }
+
+  -- two looks, the second of which is answered
+  pub looks_then : {B : Type 0} (r : Result B Cause) (first mid last : S) → LooksOnly store done first mid → LooksOnly store r mid last → LooksOnly store r first last
+  looks_then r first mid last one two = record {
+    kept = λ rows held. two.kept rows (one.kept rows held);
+    told = two.told ∙ ap (faults_after r) one.told;
+    unwritten = two.unwritten ∙ one.unwritten;
+    crash = store.wider first last (λ _. ⊥ ⊎ ⊥) (λ _. ⊥) (λ rows none. elim none [ inl x ↦ x | inr x ↦ x ]) (store.then first mid last (λ _. ⊥) (λ _. ⊥) one.schema one.crash two.crash);
+    was_clean = λ clean. one.was_clean (two.was_clean clean);
+    schema = two.schema ∙ one.schema;
+  }
+
+  -- what follows a look is no fault of the store
+  pub looks_alike : {A B : Type 0} (r : Result A Cause) (s : Result B Cause) (old new : S) → ((n : ℕ) → faults_after s n ≡ faults_after r n) → LooksOnly store r old new → LooksOnly store s old new
+  looks_alike r s old new same h = record { kept = h.kept; told = h.told ∙ sym (same (store.faults old)); unwritten = h.unwritten; crash = h.crash; was_clean = h.was_clean; schema = h.schema }
+
+-- ---- causes that are no fault of the store
+
+-- want of memory, damage or Overflow
+abbrev pub IsOwnCause : Cause → Type 0
+IsOwnCause c = (c ≡ Cause.OutOfMemory) ⊎ (IsDamage c ⊎ (c ≡ Cause.Overflow))
+
+own_one : (A : Type 0) (e d : Cause) → e ≡ d → (n : ℕ) → faults_after {T = A} (Err d) n ≡ n → faults_after {T = A} (Err e) n ≡ n
+own_one A e d is n same = subst (λ x. faults_after {T = A} (Err x) n ≡ n) (sym is) same
+
+pub own_told : {A : Type 0} (r : Result A Cause) → IfErr r IsOwnCause → (n : ℕ) → faults_after r n ≡ n
+own_told (Ok a) own n = refl
+own_told {A = A} (Err e) (inl memory) n = own_one A e Cause.OutOfMemory memory n refl
+own_told {A = A} (Err e) (inr (inl damage)) n = own_one A e (Cause.Damaged damage.0 damage.1) damage.2 n refl
+own_told {A = A} (Err e) (inr (inr overflow)) n = own_one A e Cause.Overflow overflow n refl
+
+pub if_err : {A : Type 0} {P Q : Cause → Type 0} (r : Result A Cause) → ((e : Cause) → P e → Q e) → IfErr r P → IfErr r Q
+if_err (Ok a) go h = tt
+if_err (Err e) go h = go e h
+
+pub memory_own : (e : Cause) → e ≡ Cause.OutOfMemory → IsOwnCause e
+memory_own e h = inl h
+
+pub damage_own : (e : Cause) → (e ≡ Cause.OutOfMemory) ⊎ IsDamage e → IsOwnCause e
+damage_own e (inl h) = inl h
+damage_own e (inr h) = inr (inl h)
+
+pub damage_reading : (e : Cause) → (e ≡ Cause.OutOfMemory) ⊎ IsDamage e → IsReadingCause e
+damage_reading e (inl h) = inl (inl h)
+damage_reading e (inr h) = inr h
+
+pub memory_reading : (e : Cause) → e ≡ Cause.OutOfMemory → IsReadingCause e
+memory_reading e h = inl (inl h)
+
+pub store_reading : (e : Cause) → IsStoreCause e → IsReadingCause e
+store_reading e h = inl h
+
+pub memory_store : (e : Cause) → e ≡ Cause.OutOfMemory → IsStoreCause e
+memory_store e h = inl h
+
+-- ---- a look, and what is made of its answer
+
+module _ {S : Type 0} (store : Ghosts S) {A B : Type 0} (old new : S) where
+  -- its answer is gone on with, and what comes is no fault
+  pub looks_own : (a : A) (first : Result A Cause) (r : Result B Cause) → first ≡ Ok a → LooksOnly store first old new → IfErr r IsOwnCause → LooksOnly store r old new
+  looks_own a first r is h own = looks_alike store first r old new (λ n. own_told r own n ∙ sym (ap (λ s. faults_after s n) is)) h
+
+  -- its refusal is passed on
+  pub looks_passed : (e : Cause) (first : Result A Cause) (r : Result B Cause) → first ≡ Err e → r ≡ Err e → LooksOnly store first old new → LooksOnly store r old new
+  looks_passed e first r is same h = looks_alike store first r old new (λ n. ap (λ s. faults_after s n) same ∙ again n ∙ sym (ap (λ s. faults_after s n) is)) h
+    where
+      again : (n : ℕ) → faults_after {T = B} (Err e) n ≡ faults_after {T = A} (Err e) n
+      again n = alike e
+        where
+          alike : (e : Cause) → faults_after {T = B} (Err e) n ≡ faults_after {T = A} (Err e) n
+          alike cause.StoreFault = refl
+          alike _ = refl
+
+-- ---- refusals that are passed on
+
+pub err_is : {A : Type 0} (r : Result A Cause) (e : Cause) → IsErrAnd r (λ x. x ≡ e) → r ≡ Err e
+err_is (Ok a) e h = absurd h
+err_is (Err x) e h = ap Err h
+
+module _ {A : Type 0} (Q : Cause → Type 0) where
+  pub match_err : (P : A → Type 0) (r : Result A Cause) (e : Cause) → IsErrAnd r (λ x. x ≡ e) → Q e → MatchResult r P Q
+  match_err P r e is q = subst (λ (s : Result A Cause). MatchResult s P Q) (sym (err_is r e is)) q
+
+  pub if_passed : (r : Result A Cause) (e : Cause) → IsErrAnd r (λ x. x ≡ e) → Q e → IfErr r Q
+  if_passed r e is q = subst (λ (s : Result A Cause). IfErr s Q) (sym (err_is r e is)) q
+
+  pub match_weak : (P : A → Type 0) (r : Result A Cause) → MatchResult r P Q → IfErr r Q
+  match_weak P (Ok a) h = tt
+  match_weak P (Err e) h = h

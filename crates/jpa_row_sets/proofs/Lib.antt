@@ -1,5 +1,0 @@
-pub mod Gathered
-pub mod Handed
-pub mod Looks
-pub mod OneRow
-pub mod Whole

@@ -1,3 +1,0 @@
-pub mod Looking
-pub mod Seen
-pub mod Gathering
