@@ -6,7 +6,7 @@ use crate::{Base, Entry};
 use jpa_value::{Cause, Identity, Seq, TryCopy};
 
 /// A copy of what a base knows of a relation. Fails for want of memory alone, with `OutOfMemory`.
-fn known_copied(known: &Option<Seq<Identity>>) -> Result<Option<Seq<Identity>>, Cause>
+pub fn known_copied(known: &Option<Seq<Identity>>) -> Result<Option<Seq<Identity>>, Cause>
     ensures ok { IfOk result (λ copy. copy ≡ known.now) }
     ensures err { IfErr result (λ cause. cause ≡ Cause.OutOfMemory) }
 {

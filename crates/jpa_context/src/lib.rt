@@ -18,6 +18,7 @@ mod object_places;
 mod unlocking;
 mod work;
 
+pub use copy::known_copied;
 pub use entries::PersistenceContext;
 use jpa_stored::Stored;
 use jpa_value::{Identity, Key, Seq};

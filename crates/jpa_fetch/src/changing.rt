@@ -7,7 +7,7 @@ ghost use Rattle.jpa_context.specs.Undo.{now, since};
 ghost use Rattle.jpa_fetch.specs.Grown.{AreDistinct, CanHold, GoesOn, HasRelation};
 ghost use Rattle.jpa_fetch.specs.Members as members;
 
-use jpa_context::{Base, Entry, UnitOfWork};
+use jpa_context::{Base, Entry, UnitOfWork, known_copied};
 use jpa_heap::{Collection, Held};
 use jpa_model::Metamodel;
 use jpa_value::{Cause, Identity, Seq, TryCopy};
@@ -33,17 +33,6 @@ pub fn set_relation(
     live.relations.set(relation, held);
     work.objects.set(object, live)?;
     Ok(())
-}
-
-/// A copy of what a base knows of a relation. Fails for want of memory alone, with `OutOfMemory`.
-fn known_copied(known: &Option<Seq<Identity>>) -> Result<Option<Seq<Identity>>, Cause>
-    ensures ok { IfOk result (λ copy. copy ≡ known.now) }
-    ensures err { IfErr result (λ cause. cause ≡ Cause.OutOfMemory) }
-{
-    match known {
-        Some(ids) => Ok(Some(ids.try_copy()?)),
-        None => Ok(None),
-    }
 }
 
 /// A copy of what a base knows of each relation. Fails for want of memory alone, with

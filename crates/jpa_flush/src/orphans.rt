@@ -19,23 +19,12 @@ use crate::differing::known;
 use crate::held::held_now;
 use jpa_behaviour::{Behaviour, ServedUnit};
 use jpa_cascade::{instance, state_of};
-use jpa_context::{Base, EntityState, Entry, UnitOfWork, place_laws};
+use jpa_context::{Base, EntityState, UnitOfWork};
 use jpa_fetch::load;
 use jpa_model::Metamodel;
-use jpa_ops::remove;
+use jpa_ops::{entry_of, remove};
 use jpa_value::{Cause, Identity, Seq, TryCopy, order_identities};
 use std::alloc::Global;
-
-/// The entry of an object, found by the object. Takes no memory, and looks at no other entry.
-fn entry_of(work: &UnitOfWork, object: usize) -> Option<&Entry>
-    ensures { option_copied result ≡ works.entry_of (now work.now) object }
-{
-    place_laws();
-    match work.context.place_of(object) {
-        Some(place) => work.context.as_slice().get(place),
-        None => None,
-    }
-}
 
 /// The base of an object, if it has an entry with one. Takes no memory.
 fn base_of(work: &UnitOfWork, object: usize) -> Option<&Base>

@@ -6,7 +6,6 @@
 #![tactic(auto)]
 
 mod change;
-mod classes;
 mod judging;
 mod reference;
 mod required;

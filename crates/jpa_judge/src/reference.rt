@@ -9,10 +9,9 @@ ghost use Rattle.jpa_judge.specs.Changed as changed;
 ghost use Rattle.jpa_judge.specs.Judged as judged;
 
 use crate::change::Change;
-use crate::classes::{is_kind_of, relations_of};
 use jpa_model::{Metamodel, Relation};
 use jpa_open::OpenSet;
-use jpa_stored::Stored;
+use jpa_stored::{Stored, is_kind_of, relations_of};
 use jpa_value::{Identity, Seq};
 
 /// Whether an object of the class or below it stands under the identity.

@@ -1,18 +1,16 @@
 //! Whether no two objects own the same target in one one-to-one relation.
 ghost use Rattle.std.specs.Prelude.{◌≡◌, ◌&&◌, not};
-ghost use Rattle.std.specs.List.{list_all, list_any, zip};
-ghost use Rattle.jpa_value.specs.Value.{same_identity};
+ghost use Rattle.std.specs.List.{list_all, zip};
 ghost use Rattle.jpa_stored.specs.Sets as sets;
 ghost use Rattle.jpa_open.specs.Leads as leads;
 ghost use Rattle.jpa_open.specs.Opened as opened;
 ghost use Rattle.jpa_judge.specs.Judged as judged;
 
 use crate::change::Change;
-use crate::classes::relations_of;
 use jpa_model::{Metamodel, Relation, Side};
-use jpa_open::OpenSet;
-use jpa_stored::Stored;
-use jpa_value::{Identity, Seq, is_same_identity};
+use jpa_open::{OpenSet, is_of_column};
+use jpa_stored::{Stored, is_among, relations_of};
+use jpa_value::{Identity, Seq};
 
 /// The column of an owning one-to-one relation; none for another.
 fn one_to_one(side: Side) -> Option<u64>
@@ -21,28 +19,6 @@ fn one_to_one(side: Side) -> Option<u64>
     match side {
         Side::OneToOne(column) => Some(column.column),
         _ => None,
-    }
-}
-
-/// Whether an identity is among these.
-fn is_among(ids: &[Identity], id: &Identity) -> bool
-    ensures { result ≡ list_any (same_identity id.now) ids.now }
-{
-    for other in ids {
-        if is_same_identity(id, other) {
-            return true;
-        }
-    }
-    false
-}
-
-/// Whether a side is the one-to-one relation of a column.
-fn is_of_column(side: Side, column: u64) -> bool
-    ensures { result ≡ leads.is_column column (sets.one_to_one_column side) }
-{
-    match side {
-        Side::OneToOne(other) => other.column == column,
-        _ => false,
     }
 }
 

@@ -1,28 +1,18 @@
 //! Whose pairs the rows of join tables are.
-ghost use Rattle.std.specs.Prelude.{◌≡◌, ◌<◌, ◌==◌, take, length, IfSome, IfOk, IfErr};
-ghost use Rattle.std.specs.List.{list_any};
+ghost use Rattle.std.specs.Prelude.{◌≡◌, ◌<◌, take, length, IfSome, IfOk, IfErr};
 ghost use Rattle.jpa_value.specs.declared.refusal.Cause.{Cause};
-ghost use Rattle.jpa_rows.specs.Cells.{join_tables};
 ghost use Rattle.jpa_stored.specs.Sets as sets;
 ghost use Rattle.jpa_object_rows.specs.Identities as identities;
 ghost use Rattle.jpa_judgment.specs.Owners as spec;
 ghost use Rattle.jpa_judgment.specs.Read.{AreOfClasses};
 ghost use Rattle.jpa_judgment.specs.Sound as sound;
 
-use jpa_model::{Entity, Metamodel, Root, Side};
+use jpa_mapper::is_kept_in;
+use jpa_model::{Entity, Metamodel, Root};
 use jpa_rows::{Row, RowId};
 use jpa_stored::StoredSet;
 use jpa_value::{Cause, Identity, Key, Seq, TryCopy, Value};
 use std::alloc::Global;
-
-fn is_kept_in(side: Side, table: u64) -> bool
-    ensures { result ≡ list_any (λ t. t == table) (join_tables side) }
-{
-    match side {
-        Side::ManyToMany(join) => join == table,
-        _ => false,
-    }
-}
 
 fn declares(entity: &Entity, table: u64) -> bool
     ensures { result ≡ identities.declares table entity.now }

@@ -1,7 +1,6 @@
 //! A whole store, judged.
 ghost use Rattle.std.specs.Prelude.{◌≡◌, ◌⊎◌, ◌+◌, ℕ, [], List, length, Err, None, IfOk, IfErr, OnOk, OnErr};
 ghost use Rattle.jpa_value.specs.declared.refusal.Cause.{Cause};
-ghost use Rattle.jpa_key.specs.Keys.{key_bytes};
 ghost use Rattle.jpa_behaviour.specs.Registered.{world_of};
 ghost use Rattle.jpa_rows.specs.Cells.{CanBeHeld, StandFor};
 ghost use Rattle.jpa_rows.specs.Tables.{schema_of};
@@ -21,25 +20,13 @@ use crate::read::{Found, read_tables, table_numbers};
 use jpa_behaviour::{Behaviour, Registry};
 use jpa_cells_meaning::CellChange;
 use jpa_history::History;
-use jpa_key::encode_key;
-use jpa_mapper::discriminator_law;
+use jpa_mapper::{damaged, discriminator_law};
 use jpa_model::Metamodel;
 use jpa_rows::{Row, RowId, Schema};
 use jpa_rowspace::RowSpace;
 use jpa_value::{Bytes, Cause, Seq};
 use sqlite::Alter;
 use std::alloc::Global;
-
-/// The refusal that tells of a row, or `OutOfMemory`.
-fn damaged(alloc: Global, id: &RowId) -> Cause
-    ensures { (result ≡ Cause.OutOfMemory) ⊎ (result
-        ≡ Cause.Damaged id.now.table (key_bytes id.now.key)) }
-{
-    match encode_key(alloc, &id.key) {
-        Ok(bytes) => Cause::Damaged(id.table, bytes),
-        Err(_) => Cause::OutOfMemory,
-    }
-}
 
 /// The refusal of rows none of which is at fault. Takes no memory.
 fn nothing_at_fault(alloc: Global) -> Cause

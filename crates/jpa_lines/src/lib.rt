@@ -14,4 +14,4 @@ pub mod writing;
 
 pub use reading::read_call;
 pub use run::RunFault;
-pub use writing::write_reply;
+pub use writing::{tell_value, write_reply};

@@ -210,7 +210,7 @@ fn tell_object(out: &mut Writer, number: u64) -> Result<(), Cause>
     Ok(())
 }
 
-fn tell_value(alloc: Global, out: &mut Writer, value: &Value) -> Result<(), Cause>
+pub fn tell_value(alloc: Global, out: &mut Writer, value: &Value) -> Result<(), Cause>
     ensures { Tells result out.old out.new (value_data value.now) }
 {
     match value {

@@ -18,11 +18,11 @@ mod own_pairs;
 mod pair_rows;
 mod places;
 mod reading;
-mod representable;
 mod shape;
 mod targets;
 mod writing;
 
 pub use laws::{discriminator_law, mapper_laws};
+pub use own_pairs::{damaged, is_kept_in};
 pub use reading::{from_rows, from_rows_by_id};
 pub use writing::{number_row, to_rows};

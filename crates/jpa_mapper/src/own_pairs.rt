@@ -17,7 +17,7 @@ use jpa_rows::{Content, Row, RowId};
 use jpa_value::{Cause, Identity, Value};
 use std::alloc::Global;
 
-fn is_kept_in(side: Side, table: u64) -> bool
+pub fn is_kept_in(side: Side, table: u64) -> bool
     ensures { result ≡ list_any (λ t. t == table) (join_tables side) }
 {
     match side {
@@ -66,7 +66,7 @@ fn is_pair_row(row: &Row) -> bool
 }
 
 /// The refusal that tells of a row, or `OutOfMemory`.
-fn damaged(alloc: Global, id: &RowId) -> Cause
+pub fn damaged(alloc: Global, id: &RowId) -> Cause
     ensures { (result ≡ Cause.OutOfMemory) ⊎ (result
         ≡ Cause.Damaged id.now.table (key_bytes id.now.key)) }
 {

@@ -5,9 +5,8 @@ ghost use Rattle.jpa_value.specs.Value.{fits, is_representable};
 ghost use Rattle.jpa_stored.specs.Sets.{each_fits};
 ghost use Rattle.jpa_mapper.specs.Guess as spec;
 
-use crate::representable::version_is_representable;
 use jpa_model::{Attribute, Metamodel, Part, Relation, Root, VersionColumn};
-use jpa_rows::value_is_representable;
+use jpa_rows::{value_is_representable, version_is_representable};
 use jpa_stored::Stored;
 use jpa_value::{Identity, Kind, Seq, Value, fits};
 

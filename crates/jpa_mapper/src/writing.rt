@@ -10,10 +10,9 @@ ghost use Rattle.jpa_mapper.specs.Mapped.{all_pass};
 
 use crate::main_row::main_row;
 use crate::pair_rows::{number_in_first, push_pairs_along};
-use crate::representable::{identity_is_representable, object_is_representable};
 use jpa_behaviour::{Behaviour, Registry};
 use jpa_model::Metamodel;
-use jpa_rows::{Row, RowId};
+use jpa_rows::{Row, RowId, identity_is_representable, object_is_representable};
 use jpa_stored::Stored;
 use jpa_value::{Cause, Identity, Seq, TryCopy, Value};
 use std::alloc::Global;

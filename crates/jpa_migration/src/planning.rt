@@ -6,7 +6,6 @@ ghost use Rattle.jpa_model.specs.Chains as chains;
 ghost use Rattle.jpa_behaviour.specs.Registered.{world_of};
 ghost use Rattle.jpa_model.specs.declared.unit.PersistenceUnit.{PersistenceUnit};
 ghost use Rattle.jpa_history.specs.History as histories;
-ghost use Rattle.jpa_rows.specs.Numbers.{IsNarrow};
 ghost use Rattle.jpa_migration.specs.Migration as migration;
 ghost use Rattle.jpa_migration.specs.Changed as changed;
 ghost use Rattle.jpa_migration.specs.Plans as plans;
@@ -18,18 +17,9 @@ use jpa_behaviour::{Behaviour, Registry};
 use jpa_cells_meaning::Cell;
 use jpa_history::History;
 use jpa_model::{Attribute, Entity, Metamodel};
-use jpa_rows::{Content, spell_content};
+use jpa_rows::{Content, entity_at, spell_content};
 use jpa_value::{Bytes, Cause, Seq, TryCopy, Value};
 use std::alloc::Global;
-
-/// The entity at a place, whose numbers fit 32 bits.
-fn entity_at(metamodel: &Metamodel, class: usize) -> &Entity
-    requires { class < length metamodel.now.entities }
-    ensures entity { result.now ≡ chains.entity_at metamodel.now class }
-    ensures narrow { IsNarrow metamodel.now result.now }
-{
-    &metamodel.unit().entities.as_slice()[class]
-}
 
 /// The number of an attribute's column, as cells have it.
 fn column_of(attribute: &Attribute) -> i64

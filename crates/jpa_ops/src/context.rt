@@ -30,7 +30,7 @@ pub fn has_instance(metamodel: &Metamodel, work: &UnitOfWork, object: usize) -> 
 }
 
 /// The entry of an object, found by the object. Takes no memory, and looks at no other entry.
-fn entry_of(work: &UnitOfWork, object: usize) -> Option<&Entry>
+pub fn entry_of(work: &UnitOfWork, object: usize) -> Option<&Entry>
     ensures { option_copied result ≡ works.entry_of (now work.now) object }
 {
     place_laws();

@@ -11,6 +11,7 @@ mod persisting;
 mod refreshing;
 mod removing;
 
+pub use context::entry_of;
 pub use detaching::detach;
 pub use locking::lock;
 pub use persisting::{become_managed, persist};

@@ -21,7 +21,6 @@ mod provider;
 mod querying;
 mod replies;
 mod session;
-mod sharing;
 mod working;
 
 pub use provider::Provider;

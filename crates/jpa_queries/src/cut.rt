@@ -1,13 +1,12 @@
 //! The rows of a SELECT that are asked, kept.
-ghost use Rattle.std.specs.Prelude.{◌≡◌, IfOk, IfErr, map};
+ghost use Rattle.std.specs.Prelude.{◌≡◌, IfOk, IfErr};
 ghost use Rattle.jpa_value.specs.declared.refusal.Cause.{Cause};
 ghost use Rattle.jpa_queries.specs.Queries as queries;
-ghost use Rattle.jpql_eval.specs.Seen.{seen};
 ghost use Rattle.jpql_select.specs.Tables.{rows_in};
 
-use jpa_value::{Cause, Seq, TryCopy, Value};
-use jpql_eval::{Datum, Seen};
-use jpql_select::Table;
+use jpa_value::{Cause, Seq, TryCopy};
+use jpql_eval::Datum;
+use jpql_select::{Table, rows_of};
 use std::alloc::Global;
 
 /// Whether a number of rows, where one is asked, isn't negative.
@@ -38,45 +37,6 @@ fn limited<T>(max: Option<i64>, rows: &[T]) -> &[T]
         Some(max) if max >= 0 => rows.get(..max as usize).unwrap_or(rows),
         _ => rows,
     }
-}
-
-/// A datum of its own. Fails for want of memory alone, with `OutOfMemory`.
-fn datum_of(item: &Seen<'_>) -> Result<Datum, Cause>
-    ensures ok { IfOk result (λ datum. datum ≡ seen item.now) }
-    ensures err { IfErr result (λ cause. cause ≡ Cause.OutOfMemory) }
-{
-    Ok(match item {
-        Seen::Null => Datum::Plain(Value::Null),
-        Seen::Int(number) => Datum::Plain(Value::Int(*number)),
-        Seen::Text(text) => Datum::Plain(Value::Text(text.try_copy()?)),
-        Seen::Bytes(bytes) => Datum::Plain(Value::Bytes(bytes.try_copy()?)),
-        Seen::Entity(id) => Datum::Entity(id.try_copy()?),
-        Seen::Made(text) => Datum::Plain(Value::Text(text.try_copy()?)),
-    })
-}
-
-/// A row of its own. Fails for want of memory alone, with `OutOfMemory`.
-fn row_of(alloc: Global, items: &[Seen<'_>]) -> Result<Seq<Datum>, Cause>
-    ensures ok { IfOk result (λ row. row ≡ map seen items.now) }
-    ensures err { IfErr result (λ cause. cause ≡ Cause.OutOfMemory) }
-{
-    let mut row = Seq::new(alloc);
-    for item in items {
-        row.push(datum_of(item)?)?;
-    }
-    Ok(row)
-}
-
-/// Rows of their own. Fails for want of memory alone, with `OutOfMemory`.
-fn rows_of(alloc: Global, table: &[Vec<Seen<'_>>]) -> Result<Seq<Seq<Datum>>, Cause>
-    ensures ok { IfOk result (λ rows. rows ≡ map (λ row. map seen row.items) table.now) }
-    ensures err { IfErr result (λ cause. cause ≡ Cause.OutOfMemory) }
-{
-    let mut rows = Seq::new(alloc);
-    for row in table {
-        rows.push(row_of(alloc, row.as_slice())?)?;
-    }
-    Ok(rows)
 }
 
 /// The rows of a table without the first ones, and at most so many (Jakarta Persistence 3.1,

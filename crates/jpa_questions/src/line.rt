@@ -9,6 +9,7 @@ ghost use Rattle.serde_json.specs.Data.{array};
 ghost use Rattle.serde_json.specs.View.{items_of};
 ghost use Rattle.jpa_questions.specs.Lines as spec;
 
+use jpa_lines::tell_value;
 use jpa_model::{Entity, Metamodel, Origin};
 use jpa_value::{Cause, Identity, Seq, Value};
 use jpql_eval::Datum;
@@ -41,29 +42,6 @@ fn entity_name(metamodel: &Metamodel, table: u64) -> &str
     match entity_of(metamodel.entities(), table) {
         Some(entity) => entity.name.as_str(),
         None => "",
-    }
-}
-
-/// Bytes as hex digits.
-fn tell_bytes(alloc: Global, out: &mut Writer, bytes: &[u8]) -> Result<(), Cause>
-    ensures { Tells result out.old out.new (value_data (values.Bytes bytes.now)) }
-{
-    let digits = hex::encode(alloc, bytes)?;
-    out.begin_object()?;
-    out.key("hex")?;
-    out.string(digits.as_str())?;
-    out.end_object()?;
-    Ok(())
-}
-
-fn tell_value(alloc: Global, out: &mut Writer, value: &Value) -> Result<(), Cause>
-    ensures { Tells result out.old out.new (value_data value.now) }
-{
-    match value {
-        Value::Null => Ok(out.null()?),
-        Value::Int(n) => Ok(out.i64(*n)?),
-        Value::Text(text) => Ok(out.string(text.as_str())?),
-        Value::Bytes(bytes) => tell_bytes(alloc, out, bytes.as_slice()),
     }
 }
 

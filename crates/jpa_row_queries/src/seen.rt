@@ -12,10 +12,10 @@ ghost use Rattle.jpa_row_queries.specs.Seen.{SeesSet, StandsAlone};
 
 use crate::alone::object_under;
 use crate::gathering::set_seen;
-use crate::opened::{opened_alone, opened_set};
+use crate::opened::opened_alone;
 use jpa_behaviour::{Behaviour, Registry};
 use jpa_model::Metamodel;
-use jpa_open::OpenSet;
+use jpa_open::{OpenSet, view_of};
 use jpa_overlay::Overlay;
 use jpa_rows::RowReader;
 use jpa_value::{Cause, Identity};
@@ -63,5 +63,5 @@ pub(crate) fn whole_seen<R: RowReader, B: Behaviour>(
     ensures looks { LooksOnly R.RowReader result source.old source.new }
 {
     let set = set_seen(alloc, metamodel, registry, overlay, source)?;
-    opened_set(alloc, set)
+    view_of(alloc, set)
 }

@@ -12,6 +12,7 @@ mod copy;
 mod origin;
 mod read;
 mod reader;
+mod representable;
 mod row;
 mod same;
 mod schema;
@@ -27,11 +28,15 @@ pub use copy::copy_row;
 pub use origin::origin_of;
 pub use read::{read_content, read_id, read_row};
 pub use reader::RowReader;
+pub use representable::{
+    identity_is_representable, object_is_representable, version_is_representable,
+};
 pub use row::{Content, Field, Row, RowChange, RowId};
 pub use same::is_same_row;
 pub use schema::{ColumnRule, Holds, Schema, TableRule};
 pub use sink::RowSink;
 pub use source::RowSource;
 pub use spell::{spell_content, spell_row};
+pub use tables::entity_at;
 pub use values::{is_short, text_is_representable, value_is_representable};
 pub use whole::{is_key, is_row_of};

@@ -15,7 +15,7 @@ use jpa_value::{Cause, Kind, Seq};
 use std::alloc::Global;
 
 /// The entity at a place, whose numbers fit 32 bits.
-fn entity_at(metamodel: &Metamodel, class: usize) -> &Entity
+pub fn entity_at(metamodel: &Metamodel, class: usize) -> &Entity
     requires { class < length metamodel.now.entities }
     ensures entity { result.now ≡ chains.entity_at metamodel.now class }
     ensures narrow { IsNarrow metamodel.now result.now }

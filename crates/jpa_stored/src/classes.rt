@@ -26,7 +26,7 @@ pub fn relations_of(metamodel: &Metamodel, class: usize) -> &[Relation]
 }
 
 /// The class that declares each of the relations of a class.
-fn declarers_of(metamodel: &Metamodel, class: usize) -> &[usize]
+pub fn declarers_of(metamodel: &Metamodel, class: usize) -> &[usize]
     ensures { result.now ≡ chains.declarers_of metamodel.now class }
 {
     if class >= metamodel.entities().len() {

@@ -18,7 +18,8 @@ mod set;
 mod sound;
 mod stored;
 
-pub use related::members;
+pub use classes::{attributes_of, declarers_of, is_held_by, is_kind_of, relations_of};
+pub use related::{is_among, members, owner_of};
 pub use set::StoredSet;
-pub use sound::integrity;
+pub use sound::{integrity, links_filled, values_filled};
 pub use stored::Stored;

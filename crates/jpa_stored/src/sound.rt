@@ -22,7 +22,7 @@ fn is_filled(required: bool, value: &Value) -> bool
 }
 
 /// Whether the values of these attributes are there.
-fn values_filled(attributes: &[Attribute], values: &[Value]) -> bool
+pub fn values_filled(attributes: &[Attribute], values: &[Value]) -> bool
     ensures { result ≡ sets.values_there (zip attributes.now values.now) }
 {
     for (i, value) in values.iter().enumerate() {
@@ -51,7 +51,7 @@ fn is_linked(side: Side, ids: &[Identity]) -> bool
 }
 
 /// Whether the links of these relations are there.
-fn links_filled(relations: &[Relation], owned: &[Seq<Identity>]) -> bool
+pub fn links_filled(relations: &[Relation], owned: &[Seq<Identity>]) -> bool
     ensures { result ≡ sets.links_there (zip relations.now owned.now) }
 {
     for (i, ids) in owned.iter().enumerate() {

@@ -9,8 +9,8 @@ ghost use Rattle.jpql_plan.specs.Bulk as bulk;
 use crate::converters::{is_too_long, throws};
 use crate::refused::Refused;
 use jpa_behaviour::{Behaviour, ServedUnit};
-use jpa_model::{Attribute, Member, Metamodel};
-use jpa_stored::Stored;
+use jpa_model::{Attribute, Member};
+use jpa_stored::{Stored, attributes_of};
 use jpa_value::{Identity, Seq, TryCopy, Value};
 use jpql_eval::Seen;
 use std::alloc::Global;
@@ -37,16 +37,6 @@ fn value_of<'a>(datum: &Seen<'a>) -> Result<Option<Value>, Refused>
         Seen::Bytes(bytes) => Ok(Some(Value::Bytes(copied(*bytes)?))),
         Seen::Entity(_) => Ok(None),
     }
-}
-
-/// The attributes of a class and its superclasses.
-fn attributes_of(metamodel: &Metamodel, class: usize) -> &[Attribute]
-    ensures { result.now ≡ chains.attributes_of metamodel.now class }
-{
-    if class >= metamodel.entities().len() {
-        return &[];
-    }
-    metamodel.attributes_of(class)
 }
 
 /// A list with another item at a place, where there is one.

@@ -4,38 +4,7 @@ ghost use Rattle.jpa_model.specs.Chains as chains;
 ghost use Rattle.jpql_by_key.specs.Own as own;
 
 use jpa_model::{Metamodel, Side};
-
-/// The class that declares each of the relations of a class, which may be a number that names none.
-fn declarers_of(metamodel: &Metamodel, class: usize) -> &[usize]
-    ensures { result.now ≡ chains.declarers_of metamodel.now class }
-{
-    if class >= metamodel.entities().len() {
-        return &[];
-    }
-    metamodel.declarers_of(class)
-}
-
-/// Whether a class is another or below it.
-fn is_kind_of(metamodel: &Metamodel, class: usize, above: usize) -> bool
-    ensures { result ≡ chains.is_kind_of metamodel.now class above }
-{
-    let classes = metamodel.unit().entities.len();
-    if class >= classes {
-        return class == above;
-    }
-    above < classes && metamodel.is_kind_of(class, above)
-}
-
-/// Whether objects of another class hold the relation that stands at a place of this one's chain.
-fn is_held_by(metamodel: &Metamodel, class: usize, relation: usize, other: usize) -> bool
-    ensures { result ≡ chains.is_held_by metamodel.now class relation other }
-{
-    let declarer = match declarers_of(metamodel, class).get(relation) {
-        None => class,
-        Some(declarer) => *declarer,
-    };
-    is_kind_of(metamodel, other, declarer)
-}
+use jpa_stored::is_held_by;
 
 fn is_owned_side(side: &Side) -> bool
     ensures { result ≡ own.is_owned_side side.now }

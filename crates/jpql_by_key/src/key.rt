@@ -7,6 +7,7 @@ use crate::own::is_own_select;
 use jpa_model::{Member, Metamodel, Side};
 use jpa_value::{Boxed, Identity, Seq, TryCopy, Value};
 use jpql_eval::Datum;
+use jpql_run::copied;
 use jpql_tree::Comparison;
 use jpql_types::{
     Step, TypedCondition, TypedOrigin, TypedPath, TypedSelect, TypedSource, TypedValue,
@@ -49,16 +50,6 @@ fn names_key(value: &TypedValue) -> bool
     match value {
         TypedValue::Path(path) => is_key_path(path),
         _ => false,
-    }
-}
-
-/// A copy. It fails for want of memory alone.
-fn copied<T: TryCopy>(value: &T) -> Result<T, AllocError>
-    ensures { IfOk result (λ copy. copy ≡ value.now) }
-{
-    match value.try_copy() {
-        Ok(copy) => Ok(copy),
-        Err(_) => Err(AllocError),
     }
 }
 

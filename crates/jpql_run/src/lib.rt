@@ -12,7 +12,6 @@ mod by_reference;
 mod by_value;
 mod calm;
 mod choosing;
-mod classes;
 mod collections;
 mod conditions;
 mod drops;
@@ -47,6 +46,7 @@ pub use indexes::Indexes;
 pub use laws::{
     calm_laws, join_laws, key_laws, known_laws, leaving_out_laws, lookup_laws, refusal_laws,
 };
+pub use looked_up::copied;
 pub use object::{Object, object_of};
 pub use paths::{is_broken, path, walked};
 pub use run::Run;

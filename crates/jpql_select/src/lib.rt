@@ -14,6 +14,7 @@ mod distinct;
 mod groups;
 mod key;
 mod order;
+mod own;
 mod row;
 mod rows;
 mod short;
@@ -21,6 +22,7 @@ mod statement;
 mod table;
 mod tuples;
 
+pub use own::rows_of;
 pub use row::Row;
 pub use statement::select;
 pub use table::Table;

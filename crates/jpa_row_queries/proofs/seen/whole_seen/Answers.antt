@@ -20,15 +20,15 @@ returns-in_err-set-clause-looks g c =
     looks_passed g.R.RowReader c.args.source.now c.set_seen.new.source e c.set_seen.result c.from_residual.result c.in_err-set.was (err_is c.from_residual.result e c.from_residual.ensures.1) c.set_seen.ensures.looks
 
 pub returns-clause-seen : goal.returns-clause-seen
-returns-clause-seen g c clean set numbers sees = opened_as c.opened_set.result c.in_ok-set.set set (c.in_ok-set.ensures.set clean set numbers sees) c.opened_set.ensures.opened c.opened_set.ensures.err
+returns-clause-seen g c clean set numbers sees = opened_as c.view_of.result c.in_ok-set.set set (c.in_ok-set.ensures.set clean set numbers sees) c.view_of.ensures.view c.view_of.ensures.err
 
 pub returns-clause-looked_up : goal.returns-clause-looked_up
 returns-clause-looked_up g c =
-    opened_looked c.args.metamodel.now c.opened_set.result c.in_ok-set.set (record { rising = c.in_ok-set.ensures.rising; shaped = c.in_ok-set.ensures.shaped }) c.opened_set.ensures.opened
+    opened_looked c.args.metamodel.now c.view_of.result c.in_ok-set.set (record { rising = c.in_ok-set.ensures.rising; shaped = c.in_ok-set.ensures.shaped }) c.view_of.ensures.view
 
 pub returns-clause-err : goal.returns-clause-err
-returns-clause-err g c clean rows rise holds = if_err c.opened_set.result memory_reading c.opened_set.ensures.err
+returns-clause-err g c clean rows rise holds = if_err c.view_of.result memory_reading c.view_of.ensures.err
 
 pub returns-clause-looks : goal.returns-clause-looks
 returns-clause-looks g c =
-    looks_own g.R.RowReader c.args.source.now c.set_seen.new.source c.in_ok-set.set c.set_seen.result c.opened_set.result c.in_ok-set.was c.set_seen.ensures.looks (if_err c.opened_set.result memory_own c.opened_set.ensures.err)
+    looks_own g.R.RowReader c.args.source.now c.set_seen.new.source c.in_ok-set.set c.set_seen.result c.view_of.result c.in_ok-set.was c.set_seen.ensures.looks (if_err c.view_of.result memory_own c.view_of.ensures.err)

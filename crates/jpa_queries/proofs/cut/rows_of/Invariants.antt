@@ -1,7 +1,0 @@
-use Rattle.std.proofs.Common.{◌≡◌, ◌++◌, drop, map}
-use Rattle.jpql_eval.specs.Seen.{seen}
-use Rattle.jpa_queries.proofs.cut.rows_of.Given as goal
-
--- the rows so far, and those that are left
-abbrev pub invariant-loop-row : goal.invariant-loop-row
-invariant-loop-row l = l.rows ++ map (λ row. map seen row.items) (drop l.row-index l.table) ≡ map (λ row. map seen row.items) l.table

@@ -1,7 +1,0 @@
-use Rattle.std.proofs.Common.{◌≡◌, ◌++◌, drop, map}
-use Rattle.jpql_eval.specs.Seen.{seen}
-use Rattle.jpa_row_queries.proofs.answering.row_of.Given as goal
-
--- the items so far, and those that are left
-abbrev pub invariant-loop-item : goal.invariant-loop-item
-invariant-loop-item l = l.row ++ map seen (drop l.item-index l.items) ≡ map seen l.items

@@ -1,0 +1,47 @@
+//! Rows of their own, which outlive the set that a statement ran over.
+ghost use Rattle.std.specs.Prelude.{◌≡◌, IfOk, IfErr, map};
+ghost use Rattle.jpa_value.specs.declared.refusal.Cause.{Cause};
+ghost use Rattle.jpql_eval.specs.Seen.{seen};
+
+use jpa_value::{Cause, Seq, TryCopy, Value};
+use jpql_eval::{Datum, Seen};
+use std::alloc::Global;
+
+/// A datum of its own. Fails for want of memory alone, with `OutOfMemory`.
+fn datum_of(item: &Seen<'_>) -> Result<Datum, Cause>
+    ensures ok { IfOk result (λ datum. datum ≡ seen item.now) }
+    ensures err { IfErr result (λ cause. cause ≡ Cause.OutOfMemory) }
+{
+    Ok(match item {
+        Seen::Null => Datum::Plain(Value::Null),
+        Seen::Int(number) => Datum::Plain(Value::Int(*number)),
+        Seen::Text(text) => Datum::Plain(Value::Text(text.try_copy()?)),
+        Seen::Bytes(bytes) => Datum::Plain(Value::Bytes(bytes.try_copy()?)),
+        Seen::Entity(id) => Datum::Entity(id.try_copy()?),
+        Seen::Made(text) => Datum::Plain(Value::Text(text.try_copy()?)),
+    })
+}
+
+/// A row of its own. Fails for want of memory alone, with `OutOfMemory`.
+fn row_of(alloc: Global, items: &[Seen<'_>]) -> Result<Seq<Datum>, Cause>
+    ensures ok { IfOk result (λ row. row ≡ map seen items.now) }
+    ensures err { IfErr result (λ cause. cause ≡ Cause.OutOfMemory) }
+{
+    let mut row = Seq::new(alloc);
+    for item in items {
+        row.push(datum_of(item)?)?;
+    }
+    Ok(row)
+}
+
+/// Rows of their own. Fails for want of memory alone, with `OutOfMemory`.
+pub fn rows_of(alloc: Global, table: &[Vec<Seen<'_>>]) -> Result<Seq<Seq<Datum>>, Cause>
+    ensures ok { IfOk result (λ rows. rows ≡ map (λ row. map seen row.items) table.now) }
+    ensures err { IfErr result (λ cause. cause ≡ Cause.OutOfMemory) }
+{
+    let mut rows = Seq::new(alloc);
+    for row in table {
+        rows.push(row_of(alloc, row.as_slice())?)?;
+    }
+    Ok(rows)
+}
