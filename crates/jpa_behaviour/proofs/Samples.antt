@@ -4,7 +4,7 @@ use Rattle.std.proofs.Common.{refl}
 use Rattle.jpa_value.specs.declared.value.Value.{Value}
 use Rattle.jpa_value.specs.declared.event.LifecycleEvent.{LifecycleEvent}
 use Rattle.jpa_value.specs.declared.refusal.Argument.{Argument}
-use Rattle.jpa_value.specs.declared.refusal.Persist.{Persist}
+use Rattle.jpa_value.specs.declared.refusal.PersistenceFault.{PersistenceFault}
 use Rattle.jpa_value.specs.declared.refusal.Cause.{Cause}
 use Rattle.jpa_behaviour.specs.declared.Image.{Image}
 use Rattle.jpa_behaviour.specs.declared.Heard.{Heard}
@@ -54,8 +54,8 @@ one_is_turned = refl
 and_back : attribute_in meaning registered (codes "one") (Value.Int (negsuc 1)) ≡ Some (Value.Int (pos 1))
 and_back = refl
 
-null_is_thrown : or_thrown (column_in meaning registered (codes "same") Value.Null) ≡ Err (Cause.Persistence Persist.Converter)
+null_is_thrown : or_thrown (column_in meaning registered (codes "same") Value.Null) ≡ Err (Cause.Persistence PersistenceFault.Converter)
 null_is_thrown = refl
 
-no_text_is_turned : or_thrown (column_in meaning registered (codes "one") (Value.Text (codes "A"))) ≡ Err (Cause.Persistence Persist.Converter)
+no_text_is_turned : or_thrown (column_in meaning registered (codes "one") (Value.Text (codes "A"))) ≡ Err (Cause.Persistence PersistenceFault.Converter)
 no_text_is_turned = refl

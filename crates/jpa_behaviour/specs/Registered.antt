@@ -4,7 +4,7 @@ use Rattle.std.specs.Prelude.{◌≡◌, ◌↔◌, ⊤, ℕ, Bool, true, List, 
 use Rattle.std.specs.Prelude.{Some, None, option_map, Result, Ok, Err}
 use Rattle.jpa_value.specs.declared.value.Value.{Value}
 use Rattle.jpa_value.specs.declared.refusal.Argument.{Argument}
-use Rattle.jpa_value.specs.declared.refusal.Persist.{Persist}
+use Rattle.jpa_value.specs.declared.refusal.PersistenceFault.{PersistenceFault}
 use Rattle.jpa_value.specs.declared.refusal.Cause.{Cause}
 use Rattle.jpa_model.specs.Chains.{same_name}
 use Rattle.jpa_model.specs.WellFormed.{are_distinct_by}
@@ -123,5 +123,5 @@ if_known (Some what) answer = answer
 
 -- a converter's value, or Persistence(converter) where it threw
 abbrev pub or_thrown : Option Value → Result Value Cause
-or_thrown None = Err (Cause.Persistence Persist.Converter)
+or_thrown None = Err (Cause.Persistence PersistenceFault.Converter)
 or_thrown (Some v) = Ok v

@@ -4,7 +4,7 @@ ghost use Rattle.jpa_value.specs.declared.value.Value.{Value};
 ghost use Rattle.jpa_behaviour.specs.Behaviour.{is_convertible};
 ghost use Rattle.jpa_behaviour.specs.Registered as spec;
 
-use jpa_value::{Cause, MOST_BYTES, Persist, Value};
+use jpa_value::{Cause, MOST_BYTES, PersistenceFault, Value};
 
 // Every integer of 64 bits counts.
 fn number_counts(number: i64) -> bool
@@ -44,6 +44,6 @@ pub(crate) fn or_thrown(answer: Option<Value>) -> Result<Value, Cause>
 {
     match answer {
         Some(value) if counts(&value) => Ok(value),
-        _ => Err(Cause::Persistence(Persist::Converter)),
+        _ => Err(Cause::Persistence(PersistenceFault::Converter)),
     }
 }

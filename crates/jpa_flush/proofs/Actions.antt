@@ -4,7 +4,7 @@ use Rattle.std.specs.Prelude.{ℤ, Option, Some, None}
 use Rattle.std.specs.List.{flat_map}
 use Rattle.std.specs.Option.{option_to_list}
 use Rattle.jpa_value.specs.declared.refusal.Cause.{Cause}
-use Rattle.jpa_value.specs.declared.refusal.Persist.{Persist}
+use Rattle.jpa_value.specs.declared.refusal.PersistenceFault.{PersistenceFault}
 use Rattle.jpa_model.specs.declared.unit.PersistenceUnit.{PersistenceUnit}
 use Rattle.jpa_behaviour.specs.Behaviour.{World}
 use Rattle.jpa_stored.specs.declared.stored.Stored.{Stored}
@@ -24,9 +24,9 @@ same_row (Some x) b = refl
 
 after_current : World → ℕ → Option ℤ → Op (Unit {0})
 after_current world n version = do
-  require (can_rise version) (Cause.Persistence Persist.Version)
+  require (can_rise version) (Cause.Persistence PersistenceFault.Version)
   convertible ← read (λ w. all_convert world (object w n))
-  require convertible (Cause.Persistence Persist.Converter)
+  require convertible (Cause.Persistence PersistenceFault.Converter)
 
 check_as : (world : World) (e : Entry) (a : Option Action) (w : Work) → check_action world e a w ≡ check world e.object (step_as a) w
 unfolding after_current

@@ -6,12 +6,12 @@ use Rattle.std.specs.FinMap.Entries.{is_sorted}
 use Rattle.std.proofs.lemmas.List.Elements.{All-nil, All-cons, All-head, All-tail, All-append}
 use Rattle.jpa_value.specs.declared.value.Identity.{Identity}
 use Rattle.jpa_value.specs.declared.refusal.Cause.{Cause}
-use Rattle.jpa_value.specs.declared.refusal.Persist.{Persist}
+use Rattle.jpa_value.specs.declared.refusal.PersistenceFault.{PersistenceFault}
 use Rattle.jpa_value.specs.Value.{identity_cmp, same_identity}
 use Rattle.jpa_model.specs.declared.unit.PersistenceUnit.{PersistenceUnit}
 use Rattle.jpa_stored.specs.Sets.{StoredSet, IsSound, stored_at, fault_of}
-use Rattle.jpa_judge.specs.declared.change.Change.{Change}
-use Rattle.jpa_judge.specs.Changed.{class_at, is_changed, IsChanged}
+use Rattle.jpa_constraints.specs.declared.change.Change.{Change}
+use Rattle.jpa_constraints.specs.Changed.{class_at, is_changed, IsChanged}
 use Rattle.jpa_context.specs.Work.{Work, row_at}
 use Rattle.jpa_context.specs.Steps.{Refused, Meets, IsRefusedAs}
 use Rattle.jpa_flush.specs.declared.planning.Planned.{Planned}
@@ -107,7 +107,7 @@ pub judged : (m : PersistenceUnit) (s : StoredSet) (w : Work) (r : Result (Unit 
 judged m s w (Ok a) sound fault = ap (λ f. sound_or f w) sound
 judged m s w (Err cause) sound fault = by (fault_of m s) fault
   where
-    by : (f : Option Persist) → option_map Cause.Persistence f ≡ Some cause → IsRefusedAs {A = Unit {0}} cause w.events (sound_or f w)
+    by : (f : Option PersistenceFault) → option_map Cause.Persistence f ≡ Some cause → IsRefusedAs {A = Unit {0}} cause w.events (sound_or f w)
     by None h = absurd cc
     by (Some f) h =
         let same : Cause.Persistence f ≡ cause = cc in

@@ -6,7 +6,7 @@ use Rattle.std.specs.FinMap.Entries.{is_sorted}
 use Rattle.std.proofs.lemmas.Bool.{and_from}
 use Rattle.jpa_value.specs.declared.value.Identity.{Identity}
 use Rattle.jpa_value.specs.declared.refusal.Cause.{Cause}
-use Rattle.jpa_value.specs.declared.refusal.Persist.{Persist}
+use Rattle.jpa_value.specs.declared.refusal.PersistenceFault.{PersistenceFault}
 use Rattle.jpa_value.specs.Value.{identity_cmp, same_identity}
 use Rattle.jpa_protocol.specs.declared.event.Told.{Told}
 use Rattle.jpa_model.specs.declared.unit.PersistenceUnit.{PersistenceUnit}
@@ -144,7 +144,7 @@ ended world w set =
 abbrev told_of : World → Work → Outcome (Unit {0})
 told_of world w = told_by world (plan_of world.model w) (applied world.model (plan_of world.model w) (new_view world.model w) w)
 
-by_fault : (w : Work) (fault : Option Persist) (next : Op (Unit {0})) (o : Outcome (Unit {0})) → next w ≡ o → after (sound_or fault w) (λ _. next) ≡ after (sound_or fault w) (λ _ _. o)
+by_fault : (w : Work) (fault : Option PersistenceFault) (next : Op (Unit {0})) (o : Outcome (Unit {0})) → next w ≡ o → after (sound_or fault w) (λ _. next) ≡ after (sound_or fault w) (λ _ _. o)
 by_fault w None next o e = e
 by_fault w (Some fault) next o e = refl
 
@@ -156,7 +156,7 @@ written_is world w rising distinct =
     ∙ by_fault w (fault_of m (new_view m w)) (ending world (actions m w) (new_view m w)) (told_of world w) (ended world w (new_view m w))
 
 -- a set is sound or refused over any work alike
-pub no_fault : (fault : Option Persist) (w v : Work) → sound_or fault w ≡ Done tt v → fault ≡ None
+pub no_fault : (fault : Option PersistenceFault) (w v : Work) → sound_or fault w ≡ Done tt v → fault ≡ None
 no_fault None w v e = refl
 no_fault (Some fault) w v e = absurd cc
 
@@ -165,7 +165,7 @@ none_refused Cause.OutOfMemory events w o h = tt
 none_refused Cause.StoreFault events w o h = h
 none_refused r events w o h = absurd cc
 
-refused_alike : (fault : Option Persist) (r : Cause) (w v : Work) (o : Outcome (Unit {0})) → v.events ≡ w.events → IsRefusedAs r v.events (sound_or fault v) → IsRefusedAs r v.events (after (sound_or fault w) (λ _ _. o))
+refused_alike : (fault : Option PersistenceFault) (r : Cause) (w v : Work) (o : Outcome (Unit {0})) → v.events ≡ w.events → IsRefusedAs r v.events (sound_or fault v) → IsRefusedAs r v.events (after (sound_or fault w) (λ _ _. o))
 refused_alike None r w v o same h = none_refused r v.events v o h
 refused_alike (Some fault) r w v o same h = subst (λ es. IsRefusedAs {A = Unit {0}} r v.events (Refused (Cause.Persistence fault) es)) same h
 

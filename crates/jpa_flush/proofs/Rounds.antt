@@ -16,7 +16,7 @@ use Rattle.jpa_behaviour.specs.Behaviour.{World}
 use Rattle.jpa_context.specs.declared.Entry.{Entry}
 use Rattle.jpa_context.specs.Work.{Work}
 use Rattle.jpa_context.specs.Steps.{Outcome, Done, Op, after, each, IsRefusedAs}
-use Rattle.jpa_flush.specs.declared.steps.Step.{Step}
+use Rattle.jpa_flush.specs.declared.steps.FlushAction.{FlushAction}
 use Rattle.jpa_flush.specs.declared.planning.Planned.{Planned}
 use Rattle.jpa_flush.specs.Flush.{pre_update_one}
 use Rattle.jpa_flush.specs.Plan.{step_of, update, insertion, replacement, removal, planned}
@@ -43,11 +43,11 @@ next_refused f xs i x w r events l read h =
 
 -- ---- the plan by the next entry
 
-step_within : (m : PersistenceUnit) (w : Work) (n k : ℕ) (s : Step) → n < k → All (λ p. p.object < k) (option_to_list (planned m w n s))
-step_within m w n k Step.Keep l = All-nil (λ (p : Planned). p.object < k)
-step_within m w n k Step.Insert l = All-cons (λ (p : Planned). p.object < k) (insertion m w n) [] l (All-nil (λ (p : Planned). p.object < k))
-step_within m w n k (Step.Replace v) l = All-cons (λ (p : Planned). p.object < k) (replacement m w n v) [] l (All-nil (λ (p : Planned). p.object < k))
-step_within m w n k (Step.Drop v) l = All-cons (λ (p : Planned). p.object < k) (removal m w n) [] l (All-nil (λ (p : Planned). p.object < k))
+step_within : (m : PersistenceUnit) (w : Work) (n k : ℕ) (s : FlushAction) → n < k → All (λ p. p.object < k) (option_to_list (planned m w n s))
+step_within m w n k FlushAction.Keep l = All-nil (λ (p : Planned). p.object < k)
+step_within m w n k FlushAction.Insert l = All-cons (λ (p : Planned). p.object < k) (insertion m w n) [] l (All-nil (λ (p : Planned). p.object < k))
+step_within m w n k (FlushAction.Replace v) l = All-cons (λ (p : Planned). p.object < k) (replacement m w n v) [] l (All-nil (λ (p : Planned). p.object < k))
+step_within m w n k (FlushAction.Drop v) l = All-cons (λ (p : Planned). p.object < k) (removal m w n) [] l (All-nil (λ (p : Planned). p.object < k))
 
 pub within_round : (m : PersistenceUnit) (w : Work) (e : Entry) (plan plan' : List Planned) (o : Option Planned) → e.object < length w.objects → All (λ p. p.object < length w.objects) plan →
     o ≡ planned m w e.object (step_of m w e) → plan' ≡ plan ++ option_to_list o → All (λ p. p.object < length w.objects) plan'

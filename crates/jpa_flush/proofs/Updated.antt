@@ -15,7 +15,7 @@ use Rattle.jpa_context.specs.Work.{Work, object}
 use Rattle.jpa_lifecycle.specs.Callbacks.{callback}
 use Rattle.jpa_lifecycle.proofs.Keeps.{IsRevalued, revalued_none, revalued_twice, HasHappened, happened}
 use Rattle.jpa_fetch.specs.Grown.{IsReady}
-use Rattle.jpa_flush.specs.declared.steps.Step.{Step}
+use Rattle.jpa_flush.specs.declared.steps.FlushAction.{FlushAction}
 use Rattle.jpa_flush.specs.declared.planning.Planned.{Planned}
 use Rattle.jpa_flush.specs.Flush.{Action, Insert, Replace, Drop, action_of, pre_update_for, pre_update_one, pre_update}
 use Rattle.jpa_flush.specs.Plan.{update, tell, told_by}
@@ -100,11 +100,11 @@ module _ (R : Work → Work → Type 0) (none : (w : Work) → R w w) (twice : (
   related_told plan w v e = related_each (tell world) (λ p u t k. happens p.event p.object u t k) plan w v e
 
   -- one step of the flush
-  pub related_step : (n : ℕ) (s : Step) (w v : Work) → update world n s w ≡ Done tt v → R w v
-  related_step n Step.Keep w v e = related_none w v e
-  related_step n Step.Insert w v e = related_none w v e
-  related_step n (Step.Replace version) w v e = happens LifecycleEvent.PreUpdate n w v e
-  related_step n (Step.Drop version) w v e = related_none w v e
+  pub related_step : (n : ℕ) (s : FlushAction) (w v : Work) → update world n s w ≡ Done tt v → R w v
+  related_step n FlushAction.Keep w v e = related_none w v e
+  related_step n FlushAction.Insert w v e = related_none w v e
+  related_step n (FlushAction.Replace version) w v e = happens LifecycleEvent.PreUpdate n w v e
+  related_step n (FlushAction.Drop version) w v e = related_none w v e
 
 pub by_updates : (world : World) (w v : Work) → pre_update world w ≡ Done tt v → IsUpdated w v
 by_updates world w v e = related_updates IsUpdated updated_none updated_twice world (by_callback world) w v e
@@ -112,7 +112,7 @@ by_updates world w v e = related_updates IsUpdated updated_none updated_twice wo
 pub by_told : (world : World) (plan : List Planned) (w v : Work) → told_by world plan w ≡ Done tt v → IsUpdated w v
 by_told world plan w v e = related_told IsUpdated updated_none updated_twice world (by_callback world) plan w v e
 
-pub by_step : (world : World) (n : ℕ) (s : Step) (w v : Work) → update world n s w ≡ Done tt v → IsUpdated w v
+pub by_step : (world : World) (n : ℕ) (s : FlushAction) (w v : Work) → update world n s w ≡ Done tt v → IsUpdated w v
 by_step world n s w v e = related_step IsUpdated updated_none updated_twice world (by_callback world) n s w v e
 
 -- ---- what stays

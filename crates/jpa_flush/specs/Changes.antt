@@ -7,7 +7,7 @@ use Rattle.jpa_value.specs.declared.value.Identity.{Identity}
 use Rattle.jpa_value.specs.Value.{identity_cmp}
 use Rattle.jpa_model.specs.declared.unit.PersistenceUnit.{PersistenceUnit}
 use Rattle.jpa_stored.specs.Sets.{StoredSet, IsSound}
-use Rattle.jpa_judge.specs.declared.change.Change.{Change}
+use Rattle.jpa_constraints.specs.declared.change.Change.{Change}
 use Rattle.jpa_context.specs.Work.{Work, row_at}
 use Rattle.jpa_fetch.specs.Grown.{IsReady}
 use Rattle.jpa_ops.specs.Names.{has_distinct_entries}

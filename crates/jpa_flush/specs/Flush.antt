@@ -8,7 +8,7 @@ use Rattle.jpa_value.specs.declared.value.Value.{Value}
 use Rattle.jpa_value.specs.declared.value.Identity.{Identity}
 use Rattle.jpa_value.specs.declared.refusal.Cause.{Cause}
 use Rattle.jpa_value.specs.declared.refusal.State.{State}
-use Rattle.jpa_value.specs.declared.refusal.Persist.{Persist}
+use Rattle.jpa_value.specs.declared.refusal.PersistenceFault.{PersistenceFault}
 use Rattle.jpa_value.specs.Value.{is_null, same_identity}
 use Rattle.jpa_model.specs.declared.unit.PersistenceUnit.{PersistenceUnit}
 use Rattle.jpa_model.specs.declared.unit.Relation.{Relation}
@@ -297,13 +297,13 @@ check_action world e (Some Insert) = do
   free ← read (λ w. not (is_some (row_at w (identity_at world.model w e.object))))
   require free Cause.EntityExists
   convertible ← read (λ w. all_convert world (object w e.object))
-  require convertible (Cause.Persistence Persist.Converter)
+  require convertible (Cause.Persistence PersistenceFault.Converter)
 check_action world e (Some (Replace b)) = do
   current ← read (λ w. row_is_base (row_at w (identity_at world.model w e.object)) b)
   require current Cause.OptimisticLock
-  require (can_rise (b.stored).version) (Cause.Persistence Persist.Version)
+  require (can_rise (b.stored).version) (Cause.Persistence PersistenceFault.Version)
   convertible ← read (λ w. all_convert world (object w e.object))
-  require convertible (Cause.Persistence Persist.Converter)
+  require convertible (Cause.Persistence PersistenceFault.Converter)
 check_action world e (Some (Drop b)) = do
   current ← read (λ w. row_is_base (row_at w (identity_at world.model w e.object)) b)
   require current Cause.OptimisticLock
@@ -389,7 +389,7 @@ flushed m w plan =
     w.view)
 
 -- a fault of the new set is refused
-abbrev pub sound_or : Option Persist → Op (Unit {0})
+abbrev pub sound_or : Option PersistenceFault → Op (Unit {0})
 sound_or None = done
 sound_or (Some fault) = refuse (Cause.Persistence fault)
 

@@ -4,7 +4,7 @@ use Rattle.std.specs.Prelude.{ℕ, ℤ, Bool, true, false, not, ◌&&◌, is_som
 use Rattle.std.specs.Prelude.{option_map}
 use Rattle.jpa_value.specs.declared.value.Identity.{Identity}
 use Rattle.jpa_value.specs.declared.refusal.Cause.{Cause}
-use Rattle.jpa_value.specs.declared.refusal.Persist.{Persist}
+use Rattle.jpa_value.specs.declared.refusal.PersistenceFault.{PersistenceFault}
 use Rattle.jpa_value.specs.declared.event.LifecycleEvent.{LifecycleEvent}
 use Rattle.jpa_model.specs.declared.unit.PersistenceUnit.{PersistenceUnit}
 use Rattle.jpa_model.specs.Chains.{is_versioned}
@@ -15,7 +15,7 @@ use Rattle.jpa_context.specs.declared.Entry.{Entry}
 use Rattle.jpa_context.specs.Work.{Work, object, identity_at, row_at}
 use Rattle.jpa_context.specs.Steps.{◌>>=◌, ◌>>◌, Op, done, require, read, each}
 use Rattle.jpa_lifecycle.specs.Callbacks.{callback}
-use Rattle.jpa_flush.specs.declared.steps.Step.{Step}
+use Rattle.jpa_flush.specs.declared.steps.FlushAction.{FlushAction}
 use Rattle.jpa_flush.specs.declared.planning.Planned.{Planned}
 use Rattle.jpa_flush.specs.Flush.{Action, Insert, Replace, Drop, action_of, actions, stored_of, written, first_version}
 use Rattle.jpa_flush.specs.Flush.{raised, post_event, same_version, same_identities, can_rise, all_convert, settled}
@@ -25,22 +25,22 @@ use Rattle.jpa_flush.specs.Flush as flushes
 -- ---- steps: actions, of whose base the version alone is asked
 
 -- an action as a step, with the version alone of its base
-abbrev pub step_as : Option Action → Step
-step_as None = Step.Keep
-step_as (Some Insert) = Step.Insert
-step_as (Some (Replace b)) = Step.Replace (b.stored).version
-step_as (Some (Drop b)) = Step.Drop (b.stored).version
+abbrev pub step_as : Option Action → FlushAction
+step_as None = FlushAction.Keep
+step_as (Some Insert) = FlushAction.Insert
+step_as (Some (Replace b)) = FlushAction.Replace (b.stored).version
+step_as (Some (Drop b)) = FlushAction.Drop (b.stored).version
 
 -- the step of an entry
-abbrev pub step_of : PersistenceUnit → Work → Entry → Step
+abbrev pub step_of : PersistenceUnit → Work → Entry → FlushAction
 step_of m w e = step_as (action_of m w e)
 
 -- PreUpdate runs on an object whose row is to be replaced (chapter 3.5)
-abbrev pub update : World → ℕ → Step → Op (Unit {0})
-update world n Step.Keep = done
-update world n Step.Insert = done
-update world n (Step.Replace version) = callback world LifecycleEvent.PreUpdate n
-update world n (Step.Drop version) = done
+abbrev pub update : World → ℕ → FlushAction → Op (Unit {0})
+update world n FlushAction.Keep = done
+update world n FlushAction.Insert = done
+update world n (FlushAction.Replace version) = callback world LifecycleEvent.PreUpdate n
+update world n (FlushAction.Drop version) = done
 
 -- ---- the checks
 
@@ -55,16 +55,16 @@ check_insertion world n = do
   free ← read (λ w. not (is_some (row_at w (identity_at world.model w n))))
   require free Cause.EntityExists
   convertible ← read (λ w. all_convert world (object w n))
-  require convertible (Cause.Persistence Persist.Converter)
+  require convertible (Cause.Persistence PersistenceFault.Converter)
 
 -- the row has this version, which can rise, and the values can be stored
 abbrev pub check_replacement : World → ℕ → Option ℤ → Op (Unit {0})
 check_replacement world n version = do
   current ← read (λ w. has_version (row_at w (identity_at world.model w n)) version)
   require current Cause.OptimisticLock
-  require (can_rise version) (Cause.Persistence Persist.Version)
+  require (can_rise version) (Cause.Persistence PersistenceFault.Version)
   convertible ← read (λ w. all_convert world (object w n))
-  require convertible (Cause.Persistence Persist.Converter)
+  require convertible (Cause.Persistence PersistenceFault.Converter)
 
 -- the row has this version
 abbrev pub check_removal : PersistenceUnit → ℕ → Option ℤ → Op (Unit {0})
@@ -73,11 +73,11 @@ check_removal m n version = do
   require current Cause.OptimisticLock
 
 -- the check of a step
-abbrev pub check : World → ℕ → Step → Op (Unit {0})
-check world n Step.Keep = done
-check world n Step.Insert = check_insertion world n
-check world n (Step.Replace version) = check_replacement world n version
-check world n (Step.Drop version) = check_removal world.model n version
+abbrev pub check : World → ℕ → FlushAction → Op (Unit {0})
+check world n FlushAction.Keep = done
+check world n FlushAction.Insert = check_insertion world n
+check world n (FlushAction.Replace version) = check_replacement world n version
+check world n (FlushAction.Drop version) = check_removal world.model n version
 
 -- what a flush does after PreUpdate
 abbrev pub writing : World → Op (Unit {0})
@@ -114,11 +114,11 @@ abbrev pub removal : PersistenceUnit → Work → ℕ → Planned
 removal m w n = planned_as m w n LifecycleEvent.PostRemove None
 
 -- what a plan has of a step, if anything
-abbrev pub planned : PersistenceUnit → Work → ℕ → Step → Option Planned
-planned m w n Step.Keep = None
-planned m w n Step.Insert = Some (insertion m w n)
-planned m w n (Step.Replace version) = Some (replacement m w n version)
-planned m w n (Step.Drop version) = Some (removal m w n)
+abbrev pub planned : PersistenceUnit → Work → ℕ → FlushAction → Option Planned
+planned m w n FlushAction.Keep = None
+planned m w n FlushAction.Insert = Some (insertion m w n)
+planned m w n (FlushAction.Replace version) = Some (replacement m w n version)
+planned m w n (FlushAction.Drop version) = Some (removal m w n)
 
 -- what the plan has of an action
 abbrev pub item : PersistenceUnit → Work → ℕ × Action → Planned

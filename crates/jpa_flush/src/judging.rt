@@ -9,8 +9,8 @@ ghost use Rattle.jpa_flush.specs.Changes.{ArePlanned, IsWritten};
 ghost use Rattle.jpa_flush.specs.Flush as flushes;
 
 use crate::planning::Planned;
+use jpa_constraints::{Change, judge};
 use jpa_context::UnitOfWork;
-use jpa_judge::{Change, judge};
 use jpa_model::Metamodel;
 use jpa_value::Cause;
 use std::alloc::Global;

@@ -7,14 +7,14 @@ ghost use Rattle.jpa_fetch.specs.Grown.{IsReady};
 ghost use Rattle.jpa_flush.specs.Plan as plans;
 
 use crate::checking::{all_convert, can_rise, class_there, is_current, is_stored, raised};
-use crate::steps::{Step, step_of};
+use crate::steps::{FlushAction, step_of};
 use crate::storing::stored_of;
 use jpa_behaviour::{Behaviour, ServedUnit};
 use jpa_context::UnitOfWork;
 use jpa_heap::identity_of;
 use jpa_model::Metamodel;
 use jpa_stored::Stored;
-use jpa_value::{Cause, Identity, LifecycleEvent, Persist};
+use jpa_value::{Cause, Identity, LifecycleEvent, PersistenceFault};
 use std::alloc::Global;
 
 /// An object that is to be written, with the event that is told of it then.
@@ -49,7 +49,7 @@ fn insertion<B: Behaviour>(
         return Err(Cause::EntityExists);
     }
     if !all_convert(unit, live)? {
-        return Err(Cause::Persistence(Persist::Converter));
+        return Err(Cause::Persistence(PersistenceFault::Converter));
     }
     let version = if unit.metamodel.is_versioned(live.class) {
         Some(0)
@@ -88,10 +88,10 @@ fn replacement<B: Behaviour>(
         return Err(Cause::OptimisticLock);
     }
     if !can_rise(version) {
-        return Err(Cause::Persistence(Persist::Version));
+        return Err(Cause::Persistence(PersistenceFault::Version));
     }
     if !all_convert(unit, live)? {
-        return Err(Cause::Persistence(Persist::Converter));
+        return Err(Cause::Persistence(PersistenceFault::Converter));
     }
     let class_before = class_there(work, &id);
     let stored = stored_of(alloc, &unit.metamodel, work, object, raised(version))?;
@@ -138,7 +138,7 @@ pub(crate) fn plan_one<B: Behaviour>(
     unit: &ServedUnit<B>,
     work: &UnitOfWork,
     object: usize,
-    step: Step,
+    step: FlushAction,
 ) -> Result<Option<Planned>, Cause>
     requires ready { IsReady unit.now.metamodel (now work.now) }
     requires object { object < length work.now.objects.now }
@@ -148,9 +148,11 @@ pub(crate) fn plan_one<B: Behaviour>(
         Ends result (now work.now) (plans.check world object step (now work.now)) }
 {
     match step {
-        Step::Keep => Ok(None),
-        Step::Insert => Ok(Some(insertion(alloc, unit, work, object)?)),
-        Step::Replace(version) => { Ok(Some(replacement(alloc, unit, work, object, version)?)) }
-        Step::Drop(version) => Ok(Some(removal(&unit.metamodel, work, object, version)?)),
+        FlushAction::Keep => Ok(None),
+        FlushAction::Insert => Ok(Some(insertion(alloc, unit, work, object)?)),
+        FlushAction::Replace(version) => {
+            Ok(Some(replacement(alloc, unit, work, object, version)?))
+        }
+        FlushAction::Drop(version) => Ok(Some(removal(&unit.metamodel, work, object, version)?)),
     }
 }

@@ -14,7 +14,7 @@ use jpa_value::Cause;
 
 /// What the flush does with an entry.
 #[derive(Clone, Copy)]
-pub enum Step {
+pub enum FlushAction {
     Keep,
     Insert,
     /// In place of the row with the version that the object was loaded with.
@@ -48,7 +48,7 @@ fn step_from(
     work: &UnitOfWork,
     entry: &Entry,
     base: &Base,
-) -> Result<Step, Cause>
+) -> Result<FlushAction, Cause>
     requires ready { IsReady metamodel.now (now work.now) }
     requires object { entry.now.object < length work.now.objects.now }
     ensures ok { IfOk result (λ step. step ≡ plans.step_as (flushes.replace_if
@@ -57,16 +57,20 @@ fn step_from(
     ensures err { IfErr result (λ cause. cause ≡ Cause.OutOfMemory) }
 {
     if replaces(metamodel, work, entry, base)? {
-        Ok(Step::Replace(base.stored.version))
+        Ok(FlushAction::Replace(base.stored.version))
     } else {
-        Ok(Step::Keep)
+        Ok(FlushAction::Keep)
     }
 }
 
 /// What the flush does with an entry: a managed object that was not written yet is inserted, one
 /// that differs from its base replaces its row, and the row of a removed object is taken out, if it
 /// has one. `OutOfMemory` where a growth was refused.
-pub fn step_of(metamodel: &Metamodel, work: &UnitOfWork, entry: &Entry) -> Result<Step, Cause>
+pub fn step_of(
+    metamodel: &Metamodel,
+    work: &UnitOfWork,
+    entry: &Entry,
+) -> Result<FlushAction, Cause>
     requires ready { IsReady metamodel.now (now work.now) }
     requires object { entry.now.object < length work.now.objects.now }
     ensures ok { IfOk result
@@ -74,9 +78,9 @@ pub fn step_of(metamodel: &Metamodel, work: &UnitOfWork, entry: &Entry) -> Resul
     ensures err { IfErr result (λ cause. cause ≡ Cause.OutOfMemory) }
 {
     match (state_of(work, entry.object), &entry.base) {
-        (EntityState::Managed, None) => Ok(Step::Insert),
+        (EntityState::Managed, None) => Ok(FlushAction::Insert),
         (EntityState::Managed, Some(base)) => step_from(metamodel, work, entry, base),
-        (EntityState::Removed, Some(base)) => Ok(Step::Drop(base.stored.version)),
-        _ => Ok(Step::Keep),
+        (EntityState::Removed, Some(base)) => Ok(FlushAction::Drop(base.stored.version)),
+        _ => Ok(FlushAction::Keep),
     }
 }

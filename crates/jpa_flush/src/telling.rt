@@ -21,7 +21,7 @@ pub(crate) fn tell_update<B: Behaviour>(
     unit: &ServedUnit<B>,
     work: &mut UnitOfWork,
     object: usize,
-    step: Step,
+    step: FlushAction,
 ) -> Result<(), Cause>
     requires object { object < length work.old.objects.now }
     requires shape { HasShape unit.now.metamodel (works.object (now work.old) object) }
@@ -29,8 +29,8 @@ pub(crate) fn tell_update<B: Behaviour>(
         Performs (plans.update world object step) result work.old work.new }
 {
     match step {
-        Step::Keep | Step::Insert | Step::Drop(_) => Ok(()),
-        Step::Replace(_) => {
+        FlushAction::Keep | FlushAction::Insert | FlushAction::Drop(_) => Ok(()),
+        FlushAction::Replace(_) => {
             let event = LifecycleEvent::PreUpdate;
             callback(alloc, unit, work, event, object)
         }

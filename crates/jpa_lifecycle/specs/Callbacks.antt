@@ -5,7 +5,7 @@ use Rattle.std.specs.Prelude.{if◌then◌else◌}
 use Rattle.std.specs.List.{flat_map, list_any, filter, zip}
 use Rattle.jpa_value.specs.declared.value.Value.{Value}
 use Rattle.jpa_value.specs.declared.refusal.Cause.{Cause}
-use Rattle.jpa_value.specs.declared.refusal.Persist.{Persist}
+use Rattle.jpa_value.specs.declared.refusal.PersistenceFault.{PersistenceFault}
 use Rattle.jpa_model.specs.declared.unit.PersistenceUnit.{PersistenceUnit}
 use Rattle.jpa_model.specs.declared.unit.Listener.{Listener}
 use Rattle.jpa_value.specs.declared.event.LifecycleEvent.{LifecycleEvent}
@@ -120,13 +120,13 @@ after_name name f = record f { names = name ∷ f.names }
 abbrev pub IsCallbackRefusal : Option Cause → Type 0
 IsCallbackRefusal None = Unit {0}
 IsCallbackRefusal (Some (Cause.Listener text)) = Unit {0}
-IsCallbackRefusal (Some (Cause.Persistence Persist.Callback)) = Unit {0}
+IsCallbackRefusal (Some (Cause.Persistence PersistenceFault.Callback)) = Unit {0}
 IsCallbackRefusal (Some r) = ⊥
 
 -- after a listener's assignments: the next ones see the object as it is then
 abbrev pub after_assignments : (LiveObject → Fired) → List ℕ → LiveObject → Option LiveObject → Fired
 after_assignments next name x None =
-    record { names = name ∷ []; object = x; refusal = Some (Cause.Persistence Persist.Callback) }
+    record { names = name ∷ []; object = x; refusal = Some (Cause.Persistence PersistenceFault.Callback) }
 after_assignments next name x (Some y) = after_name name (next y)
 
 -- after a listener's answer: it assigns, or it threw, and nothing runs after it

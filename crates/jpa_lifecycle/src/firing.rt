@@ -12,7 +12,7 @@ use crate::assigning::assigned;
 use crate::seeing::image_of;
 use jpa_behaviour::{Behaviour, Heard, Image, Registry, ServedUnit};
 use jpa_heap::LiveObject;
-use jpa_value::{Cause, LifecycleEvent, Persist, Seq, Text};
+use jpa_value::{Cause, LifecycleEvent, PersistenceFault, Seq, Text};
 use std::alloc::Global;
 
 /// What became of an object to which an event happened: the names of the listeners and callbacks
@@ -69,7 +69,7 @@ fn run_one<B: Behaviour>(
         return Ok(None);
     }
     match assigned(&unit.metamodel, object, assignments.as_slice())? {
-        None => Ok(Some(Cause::Persistence(Persist::Callback))),
+        None => Ok(Some(Cause::Persistence(PersistenceFault::Callback))),
         Some(made) => {
             *object = made;
             Ok(None)

@@ -5,7 +5,7 @@ use Rattle.std.specs.Fmt.{digits}
 use Rattle.hex.specs.Hex.{decode_pairs, encode_with}
 use Rattle.serde_json.proofs.OnLiterals.{serde_json_on_literals}
 use Rattle.jpa_value.specs.declared.refusal.Cause.{Cause}
-use Rattle.jpa_value.specs.declared.refusal.Persist.{Persist}
+use Rattle.jpa_value.specs.declared.refusal.PersistenceFault.{PersistenceFault}
 use Rattle.jpa_value.specs.declared.refusal.Refusal.{Refusal}
 use Rattle.jpa_value.specs.declared.value.Value.{Value}
 use Rattle.jpa_protocol.specs.declared.call.Call.{Call}
@@ -267,7 +267,7 @@ persisted : reply_text (record { events = record { event = LifecycleEvent.PrePer
 unfolding digits serde_json_on_literals
 persisted = refl
 
-stale : reply_text (record { events = record { event = LifecycleEvent.PreUpdate; object = 1; ran = [] } ∷ []; answer = Err (Refusal.Rollback (Cause.Persistence Persist.Version)) }) ≡ codes "{\"error\":{\"name\":\"Rollback\",\"no\":14,\"why\":\"Persistence(version)\"},\"events\":[[\"PreUpdate\",1]]}\n"
+stale : reply_text (record { events = record { event = LifecycleEvent.PreUpdate; object = 1; ran = [] } ∷ []; answer = Err (Refusal.Rollback (Cause.Persistence PersistenceFault.Version)) }) ≡ codes "{\"error\":{\"name\":\"Rollback\",\"no\":14,\"why\":\"Persistence(version)\"},\"events\":[[\"PreUpdate\",1]]}\n"
 unfolding digits serde_json_on_literals
 stale = refl
 

@@ -7,7 +7,7 @@ use Rattle.std.proofs.lemmas.Bool.{false≢true}
 use Rattle.std.proofs.lemmas.List.Elements.{recursion_from_All}
 use Rattle.jpa_value.specs.declared.value.Identity.{Identity}
 use Rattle.jpa_value.specs.declared.refusal.Cause.{Cause}
-use Rattle.jpa_value.specs.declared.refusal.Persist.{Persist}
+use Rattle.jpa_value.specs.declared.refusal.PersistenceFault.{PersistenceFault}
 use Rattle.jpa_value.specs.declared.refusal.State.{State}
 use Rattle.jpa_value.specs.declared.event.LifecycleEvent.{LifecycleEvent}
 use Rattle.jpa_model.specs.declared.unit.PersistenceUnit.{PersistenceUnit}
@@ -104,7 +104,7 @@ written_in world w = let plan = actions world.model w in after_flush world.model
 abbrev pub KeepsWritten : World → (Work → Type 0) → Type 0
 KeepsWritten world P = (w : Work) → P w → AreChecked world w → fault_of world.model (flushed world.model w (actions world.model w)) ≡ None → P (written_in world w) × More w (written_in world w)
 
-sound_holds : (P : Unit {0} → Work → Type 0) (f : Option Persist) (w : Work) (next : Unit {0} → Op (Unit {0})) → (f ≡ None → HoldsAfter P (next tt w)) → HoldsAfter P (after (sound_or f w) next)
+sound_holds : (P : Unit {0} → Work → Type 0) (f : Option PersistenceFault) (w : Work) (next : Unit {0} → Op (Unit {0})) → (f ≡ None → HoldsAfter P (next tt w)) → HoldsAfter P (after (sound_or f w) next)
 sound_holds P None w next k = k refl
 sound_holds P (Some fault) w next k = tt
 

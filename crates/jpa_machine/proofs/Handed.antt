@@ -21,7 +21,7 @@ use Rattle.jpa_ops.specs.States.{persist, remove, refresh, detach, lock}
 use Rattle.jpa_merge.specs.Merge.{merge}
 use Rattle.jpa_flush.specs.Flush.{flush, reads_hold, sound_or}
 use Rattle.jpa_machine.specs.Calls.{object_numbered, handed, got, nothing, truth, object_told, object_or_null, told_as, give_or, class_named, key_given, is_short_given, whole_key}
-use Rattle.jpa_value.specs.declared.refusal.Persist.{Persist}
+use Rattle.jpa_value.specs.declared.refusal.PersistenceFault.{PersistenceFault}
 use Rattle.jpa_stored.specs.Sets.{StoredSet, fault_of}
 use Rattle.jpa_open.specs.Differences.{merged}
 use Rattle.jpa_updates.specs.Updates.{with_view}
@@ -192,6 +192,6 @@ module _ (world : World) (P : Work → Type 0) (w : Work) (flushes : HoldsAfter 
       require_holds (λ u' v'. Q v') (reads_hold world.model v) Cause.OptimisticLock v _ (λ hold.
       by_fault v (merged committed begun v.view) (fault_of world.model (merged committed begun v.view)) (λ sound. makes v p current sound))))
     where
-      by_fault : (v : Work) (s : StoredSet) (f : Option Persist) → (f ≡ None → Q (with_view s v)) → HoldsAfter (λ u' v'. Q v') (after (sound_or f v) (λ u'. change (with_view s)))
+      by_fault : (v : Work) (s : StoredSet) (f : Option PersistenceFault) → (f ≡ None → Q (with_view s v)) → HoldsAfter (λ u' v'. Q v') (after (sound_or f v) (λ u'. change (with_view s)))
       by_fault v s None k = k refl
       by_fault v s (Some fault) k = tt

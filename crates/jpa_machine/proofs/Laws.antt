@@ -10,7 +10,7 @@ use Rattle.jpa_value.specs.declared.value.Value.{Value}
 use Rattle.jpa_value.specs.declared.value.Identity.{Identity}
 use Rattle.jpa_value.specs.declared.refusal.Argument.{Argument}
 use Rattle.jpa_value.specs.declared.refusal.Cause.{Cause}
-use Rattle.jpa_value.specs.declared.refusal.Persist.{Persist}
+use Rattle.jpa_value.specs.declared.refusal.PersistenceFault.{PersistenceFault}
 use Rattle.jpa_value.specs.declared.event.LifecycleEvent.{LifecycleEvent}
 use Rattle.jpa_model.specs.Chains.{root_of, is_kind_of, is_versioned}
 use Rattle.jpa_behaviour.specs.Behaviour.{World}
@@ -247,5 +247,5 @@ module _ {world : World} {P : Work → Type 0} (steps : Steps world P) where
   pub lock_goes : (n : ℕ) (mode : Lock) (w : Work) → P w → HoldsAfter (λ u v. P v × More w v) (lock world n mode w)
   lock_goes n mode w p =
       require_holds (λ u v. P v × More w v) (is_managed (state_of w n)) (Cause.IllegalArgument Argument.State) w _ (λ managed.
-      require_holds (λ u v. P v × More w v) (is_versioned world.model (object w n).class) (Cause.Persistence Persist.Version) w _ (λ versioned.
+      require_holds (λ u v. P v × More w v) (is_versioned world.model (object w n).class) (Cause.Persistence PersistenceFault.Version) w _ (λ versioned.
       (steps.locks n (locked (lock_in (entry_of w n)) mode) w p, no_more w)))

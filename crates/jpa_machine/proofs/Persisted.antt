@@ -9,7 +9,7 @@ use Rattle.std.proofs.lemmas.List.{get_or-set_same, length-set}
 use Rattle.std.proofs.lemmas.List.Elements.{All-weaker}
 use Rattle.jpa_value.specs.declared.value.Value.{Value}
 use Rattle.jpa_value.specs.declared.refusal.Cause.{Cause}
-use Rattle.jpa_value.specs.declared.refusal.Persist.{Persist}
+use Rattle.jpa_value.specs.declared.refusal.PersistenceFault.{PersistenceFault}
 use Rattle.jpa_value.specs.Value.{fits, is_null, is_i64}
 use Rattle.jpa_model.specs.declared.unit.Entity.{Entity}
 use Rattle.jpa_model.specs.declared.unit.Origin.{Origin}
@@ -238,9 +238,9 @@ given_key {world} {M} {m} {n} {w} orderly h l new g few =
 pub give_key_holds : {world : World} {M : Others} {m : ℕ} {w : Work} → IsOrderly world.model → (n : ℕ) (b : Bool) → IsConsistent world M m w → n < length w.objects → (object w n).life ≡ Life.New →
     (root_of world.model (object w n).class).generated ≡ b → HoldsAfter (λ u w'. HasKey world M m n w' × More w w') (give_key world n b w)
 give_key_holds {world} {M} {m} {w} orderly n false h l new g =
-    require_holds_last _ (is_whole (object w n).key) (Cause.Persistence Persist.Key) w (λ whole. (unset_key h l new g whole, no_more w))
+    require_holds_last _ (is_whole (object w n).key) (Cause.Persistence PersistenceFault.Key) w (λ whole. (unset_key h l new g whole, no_more w))
 give_key_holds {world} {M} {m} {w} orderly n true h l new g =
     let k = slice_index_or w.numbers (root_class world.model (object w n).class) 1 in
-    require_holds _ (list_all is_null (object w n).key) (Cause.Persistence Persist.Key) w _ (λ unset.
-    require_holds _ (nat_lt k last_number) (Cause.Persistence Persist.Generator) w _ (λ few.
+    require_holds _ (list_all is_null (object w n).key) (Cause.Persistence PersistenceFault.Key) w _ (λ unset.
+    require_holds _ (nat_lt k last_number) (Cause.Persistence PersistenceFault.Generator) w _ (λ few.
     (given_key orderly h l new g (ltb-true k last_number few), keeps_set w.objects n (record (object w n) { key = number_part k }) l refl)))

@@ -7,7 +7,7 @@ use Rattle.std.proofs.lemmas.Bool.{false≢true, true≢false, eqb-true, eq-eqb,
 use Rattle.std.proofs.lemmas.List.Elements.{All-from_recursion, All-weaker, All-map, recursion_from_All}
 use Rattle.jpa_value.specs.declared.value.Value.{Value}
 use Rattle.jpa_value.specs.declared.refusal.Cause.{Cause}
-use Rattle.jpa_value.specs.declared.refusal.Persist.{Persist}
+use Rattle.jpa_value.specs.declared.refusal.PersistenceFault.{PersistenceFault}
 use Rattle.jpa_value.specs.Value.{same_identity}
 use Rattle.jpa_model.specs.declared.unit.PersistenceUnit.{PersistenceUnit}
 use Rattle.jpa_model.specs.declared.unit.Attribute.{Attribute}
@@ -47,11 +47,11 @@ pub check_action_holds : (world : World) (w : Work) (e : Entry) (a : Option Acti
 check_action_holds world w e None = (refl, tt)
 check_action_holds world w e (Some Insert) =
     require_holds _ (not (is_some (row_at w (identity_at world.model w e.object)))) Cause.EntityExists w _ (λ free.
-    require_holds_last _ (all_convert world (object w e.object)) (Cause.Persistence Persist.Converter) w (λ c. (refl, c)))
+    require_holds_last _ (all_convert world (object w e.object)) (Cause.Persistence PersistenceFault.Converter) w (λ c. (refl, c)))
 check_action_holds world w e (Some (Replace b)) =
     require_holds _ (row_is_base (row_at w (identity_at world.model w e.object)) b) Cause.OptimisticLock w _ (λ current.
-    require_holds _ (can_rise (b.stored).version) (Cause.Persistence Persist.Version) w _ (λ rises.
-    require_holds_last _ (all_convert world (object w e.object)) (Cause.Persistence Persist.Converter) w (λ c. (refl, (rises, c)))))
+    require_holds _ (can_rise (b.stored).version) (Cause.Persistence PersistenceFault.Version) w _ (λ rises.
+    require_holds_last _ (all_convert world (object w e.object)) (Cause.Persistence PersistenceFault.Converter) w (λ c. (refl, (rises, c)))))
 check_action_holds world w e (Some (Drop b)) =
     require_holds_last _ (row_is_base (row_at w (identity_at world.model w e.object)) b) Cause.OptimisticLock w (λ current. (refl, tt))
 

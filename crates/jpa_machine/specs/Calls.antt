@@ -6,7 +6,7 @@ use Rattle.jpa_value.specs.declared.value.Value.{Value}
 use Rattle.jpa_value.specs.declared.refusal.Cause.{Cause}
 use Rattle.jpa_value.specs.declared.refusal.Refusal.{Refusal}
 use Rattle.jpa_value.specs.declared.refusal.Argument.{Argument}
-use Rattle.jpa_value.specs.declared.refusal.Persist.{Persist}
+use Rattle.jpa_value.specs.declared.refusal.PersistenceFault.{PersistenceFault}
 use Rattle.jpa_value.specs.Value.{fits, is_null}
 use Rattle.jpa_model.specs.declared.unit.Part.{Part}
 use Rattle.jpa_model.specs.Chains.{class_of, root_of}
@@ -102,7 +102,7 @@ marks _ = false
 
 -- of a call that names no manager only a callback's
 abbrev pub marks_if_callback : Cause → Bool
-marks_if_callback (Cause.Persistence Persist.Callback) = true
+marks_if_callback (Cause.Persistence PersistenceFault.Callback) = true
 marks_if_callback (Cause.Listener t) = true
 marks_if_callback _ = false
 

@@ -3,7 +3,7 @@ use Rattle.std.specs.Prelude.{◌≡◌, ◌⊎◌, Bool, true, false, ◌&&◌}
 use Rattle.std.proofs.Common.{refl, sym, ap, ◌∙◌, arith, inl, inr, List, [], ◌∷◌, length, zip}
 use Rattle.std.specs.List.{list_all}
 use Rattle.jpa_value.specs.declared.refusal.Cause.{Cause}
-use Rattle.jpa_value.specs.declared.refusal.Persist.{Persist}
+use Rattle.jpa_value.specs.declared.refusal.PersistenceFault.{PersistenceFault}
 
 -- a zip ends where one of its lists ends
 pub ended_left : {A B : Type 0} (xs : List A) (ys : List B) → length xs ≡ 0 → zip xs ys ≡ []
@@ -29,6 +29,6 @@ next_fails f {more = more} {others = others} {x = x} {y = y} e g h k =
     sym h ∙ ap (list_all f) (zip_same e g) ∙ fails (f (x, y)) (list_all f (zip more others)) k
 
 -- what was refused for want of memory or by a converter, where the test of the whole follows from that of the part
-pub refused_with : (cause : Cause) {a b : Bool} → (cause ≡ Cause.OutOfMemory) ⊎ ((cause ≡ Cause.Persistence Persist.Converter) × (a ≡ false)) → (a ≡ false → b ≡ false)
-    → (cause ≡ Cause.OutOfMemory) ⊎ ((cause ≡ Cause.Persistence Persist.Converter) × (b ≡ false))
+pub refused_with : (cause : Cause) {a b : Bool} → (cause ≡ Cause.OutOfMemory) ⊎ ((cause ≡ Cause.Persistence PersistenceFault.Converter) × (a ≡ false)) → (a ≡ false → b ≡ false)
+    → (cause ≡ Cause.OutOfMemory) ⊎ ((cause ≡ Cause.Persistence PersistenceFault.Converter) × (b ≡ false))
 refused_with cause h then = elim h [ inl memory ↦ inl memory | inr thrown ↦ inr (thrown.0, then thrown.1) ]

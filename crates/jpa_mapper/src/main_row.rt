@@ -3,7 +3,7 @@ ghost use Rattle.std.specs.Prelude.{◌≡◌, ◌<◌, ◌⊎◌, T, true, fals
 ghost use Rattle.std.specs.FinMap.{put, is_sorted};
 ghost use Rattle.std.specs.Ordering.{nat_cmp};
 ghost use Rattle.jpa_value.specs.declared.refusal.Cause.{Cause};
-ghost use Rattle.jpa_value.specs.declared.refusal.Persist.{Persist};
+ghost use Rattle.jpa_value.specs.declared.refusal.PersistenceFault.{PersistenceFault};
 ghost use Rattle.jpa_behaviour.specs.Registered.{world_of};
 ghost use Rattle.jpa_object_rows.specs.Objects as objects;
 ghost use Rattle.jpa_object_rows.specs.Sets.{placed};
@@ -65,7 +65,7 @@ pub(crate) fn main_row<B: Behaviour>(
     ensures passed { OnOk result (all_pass (world_of B.meaning metamodel.now registry.now)
         object.now ≡ true) }
     ensures err { IfErr result (λ cause. (cause ≡ Cause.OutOfMemory)
-        ⊎ ((cause ≡ Cause.Persistence Persist.Converter)
+        ⊎ ((cause ≡ Cause.Persistence PersistenceFault.Converter)
         × (all_pass (world_of B.meaning metamodel.now registry.now) object.now ≡ false))) }
 {
     row_of_places(alloc, places_of(alloc, metamodel, registry, object)?)

@@ -3,7 +3,7 @@
 ghost use Rattle.std.specs.Prelude.{◌≡◌, ◌<◌, ◌^◌, ◌⊎◌, ◌++◌, ◌∷◌, [], true, false, length, Some, IfOk, IfErr, OnOk};
 ghost use Rattle.std.specs.List.{list_all, zip};
 ghost use Rattle.jpa_value.specs.declared.refusal.Cause.{Cause};
-ghost use Rattle.jpa_value.specs.declared.refusal.Persist.{Persist};
+ghost use Rattle.jpa_value.specs.declared.refusal.PersistenceFault.{PersistenceFault};
 ghost use Rattle.jpa_model.specs.Chains as chains;
 ghost use Rattle.jpa_model.specs.declared.unit.PersistenceUnit.{PersistenceUnit};
 ghost use Rattle.jpa_behaviour.specs.Registered.{world_of};
@@ -94,7 +94,7 @@ fn push_attribute<B: Behaviour>(
         (passes (world_of B.meaning m registry.now) attribute.now value.now ≡ true) }
     ensures err { (m : PersistenceUnit) → IfErr result
         (λ cause. (cause ≡ Cause.OutOfMemory)
-        ⊎ ((cause ≡ Cause.Persistence Persist.Converter)
+        ⊎ ((cause ≡ Cause.Persistence PersistenceFault.Converter)
         × (passes (world_of B.meaning m registry.now) attribute.now value.now ≡ false))) }
 {
     let held = column_value(registry, attribute, value)?;
@@ -118,7 +118,7 @@ fn push_attributes<B: Behaviour>(
         (zip attributes.now values.now) ≡ true) }
     ensures err { (m : PersistenceUnit) → IfErr result
         (λ cause. (cause ≡ Cause.OutOfMemory)
-        ⊎ ((cause ≡ Cause.Persistence Persist.Converter)
+        ⊎ ((cause ≡ Cause.Persistence PersistenceFault.Converter)
         × (list_all (λ p. passes (world_of B.meaning m registry.now) p.0 p.1)
         (zip attributes.now values.now) ≡ false))) }
 {
@@ -170,7 +170,7 @@ pub(crate) fn places_of<B: Behaviour>(
     ensures passed { OnOk result (all_pass (world_of B.meaning metamodel.now registry.now)
         object.now ≡ true) }
     ensures err { IfErr result (λ cause. (cause ≡ Cause.OutOfMemory)
-        ⊎ ((cause ≡ Cause.Persistence Persist.Converter)
+        ⊎ ((cause ≡ Cause.Persistence PersistenceFault.Converter)
         × (all_pass (world_of B.meaning metamodel.now registry.now) object.now ≡ false))) }
 {
     let class = object.class;

@@ -1,7 +1,7 @@
 //! The rows of an object, and of a next number.
 ghost use Rattle.std.specs.Prelude.{◌≡◌, ◌<◌, ◌^◌, ◌⊎◌, true, false, IfOk, IfErr, OnOk};
 ghost use Rattle.jpa_value.specs.declared.refusal.Cause.{Cause};
-ghost use Rattle.jpa_value.specs.declared.refusal.Persist.{Persist};
+ghost use Rattle.jpa_value.specs.declared.refusal.PersistenceFault.{PersistenceFault};
 ghost use Rattle.jpa_behaviour.specs.Registered.{world_of};
 ghost use Rattle.jpa_stored.specs.Sets.{is_shaped};
 ghost use Rattle.jpa_object_rows.specs.View.{is_storable};
@@ -34,7 +34,7 @@ pub fn to_rows<B: Behaviour>(
     ensures storable { OnOk result (is_storable (world_of B.meaning metamodel.now registry.now)
         id.now object.now ≡ true) }
     ensures err { IfErr result (λ cause. (cause ≡ Cause.OutOfMemory)
-        ⊎ ((cause ≡ Cause.Persistence Persist.Converter)
+        ⊎ ((cause ≡ Cause.Persistence PersistenceFault.Converter)
         × (all_pass (world_of B.meaning metamodel.now registry.now) object.now ≡ false))) }
 {
     identity_is_representable(id);

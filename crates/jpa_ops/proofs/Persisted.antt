@@ -7,7 +7,7 @@ use Rattle.std.proofs.lemmas.List.{length-set, get_or-set_other, get_or-set_same
 use Rattle.std.proofs.lemmas.List.Elements.{All-get_or, All-set, All-weaker}
 use Rattle.jpa_value.specs.declared.value.Value.{Value}
 use Rattle.jpa_value.specs.declared.refusal.Cause.{Cause}
-use Rattle.jpa_value.specs.declared.refusal.Persist.{Persist}
+use Rattle.jpa_value.specs.declared.refusal.PersistenceFault.{PersistenceFault}
 use Rattle.jpa_value.specs.declared.event.LifecycleEvent.{LifecycleEvent}
 use Rattle.jpa_value.specs.Value.{is_null}
 use Rattle.jpa_model.specs.declared.unit.PersistenceUnit.{PersistenceUnit}
@@ -136,12 +136,12 @@ module _ (world : World) (orderly : IsOrderly world.model) (u : Work) where
       }
 
   gives_key : (n : ℕ) (b : Bool) (w : Work) → (root_of world.model (object w n).class).generated ≡ b → n < length u.objects → Goes w → HoldsAfter (IsKeyGiven n) (give_key world n b w)
-  gives_key n false w e l h = require_holds_last (IsKeyGiven n) (is_whole (object w n).key) (Cause.Persistence Persist.Key) w (λ whole. record { goes = h; whole = whole })
+  gives_key n false w e l h = require_holds_last (IsKeyGiven n) (is_whole (object w n).key) (Cause.Persistence PersistenceFault.Key) w (λ whole. record { goes = h; whole = whole })
   gives_key n true w e l h =
       let root = root_class world.model (object w n).class in
       let k = slice_index_or w.numbers root 1 in
-      require_holds (IsKeyGiven n) (list_all is_null (object w n).key) (Cause.Persistence Persist.Key) w _ (λ unset.
-      require_holds (IsKeyGiven n) (nat_lt k last_number) (Cause.Persistence Persist.Generator) w _ (λ few. numbered n root k w l h e unset))
+      require_holds (IsKeyGiven n) (list_all is_null (object w n).key) (Cause.Persistence PersistenceFault.Key) w _ (λ unset.
+      require_holds (IsKeyGiven n) (nat_lt k last_number) (Cause.Persistence PersistenceFault.Generator) w _ (λ few. numbered n root k w l h e unset))
 
   -- it enters the context, which has no instance of its identity
   enters : (n : ℕ) (w : Work) → n < length u.objects → IsKeyGiven n w → has_instance world.model w (identity_at world.model w n) ≡ false → Goes (entered n w)

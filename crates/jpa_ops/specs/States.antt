@@ -8,7 +8,7 @@ use Rattle.jpa_value.specs.declared.value.Value.{Value}
 use Rattle.jpa_value.specs.declared.value.Identity.{Identity}
 use Rattle.jpa_value.specs.declared.refusal.Cause.{Cause}
 use Rattle.jpa_value.specs.declared.refusal.Argument.{Argument}
-use Rattle.jpa_value.specs.declared.refusal.Persist.{Persist}
+use Rattle.jpa_value.specs.declared.refusal.PersistenceFault.{PersistenceFault}
 use Rattle.jpa_value.specs.Value.{is_null}
 use Rattle.jpa_model.specs.declared.unit.PersistenceUnit.{PersistenceUnit}
 use Rattle.jpa_value.specs.declared.event.LifecycleEvent.{LifecycleEvent}
@@ -58,13 +58,13 @@ with_number root k w = record w { numbers = slice_set w.numbers root k }
 abbrev pub give_key : World → ℕ → Bool → Op (Unit {0})
 give_key world n false = do
   whole ← read (λ w. is_whole (object w n).key)
-  require whole (Cause.Persistence Persist.Key)
+  require whole (Cause.Persistence PersistenceFault.Key)
 give_key world n true = do
   unset ← read (λ w. list_all is_null (object w n).key)
-  require unset (Cause.Persistence Persist.Key)
+  require unset (Cause.Persistence PersistenceFault.Key)
   root ← read (λ w. root_class world.model (object w n).class)
   k ← read (λ w. slice_index_or w.numbers root 1)
-  require (nat_lt k last_number) (Cause.Persistence Persist.Generator)
+  require (nat_lt k last_number) (Cause.Persistence PersistenceFault.Generator)
   change (λ w. with_number root (suc k) (with_key n (number_part k) w))
 
 -- whether the context has an instance of an identity
@@ -229,5 +229,5 @@ lock world n mode = do
   managed ← read (λ w. is_managed (state_of w n))
   require managed (Cause.IllegalArgument Argument.State)
   versioned ← read (λ w. is_versioned world.model (object w n).class)
-  require versioned (Cause.Persistence Persist.Version)
+  require versioned (Cause.Persistence PersistenceFault.Version)
   change (λ w. with_lock n (locked (lock_in (entry_of w n)) mode) w)

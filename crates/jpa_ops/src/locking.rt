@@ -11,7 +11,7 @@ ghost use Rattle.jpa_value.specs.declared.refusal.Cause.{Cause};
 use jpa_cascade::state_of;
 use jpa_context::{EntityState, Lock, UnitOfWork, place_laws};
 use jpa_model::Metamodel;
-use jpa_value::{Argument, Cause, Persist, TryCopy};
+use jpa_value::{Argument, Cause, PersistenceFault, TryCopy};
 
 /// The lock of an object that is locked again: one that raises the version stays where one is asked
 /// that does not.
@@ -70,7 +70,7 @@ pub fn lock(
         return Err(Cause::IllegalArgument(Argument::State));
     }
     if !metamodel.is_versioned(work.objects.as_slice()[object].class) {
-        return Err(Cause::Persistence(Persist::Version));
+        return Err(Cause::Persistence(PersistenceFault::Version));
     }
     set_lock(work, object, mode)
 }

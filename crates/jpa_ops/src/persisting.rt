@@ -27,7 +27,7 @@ use jpa_context::{EntityState, Entry, Lock, UnitOfWork};
 use jpa_heap::{Life, LiveObject, is_whole};
 use jpa_lifecycle::callback;
 use jpa_model::Metamodel;
-use jpa_value::{Cause, LifecycleEvent, Persist, Seq, TryCopy, Value};
+use jpa_value::{Cause, LifecycleEvent, PersistenceFault, Seq, TryCopy, Value};
 use std::alloc::Global;
 
 /// The greatest next number; it is never given.
@@ -77,12 +77,12 @@ fn give_number(
 {
     let unkeyed = &work.objects.as_slice()[object];
     if !is_unset(unkeyed.key.as_slice()) {
-        return Err(Cause::Persistence(Persist::Key));
+        return Err(Cause::Persistence(PersistenceFault::Key));
     }
     let root = metamodel.root_class(unkeyed.class);
     let number = work.numbers.as_slice()[root];
     if number >= LAST_NUMBER {
-        return Err(Cause::Persistence(Persist::Generator));
+        return Err(Cause::Persistence(PersistenceFault::Generator));
     }
     let keyed = with_number(alloc, unkeyed, number)?;
     work.objects.set(object, keyed)?;
@@ -112,7 +112,7 @@ fn give_key(
         return give_number(alloc, metamodel, work, object);
     }
     if !is_whole(fresh.key.as_slice()) {
-        return Err(Cause::Persistence(Persist::Key));
+        return Err(Cause::Persistence(PersistenceFault::Key));
     }
     Ok(())
 }

@@ -16,8 +16,8 @@ use Rattle.jpa_cells_meaning.specs.Tables.{Tables}
 use Rattle.jpa_rowspace.specs.Space.{Space, IsStoreCause}
 use Rattle.jpa_rowspace.proofs.Holding.{clean_before}
 use Rattle.jpa_migration.specs.Migration.{opened_tables}
-use Rattle.jpa_judgment.specs.Damage.{AreDamagedAt}
-use Rattle.jpa_judgment.specs.Opened.{IsMigrated, AllowsDue, CountsDue}
+use Rattle.jpa_store_reader.specs.Damage.{AreDamagedAt}
+use Rattle.jpa_store_reader.specs.Opened.{IsMigrated, AllowsDue, CountsDue}
 use Rattle.jpa_program.specs.Opening.{no_rows, having_opened, IsFoundIn, OpensWriting, KeepsOrMakes, EnduresMaking, Opened, EnduresOpening, OpensCounting, IsOpenCause}
 
 module _ {S : Type 0} (g : Ghosts S) where

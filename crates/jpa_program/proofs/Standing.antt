@@ -24,8 +24,8 @@ use Rattle.jpa_object_rows.specs.Sets.{rows_of}
 use Rattle.jpa_object_rows.proofs.Cells.{rows_stand_for}
 use Rattle.jpa_cells_meaning.specs.Store.{IsClean, tables_in}
 use Rattle.jpa_rowspace.specs.Space.{Space, HoldsRows}
-use Rattle.jpa_judgment.specs.Damage.{cells_in}
-use Rattle.jpa_judgment.proofs.Standing.{same_cells, stand_same}
+use Rattle.jpa_store_reader.specs.Damage.{cells_in}
+use Rattle.jpa_store_reader.proofs.Standing.{same_cells, stand_same}
 use Rattle.jpa_machine.specs.Machine.{Machine, opened}
 use Rattle.jpa_provider.specs.Provided.{Provided}
 use Rattle.jpa_program.specs.Opening.{HoldsCells}

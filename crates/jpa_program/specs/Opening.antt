@@ -13,8 +13,8 @@ use Rattle.jpa_cells_meaning.specs.Store.{Stored, up_to_greatest, new_store, IsC
 use Rattle.jpa_cells_meaning.specs.Store.{Endures, tables_in}
 use Rattle.jpa_rowspace.specs.Space.{IsStoreCause}
 use Rattle.jpa_migration.specs.Migration.{opened_tables, changes_due}
-use Rattle.jpa_judgment.specs.Damage.{cells_in, AreDamagedAt}
-use Rattle.jpa_judgment.specs.Opened.{IsMigrated}
+use Rattle.jpa_store_reader.specs.Damage.{cells_in, AreDamagedAt}
+use Rattle.jpa_store_reader.specs.Opened.{IsMigrated}
 
 -- the tables of an empty database
 abbrev pub no_rows : Tables

@@ -6,15 +6,15 @@ use Rattle.std.specs.FinMap.Entries.{is_sorted}
 use Rattle.std.proofs.lemmas.List.Elements.{All-nil, All-cons}
 use Rattle.jpa_value.specs.declared.value.Identity.{Identity}
 use Rattle.jpa_value.specs.declared.refusal.Cause.{Cause}
-use Rattle.jpa_value.specs.declared.refusal.Persist.{Persist}
+use Rattle.jpa_value.specs.declared.refusal.PersistenceFault.{PersistenceFault}
 use Rattle.jpa_value.specs.Value.{identity_cmp, same_identity}
 use Rattle.jpa_model.specs.declared.unit.PersistenceUnit.{PersistenceUnit}
 use Rattle.jpa_behaviour.specs.Behaviour.{World}
 use Rattle.jpa_stored.specs.Sets.{StoredSet, IsSound, stored_at, fault_of}
 use Rattle.jpa_open.specs.Differences.{agrees, differing, merged}
 use Rattle.jpa_open.proofs.MergedSets.{found_merged, is_differing}
-use Rattle.jpa_judge.specs.declared.change.Change.{Change}
-use Rattle.jpa_judge.specs.Changed.{class_at, is_changed, IsChanged}
+use Rattle.jpa_constraints.specs.declared.change.Change.{Change}
+use Rattle.jpa_constraints.specs.Changed.{class_at, is_changed, IsChanged}
 use Rattle.jpa_open.specs.Opened.{SameElsewhere}
 use Rattle.jpa_context.specs.Work.{Work}
 use Rattle.jpa_context.specs.Steps.{◌>>=◌, ◌>>◌, Op, Done, Refused, IsRefusedAs, Meets, after, change, read, require}
@@ -74,7 +74,7 @@ pub seen_then : (m : PersistenceUnit) (s : StoredSet) (w : Work) (r : Result (Un
 seen_then m s w (Ok a) sound fault = ap (λ f. after (sound_or f w) (λ _. change (with_view s))) sound
 seen_then m s w (Err cause) sound fault = by (fault_of m s) fault
   where
-    by : (f : Option Persist) → option_map Cause.Persistence f ≡ Some cause → IsRefusedAs {A = Unit {0}} cause w.events (after (sound_or f w) (λ _. change (with_view s)))
+    by : (f : Option PersistenceFault) → option_map Cause.Persistence f ≡ Some cause → IsRefusedAs {A = Unit {0}} cause w.events (after (sound_or f w) (λ _. change (with_view s)))
     by None h = absurd cc
     by (Some f) h =
         let is : Cause.Persistence f ≡ cause = cc in

@@ -5,7 +5,7 @@ ghost use Rattle.jpa_machine.specs.Calls as calls;
 ghost use Rattle.jpa_provider.specs.Operations as operations;
 
 use jpa_protocol::{Answer, Reply, Told};
-use jpa_value::{Cause, Persist, Refusal, Seq};
+use jpa_value::{Cause, PersistenceFault, Refusal, Seq};
 use std::alloc::Global;
 
 /// An answer, with nothing told.
@@ -63,7 +63,7 @@ fn marks_if_callback(cause: &Cause) -> bool
 {
     matches!(
         cause,
-        Cause::Persistence(Persist::Callback) | Cause::Listener(_)
+        Cause::Persistence(PersistenceFault::Callback) | Cause::Listener(_)
     )
 }
 

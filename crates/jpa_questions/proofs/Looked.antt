@@ -9,7 +9,7 @@ use Rattle.jpa_overlay.specs.Overlay.{Changes, rows_under}
 use Rattle.jpa_rows.specs.declared.reader.RowReader.{Ghosts}
 use Rattle.jpa_rows.specs.Faults.{faults_after}
 use Rattle.jpa_rows.specs.Rows.{Rows}
-use Rattle.jpa_judgment.specs.OfSet.{AreOf}
+use Rattle.jpa_store_reader.specs.OfSet.{AreOf}
 use Rattle.jpa_row_queries.specs.Seen.{SeesSet}
 use Rattle.jpa_row_queries.specs.Looking.{LooksAtOneRow, LooksOnly}
 use Rattle.jpa_questions.specs.Asking.{LooksAtTwoRows}

@@ -13,9 +13,9 @@ use Rattle.jpa_row_laws.proofs.Facts.{second_holds, first_holds}
 use Rattle.jpa_row_laws.proofs.Lists.{all_each}
 use Rattle.jpa_object_rows.proofs.Bytes.Orders.{are_same_numbers}
 use Rattle.jpa_object_rows.specs.Raw.{AreNamed, is_key_by}
-use Rattle.jpa_judgment.specs.Reads.{AreNumbersOf, IsRising}
-use Rattle.jpa_judgment.proofs.Parts.{append_nil, no_rows, own_rows, rows_append, tables_above}
-use Rattle.jpa_judgment.proofs.Reading.{known_number}
+use Rattle.jpa_store_reader.specs.Reads.{AreNumbersOf, IsRising}
+use Rattle.jpa_store_reader.proofs.Parts.{append_nil, no_rows, own_rows, rows_append, tables_above}
+use Rattle.jpa_store_reader.proofs.Reading.{known_number}
 
 -- ---- the rows of the first table, and the others
 

@@ -32,9 +32,9 @@ use Rattle.jpa_object_rows.specs.Sets.{targets_in}
 use Rattle.jpa_object_rows.proofs.Read.{some_in}
 use Rattle.jpa_object_rows.proofs.Standing.{set_stands}
 use Rattle.jpa_mapper.specs.Mapped.{IsMainRow, IsReadAs}
-use Rattle.jpa_judgment.specs.Sound.{IsSoundRow}
-use Rattle.jpa_judgment.specs.OfSet.{AreOf}
-use Rattle.jpa_judgment.proofs.OfSet.{main_at, of_set, of_sound, of_unit}
+use Rattle.jpa_store_reader.specs.Sound.{IsSoundRow}
+use Rattle.jpa_store_reader.specs.OfSet.{AreOf}
+use Rattle.jpa_store_reader.proofs.OfSet.{main_at, of_set, of_sound, of_unit}
 use Rattle.jpa_row_queries.specs.Seen.{StandsAlone}
 
 -- ---- where no pairs are owned, all are those of the rows

@@ -6,7 +6,7 @@ use Rattle.jpa_behaviour.specs.Behaviour.{World}
 use Rattle.jpa_stored.specs.Sets.{StoredSet}
 use Rattle.jpa_rows.specs.Faults.{IsStoreCause}
 use Rattle.jpa_rows.specs.Rows.{Rows}
-use Rattle.jpa_judgment.specs.OfSet.{AreOf, TellsNone}
+use Rattle.jpa_store_reader.specs.OfSet.{AreOf, TellsNone}
 use Rattle.jpa_row_queries.specs.Looking.{IsDamage}
 
 -- rows of a set are refused for want of memory alone

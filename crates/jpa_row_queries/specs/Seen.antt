@@ -10,7 +10,7 @@ use Rattle.jpa_rows.specs.declared.reader.RowReader.{Ghosts}
 use Rattle.jpa_rows.specs.Rows.{Rows, AreRising}
 use Rattle.jpa_object_rows.specs.Unambiguous.{joins_of}
 use Rattle.jpa_overlay.specs.Overlay.{Changes, rows_under}
-use Rattle.jpa_judgment.specs.OfSet.{AreOf}
+use Rattle.jpa_store_reader.specs.OfSet.{AreOf}
 
 -- the store's rows are under the changes those of this set and these next numbers, which a store can hold
 pub record SeesSet {S : Type 0} (store : Ghosts S) (world : World) (changes : Changes) (source : S) (set : StoredSet)

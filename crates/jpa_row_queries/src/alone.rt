@@ -4,7 +4,7 @@ ghost use Rattle.std.specs.FinMap.{find};
 ghost use Rattle.jpa_value.specs.declared.refusal.Cause.{Cause};
 ghost use Rattle.jpa_value.specs.Value.{identity_cmp};
 ghost use Rattle.jpa_behaviour.specs.Registered.{world_of};
-ghost use Rattle.jpa_judgment.specs.OfSet.{AreOf};
+ghost use Rattle.jpa_store_reader.specs.OfSet.{AreOf};
 ghost use Rattle.jpa_rows.specs.Faults.{IsStoreCause};
 ghost use Rattle.jpa_rows.specs.Rows.{Rows};
 ghost use Rattle.jpa_stored.specs.Sets.{StoredSet, is_shaped, stored_at};

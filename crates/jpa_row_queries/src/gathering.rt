@@ -4,8 +4,8 @@ ghost use Rattle.std.specs.List.{flat_map};
 ghost use Rattle.jpa_value.specs.declared.refusal.Cause.{Cause};
 ghost use Rattle.jpa_behaviour.specs.Registered.{world_of};
 ghost use Rattle.jpa_rows.specs.Faults.{IsStoreCause};
-ghost use Rattle.jpa_judgment.specs.OfSet.{AreOf};
-ghost use Rattle.jpa_judgment.specs.Reads.{AreNumbersOf};
+ghost use Rattle.jpa_store_reader.specs.OfSet.{AreOf};
+ghost use Rattle.jpa_store_reader.specs.Reads.{AreNumbersOf};
 ghost use Rattle.jpa_object_rows.specs.Raw.{AreRowsOf};
 ghost use Rattle.jpa_rows.specs.Rows.{Rows, AreRising, table_rows};
 ghost use Rattle.jpa_rows.specs.Tables.{schema_of};
@@ -17,11 +17,11 @@ ghost use Rattle.jpa_row_queries.specs.Looking.{IsDamage, IsReadingCause, LooksO
 ghost use Rattle.jpa_row_queries.specs.Seen.{SeesSet};
 
 use jpa_behaviour::{Behaviour, Registry};
-use jpa_judgment::{Committed, judge_rows, table_numbers};
 use jpa_mapper::discriminator_law;
 use jpa_model::Metamodel;
 use jpa_overlay::Overlay;
 use jpa_rows::{Row, RowId, RowReader, RowSink, Schema};
+use jpa_store_reader::{Committed, judge_rows, table_numbers};
 use jpa_stored::StoredSet;
 use jpa_value::{Cause, Seq};
 use std::alloc::Global;

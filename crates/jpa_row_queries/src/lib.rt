@@ -8,7 +8,7 @@
 //!
 //! `specs/Seen.antt` says which set is seen, `specs/Looking.antt` what a look leaves of the store,
 //! and `specs/Answered.antt` what a refusal says of the answer. The crate stands on the overlay of
-//! rows (`jpa_overlay`), on objects as rows (`jpa_mapper`), on the judgment of rows (`jpa_judgment`)
+//! rows (`jpa_overlay`), on objects as rows (`jpa_mapper`), on the judgment of rows (`jpa_store_reader`)
 //! and on `jpql_select`, the one evaluator.
 #![tactic(auto)]
 

@@ -1,7 +1,7 @@
 -- The first run: a person is made, named, persisted, committed and found, and what may come after it.
 use Rattle.std.specs.Prelude.{codes, ◌≡◌, refl, pos, List, [], ◌∷◌, ℕ}
 use Rattle.jpa_value.specs.declared.refusal.Cause.{Cause}
-use Rattle.jpa_value.specs.declared.refusal.Persist.{Persist}
+use Rattle.jpa_value.specs.declared.refusal.PersistenceFault.{PersistenceFault}
 use Rattle.jpa_value.specs.declared.refusal.Refusal.{Refusal}
 use Rattle.jpa_value.specs.declared.event.LifecycleEvent.{LifecycleEvent}
 use Rattle.jpa_rows.specs.Cells.{Cell, rows}
@@ -68,7 +68,7 @@ set_key =
     ∷ Call.Find (pos 1) (codes "Person") (int 1 ∷ []) ∷ Call.Persist (pos 1) (pos 1) ∷ []
 
 set_key_replies : replies_of P1 after_first set_key ≡
-    ok [] (Answer.Object 2) ∷ quiet ∷ quiet ∷ no [] (Refusal.Because (Cause.Persistence Persist.Key)) ∷ no [] Refusal.RollbackMarked
+    ok [] (Answer.Object 2) ∷ quiet ∷ quiet ∷ no [] (Refusal.Because (Cause.Persistence PersistenceFault.Key)) ∷ no [] Refusal.RollbackMarked
     ∷ ok (saw LifecycleEvent.PostLoad 3 ∷ []) (Answer.Object 3) ∷ no [] (Refusal.Because Cause.EntityExists) ∷ []
 set_key_replies = refl
 

@@ -4,7 +4,7 @@ use Rattle.std.specs.List.{filter}
 use Rattle.jpa_value.specs.declared.value.Value.{Value}
 use Rattle.jpa_value.specs.declared.value.Kind.{Kind}
 use Rattle.jpa_value.specs.declared.refusal.Cause.{Cause}
-use Rattle.jpa_value.specs.declared.refusal.Persist.{Persist}
+use Rattle.jpa_value.specs.declared.refusal.PersistenceFault.{PersistenceFault}
 use Rattle.jpa_value.specs.declared.refusal.State.{State}
 use Rattle.jpa_value.specs.declared.refusal.Refusal.{Refusal}
 use Rattle.jpa_value.specs.declared.event.LifecycleEvent.{LifecycleEvent}
@@ -69,7 +69,7 @@ thrown : replies_of G (opened [] (1 ∷ []))
     (Call.CreateEntityManager ∷ Call.NewObject (codes "Person") ∷ Call.SetValue (pos 1) (codes "name") (text (codes "Ada")) ∷ Call.Begin (pos 1) ∷ Call.Persist (pos 1) (pos 1) ∷ Call.Commit (pos 1)
     ∷ Call.NewObject (codes "Person") ∷ Call.SetValue (pos 2) (codes "name") (text (codes "Bob")) ∷ Call.Begin (pos 1) ∷ Call.Persist (pos 1) (pos 2) ∷ Call.Commit (pos 1) ∷ []) ≡
     ok [] (Answer.Number 1) ∷ ok [] (Answer.Object 1) ∷ quiet ∷ quiet ∷ ok (saw LifecycleEvent.PrePersist 1 ∷ []) Answer.Null ∷ ok (saw LifecycleEvent.PostPersist 1 ∷ []) Answer.Null
-    ∷ ok [] (Answer.Object 2) ∷ quiet ∷ quiet ∷ ok (saw LifecycleEvent.PrePersist 2 ∷ []) Answer.Null ∷ no [] (Refusal.Rollback (Cause.Persistence Persist.Converter)) ∷ []
+    ∷ ok [] (Answer.Object 2) ∷ quiet ∷ quiet ∷ ok (saw LifecycleEvent.PrePersist 2 ∷ []) Answer.Null ∷ no [] (Refusal.Rollback (Cause.Persistence PersistenceFault.Converter)) ∷ []
 thrown = refl
 
 -- ---- listeners
@@ -180,5 +180,5 @@ two_owners : replies_of O (machine_after O both_fresh linked)
     (Call.Persist (pos 1) (pos 1) ∷ Call.Persist (pos 1) (pos 2) ∷ Call.NewObject (codes "Order") ∷ Call.SetValue (pos 3) (codes "number") (int 11)
     ∷ Call.SetValue (pos 3) (codes "person") (Given.Object (pos 1)) ∷ Call.Persist (pos 1) (pos 3) ∷ Call.Commit (pos 1) ∷ []) ≡
     ok (saw LifecycleEvent.PrePersist 1 ∷ []) Answer.Null ∷ ok (saw LifecycleEvent.PrePersist 2 ∷ []) Answer.Null ∷ ok [] (Answer.Object 3) ∷ quiet ∷ quiet
-    ∷ ok (saw LifecycleEvent.PrePersist 3 ∷ []) Answer.Null ∷ no [] (Refusal.Rollback (Cause.Persistence Persist.Unique)) ∷ []
+    ∷ ok (saw LifecycleEvent.PrePersist 3 ∷ []) Answer.Null ∷ no [] (Refusal.Rollback (Cause.Persistence PersistenceFault.Unique)) ∷ []
 two_owners = refl

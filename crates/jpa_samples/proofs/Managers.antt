@@ -4,7 +4,7 @@ use Rattle.jpa_value.specs.declared.value.Value.{Value}
 use Rattle.jpa_value.specs.declared.refusal.Cause.{Cause}
 use Rattle.jpa_value.specs.declared.refusal.Argument.{Argument}
 use Rattle.jpa_value.specs.declared.refusal.State.{State}
-use Rattle.jpa_value.specs.declared.refusal.Persist.{Persist}
+use Rattle.jpa_value.specs.declared.refusal.PersistenceFault.{PersistenceFault}
 use Rattle.jpa_value.specs.declared.refusal.Refusal.{Refusal}
 use Rattle.jpa_value.specs.declared.event.LifecycleEvent.{LifecycleEvent}
 use Rattle.jpa_stored.specs.Sets.{StoredSet}
@@ -88,12 +88,12 @@ greatest = (record { table = 1; key = Value.Int (pos 1) ∷ [] }, record { class
 version_limit : replies_of P1 (opened greatest (2 ∷ []))
     (Call.CreateEntityManager ∷ Call.Find (pos 1) (codes "Person") (int 1 ∷ []) ∷ Call.SetValue (pos 1) (codes "name") (text (codes "Bob")) ∷ Call.Begin (pos 1) ∷ Call.Commit (pos 1) ∷ []) ≡
     ok [] (Answer.Number 1) ∷ ok (saw LifecycleEvent.PostLoad 1 ∷ []) (Answer.Object 1) ∷ quiet ∷ quiet
-    ∷ no (saw LifecycleEvent.PreUpdate 1 ∷ []) (Refusal.Rollback (Cause.Persistence Persist.Version)) ∷ []
+    ∷ no (saw LifecycleEvent.PreUpdate 1 ∷ []) (Refusal.Rollback (Cause.Persistence PersistenceFault.Version)) ∷ []
 version_limit = refl
 
 -- the last generated key is never given
 generator_limit : replies_of P1 (opened [] (9223372036854775807 ∷ [])) (Call.CreateEntityManager ∷ Call.NewObject (codes "Person") ∷ Call.Persist (pos 1) (pos 1) ∷ []) ≡
-    ok [] (Answer.Number 1) ∷ ok [] (Answer.Object 1) ∷ no [] (Refusal.Because (Cause.Persistence Persist.Generator)) ∷ []
+    ok [] (Answer.Number 1) ∷ ok [] (Answer.Object 1) ∷ no [] (Refusal.Because (Cause.Persistence PersistenceFault.Generator)) ∷ []
 generator_limit = refl
 
 -- a rollback gives no key twice
@@ -102,6 +102,6 @@ no_key_twice : replies_of P1 fresh
     ∷ Call.Persist (pos 1) (pos 9) ∷ Call.SetValue (pos 2) (codes "id") (int 5) ∷ Call.Persist (pos 1) (pos 2) ∷ Call.Commit (pos 1) ∷ Call.Find (pos 1) (codes "Person") (int 1 ∷ [])
     ∷ Call.NewObject (codes "Person") ∷ Call.Begin (pos 1) ∷ Call.Persist (pos 1) (pos 3) ∷ Call.Commit (pos 1) ∷ Call.Find (pos 1) (codes "Person") (int 2 ∷ []) ∷ []) ≡
     ok [] (Answer.Number 1) ∷ ok [] (Answer.Object 1) ∷ ok [] (Answer.Object 2) ∷ quiet ∷ ok (saw LifecycleEvent.PrePersist 1 ∷ []) Answer.Null ∷ no [] (Refusal.Because (Cause.IllegalState State.Active))
-    ∷ no [] (Refusal.Because Cause.NoSuchObject) ∷ quiet ∷ no [] (Refusal.Because (Cause.Persistence Persist.Key)) ∷ no [] Refusal.RollbackMarked ∷ quiet
+    ∷ no [] (Refusal.Because Cause.NoSuchObject) ∷ quiet ∷ no [] (Refusal.Because (Cause.Persistence PersistenceFault.Key)) ∷ no [] Refusal.RollbackMarked ∷ quiet
     ∷ ok [] (Answer.Object 3) ∷ quiet ∷ ok (saw LifecycleEvent.PrePersist 3 ∷ []) Answer.Null ∷ ok (saw LifecycleEvent.PostPersist 3 ∷ []) Answer.Null ∷ ok [] (Answer.Object 3) ∷ []
 no_key_twice = refl

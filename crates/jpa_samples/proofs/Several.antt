@@ -2,7 +2,7 @@
 use Rattle.std.specs.Prelude.{codes, ◌≡◌, refl, pos, List, [], ◌∷◌, ℕ}
 use Rattle.jpa_value.specs.declared.value.Value.{Value}
 use Rattle.jpa_value.specs.declared.refusal.Cause.{Cause}
-use Rattle.jpa_value.specs.declared.refusal.Persist.{Persist}
+use Rattle.jpa_value.specs.declared.refusal.PersistenceFault.{PersistenceFault}
 use Rattle.jpa_value.specs.declared.refusal.Refusal.{Refusal}
 use Rattle.jpa_value.specs.declared.refusal.State.{State}
 use Rattle.jpa_value.specs.declared.event.LifecycleEvent.{LifecycleEvent}
@@ -77,7 +77,7 @@ reference_to_removed_across_transactions : replies_of P fresh across ≡
     ok [] (Answer.Number 1) ∷ ok [] (Answer.Object 1) ∷ quiet ∷ ok (saw LifecycleEvent.PrePersist 1 ∷ []) Answer.Null ∷ ok (saw LifecycleEvent.PostPersist 1 ∷ []) Answer.Null
     ∷ ok [] (Answer.Number 2) ∷ quiet ∷ quiet ∷ ok (saw LifecycleEvent.PreRemove 1 ∷ []) Answer.Null ∷ ok [] (Answer.Object 2) ∷ quiet
     ∷ ok (saw LifecycleEvent.PostLoad 3 ∷ []) (Answer.Object 3) ∷ quiet ∷ ok (saw LifecycleEvent.PrePersist 2 ∷ []) Answer.Null ∷ ok (saw LifecycleEvent.PostRemove 1 ∷ []) Answer.Null
-    ∷ no (saw LifecycleEvent.PostPersist 2 ∷ []) (Refusal.Rollback (Cause.Persistence Persist.Reference)) ∷ []
+    ∷ no (saw LifecycleEvent.PostPersist 2 ∷ []) (Refusal.Rollback (Cause.Persistence PersistenceFault.Reference)) ∷ []
 reference_to_removed_across_transactions = refl
 
 across_cells : cells_of (machine_after P fresh across) ≡ record { table = 0; row = number 1; column = pos 0; bytes = number 2 } ∷ []

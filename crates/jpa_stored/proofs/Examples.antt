@@ -3,7 +3,7 @@ use Rattle.std.specs.Prelude.{◌≡◌, refl, ℕ, true, false, pos, List, [], 
 use Rattle.jpa_value.specs.declared.value.Value.{Value}
 use Rattle.jpa_value.specs.declared.value.Kind.{Kind}
 use Rattle.jpa_value.specs.declared.value.Identity.{Identity}
-use Rattle.jpa_value.specs.declared.refusal.Persist.{Persist}
+use Rattle.jpa_value.specs.declared.refusal.PersistenceFault.{PersistenceFault}
 use Rattle.jpa_model.specs.declared.unit.Attribute.{Attribute}
 use Rattle.jpa_model.specs.declared.unit.Entity.{Entity}
 use Rattle.jpa_model.specs.declared.unit.Origin.{Origin}
@@ -63,12 +63,12 @@ sound = refl
 orders_of_one : members_of unit set 0 (name 1 1) (stored_at set (name 1 1)) 0 ≡ name 2 7 ∷ name 2 8 ∷ []
 orders_of_one = refl
 
-no_name : fault_of unit (with_stored (name 1 2) (person Value.Null) set) ≡ Some Persist.Null
+no_name : fault_of unit (with_stored (name 1 2) (person Value.Null) set) ≡ Some PersistenceFault.Null
 no_name = refl
 
-dangling : fault_of unit (without (name 1 1 ∷ []) set) ≡ Some Persist.Reference
+dangling : fault_of unit (without (name 1 1 ∷ []) set) ≡ Some PersistenceFault.Reference
 dangling = refl
 
 -- the null is told first
-both : fault_of unit (with_stored (name 1 2) (person Value.Null) (without (name 1 1 ∷ []) set)) ≡ Some Persist.Null
+both : fault_of unit (with_stored (name 1 2) (person Value.Null) (without (name 1 1 ∷ []) set)) ≡ Some PersistenceFault.Null
 both = refl

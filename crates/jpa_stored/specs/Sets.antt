@@ -6,7 +6,7 @@ use Rattle.std.specs.List.{flat_map, filter, list_any, list_all, zip}
 use Rattle.std.specs.FinMap.Entries.{find, put, where_key}
 use Rattle.jpa_value.specs.declared.value.Value.{Value}
 use Rattle.jpa_value.specs.declared.value.Identity.{Identity}
-use Rattle.jpa_value.specs.declared.refusal.Persist.{Persist}
+use Rattle.jpa_value.specs.declared.refusal.PersistenceFault.{PersistenceFault}
 use Rattle.jpa_value.specs.Value.{identity_cmp, same_identity, is_null, fits}
 use Rattle.std.specs.Ordering.{is_lt, is_eq, nat_cmp, ordering_then}
 use Rattle.std.specs.declared.cmp.Ordering.{Ordering}
@@ -142,14 +142,14 @@ abbrev pub no_shared_target : PersistenceUnit → StoredSet → Bool
 no_shared_target m s = all_distinct same_claim (claims m s)
 
 -- the first part that fails
-abbrev pub first_fault : Bool → Bool → Bool → Option Persist
-first_fault false b c = Some Persist.Null
-first_fault true false c = Some Persist.Reference
-first_fault true true false = Some Persist.Unique
+abbrev pub first_fault : Bool → Bool → Bool → Option PersistenceFault
+first_fault false b c = Some PersistenceFault.Null
+first_fault true false c = Some PersistenceFault.Reference
+first_fault true true false = Some PersistenceFault.Unique
 first_fault true true true = None
 
 -- the first part of soundness that fails, if one does
-abbrev pub fault_of : PersistenceUnit → StoredSet → Option Persist
+abbrev pub fault_of : PersistenceUnit → StoredSet → Option PersistenceFault
 fault_of m s = first_fault (no_required_null m s) (all_lead m s) (no_shared_target m s)
 
 -- a set is sound: no part of soundness fails

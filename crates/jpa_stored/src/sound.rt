@@ -12,7 +12,7 @@ use crate::classes::{attributes_of, is_kind_of, relations_of};
 use crate::set::StoredSet;
 use crate::stored::Stored;
 use jpa_model::{Attribute, Metamodel, Relation, Side};
-use jpa_value::{Boxed, Cause, Identity, Persist, Seq, Value};
+use jpa_value::{Boxed, Cause, Identity, PersistenceFault, Seq, Value};
 
 /// Whether a value is there, if it has to be.
 fn is_filled(required: bool, value: &Value) -> bool
@@ -166,15 +166,15 @@ pub fn integrity(metamodel: &Metamodel, set: &StoredSet) -> Result<(), Cause>
         ⊎ (option_map Cause.Persistence (sets.fault_of metamodel.now set.now) ≡ Some cause)) }
 {
     if !all_filled(metamodel, set.entries()) {
-        return Err(Cause::Persistence(Persist::Null));
+        return Err(Cause::Persistence(PersistenceFault::Null));
     }
     if !all_lead(metamodel, set) {
-        return Err(Cause::Persistence(Persist::Reference));
+        return Err(Cause::Persistence(PersistenceFault::Reference));
     }
     let alloc = set.allocator();
     let claims = claims_of(alloc, metamodel, set.entries())?;
     if !are_distinct(alloc, claims)? {
-        return Err(Cause::Persistence(Persist::Unique));
+        return Err(Cause::Persistence(PersistenceFault::Unique));
     }
     Ok(())
 }

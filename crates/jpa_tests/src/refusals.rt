@@ -1,6 +1,7 @@
 //! The numbers and the texts of refusals, some of which no call of the program meets yet.
 use jpa_value::{
-    Argument, Cause, LifecycleEvent, MappingFault, Persist, Refusal, State, Text, refusal_text,
+    Argument, Cause, LifecycleEvent, MappingFault, PersistenceFault, Refusal, State, Text,
+    refusal_text,
 };
 use std::alloc::Global;
 use std::process::Abort;
@@ -24,7 +25,7 @@ const REFUSALS: [Told; 10] = [
         "IllegalState(unfetched)",
     ),
     Told(
-        Refusal::Because(Cause::Persistence(Persist::Unique)),
+        Refusal::Because(Cause::Persistence(PersistenceFault::Unique)),
         12,
         "Persistence(unique)",
     ),
@@ -41,7 +42,7 @@ const REFUSALS: [Told; 10] = [
         "Rollback(OptimisticLock)",
     ),
     Told(
-        Refusal::Rollback(Cause::Persistence(Persist::Version)),
+        Refusal::Rollback(Cause::Persistence(PersistenceFault::Version)),
         14,
         "Rollback(Persistence(version))",
     ),
@@ -83,8 +84,8 @@ fn names(rt: HostRuntime) {
         (Argument::Second.name(), "second"),
         (State::Active.name(), "active"),
         (State::Statement.name(), "statement"),
-        (Persist::Key.name(), "key"),
-        (Persist::Callback.name(), "callback"),
+        (PersistenceFault::Key.name(), "key"),
+        (PersistenceFault::Callback.name(), "callback"),
         (MappingFault::Json.name(), "json"),
         (MappingFault::Function.name(), "function"),
     ] {

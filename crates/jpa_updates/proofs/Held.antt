@@ -2,7 +2,7 @@
 use Rattle.std.proofs.Common.{◌≡◌, ◌∙◌, refl, ap, sym, subst, ℕ, true, List}
 use Rattle.std.specs.Prelude.{Option, Some, None, Result, Ok, Err}
 use Rattle.jpa_value.specs.declared.refusal.Cause.{Cause}
-use Rattle.jpa_value.specs.declared.refusal.Persist.{Persist}
+use Rattle.jpa_value.specs.declared.refusal.PersistenceFault.{PersistenceFault}
 use Rattle.jpa_model.specs.declared.unit.PersistenceUnit.{PersistenceUnit}
 use Rattle.jpa_behaviour.specs.Behaviour.{World}
 use Rattle.jpa_stored.specs.Sets.{StoredSet, fault_of, IsSound}
@@ -33,7 +33,7 @@ record IsSettled (m : PersistenceUnit) (s : StoredSet) (w v : Work) : Type 0 whe
   sound : IsSound m s
   seen : with_view s w ≡ v
 
-settled_by : (m : PersistenceUnit) (s : StoredSet) (n k : ℕ) (w v : Work) (f : Option Persist) → fault_of m s ≡ f → after (sound_or f w) (λ _ u. Done n (with_view s u)) ≡ Done k v → IsSettled m s w v
+settled_by : (m : PersistenceUnit) (s : StoredSet) (n k : ℕ) (w v : Work) (f : Option PersistenceFault) → fault_of m s ≡ f → after (sound_or f w) (λ _ u. Done n (with_view s u)) ≡ Done k v → IsSettled m s w v
 settled_by m s n k w v None e h = record { sound = e; seen = same_work n k (with_view s w) v h }
 settled_by m s n k w v (Some fault) e h = absurd (not_done k v (Cause.Persistence fault) w h)
 

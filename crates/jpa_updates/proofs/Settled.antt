@@ -8,15 +8,15 @@ use Rattle.std.proofs.lemmas.Bool.{false≢true}
 use Rattle.std.proofs.lemmas.List.Elements.{All-nil, All-cons, All-head, All-tail}
 use Rattle.jpa_value.specs.declared.value.Identity.{Identity}
 use Rattle.jpa_value.specs.declared.refusal.Cause.{Cause}
-use Rattle.jpa_value.specs.declared.refusal.Persist.{Persist}
+use Rattle.jpa_value.specs.declared.refusal.PersistenceFault.{PersistenceFault}
 use Rattle.jpa_value.specs.Value.{identity_cmp, same_identity}
 use Rattle.jpa_value.proofs.Orders.{identity_total, identity_exact}
 use Rattle.jpa_model.specs.declared.unit.PersistenceUnit.{PersistenceUnit}
 use Rattle.jpa_stored.specs.declared.stored.Stored.{Stored}
 use Rattle.jpa_stored.specs.Sets.{StoredSet, stored_at, with_stored, put_all, without, fault_of, IsSound}
 use Rattle.jpa_stored.proofs.Puts.{rises}
-use Rattle.jpa_judge.specs.declared.change.Change.{Change}
-use Rattle.jpa_judge.specs.Changed.{class_at, is_changed, IsChanged}
+use Rattle.jpa_constraints.specs.declared.change.Change.{Change}
+use Rattle.jpa_constraints.specs.Changed.{class_at, is_changed, IsChanged}
 use Rattle.jpa_context.specs.Work.{Work}
 use Rattle.jpa_context.specs.Steps.{Done, Refused, Meets, IsRefusedAs, after}
 use Rattle.jpa_flush.specs.Flush.{sound_or}
@@ -128,7 +128,7 @@ pub judged : (m : PersistenceUnit) (s : StoredSet) (w : Work) (r : Result (Unit 
 judged m s w (Ok a) sound fault = ap (λ f. sound_or f w) sound
 judged m s w (Err cause) sound fault = by_fault (fault_of m s) fault
   where
-    by_fault : (f : Option Persist) → option_map Cause.Persistence f ≡ Some cause → IsRefusedAs {A = Unit {0}} cause w.events (sound_or f w)
+    by_fault : (f : Option PersistenceFault) → option_map Cause.Persistence f ≡ Some cause → IsRefusedAs {A = Unit {0}} cause w.events (sound_or f w)
     by_fault None h = absurd cc
     by_fault (Some f) h =
         let same : Cause.Persistence f ≡ cause = cc in
@@ -141,14 +141,14 @@ view_of u v n k e = let same : u ≡ v = cc in sym (ap (λ (x : Work). x.view) s
 
 module _ (m : PersistenceUnit) (s : StoredSet) (n : ℕ) (w : Work) where
   -- by whether there is a fault
-  settled_as : (f : Option Persist) → fault_of m s ≡ f → settle m (s, n) w ≡ after (sound_or f w) (λ _ u. Done n (with_view s u))
+  settled_as : (f : Option PersistenceFault) → fault_of m s ≡ f → settle m (s, n) w ≡ after (sound_or f w) (λ _ u. Done n (with_view s u))
   settled_as f e = ap (λ g. after (sound_or g w) (λ _ u. Done n (with_view s u))) e
 
-  done_by : (f : Option Persist) → fault_of m s ≡ f → sound_or f (with_view s w) ≡ Done tt (with_view s w) → settle m (s, n) w ≡ Done n (with_view s w)
+  done_by : (f : Option PersistenceFault) → fault_of m s ≡ f → sound_or f (with_view s w) ≡ Done tt (with_view s w) → settle m (s, n) w ≡ Done n (with_view s w)
   done_by None e h = settled_as None e
   done_by (Some fault) e h = absurd cc
 
-  refused_by : (f : Option Persist) → fault_of m s ≡ f → (r : Cause) → IsRefusedAs r w.events (sound_or f (with_view s w)) → IsRefusedAs r w.events (settle m (s, n) w)
+  refused_by : (f : Option PersistenceFault) → fault_of m s ≡ f → (r : Cause) → IsRefusedAs r w.events (sound_or f (with_view s w)) → IsRefusedAs r w.events (settle m (s, n) w)
   refused_by None e Cause.OutOfMemory h = tt
   refused_by None e Cause.StoreFault h = h
   refused_by None e r h = absurd cc
@@ -166,7 +166,7 @@ module _ (m : PersistenceUnit) (s : StoredSet) (n : ℕ) (w : Work) where
       (refused_by (fault_of m s) refl r (subst (λ u. IsRefusedAs r u.events (sound_or (fault_of m u.view) u)) e h))
 
   -- what is seen then
-  seen_by : (f : Option Persist) → fault_of m s ≡ f → (k : ℕ) (v : Work) → settle m (s, n) w ≡ Done k v → v.view ≡ s
+  seen_by : (f : Option PersistenceFault) → fault_of m s ≡ f → (k : ℕ) (v : Work) → settle m (s, n) w ≡ Done k v → v.view ≡ s
   seen_by None e k v h = let same : Done n (with_view s w) ≡ Done k v = sym (settled_as None e) ∙ h in view_of (with_view s w) v n k same
   seen_by (Some fault) e k v h = absurd (no_done (sym (settled_as (Some fault) e) ∙ h))
     where

@@ -4,8 +4,8 @@ use Rattle.jpa_value.specs.declared.refusal.Cause.{Cause}
 use Rattle.jpa_value.specs.declared.value.Identity.{Identity}
 use Rattle.jpa_stored.specs.declared.stored.Stored.{Stored}
 use Rattle.jpa_stored.specs.Sets.{StoredSet, without}
-use Rattle.jpa_judge.specs.declared.change.Change.{Change}
-use Rattle.jpa_judge.specs.Changed.{class_at}
+use Rattle.jpa_constraints.specs.declared.change.Change.{Change}
+use Rattle.jpa_constraints.specs.Changed.{class_at}
 use Rattle.jpql_eval.specs.declared.failure.Failure.{Failure}
 
 -- the same, unless memory ran out

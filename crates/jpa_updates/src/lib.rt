@@ -2,7 +2,7 @@
 //!
 //! The definitions stand in `specs/`: `Updates` is what is judged and done, `Changing` says what
 //! code finds and writes. The crate stands on `jpa_asked` for what is asked, on `jpql_bulk` for
-//! what a statement changes, and on the flush and `jpa_judge`.
+//! what a statement changes, and on the flush and `jpa_constraints`.
 #![tactic(auto)]
 
 mod finding;

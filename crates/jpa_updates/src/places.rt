@@ -4,7 +4,7 @@ ghost use Rattle.jpa_open.specs.Opened as opened;
 ghost use Rattle.jpa_updates.specs.Changing.{ArePlaces, name_of, place_in, place_of};
 ghost use Rattle.jpa_value.specs.declared.refusal.Cause.{Cause};
 
-use jpa_judge::Change;
+use jpa_constraints::Change;
 use jpa_open::OpenSet;
 use jpa_stored::Stored;
 use jpa_value::{Cause, Identity};

@@ -4,15 +4,15 @@ ghost use Rattle.std.specs.FinMap.Entries.{is_sorted};
 ghost use Rattle.jpa_context.specs.Steps.{Meets};
 ghost use Rattle.jpa_context.specs.Undo.{now, since};
 ghost use Rattle.jpa_flush.specs.Flush.{sound_or};
-ghost use Rattle.jpa_judge.specs.Changed.{IsChanged};
+ghost use Rattle.jpa_constraints.specs.Changed.{IsChanged};
 ghost use Rattle.jpa_updates.specs.Updates as updates;
 ghost use Rattle.jpa_stored.specs.Sets as sets;
 ghost use Rattle.jpa_value.specs.Value.{identity_cmp};
 
 use crate::places::{changes_at, changes_at_objects};
 use crate::writing::{put_all, take_all};
+use jpa_constraints::{Change, judge};
 use jpa_context::UnitOfWork;
-use jpa_judge::{Change, judge};
 use jpa_model::Metamodel;
 use jpa_stored::Stored;
 use jpa_value::{Cause, Identity};

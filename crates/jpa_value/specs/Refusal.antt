@@ -3,7 +3,7 @@ use Rattle.std.specs.Prelude.{ℕ, List, ◌++◌, codes, decimal, Option, Some,
 use Rattle.hex.specs.Hex.{encode_lower}
 use Rattle.jpa_value.specs.declared.refusal.Argument.{Argument}
 use Rattle.jpa_value.specs.declared.refusal.State.{State}
-use Rattle.jpa_value.specs.declared.refusal.Persist.{Persist}
+use Rattle.jpa_value.specs.declared.refusal.PersistenceFault.{PersistenceFault}
 use Rattle.jpa_value.specs.declared.refusal.MappingFault.{MappingFault}
 use Rattle.jpa_value.specs.declared.refusal.Cause.{Cause}
 use Rattle.jpa_value.specs.declared.refusal.Refusal.{Refusal}
@@ -31,15 +31,15 @@ state_name State.Reference = codes "reference"
 state_name State.Statement = codes "statement"
 
 -- what can't be stored, as Persistence tells it
-abbrev pub persist_name : Persist → List ℕ
-persist_name Persist.Key = codes "key"
-persist_name Persist.Null = codes "null"
-persist_name Persist.Reference = codes "reference"
-persist_name Persist.Unique = codes "unique"
-persist_name Persist.Generator = codes "generator"
-persist_name Persist.Version = codes "version"
-persist_name Persist.Converter = codes "converter"
-persist_name Persist.Callback = codes "callback"
+abbrev pub persist_name : PersistenceFault → List ℕ
+persist_name PersistenceFault.Key = codes "key"
+persist_name PersistenceFault.Null = codes "null"
+persist_name PersistenceFault.Reference = codes "reference"
+persist_name PersistenceFault.Unique = codes "unique"
+persist_name PersistenceFault.Generator = codes "generator"
+persist_name PersistenceFault.Version = codes "version"
+persist_name PersistenceFault.Converter = codes "converter"
+persist_name PersistenceFault.Callback = codes "callback"
 
 -- what is wrong with a mapping, as Mapping tells it
 abbrev pub mapping_name : MappingFault → List ℕ

@@ -27,6 +27,6 @@ pub use list::{Bytes, Seq, Text};
 pub use order::{
     compare, equal3, is_same_identity, order_identities, order_keys, order_laws, order_values,
 };
-pub use refusal::{Argument, Cause, MappingFault, Persist, Refusal, State};
+pub use refusal::{Argument, Cause, MappingFault, PersistenceFault, Refusal, State};
 pub use texts::refusal_text;
 pub use value::{Identity, Key, Kind, Value, fits};

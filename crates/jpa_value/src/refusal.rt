@@ -32,7 +32,7 @@ pub enum State {
 
 /// What cannot be persisted.
 #[derive(Clone, Copy, Debug)]
-pub enum Persist {
+pub enum PersistenceFault {
     Key,
     Null,
     Reference,
@@ -79,7 +79,7 @@ pub enum Cause {
     /// The stored version is not the one that was read (`OptimisticLockException`, chapter 3.4).
     OptimisticLock,
     /// What would be stored is not allowed (`PersistenceException`).
-    Persistence(Persist),
+    Persistence(PersistenceFault),
     /// A listener or callback threw this text (chapter 3.5).
     Listener(Text),
     /// A query for a single result found none (`NoResultException`).

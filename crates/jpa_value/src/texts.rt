@@ -4,7 +4,7 @@ ghost use Rattle.jpa_value.specs.Refusal as refusals;
 ghost use Rattle.jpa_value.specs.declared.refusal.Cause.{Cause};
 
 use crate::list::Text;
-use crate::refusal::{Argument, Cause, MappingFault, Persist, Refusal, State};
+use crate::refusal::{Argument, Cause, MappingFault, PersistenceFault, Refusal, State};
 use std::alloc::{AllocError, Global};
 
 impl Argument {
@@ -43,20 +43,20 @@ impl State {
     }
 }
 
-impl Persist {
+impl PersistenceFault {
     /// The detail of a `Persistence`.
     pub fn name(self) -> &'static str
         ensures { result.now ≡ refusals.persist_name self }
     {
         match self {
-            Persist::Key => "key",
-            Persist::Null => "null",
-            Persist::Reference => "reference",
-            Persist::Unique => "unique",
-            Persist::Generator => "generator",
-            Persist::Version => "version",
-            Persist::Converter => "converter",
-            Persist::Callback => "callback",
+            PersistenceFault::Key => "key",
+            PersistenceFault::Null => "null",
+            PersistenceFault::Reference => "reference",
+            PersistenceFault::Unique => "unique",
+            PersistenceFault::Generator => "generator",
+            PersistenceFault::Version => "version",
+            PersistenceFault::Converter => "converter",
+            PersistenceFault::Callback => "callback",
         }
     }
 }

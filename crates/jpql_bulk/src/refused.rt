@@ -3,7 +3,7 @@ ghost use Rattle.std.specs.Prelude.{◌≡◌};
 ghost use Rattle.jpql_bulk.specs.Causes.{cause_of};
 ghost use Rattle.jpql_bulk.specs.declared.refused.Refused.TheVariants.{Memory};
 
-use jpa_value::{Cause, Persist};
+use jpa_value::{Cause, PersistenceFault};
 use std::alloc::{AllocError, AllocFailed};
 
 /// Why nothing was assigned.
@@ -27,8 +27,8 @@ impl Refused {
         match self {
             Refused::Memory => Cause::OutOfMemory,
             Refused::Limit => Cause::Limit,
-            Refused::Converter => Cause::Persistence(Persist::Converter),
-            Refused::Null => Cause::Persistence(Persist::Null),
+            Refused::Converter => Cause::Persistence(PersistenceFault::Converter),
+            Refused::Null => Cause::Persistence(PersistenceFault::Null),
         }
     }
 }

@@ -7,7 +7,7 @@ use Rattle.jpa_value.specs.declared.value.Value.{Value}
 use Rattle.jpa_value.specs.declared.value.Identity.{Identity}
 use Rattle.jpa_value.specs.declared.value.Kind.{Kind}
 use Rattle.jpa_value.specs.declared.refusal.Cause.{Cause}
-use Rattle.jpa_value.specs.declared.refusal.Persist.{Persist}
+use Rattle.jpa_value.specs.declared.refusal.PersistenceFault.{PersistenceFault}
 use Rattle.jpa_value.specs.Limits.{most_bytes}
 use Rattle.jpa_value.specs.Value.{fits, is_null}
 use Rattle.jpa_model.specs.declared.unit.Attribute.{Attribute}
@@ -183,8 +183,8 @@ module _ {world : World} (convertible : AnswersConvertible world) (inherited : A
       let m = world.model in
       let thrown = throws_at (throws_in world) (slice_get (attributes_of m x.class) i) v in
       let a = required (not (is_too_long v)) Cause.Limit
-      (λ _. require (not thrown) (Cause.Persistence Persist.Converter) and_then λ _. Ok (record x { values = slice_set x.values i v })) y e in
-      let b = required (not thrown) (Cause.Persistence Persist.Converter) (λ _. Ok (record x { values = slice_set x.values i v })) y a.1 in
+      (λ _. require (not thrown) (Cause.Persistence PersistenceFault.Converter) and_then λ _. Ok (record x { values = slice_set x.values i v })) y e in
+      let b = required (not thrown) (Cause.Persistence PersistenceFault.Converter) (λ _. Ok (record x { values = slice_set x.values i v })) y a.1 in
       subst (IsWell world id kind) (same_ok (record x { values = slice_set x.values i v }) y b.1) (well_valued x i v h taken (not_of (is_too_long v) a.0) (not_of thrown b.0))
 
   with_version_well : (x y : Stored) (d : Datum) → IsWell world id kind x → is_some (root_of world.model class).version ≡ true → with_version x d ≡ Ok y → IsWell world id kind y

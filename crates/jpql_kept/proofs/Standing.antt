@@ -8,7 +8,7 @@ use Rattle.std.proofs.lemmas.Option.{get_or_from_slice_get}
 use Rattle.jpa_value.specs.declared.value.Value.{Value}
 use Rattle.jpa_value.specs.declared.value.Identity.{Identity}
 use Rattle.jpa_value.specs.declared.value.Kind.{Kind}
-use Rattle.jpa_value.specs.declared.refusal.Persist.{Persist}
+use Rattle.jpa_value.specs.declared.refusal.PersistenceFault.{PersistenceFault}
 use Rattle.jpa_value.specs.Value.{identity_cmp, same_identity, fits, is_null}
 use Rattle.jpa_model.specs.declared.unit.PersistenceUnit.{PersistenceUnit}
 use Rattle.jpa_model.specs.declared.unit.Attribute.{Attribute}
@@ -76,8 +76,8 @@ fits_kind Kind.Bytes (Value.Text t) h = absurd (false≢true h)
 fits_kind Kind.Bytes (Value.Bytes t) h = refl
 
 pub leads_of : (a b c : Bool) → first_fault a b c ≡ None → b ≡ true
-leads_of false b c e = absurd (some_none Persist.Null e)
-leads_of true false c e = absurd (some_none Persist.Reference e)
+leads_of false b c e = absurd (some_none PersistenceFault.Null e)
+leads_of true false c e = absurd (some_none PersistenceFault.Reference e)
 leads_of true true c e = refl
 
 -- ---- objects of a set

@@ -4,7 +4,7 @@ use Rattle.std.specs.Prelude.{Option, Some, None, option_map, if◌then◌else�
 use Rattle.std.specs.List.{list_any, filter}
 use Rattle.jpa_value.specs.declared.value.Value.{Value}
 use Rattle.jpa_value.specs.declared.refusal.Cause.{Cause}
-use Rattle.jpa_value.specs.declared.refusal.Persist.{Persist}
+use Rattle.jpa_value.specs.declared.refusal.PersistenceFault.{PersistenceFault}
 use Rattle.jpa_value.specs.Limits.{most_bytes}
 use Rattle.jpa_value.specs.Value.{bytes_in}
 use Rattle.jpa_model.specs.declared.unit.PersistenceUnit.{PersistenceUnit}
@@ -58,14 +58,14 @@ abbrev pub with_attribute : PersistenceUnit → Throws → Stored → ℕ → Da
 with_attribute m throws x i (Datum.Plain v) =
     require (not (is_too_long v)) Cause.Limit and_then λ _.
     require (not (throws_at throws (slice_get (attributes_of m x.class) i) v))
-    (Cause.Persistence Persist.Converter) and_then λ _.
+    (Cause.Persistence PersistenceFault.Converter) and_then λ _.
     Ok (record x { values = slice_set x.values i v })
 with_attribute m throws x i (Datum.Entity id) = Ok x
 
 -- an object with this version, which is to be an integer
 abbrev pub with_version : Stored → Datum → Result Stored Cause
 with_version x (Datum.Plain (Value.Int n)) = Ok (record x { version = Some n })
-with_version x _ = Err (Cause.Persistence Persist.Null)
+with_version x _ = Err (Cause.Persistence PersistenceFault.Null)
 
 -- an object with a link to this entity, or to none for null
 abbrev pub with_link : Stored → ℕ → Datum → Stored

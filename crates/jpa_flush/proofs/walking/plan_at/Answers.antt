@@ -8,7 +8,7 @@ use Rattle.jpa_behaviour.specs.Served.{world_of_unit}
 use Rattle.jpa_context.specs.declared.Entry.{Entry}
 use Rattle.jpa_context.specs.Undo.{now}
 use Rattle.jpa_context.specs.Steps.{Done, IsRefusedAs, each}
-use Rattle.jpa_flush.specs.declared.steps.Step.{Step}
+use Rattle.jpa_flush.specs.declared.steps.FlushAction.{FlushAction}
 use Rattle.jpa_flush.specs.declared.planning.Planned.{Planned}
 use Rattle.jpa_flush.specs.Flush.{check_one}
 use Rattle.jpa_flush.specs.Plan.{check, planned, planned_of, step_of}
@@ -30,7 +30,7 @@ returns-in_err-planned-clause-ends g c =
     let p = err_from_is_err_and c.from_residual-in_err-planned.result c.from_residual-in_err-planned.ensures.1 in
     rw (p.1, p.2)
     (checks_refused world w c.requires.looked i e r c.loop-place-test.true read c.loop-place.invariant.rest
-    (subst (λ (s : Step). IsRefusedAs r w.events (check world e.object s w)) c.in_ok-step.ensures.ok c.in_err-planned.ensures.ends))
+    (subst (λ (s : FlushAction). IsRefusedAs r w.events (check world e.object s w)) c.in_ok-step.ensures.ok c.in_err-planned.ensures.ends))
 
 pub loop-place-preserved : goal.loop-place-preserved
 loop-place-preserved g c =
@@ -47,7 +47,7 @@ loop-place-preserved g c =
     let within = subst (λ (x : Entry). x.object < length w.objects) (sym read) (c.requires.ready.placed.entries (get_or c.args.places.now i 0) e ((looked.rising).within i l)) in
     let this : o ≡ planned m w e.object (step_of m w e) = c.in_ok-planned.ensures.planned ∙ ap (planned m w e.object) c.in_ok-step.ensures.ok in
     let done : check world e.object (step_of m w e) w ≡ Done tt w =
-    ap (λ (s : Step). check world e.object s w) (sym c.in_ok-step.ensures.ok) ∙ c.in_ok-planned.ensures.ends in
+    ap (λ (s : FlushAction). check world e.object s w) (sym c.in_ok-step.ensures.ok) ∙ c.in_ok-planned.ensures.ends in
     let more : c.match-branch-3.plan ≡ before ++ option_to_list o =
     elim c.match-branch-3.branch [
       | in-Some+in_ok-push v ↦ v.plan-is ∙ v.in_ok-push.ensures.ok ∙ ap (λ (q : Option Planned). before ++ option_to_list q) (sym v.in-Some.is)

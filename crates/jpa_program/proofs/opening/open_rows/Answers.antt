@@ -5,7 +5,7 @@ use Rattle.jpa_cells_meaning.specs.Store.{IsClean, IsOpen, HasFault, tables_in}
 use Rattle.jpa_cells_meaning.specs.Tables.{Tables}
 use Rattle.jpa_rowspace.specs.Space.{Space}
 use Rattle.jpa_rowspace.proofs.Holding.{clean_before}
-use Rattle.jpa_judgment.specs.Opened.{IsMigrated}
+use Rattle.jpa_store_reader.specs.Opened.{IsMigrated}
 use Rattle.jpa_program.specs.Opening.{KeepsOrMakes, EnduresOpening, IsOpenCause}
 use Rattle.jpa_program.proofs.Opened.{opened, opened_keeps, kept_then, endures_then, opens_counting, fault_found, damage_open}
 use Rattle.jpa_program.proofs.opening.open_rows.Goals as goal

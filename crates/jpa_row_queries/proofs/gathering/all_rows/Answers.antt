@@ -4,7 +4,7 @@ use Rattle.jpa_rows.specs.Faults.{IsStoreCause}
 use Rattle.jpa_rows.specs.Rows.{Rows, table_rows}
 use Rattle.jpa_rows.specs.Tables.{schema_of}
 use Rattle.jpa_overlay.specs.Overlay.{rows_under}
-use Rattle.jpa_judgment.specs.Reads.{AreNumbersOf}
+use Rattle.jpa_store_reader.specs.Reads.{AreNumbersOf}
 use Rattle.jpa_row_queries.proofs.Gathered.{all_gathered}
 use Rattle.jpa_row_queries.proofs.Looks.{if_passed, looks_none, match_err, match_weak, memory_store}
 use Rattle.jpa_row_queries.proofs.gathering.all_rows.Goals as goal

@@ -1,7 +1,7 @@
 use Rattle.std.proofs.Common.{◌≡◌, ◌∙◌, sym, subst}
 use Rattle.jpa_behaviour.specs.Registered.{world_of}
-use Rattle.jpa_judgment.specs.OfSet.{AreOf}
-use Rattle.jpa_judgment.proofs.OfSet.{of_unit}
+use Rattle.jpa_store_reader.specs.OfSet.{AreOf}
+use Rattle.jpa_store_reader.proofs.OfSet.{of_unit}
 use Rattle.jpa_object_rows.proofs.Bytes.Described.{described_mapped}
 use Rattle.jpa_overlay.specs.Overlay.{rows_under}
 use Rattle.jpa_rows.specs.Rows.{Rows}

@@ -4,7 +4,7 @@ use Rattle.jpa_value.specs.Value.{identity_cmp}
 use Rattle.jpa_stored.specs.Sets as sets
 use Rattle.jpa_context.specs.Undo.{now}
 use Rattle.jpa_context.specs.Work.{Work}
-use Rattle.jpa_judge.specs.Changed.{IsChanged}
+use Rattle.jpa_constraints.specs.Changed.{IsChanged}
 use Rattle.jpa_updates.specs.Changing.{ArePlaces, name_of}
 use Rattle.jpa_updates.proofs.Settled.{put_changed, put_rises}
 use Rattle.jpa_updates.proofs.settling.put_sound.Goals as goal

@@ -5,7 +5,7 @@ use Rattle.jpa_value.specs.Value.{identity_cmp}
 use Rattle.jpa_stored.specs.Sets as sets
 use Rattle.jpa_context.specs.Undo.{now}
 use Rattle.jpa_context.specs.Work.{Work}
-use Rattle.jpa_judge.specs.Changed.{IsChanged}
+use Rattle.jpa_constraints.specs.Changed.{IsChanged}
 use Rattle.jpa_updates.specs.Changing.{ArePlaces}
 use Rattle.jpa_updates.specs.Updates.{with_view}
 use Rattle.jpa_updates.proofs.Settled.{take_changed, take_rises, taken_all, settle_done, settle_refused}

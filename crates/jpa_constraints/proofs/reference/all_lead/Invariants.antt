@@ -1,0 +1,8 @@
+use Rattle.std.proofs.Common.{◌≡◌, true, take}
+use Rattle.std.specs.List.{list_all}
+use Rattle.jpa_open.specs.Opened.{now}
+use Rattle.jpa_constraints.specs.Judged.{leads}
+use Rattle.jpa_constraints.proofs.reference.all_lead.Given as goal
+
+abbrev pub invariant-loop-change : goal.invariant-loop-change
+invariant-loop-change l = list_all (leads l.metamodel (now l.view)) (take l.change-index l.changes) ≡ true

@@ -1,8 +1,0 @@
-use Rattle.std.proofs.Common.{◌≡◌, true, take}
-use Rattle.std.specs.List.{list_all}
-use Rattle.jpa_open.specs.Opened.{now}
-use Rattle.jpa_judge.specs.Judged.{fills}
-use Rattle.jpa_judge.proofs.required.all_fill.Given as goal
-
-abbrev pub invariant-loop-change : goal.invariant-loop-change
-invariant-loop-change l = list_all (fills l.metamodel (now l.view)) (take l.change-index l.changes) ≡ true

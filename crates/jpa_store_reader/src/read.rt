@@ -1,0 +1,162 @@
+//! The rows of a store as a unit opens them, read one table after another.
+ghost use Rattle.std.specs.Prelude.{◌≡◌, ◌+◌, ◌++◌, ◌<◌, ◌^◌, [], map, length, Err, None, IsSome, IfOk, IfErr, OnOk};
+ghost use Rattle.jpa_value.specs.declared.refusal.Cause.{Cause};
+ghost use Rattle.jpa_behaviour.specs.Registered.{world_of};
+ghost use Rattle.jpa_rows.specs.Rows.{table_of};
+ghost use Rattle.jpa_rows.specs.Tables.{schema_of};
+ghost use Rattle.jpa_cells_meaning.specs.Store.{up_to_greatest, Tells, IsClean, IsOpen, tables_in, HasFault};
+ghost use Rattle.jpa_rowspace.specs.Space.{IsStoreCause};
+ghost use Rattle.jpa_store_reader.specs.Opened.{ReadsOpened, AreFound};
+ghost use Rattle.jpa_store_reader.specs.Reads as reads;
+
+use crate::migration::{Migration, note_due, opened_rows};
+use jpa_behaviour::{Behaviour, Registry};
+use jpa_cells_meaning::CellChange;
+use jpa_history::History;
+use jpa_model::Metamodel;
+use jpa_rows::{Row, RowId, Schema};
+use jpa_rowspace::RowSpace;
+use jpa_value::{Bytes, Cause, Seq};
+use sqlite::Alter;
+use std::alloc::Global;
+
+fn unsorted_numbers(alloc: Global, schema: &Schema) -> Result<Vec<u64>, Cause>
+    ensures ok { IfOk result (λ numbers. numbers.items ≡ map (λ t. t.table) schema.now.tables) }
+    ensures err { IfErr result (λ cause. cause ≡ Cause.OutOfMemory) }
+{
+    let mut numbers = Vec::new(alloc);
+    for table in schema.tables.as_slice() {
+        numbers.push(u64::from(table.table))?;
+    }
+    Ok(numbers)
+}
+
+/// The numbers of the tables of a metamodel's schema, in rising order.
+pub fn table_numbers(
+    alloc: Global,
+    metamodel: &Metamodel,
+    schema: &Schema,
+) -> Result<Vec<u64>, Cause>
+    requires { schema.now ≡ schema_of metamodel.now }
+    ensures ok { IfOk result (λ numbers. reads.AreNumbersOf schema.now numbers.items) }
+    ensures err { IfErr result (λ cause. cause ≡ Cause.OutOfMemory) }
+{
+    let _unit = metamodel.unit();
+    let mut numbers = unsorted_numbers(alloc, schema)?;
+    numbers.sort()?;
+    Ok(numbers)
+}
+
+fn append(rows: &mut Seq<(RowId, Row)>, more: Vec<(RowId, Row)>) -> Result<(), Cause>
+    ensures ok { OnOk result (rows.new ≡ rows.old ++ more.items) }
+    ensures err { IfErr result (λ cause. cause ≡ Cause.OutOfMemory) }
+{
+    'more: for entry in more {
+        rows.push(entry)?;
+    }
+    Ok(())
+}
+
+/// The rows of a table as the unit opens them, read by one SELECT, up to the first that is
+/// ill-formed, and the bytes of that one; the changes that make them so are added. Table 0 tells
+/// whether the migration is due.
+fn read_table<S: Alter, B: Behaviour>(
+    alloc: Global,
+    metamodel: &Metamodel,
+    registry: &Registry<B>,
+    history: &History,
+    space: &mut RowSpace<S>,
+    table: u64,
+    migration: &mut Migration,
+) -> Result<(Seq<(RowId, Row)>, Option<Bytes>), Cause>
+    requires known { IsSome (table_of space.old.schema table) }
+    requires narrow { table < 2 ^ 63 }
+    ensures opened { IfOk result (λ read. ReadsOpened S.Store
+        (world_of B.meaning metamodel.now registry.now) history.now space.old space.new table
+        migration.old migration.new read.0 read.1) }
+    ensures refused { IfErr result IsStoreCause }
+    ensures counted { space.new.store.table_selects
+        ≡ up_to_greatest (space.old.store.table_selects + 1) }
+    ensures told { Tells result space.old.store.faults space.new.store.faults }
+    ensures cause { IsClean S.Store space.new.store.conn → result ≡ Err Cause.StoreFault →
+        HasFault S.Store space.old.store.conn space.new.store.conn }
+    ensures keeps { reads.KeepsTables S.Store space.old space.new }
+{
+    let _unit = metamodel.unit();
+    let stored = space.cells(table)?.into_vec();
+    note_due(metamodel, table, stored.as_slice(), migration);
+    let rows = opened_rows(
+        alloc, metamodel, registry, history, table, stored, migration,
+    )?;
+    Ok(space.entries(table, rows)?)
+}
+
+/// What was read of the tables of a store, as the unit opens it.
+#[derive(Drop)]
+pub(crate) struct Found {
+    /// The rows, up to one that is ill-formed.
+    pub(crate) rows: Seq<(RowId, Row)>,
+    /// The table and the bytes of that one.
+    pub(crate) end: Option<(u64, Bytes)>,
+    /// The changes that make the tables those that were read.
+    pub(crate) changes: Seq<CellChange>,
+}
+
+/// The rows of these tables, table by table, each by one SELECT: all, or those before the first row
+/// that is ill-formed, with the table and the bytes of that one.
+pub(crate) fn read_tables<S: Alter, B: Behaviour>(
+    alloc: Global,
+    metamodel: &Metamodel,
+    registry: &Registry<B>,
+    history: &History,
+    space: &mut RowSpace<S>,
+    numbers: &[u64],
+) -> Result<Found, Cause>
+    requires schema { space.old.schema ≡ schema_of metamodel.now }
+    requires numbers { reads.AreNumbersOf space.old.schema numbers.now }
+    ensures found { IsClean S.Store space.new.store.conn →
+        IfOk result (AreFound (world_of B.meaning metamodel.now registry.now) history.now
+        space.old.schema (tables_in S.Store space.old.store.conn) numbers.now) }
+    ensures first { metamodel.now.revision ≡ 1 → IfOk result (λ found. found.changes ≡ []) }
+    ensures refused { IfErr result IsStoreCause }
+    ensures open { IsClean S.Store space.new.store.conn →
+        OnOk result (IsOpen S.Store space.old.store.conn × IsOpen S.Store space.new.store.conn) }
+    ensures counted { IfOk result (λ found. found.end ≡ None →
+        space.new.store.table_selects ≡ up_to_greatest
+        (space.old.store.table_selects + length numbers.now)) }
+    ensures told { Tells result space.old.store.faults space.new.store.faults }
+    ensures cause { IsClean S.Store space.new.store.conn → result ≡ Err Cause.StoreFault →
+        HasFault S.Store space.old.store.conn space.new.store.conn }
+    ensures keeps { reads.KeepsTables S.Store space.old space.new }
+{
+    let _unit = metamodel.unit();
+    let mut rows = Seq::new(alloc);
+    let mut migration = Migration {
+        is_due: false,
+        changes: Seq::new(alloc),
+    };
+    'tables: for table in numbers {
+        let (part, stopped) = read_table(
+            alloc,
+            metamodel,
+            registry,
+            history,
+            space,
+            *table,
+            &mut migration,
+        )?;
+        append(&mut rows, part.into_vec())?;
+        if let Some(bytes) = stopped {
+            return Ok(Found {
+                rows,
+                end: Some((*table, bytes)),
+                changes: migration.changes,
+            });
+        }
+    }
+    Ok(Found {
+        rows,
+        end: None,
+        changes: migration.changes,
+    })
+}
