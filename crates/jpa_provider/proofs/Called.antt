@@ -105,7 +105,6 @@ set_refused m objects n name h r events o (inr e) k =
 
 -- ---- set
 
-pub set_assigned : (world : World) (number : ℤ) (name : List ℕ) (g : Given) (w : Work) (n : ℕ) (h : Handed) (made : Result LiveObject Cause) → place_of (length w.objects) number ≡ Some n → handed g w ≡ Done h w →
-    set_in world.model w.objects n name h ≡ made → on_numbered number (λ world. set_call world name g) world w ≡ told_as nothing (placed n made) w
-set_assigned world number name g w n h made place given e =
-    numbered (λ world. set_call world name g) world number n w place ∙ ap (λ o. after o (λ v. told_as nothing (set world n name v))) given ∙ ap (λ x. told_as nothing (placed n x) w) e
+pub set_assigned : (world : World) (name : List ℕ) (g : Given) (w : Work) (n : ℕ) (h : Handed) (made : Result LiveObject Cause) → handed g w ≡ Done h w → set_in world.model w.objects n name h ≡ made →
+    set_call world name g n w ≡ told_as nothing (placed n made) w
+set_assigned world name g w n h made given e = ap (λ o. after o (λ v. told_as nothing (set world n name v))) given ∙ ap (λ x. told_as nothing (placed n x) w) e

@@ -9,18 +9,16 @@ use Rattle.jpa_heap.specs.Objects.{place_of, object_at}
 use Rattle.jpa_context.specs.Work.{Work}
 use Rattle.jpa_context.specs.Steps.{Op, after, done}
 use Rattle.jpa_protocol.specs.declared.call.Call.{Call}
-use Rattle.jpa_protocol.specs.declared.call.LockMode.{LockMode}
 use Rattle.jpa_protocol.specs.declared.call.Parameter.{Parameter}
 use Rattle.jpa_machine.specs.Updating.{update_outcome}
 use Rattle.jpa_protocol.specs.declared.reply.Answer.{Answer}
 use Rattle.jpa_protocol.specs.declared.reply.Reply.{Reply}
-use Rattle.jpa_provider.specs.declared.operating.Operation.{Operation}
 use Rattle.jpa_provider.specs.declared.replies.Rule.{Rule}
 use Rattle.jpa_provider.specs.declared.session.Session.{Session}
 use Rattle.jpa_machine.specs.Machine.{Machine, flushes_first, work_of}
 use Rattle.jpa_machine.specs.Calls.{because, ended, marks, marks_if_callback, give_or}
-use Rattle.jpa_machine.specs.Routes.{OfManager, ToQuery, InTransaction, OfObject, by_route, holder, holder_in, if_begun, transaction_required, required_of, stands_numbered, flush_call, lock_call, is_free, route}
-use Rattle.jpa_provider.specs.Operations.{on_numbered, operation_of, manager_holding, EndsSo}
+use Rattle.jpa_machine.specs.Routes.{OfManager, ToQuery, InTransaction, OfObject, by_route, holder, holder_in, if_begun, transaction_required, required_of, stands_numbered, flush_call, is_free, route}
+use Rattle.jpa_provider.specs.Operations.{on_numbered, manager_holding, EndsSo}
 use Rattle.jpa_machine.specs.Consistent.{stands_in}
 use Rattle.jpa_machine.specs.Invariant.{IsMachine, context_of}
 use Rattle.jpa_provider.specs.Serving.{machine_of, manager_in, is_begun_status, named, Serves}
@@ -83,23 +81,18 @@ module _ (world : World) (s : Session) (em : ℤ) where
       EndsSo Rule.OfManager (machine_of s) m (flush_call world (work_of (machine_of s) m)) reply (machine_of t) → Serves world s (Call.Flush em) reply t
   flush_so = begun_so world s em done flush_call (Call.Flush em) refl
 
-module _ (world : World) (s : Session) (em object : ℤ) (mode : LockMode) where
-  abbrev locking : World → Op Answer
-  locking world = lock_call world object mode
+-- on an object by its number
+pub object_idle : (world : World) (s : Session) (em object : ℤ) (op : World → Op Answer) (call : Call) → route call ≡ InTransaction em (stands_numbered object) op → (m : ℕ) → named s em ≡ Some m →
+    is_begun_status (manager_in s.managers.items m).status ≡ false → Serves world s call (refusal (required_of (place_of (length s.work.objects.now) object))) s
+object_idle world s em object op call e m place h =
+    let o = place_of (length s.work.objects.now) object in
+    begun_idle world s em (stands_numbered object) op call e m (required_of o) place h (without_transaction (machine_of s) (work_of (machine_of s) m) o)
 
-  pub lock_alone : named s em ≡ None → Serves world s (Call.Lock em object mode) (refusal Cause.NoSuchManager) s
-  lock_alone = begun_alone world s em (stands_numbered object) locking (Call.Lock em object mode) refl
-
-  pub lock_idle : (m : ℕ) → named s em ≡ Some m → is_begun_status (manager_in s.managers.items m).status ≡ false →
-      Serves world s (Call.Lock em object mode) (refusal (required_of (place_of (length s.work.objects.now) object))) s
-  lock_idle m place h =
-      let o = place_of (length s.work.objects.now) object in
-      begun_idle world s em (stands_numbered object) locking (Call.Lock em object mode) refl m (required_of o) place h
-      (without_transaction (machine_of s) (work_of (machine_of s) m) o)
-
-  pub lock_so : (t : Session) (m : ℕ) (reply : Reply) → named s em ≡ Some m → is_begun_status (manager_in s.managers.items m).status ≡ true →
-      EndsSo Rule.OfManager (machine_of s) m (operation_of (Operation.Lock object mode) world (work_of (machine_of s) m)) reply (machine_of t) → Serves world s (Call.Lock em object mode) reply t
-  lock_so = begun_so world s em (stands_numbered object) locking (Call.Lock em object mode) refl
+-- the number names none
+pub unknown_so : (world : World) (M : Machine) (m : ℕ) (number : ℤ) (op : World → ℕ → Op Answer) (reply : Reply) → place_of (length M.objects) number ≡ None → reply ≡ refusal Cause.NoSuchObject →
+    EndsSo Rule.OfManager M m (on_numbered number op world (work_of M m)) reply M
+unknown_so world M m number op reply place e =
+    inl (ap (λ o. ended marks M m (after (give_or Cause.NoSuchObject o (work_of M m)) (op world))) place ∙ (λ i. (sym e i, M)))
 
 -- ---- of a manager whose objects may be flushed first
 
@@ -126,9 +119,6 @@ update_so world s em text ps t m reply place h =
 
 -- ---- of whoever holds an object
 
-abbrev by_place : World → Machine → ℤ → (World → ℕ → Op Answer) → Option ℕ → Reply × Machine
-by_place world M number op o = ended marks_if_callback M (holder M o) (on_numbered number op world (work_of M (holder M o)))
-
 abbrev by_given : World → Machine → (World → ℕ → Op Answer) → Option ℕ → Reply × Machine
 by_given world M op o = ended marks_if_callback M (holder M o) (after (give_or Cause.NoSuchObject o (work_of M (holder M o))) (op world))
 
@@ -136,15 +126,12 @@ module _ (world : World) (s : Session) (number : ℤ) (op : World → ℕ → Op
   pub held_alone : place_of (length s.work.objects.now) number ≡ None → Serves world s call (refusal Cause.NoSuchObject) s
   held_alone place = let M = machine_of s in inl (ap (by_route world M) e ∙ ap (by_given world M op) place)
 
-  pub held_so : (operation : Operation) → operation_of operation ≡ on_numbered number op → (t : Session) (n m : ℕ) (reply : Reply) → place_of (length s.work.objects.now) number ≡ Some n →
-      holder_in (machine_of s) (object_at s.work.objects.now n).life ≡ m →
-      EndsSo Rule.OfObject (machine_of s) m (operation_of operation world (work_of (machine_of s) m)) reply (machine_of t) → Serves world s call reply t
-  held_so operation same t n m reply place holds h =
+  pub held_so : (t : Session) (n m : ℕ) (reply : Reply) → place_of (length s.work.objects.now) number ≡ Some n → holder_in (machine_of s) (object_at s.work.objects.now n).life ≡ m →
+      EndsSo Rule.OfObject (machine_of s) m (op world n (work_of (machine_of s) m)) reply (machine_of t) → Serves world s call reply t
+  held_so t n m reply place holds h =
       let M = machine_of s in
-      ended_step world call Rule.OfObject m (operation_of operation world (work_of M m)) (ap is_free e)
-      (ap (by_route world M) e ∙ ap (by_place world M number op) place
-      ∙ ap (λ k. ended marks_if_callback M k (on_numbered number op world (work_of M k))) holds
-      ∙ ap (λ (f : World → Op Answer). ended marks_if_callback M m (f world (work_of M m))) (sym same)) h
+      ended_step world call Rule.OfObject m (op world n (work_of M m)) (ap is_free e)
+      (ap (by_route world M) e ∙ ap (by_given world M op) place ∙ ap (λ k. ended marks_if_callback M k (op world n (work_of M k))) holds) h
 
 -- ---- who holds it
 

@@ -1,5 +1,5 @@
 -- What is done with a unit of work, as operations of the definition, and how it ends.
-use Rattle.std.specs.Prelude.{◌≡◌, ◌⊎◌, ℕ, ℤ, Bool, true, List, [], Option, Some, None, Result, Ok, Err}
+use Rattle.std.specs.Prelude.{◌≡◌, ◌⊎◌, ℕ, ℤ, Bool, List, [], Option, Some, None, Result, Ok, Err}
 use Rattle.jpa_value.specs.declared.refusal.Cause.{Cause}
 use Rattle.jpa_value.specs.declared.refusal.Refusal.{Refusal}
 use Rattle.jpa_behaviour.specs.Behaviour.{World}
@@ -8,58 +8,51 @@ use Rattle.jpa_protocol.specs.declared.reply.Answer.{Answer}
 use Rattle.jpa_protocol.specs.declared.reply.Reply.{Reply}
 use Rattle.jpa_heap.specs.declared.Life.{Life}
 use Rattle.jpa_context.specs.Work.{Work}
-use Rattle.jpa_context.specs.Steps.{◌>>=◌, Outcome, Op}
-use Rattle.jpa_asked.specs.declared.asked.Asked.{Asked}
-use Rattle.jpa_provider.specs.declared.operating.Operation.{Operation}
-use Rattle.jpa_provider.specs.declared.querying.Told as rows
-use Rattle.jpa_provider.specs.declared.querying.Wanted.{Wanted}
+use Rattle.jpa_context.specs.Steps.{◌>>=◌, Outcome, Op, give}
+use Rattle.jpa_ops.specs.States.{persist, remove, refresh, detach, lock}
+use Rattle.jpa_merge.specs.Merge.{merge}
+use Rattle.jpa_protocol.specs.declared.call.Call.{Call}
 use Rattle.jpa_provider.specs.declared.replies.Rule.{Rule}
 use Rattle.jpa_machine.specs.Machine.{Machine, kept}
 use Rattle.jpa_machine.specs.Calls.{ended, marks, marks_if_callback, marked_if, object_numbered}
-use Rattle.jpa_machine.specs.Routes.{get_call, set_call, add_call, take_out_call, persist_call, remove_call}
-use Rattle.jpa_machine.specs.Routes.{refresh_call, detach_call, merge_call, lock_call, find_call, get_reference_call}
-use Rattle.jpa_machine.specs.Querying.{asked_of, query_call, query_single_call}
+use Rattle.jpa_machine.specs.Calls.{nothing, object_told, told_as}
+use Rattle.jpa_machine.specs.Routes.{get_call, set_call, add_call, take_out_call, lock_of}
+use Rattle.jpa_machine.specs.Routes.{find_call, get_reference_call}
+use Rattle.jpa_machine.specs.Querying.{query_call, query_single_call}
 use Rattle.jpa_machine.specs.Step.{IsGivenUp}
-use Rattle.jpa_machine.specs.Invariant.{given_representable}
 
 -- an operation on an object by its number
 abbrev pub on_numbered : ℤ → (World → ℕ → Op Answer) → World → Op Answer
 on_numbered number op world = object_numbered number >>= op world
 
--- the call get of an object by its number
-abbrev pub get_numbered : ℤ → List ℕ → World → Op Answer
-get_numbered number name = on_numbered number (λ world. get_call world name)
+-- ---- what calls do, by the group to which their route belongs; a call of another group does nothing
 
--- what an operation means
-abbrev pub operation_of : Operation → World → Op Answer
-operation_of (Operation.Get object name) = get_numbered object name
-operation_of (Operation.Set object name value) = on_numbered object (λ world. set_call world name value)
-operation_of (Operation.Add object name member) = on_numbered object (λ world. add_call world name member)
-operation_of (Operation.TakeOut object name member) = on_numbered object (λ world. take_out_call world name member)
-operation_of (Operation.Persist object) = λ world. persist_call world object
-operation_of (Operation.Remove object) = λ world. remove_call world object
-operation_of (Operation.Refresh object) = λ world. refresh_call world object
-operation_of (Operation.Detach object) = λ world. detach_call world object
-operation_of (Operation.Merge object) = λ world. merge_call world object
-operation_of (Operation.Lock object mode) = λ world. lock_call world object mode
-operation_of (Operation.Find entity key) = λ world. find_call world entity key
-operation_of (Operation.GetReference entity key) = λ world. get_reference_call world entity key
+-- what a call does with the object at a place: calls on an object, and those of a manager that hand
+-- one in
+abbrev pub at_object : Call → World → ℕ → Op Answer
+at_object (Call.Get object name) world n = get_call world name n
+at_object (Call.SetValue object name value) world n = set_call world name value n
+at_object (Call.Add object name member) world n = add_call world name member n
+at_object (Call.TakeOut object name member) world n = take_out_call world name member n
+at_object (Call.Persist em object) world n = told_as nothing (persist world n)
+at_object (Call.Remove em object) world n = told_as nothing (remove world n)
+at_object (Call.Refresh em object) world n = told_as nothing (refresh world n)
+at_object (Call.Detach em object) world n = told_as nothing (detach world n)
+at_object (Call.Merge em object) world n = told_as object_told (merge world n)
+at_object (Call.Lock em object mode) world n = told_as nothing (lock world n (lock_of mode))
+at_object _ world n = give Answer.Null
 
--- a value that it sets is one of the program
-abbrev pub sets_representable : Operation → Bool
-sets_representable (Operation.Set object name value) = given_representable value
-sets_representable _ = true
+-- what a call does that looks for an object by its key
+abbrev pub by_key : Call → World → Op Answer
+by_key (Call.Find em name key) world = find_call world name key
+by_key (Call.GetReference em name key) world = get_reference_call world name key
+by_key _ world = give Answer.Null
 
--- ---- queries
-
--- what is asked, with what is bound to its parameters
-abbrev pub asked : Wanted → Op Asked
-asked q = asked_of q.text q.parameters q.first q.max
-
--- all rows, or the one row
-abbrev pub query_told : rows.Told → Wanted → Bool → World → Op Answer
-query_told rows.Told.All q = query_call q.text q.parameters q.first q.max
-query_told rows.Told.Single q = query_single_call q.text q.parameters q.first q.max
+-- what a call does that asks for rows, after a flush where one comes first
+abbrev pub by_query : Call → Bool → World → Op Answer
+by_query (Call.Query em text parameters first max) = query_call text parameters first max
+by_query (Call.QuerySingle em text parameters first max) = query_single_call text parameters first max
+by_query _ = λ flushes world. give Answer.Null
 
 -- ---- which refusals mark the transaction
 

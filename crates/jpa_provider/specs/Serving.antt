@@ -37,7 +37,7 @@ use Rattle.jpa_machine.specs.Step.{Step, gives_up}
 use Rattle.jpa_machine.specs.Invariant.{IsMachine, context_of}
 use Rattle.jpa_fetch.specs.Orderly.{IsOrderly}
 use Rattle.jpql_kept.specs.Fits.{AreInherited}
-use Rattle.jpa_provider.specs.Provided.{rows_kept}
+use Rattle.jpa_provider.specs.Provided.{rows_kept, StoresCall}
 
 -- ---- managers
 
@@ -171,6 +171,10 @@ pub record IsServingOver {R : Type 0} (world : World) (store : Ghosts R) (s : Se
 -- the reply to a call, and what stands afterwards, are those of a step of the machine
 abbrev pub Serves : World → Session → Call → Reply → Session → Type 0
 Serves world old call reply new = Step world (machine_of old) call reply (machine_of new)
+
+-- the call leaves the second store of the first, as the machine goes on so
+abbrev pub StoresServing : {R : Type 0} → World → Ghosts R → Session → Call → Reply → Session → R → R → Type 0
+StoresServing world store old call reply new = StoresCall world store (machine_of old) call reply (machine_of new)
 
 -- ---- a manager at work
 

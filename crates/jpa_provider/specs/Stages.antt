@@ -10,10 +10,12 @@ use Rattle.jpa_open.specs.Opened.{AreAllChanged}
 use Rattle.jpa_rows.specs.declared.source.RowSource.{Ghosts}
 use Rattle.jpa_rows.specs.Cells.{CanBeHeld}
 use Rattle.jpa_rows.specs.Tables.{schema_of}
+use Rattle.jpa_protocol.specs.declared.reply.Answer.{Answer}
 use Rattle.jpa_protocol.specs.declared.reply.Reply.{Reply}
 use Rattle.jpa_context.specs.declared.Entry.{Entry}
 use Rattle.jpa_context.specs.declared.work.UnitOfWork.{UnitOfWork}
 use Rattle.jpa_context.specs.Marks.{none_marked}
+use Rattle.jpa_context.specs.Steps.{Op}
 use Rattle.jpa_context.specs.Undo.{now, since, IsKept}
 use Rattle.jpa_fetch.specs.Grown.{IsReady}
 use Rattle.jpa_fetch.specs.Orderly.{IsOrderly}
@@ -21,9 +23,11 @@ use Rattle.jpa_flush.specs.declared.chosen.Looked.{Looked}
 use Rattle.jpa_flush.specs.Marked.{AreLooked, IsMarked, IsUntouched}
 use Rattle.jpa_ops.specs.Names.{has_distinct_entries}
 use Rattle.jpa_queries.specs.Premises.{StaysReady}
-use Rattle.jpa_machine.specs.Machine.{Machine, cleared}
+use Rattle.jpa_machine.specs.Machine.{Machine, cleared, work_of}
 use Rattle.jpa_provider.specs.declared.commit_work.Found.{Found}
+use Rattle.jpa_provider.specs.declared.replies.Rule.{Rule}
 use Rattle.jpa_provider.specs.declared.session.Session.{Session}
+use Rattle.jpa_provider.specs.Operations.{EndsSo}
 use Rattle.jpa_provider.specs.Beside.{IsBeside, Rises}
 use Rattle.jpa_provider.specs.Provided.{rows_kept}
 use Rattle.jpa_provider.specs.Serving.{machine_of, manager_in, gone_objects, AreAllMarked, AreMarkedAway, IsCounted}
@@ -31,11 +35,17 @@ use Rattle.jpa_provider.specs.Serving.{IsSettled, Stores}
 
 -- ---- an operation
 
--- an operation can begin: operations may go on, and nothing was done before that could be undone
-pub record CanOperate (u : PersistenceUnit) (work : UnitOfWork) : Type 0 where
+-- an operation on the object at a place can begin: operations may go on, the heap has the object, and
+-- nothing was done before that could be undone
+pub record CanOperate (u : PersistenceUnit) (work : UnitOfWork) (n : ℕ) : Type 0 where
   pub orderly : IsOrderly u
   pub ready : IsReady u (now work)
+  pub object : n < length work.objects.now
   pub kept : IsKept work
+
+-- the manager does an operation, and what it changed is kept, or undone where it was refused
+abbrev pub EndsWork : Rule → Op Answer → Session → ℕ → Reply → Session → Type 0
+EndsWork rule op s m reply t = let M = machine_of s in EndsSo rule M m (op (work_of M m)) reply (machine_of t)
 
 -- what the manager's work changed was undone: its objects and its context are what they were, and no
 -- manager came or went

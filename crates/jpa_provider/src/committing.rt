@@ -12,12 +12,11 @@ ghost use Rattle.jpa_machine.specs.Faults.{is_store_fault, tells_fault, faults_a
 ghost use Rattle.jpa_machine.specs.Invariant.{IsMachine};
 ghost use Rattle.jpa_machine.specs.Machine.{Machine, committed_after, is_gone};
 ghost use Rattle.jpa_rows.specs.Commits.{Commits};
-ghost use Rattle.jpa_provider.specs.Provided.{StoresCall};
 ghost use Rattle.jpa_machine.specs.Step.{IsGivenUp};
 ghost use Rattle.jpa_provider.specs.declared.session.Status.{Status};
 ghost use Rattle.jpa_provider.specs.Stages.{CanEnd, CanStore, StoresWork};
 ghost use Rattle.jpa_provider.specs.Serving as serving;
-ghost use Rattle.jpa_provider.specs.Serving.{machine_of, manager_in, named, rows_before, rows_seen, AreAllMarked, AreMarkedAway, IsAtRest, IsCommitting, IsServingOver, IsSettled, Serves};
+ghost use Rattle.jpa_provider.specs.Serving.{machine_of, manager_in, named, rows_before, rows_seen, AreAllMarked, AreMarkedAway, IsAtRest, IsCommitting, IsServingOver, IsSettled, Serves, StoresServing};
 
 use crate::at_work::{manager_named, mark_unless, restore, take_work};
 use crate::beside::make_room;
@@ -280,14 +279,12 @@ fn commit_active<R: RowSource, B: Behaviour>(
     requires active { (manager_in session.old.managers.items manager).status ≡ Status.Active }
     requires over { IsServingOver (world_of_unit B.meaning unit.now) R.RowSource
         session.old rows.old }
-    ensures step { let world = world_of_unit B.meaning unit.now in
-        (em : ℤ) → named session.old em ≡ Some manager
-        → Serves world session.old (Call.Commit em) result session.new }
+    ensures step { (em : ℤ) → named session.old em ≡ Some manager → Serves
+        (world_of_unit B.meaning unit.now) session.old (Call.Commit em) result session.new }
     ensures rest { IsAtRest unit.now.metamodel session.new }
     ensures stores { let world = world_of_unit B.meaning unit.now in
-        (em : ℤ) → named session.old em ≡ Some manager
-        → StoresCall world R.RowSource (machine_of session.old) (Call.Commit em) result
-        (machine_of session.new) rows.old rows.new }
+        (em : ℤ) → named session.old em ≡ Some manager → StoresServing world R.RowSource
+        session.old (Call.Commit em) result session.new rows.old rows.new }
 {
     take_work(session, manager);
     match commit_work(alloc, unit, &mut session.work) {
@@ -307,14 +304,12 @@ pub(crate) fn commit_call<R: RowSource, B: Behaviour>(
     rows: &mut R,
     em: i64,
 ) -> Reply
-    requires { IsServingOver (world_of_unit B.meaning unit.now) R.RowSource
-        session.old rows.old }
+    requires { IsServingOver (world_of_unit B.meaning unit.now) R.RowSource session.old rows.old }
     ensures step { let world = world_of_unit B.meaning unit.now in
         Serves world session.old (Call.Commit em) result session.new }
     ensures rest { IsAtRest unit.now.metamodel session.new }
-    ensures stores { let world = world_of_unit B.meaning unit.now in
-        StoresCall world R.RowSource (machine_of session.old) (Call.Commit em) result
-        (machine_of session.new) rows.old rows.new }
+    ensures stores { StoresServing (world_of_unit B.meaning unit.now) R.RowSource session.old
+        (Call.Commit em) result session.new rows.old rows.new }
 {
     let Some(manager) = manager_named(session, em) else {
         return because(alloc, Cause::NoSuchManager);

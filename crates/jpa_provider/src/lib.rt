@@ -12,6 +12,7 @@ mod beside;
 mod commit_work;
 mod committing;
 mod ending;
+mod finding;
 mod flushing;
 mod handing;
 mod moding;

@@ -1,98 +1,32 @@
-//! Operations on a unit of work, with what their calls hand in (Jakarta Persistence 3.1, chapters
-//! 2.2 and 3.1.1).
-ghost use Rattle.std.specs.Prelude.{◌≡◌, ◌<◌, suc, true, All, IfOk, IfErr, OnErr, length, map};
+//! What calls do with an object at its place in the heap (Jakarta Persistence 3.1, chapters 2.2 and
+//! 3.2).
+ghost use Rattle.std.specs.Prelude.{◌≡◌, ◌<◌, suc, All, IfOk, IfErr, OnErr, map};
 ghost use Rattle.jpa_value.specs.declared.refusal.Cause.{Cause};
 ghost use Rattle.jpa_behaviour.specs.Served.{world_of_unit};
+ghost use Rattle.jpa_context.specs.Carries.{Carries};
 ghost use Rattle.jpa_context.specs.Steps.{Meets};
-ghost use Rattle.jpa_context.specs.Work.{Work};
-ghost use Rattle.jpa_context.specs.Undo.{now, since, IsKept};
-ghost use Rattle.jpa_heap.specs.Shape.{HasShape};
-ghost use Rattle.jpa_fetch.specs.Grown.{IsReady};
+ghost use Rattle.jpa_context.specs.Undo.{now, since};
 ghost use Rattle.jpa_fetch.specs.Members.{IsGotWithin};
-ghost use Rattle.jpa_fetch.specs.Orderly.{IsOrderly};
 ghost use Rattle.jpa_fetch.specs.declared.getting.Got.{Got};
 ghost use Rattle.jpa_machine.specs.Calls as calls;
 ghost use Rattle.jpa_machine.specs.Routes as routes;
-ghost use Rattle.jpa_provider.specs.Operations as operations;
+ghost use Rattle.jpa_merge.specs.Merge as merges;
+ghost use Rattle.jpa_ops.specs.States as states;
+ghost use Rattle.jpa_provider.specs.Operations.{at_object};
 ghost use Rattle.jpa_provider.specs.Serving.{KeepsMarks};
 ghost use Rattle.jpa_provider.specs.Stages.{CanOperate};
-ghost use Rattle.jpa_provider.specs.declared.operating.Operation.{Operation};
 
-use crate::handing::{are_short, given_representable, handed, place_of, whole_key};
+use crate::handing::{handed, place_of};
 use jpa_behaviour::{Behaviour, ServedUnit};
 use jpa_context::{Lock, Marks, UnitOfWork};
-use jpa_fetch::{Got, add, find, get, take_out};
+use jpa_fetch::{Got, add, get, take_out};
 use jpa_heap::assign;
 use jpa_marking::other_laws;
 use jpa_merge::merge;
 use jpa_ops::{detach, lock, persist, refresh, remove};
-use jpa_protocol::{Answer, Given, LockMode};
-use jpa_value::{Argument, Cause, Seq, Text, Value};
+use jpa_protocol::{Answer, Call, Given, LockMode};
+use jpa_value::{Cause, Seq, Value};
 use std::alloc::Global;
-
-/// An operation of a manager, or on an object of whoever holds it, with what its call hands in.
-#[derive(Drop)]
-pub enum Operation {
-    /// What a member of an object, by its name, holds (chapter 2.2).
-    Get {
-        object: i64,
-        name: Text,
-    },
-    /// A member of an object, by its name, takes a value (chapter 3.2).
-    Set {
-        object: i64,
-        name: Text,
-        value: Given,
-    },
-    /// An object stands last in a collection of another, by the relation's name (chapter 2.2).
-    Add {
-        object: i64,
-        name: Text,
-        member: i64,
-    },
-    /// The first occurrence of an object is taken out of a collection of another, by the relation's
-    /// name (chapter 2.2).
-    TakeOut {
-        object: i64,
-        name: Text,
-        member: i64,
-    },
-    /// Makes an object managed (chapter 3.2.2).
-    Persist {
-        object: i64,
-    },
-    /// Removes an object (chapter 3.2.3).
-    Remove {
-        object: i64,
-    },
-    /// Gives an object the state that is stored (chapter 3.2.5).
-    Refresh {
-        object: i64,
-    },
-    /// Detaches an object (chapter 3.2.7).
-    Detach {
-        object: i64,
-    },
-    /// Makes what an object holds the state of a managed one (chapter 3.2.7.1).
-    Merge {
-        object: i64,
-    },
-    /// Locks an object (chapter 3.4.4).
-    Lock {
-        object: i64,
-        mode: LockMode,
-    },
-    /// Finds an object by its entity and the parts of its key (chapter 3.1.1).
-    Find {
-        entity: Text,
-        key: Seq<Given>,
-    },
-    /// The same of an object that there must be (chapter 3.1.1).
-    GetReference {
-        entity: Text,
-        key: Seq<Given>,
-    },
-}
 
 /// A value as it is answered.
 fn value_answered(value: Value) -> Answer
@@ -134,101 +68,35 @@ fn answered(alloc: Global, count: usize, got: Got) -> Result<Answer, Cause>
     }
 }
 
-/// What a member of an object, by its number, holds.
-fn get_numbered<B: Behaviour>(
+/// What a member of the object at a place, by its name, holds (chapter 2.2).
+fn get_at<B: Behaviour>(
     alloc: Global,
     unit: &ServedUnit<B>,
     work: &mut UnitOfWork,
-    object: i64,
+    place: usize,
     name: &str,
 ) -> Result<Answer, Cause>
-    requires ready { IsReady unit.now.metamodel (now work.old) }
-    ensures meets { let world = world_of_unit B.meaning unit.now in
-        Meets result (now work.new) (operations.operation_of
-        (Operation.Get object name.now) world (now work.old)) }
-    ensures view { work.new.view ≡ work.old.view }
-    ensures since { since work.new ≡ since work.old }
+    requires { CanOperate unit.now.metamodel work.old place }
+    ensures { let world = world_of_unit B.meaning unit.now in
+        Carries (routes.get_call world name.now place) result work.old work.new }
 {
-    let Some(place) = place_of(work.objects.len(), object) else {
-        return Err(Cause::NoSuchObject);
-    };
     let got = get(alloc, unit, work, place, name)?;
     answered(alloc, work.objects.len(), got)
 }
 
-/// An object stands last in a collection of another, both by their numbers.
-fn add_numbered<B: Behaviour>(
-    alloc: Global,
+/// A member of the object at a place, by its name, takes what is handed in (chapter 3.2).
+fn set_at<B: Behaviour>(
     unit: &ServedUnit<B>,
     work: &mut UnitOfWork,
-    object: i64,
-    name: &str,
-    member: i64,
-) -> Result<Answer, Cause>
-    requires ready { IsReady unit.now.metamodel (now work.old) }
-    ensures meets { let world = world_of_unit B.meaning unit.now in
-        Meets result (now work.new) (operations.operation_of
-        (Operation.Add object name.now member) world (now work.old)) }
-    ensures view { work.new.view ≡ work.old.view }
-    ensures since { since work.new ≡ since work.old }
-{
-    let Some(place) = place_of(work.objects.len(), object) else {
-        return Err(Cause::NoSuchObject);
-    };
-    let Some(added) = place_of(work.objects.len(), member) else {
-        return Err(Cause::NoSuchObject);
-    };
-    add(alloc, unit, work, place, name, added)?;
-    Ok(Answer::Null)
-}
-
-/// The first occurrence of an object is taken out of a collection of another, both by their
-/// numbers; whether it stood there.
-fn take_out_numbered<B: Behaviour>(
-    alloc: Global,
-    unit: &ServedUnit<B>,
-    work: &mut UnitOfWork,
-    object: i64,
-    name: &str,
-    member: i64,
-) -> Result<Answer, Cause>
-    requires ready { IsReady unit.now.metamodel (now work.old) }
-    ensures meets { let world = world_of_unit B.meaning unit.now in
-        Meets result (now work.new) (operations.operation_of
-        (Operation.TakeOut object name.now member) world (now work.old)) }
-    ensures view { work.new.view ≡ work.old.view }
-    ensures since { since work.new ≡ since work.old }
-{
-    let Some(place) = place_of(work.objects.len(), object) else {
-        return Err(Cause::NoSuchObject);
-    };
-    let Some(taken) = place_of(work.objects.len(), member) else {
-        return Err(Cause::NoSuchObject);
-    };
-    let stood = take_out(alloc, unit, work, place, name, taken)?;
-    Ok(Answer::Truth(stood))
-}
-
-/// A member of an object, by its number, takes what is handed in.
-fn set_numbered<B: Behaviour>(
-    unit: &ServedUnit<B>,
-    work: &mut UnitOfWork,
-    object: i64,
+    place: usize,
     name: &str,
     value: Given,
 ) -> Result<Answer, Cause>
-    requires shaped { All (HasShape unit.now.metamodel) work.old.objects.now }
-    ensures meets { let world = world_of_unit B.meaning unit.now in
-        let operation = Operation.Set object name.now value in
-        Meets result (now work.new) (operations.operation_of operation world (now work.old)) }
-    ensures view { work.new.view ≡ work.old.view }
-    ensures since { since work.new ≡ since work.old }
+    requires { CanOperate unit.now.metamodel work.old place }
+    ensures { let world = world_of_unit B.meaning unit.now in
+        Carries (routes.set_call world name.now value place) result work.old work.new }
 {
-    let count = work.objects.len();
-    let Some(place) = place_of(count, object) else {
-        return Err(Cause::NoSuchObject);
-    };
-    let handed = handed(count, value)?;
+    let handed = handed(work.objects.len(), value)?;
     let changed = assign(
         &unit.metamodel,
         work.objects.as_slice(),
@@ -240,115 +108,82 @@ fn set_numbered<B: Behaviour>(
     Ok(Answer::Null)
 }
 
-/// Makes an object managed, by its number.
-fn persist_numbered<B: Behaviour>(
+/// An object, by its number, stands last in a collection of the object at a place (chapter 2.2).
+fn add_at<B: Behaviour>(
     alloc: Global,
     unit: &ServedUnit<B>,
     work: &mut UnitOfWork,
-    object: i64,
+    place: usize,
+    name: &str,
+    member: i64,
 ) -> Result<Answer, Cause>
-    requires orderly { IsOrderly unit.now.metamodel }
-    requires ready { IsReady unit.now.metamodel (now work.old) }
-    ensures meets { let world = world_of_unit B.meaning unit.now in
-        Meets result (now work.new) (operations.operation_of (Operation.Persist object) world
-        (now work.old)) }
-    ensures view { work.new.view ≡ work.old.view }
-    ensures since { since work.new ≡ since work.old }
+    requires { CanOperate unit.now.metamodel work.old place }
+    ensures { let world = world_of_unit B.meaning unit.now in
+        Carries (routes.add_call world name.now member place) result work.old work.new }
 {
-    let Some(place) = place_of(work.objects.len(), object) else {
+    let Some(added) = place_of(work.objects.len(), member) else {
         return Err(Cause::NoSuchObject);
     };
-    persist(alloc, unit, work, place)?;
+    add(alloc, unit, work, place, name, added)?;
     Ok(Answer::Null)
 }
 
-/// Removes an object, by its number.
-fn remove_numbered<B: Behaviour>(
+/// The first occurrence of an object, by its number, is taken out of a collection of the object at
+/// a place; whether it stood there (chapter 2.2).
+fn take_out_at<B: Behaviour>(
     alloc: Global,
     unit: &ServedUnit<B>,
     work: &mut UnitOfWork,
-    object: i64,
+    place: usize,
+    name: &str,
+    member: i64,
 ) -> Result<Answer, Cause>
-    requires ready { IsReady unit.now.metamodel (now work.old) }
-    ensures meets { let world = world_of_unit B.meaning unit.now in
-        Meets result (now work.new) (operations.operation_of (Operation.Remove object) world
-        (now work.old)) }
-    ensures view { work.new.view ≡ work.old.view }
-    ensures since { since work.new ≡ since work.old }
+    requires { CanOperate unit.now.metamodel work.old place }
+    ensures { let world = world_of_unit B.meaning unit.now in
+        Carries (routes.take_out_call world name.now member place) result work.old work.new }
 {
-    let Some(place) = place_of(work.objects.len(), object) else {
+    let Some(taken) = place_of(work.objects.len(), member) else {
         return Err(Cause::NoSuchObject);
     };
-    remove(alloc, unit, work, place)?;
-    Ok(Answer::Null)
+    let stood = take_out(alloc, unit, work, place, name, taken)?;
+    Ok(Answer::Truth(stood))
 }
 
-/// Gives an object, by its number, the state that is stored.
-fn refresh_numbered<B: Behaviour>(
-    alloc: Global,
-    unit: &ServedUnit<B>,
-    work: &mut UnitOfWork,
-    object: i64,
-) -> Result<Answer, Cause>
-    requires ready { IsReady unit.now.metamodel (now work.old) }
-    ensures meets { let world = world_of_unit B.meaning unit.now in
-        Meets result (now work.new) (operations.operation_of (Operation.Refresh object) world
-        (now work.old)) }
-    ensures view { work.new.view ≡ work.old.view }
-    ensures since { since work.new ≡ since work.old }
-{
-    let Some(place) = place_of(work.objects.len(), object) else {
-        return Err(Cause::NoSuchObject);
-    };
-    refresh(alloc, unit, work, place)?;
-    Ok(Answer::Null)
-}
-
-/// Detaches an object, by its number.
+/// Detaches the object at a place (chapter 3.2.7).
 #[tactic(auto, using(crate::proofs::Marked::kept_since))]
-fn detach_numbered<B: Behaviour>(
+fn detach_at<B: Behaviour>(
     alloc: Global,
     unit: &ServedUnit<B>,
     work: &mut UnitOfWork,
-    object: i64,
+    place: usize,
 ) -> Result<Answer, Cause>
-    requires ready { IsReady unit.now.metamodel (now work.old) }
-    requires kept { IsKept work.old }
+    requires { CanOperate unit.now.metamodel work.old place }
     ensures meets { let world = world_of_unit B.meaning unit.now in
-        Meets result (now work.new) (operations.operation_of (Operation.Detach object) world
-        (now work.old)) }
+        Meets result (now work.new)
+        (calls.told_as calls.nothing (states.detach world place) (now work.old)) }
     ensures view { work.new.view ≡ work.old.view }
     ensures since { OnErr result (since work.new ≡ since work.old) }
     ensures marked { KeepsMarks unit.now.metamodel work.old work.new }
 {
     other_laws();
-    let Some(place) = place_of(work.objects.len(), object) else {
-        return Err(Cause::NoSuchObject);
-    };
     detach(alloc, &unit.metamodel, work, place)?;
     // What leads to a detached object is not noted.
     work.context.mark(Marks::all(alloc));
     Ok(Answer::Null)
 }
 
-/// Merges an object, by its number; answers its image.
-fn merge_numbered<B: Behaviour>(
+/// Merges the object at a place (chapter 3.2.7.1); answers its image.
+fn merge_at<B: Behaviour>(
     alloc: Global,
     unit: &ServedUnit<B>,
     work: &mut UnitOfWork,
-    object: i64,
+    place: usize,
 ) -> Result<Answer, Cause>
-    requires orderly { IsOrderly unit.now.metamodel }
-    requires ready { IsReady unit.now.metamodel (now work.old) }
-    ensures meets { let world = world_of_unit B.meaning unit.now in
-        Meets result (now work.new) (operations.operation_of (Operation.Merge object) world
-        (now work.old)) }
-    ensures view { work.new.view ≡ work.old.view }
-    ensures since { since work.new ≡ since work.old }
+    requires { CanOperate unit.now.metamodel work.old place }
+    ensures { let world = world_of_unit B.meaning unit.now in
+        Carries (calls.told_as calls.object_told (merges.merge world place)) result work.old
+        work.new }
 {
-    let Some(place) = place_of(work.objects.len(), object) else {
-        return Err(Cause::NoSuchObject);
-    };
     let image = merge(alloc, unit, work, place)?;
     // An object's number, one more than its place, is at most the count.
     let _count = work.objects.len();
@@ -365,161 +200,61 @@ fn lock_of(mode: LockMode) -> Lock
     }
 }
 
-/// Locks an object, by its number.
-fn lock_numbered<B: Behaviour>(
+/// Locks the object at a place (chapter 3.4.4).
+fn lock_at<B: Behaviour>(
     unit: &ServedUnit<B>,
     work: &mut UnitOfWork,
-    object: i64,
+    place: usize,
     mode: LockMode,
 ) -> Result<Answer, Cause>
-    requires ready { IsReady unit.now.metamodel (now work.old) }
-    ensures meets { let world = world_of_unit B.meaning unit.now in
-        Meets result (now work.new) (operations.operation_of (Operation.Lock object mode) world
-        (now work.old)) }
-    ensures view { work.new.view ≡ work.old.view }
-    ensures since { since work.new ≡ since work.old }
+    requires { CanOperate unit.now.metamodel work.old place }
+    ensures { let world = world_of_unit B.meaning unit.now in
+        Carries (calls.told_as calls.nothing (states.lock world place (routes.lock_of mode)))
+        result work.old work.new }
 {
-    let Some(place) = place_of(work.objects.len(), object) else {
-        return Err(Cause::NoSuchObject);
-    };
     lock(&unit.metamodel, work, place, lock_of(mode))?;
     Ok(Answer::Null)
 }
 
-/// An answer of find, where it found an object; else `EntityNotFound`.
-fn there_must_be(found: Answer) -> Result<Answer, Cause>
-    ensures { (w : Work) → Meets result w (routes.there_must_be found w) }
-{
-    match found {
-        Answer::Null => Err(Cause::EntityNotFound),
-        found => Ok(found),
-    }
-}
-
-/// Finds an object by the name of its entity and the parts of its key, by slices.
-fn find_slices<B: Behaviour>(
-    alloc: Global,
-    unit: &ServedUnit<B>,
-    work: &mut UnitOfWork,
-    entity: &str,
-    key: &[Given],
-) -> Result<Answer, Cause>
-    requires ready { IsReady unit.now.metamodel (now work.old) }
-    ensures meets { let world = world_of_unit B.meaning unit.now in
-        let operation = Operation.Find entity.now key.now in
-        Meets result (now work.new) (operations.operation_of operation world (now work.old)) }
-    ensures view { work.new.view ≡ work.old.view }
-    ensures since { since work.new ≡ since work.old }
-{
-    if !are_short(key) {
-        return Err(Cause::Limit);
-    }
-    let Some(class) = unit.metamodel.class_of(entity) else {
-        return Err(Cause::IllegalArgument(Argument::Entity));
-    };
-    let Some(values) = whole_key(alloc, unit.metamodel.root_of(class).key.as_slice(), key)? else {
-        return Err(Cause::IllegalArgument(Argument::Key));
-    };
-    let Some(place) = find(alloc, unit, work, class, values)? else {
-        return Ok(Answer::Null);
-    };
-    // An object's number, one more than its place, is at most the count.
-    let _count = work.objects.len();
-    Ok(Answer::Object(place as u64 + 1))
-}
-
-/// Finds an object by the name of its entity and the parts of its key.
-fn find_by_key<B: Behaviour>(
-    alloc: Global,
-    unit: &ServedUnit<B>,
-    work: &mut UnitOfWork,
-    entity: &Text,
-    key: &Seq<Given>,
-) -> Result<Answer, Cause>
-    requires ready { IsReady unit.now.metamodel (now work.old) }
-    ensures meets { let world = world_of_unit B.meaning unit.now in
-        let operation = Operation.Find entity.now key.now in
-        Meets result (now work.new) (operations.operation_of operation world (now work.old)) }
-    ensures view { work.new.view ≡ work.old.view }
-    ensures since { since work.new ≡ since work.old }
-{
-    find_slices(alloc, unit, work, entity.as_str(), key.as_slice())
-}
-
-/// Finds an object by the name of its entity and the parts of its key; where there is none,
-/// `EntityNotFound`.
-fn get_reference_by_key<B: Behaviour>(
-    alloc: Global,
-    unit: &ServedUnit<B>,
-    work: &mut UnitOfWork,
-    entity: &Text,
-    key: &Seq<Given>,
-) -> Result<Answer, Cause>
-    requires ready { IsReady unit.now.metamodel (now work.old) }
-    ensures meets { let world = world_of_unit B.meaning unit.now in
-        let operation = Operation.GetReference entity.now key.now in
-        Meets result (now work.new) (operations.operation_of operation world (now work.old)) }
-    ensures view { work.new.view ≡ work.old.view }
-    ensures since { since work.new ≡ since work.old }
-{
-    let found = find_by_key(alloc, unit, work, entity, key)?;
-    there_must_be(found)
-}
-
-/// A value that an operation sets is one of the program.
-pub(crate) fn sets_representable(operation: &Operation)
-    ensures { operations.sets_representable operation.now ≡ true }
-{
-    match operation {
-        Operation::Set { value, .. } => given_representable(value),
-        _ => {}
-    }
-}
-
-/// Does an operation on the unit of work. Refused as the operation is; what a refused one changed
+/// Does what a call does with the object at a place. Refused as that is; what a refused one changed
 /// is undone by `UnitOfWork::undo`.
 #[tactic(auto, using(crate::proofs::Marked::kept_since))]
 pub(crate) fn operate<B: Behaviour>(
     alloc: Global,
     unit: &ServedUnit<B>,
     work: &mut UnitOfWork,
-    operation: Operation,
+    place: usize,
+    call: Call,
 ) -> Result<Answer, Cause>
-    requires { CanOperate unit.now.metamodel work.old }
+    requires { CanOperate unit.now.metamodel work.old place }
     ensures meets { let world = world_of_unit B.meaning unit.now in
-        Meets result (now work.new) (operations.operation_of operation world (now work.old)) }
+        Meets result (now work.new) (at_object call world place (now work.old)) }
     ensures view { work.new.view ≡ work.old.view }
     ensures since { OnErr result (since work.new ≡ since work.old) }
     ensures marked { KeepsMarks unit.now.metamodel work.old work.new }
 {
-    match operation {
-        Operation::Get { object, name } => {
-            get_numbered(alloc, unit, work, object, name.as_str())
+    match call {
+        Call::Get { name, .. } => get_at(alloc, unit, work, place, name.as_str()),
+        Call::SetValue { name, value, .. } => set_at(unit, work, place, name.as_str(), value),
+        Call::Add { name, member, .. } => add_at(alloc, unit, work, place, name.as_str(), member),
+        Call::TakeOut { name, member, .. } => {
+            take_out_at(alloc, unit, work, place, name.as_str(), member)
         }
-        Operation::Set {
-            object,
-            name,
-            value,
-        } => set_numbered(unit, work, object, name.as_str(), value),
-        Operation::Add {
-            object,
-            name,
-            member,
-        } => add_numbered(alloc, unit, work, object, name.as_str(), member),
-        Operation::TakeOut {
-            object,
-            name,
-            member,
-        } => take_out_numbered(alloc, unit, work, object, name.as_str(), member),
-        Operation::Persist { object } => { persist_numbered(alloc, unit, work, object) }
-        Operation::Remove { object } => { remove_numbered(alloc, unit, work, object) }
-        Operation::Refresh { object } => { refresh_numbered(alloc, unit, work, object) }
-        Operation::Detach { object } => { detach_numbered(alloc, unit, work, object) }
-        Operation::Merge { object } => { merge_numbered(alloc, unit, work, object) }
-        Operation::Lock { object, mode } => lock_numbered(unit, work, object, mode),
-        Operation::Find { entity, key } => { find_by_key(alloc, unit, work, &entity, &key) }
-        Operation::GetReference { entity, key } => {
-            get_reference_by_key(alloc, unit, work, &entity, &key)
+        Call::Persist { .. } => {
+            persist(alloc, unit, work, place)?;
+            Ok(Answer::Null)
         }
+        Call::Remove { .. } => {
+            remove(alloc, unit, work, place)?;
+            Ok(Answer::Null)
+        }
+        Call::Refresh { .. } => {
+            refresh(alloc, unit, work, place)?;
+            Ok(Answer::Null)
+        }
+        Call::Detach { .. } => detach_at(alloc, unit, work, place),
+        Call::Merge { .. } => merge_at(alloc, unit, work, place),
+        Call::Lock { mode, .. } => lock_at(unit, work, place, mode),
+        _ => Ok(Answer::Null),
     }
 }

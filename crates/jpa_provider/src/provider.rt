@@ -17,21 +17,21 @@ ghost use Rattle.jpa_machine.specs.Faults.{tells_fault};
 ghost use Rattle.jpa_machine.specs.Invariant.{IsMachine};
 ghost use Rattle.jpa_machine.specs.Machine.{opened};
 ghost use Rattle.jpa_machine.specs.Routes.{is_commit};
-ghost use Rattle.jpa_provider.specs.Provided.{world_in, ChangesAtMost, IsOpened, Stands, StoresCall};
+ghost use Rattle.jpa_provider.specs.Provided.{world_in, ChangesAtMost, IsOpened, Stands};
 ghost use Rattle.jpa_machine.specs.Updating.{MakesRepresentable, is_bulk};
-ghost use Rattle.jpa_provider.specs.Serving.{machine_of, IsAtRest, IsServingOver, IsSettled, Serves};
+ghost use Rattle.jpa_provider.specs.Serving.{machine_of, IsAtRest, IsServingOver, IsSettled, Serves, StoresServing};
 
 use crate::asking::contains_call;
 use crate::committing::commit_call;
 use crate::ending::{clear_call, close_call, rollback_call, set_rollback_only_call};
+use crate::finding::find_call;
 use crate::flushing::flush_call;
 use crate::handing::hands_representable;
 use crate::moding::set_flush_mode_call;
 use crate::opening::{begin_call, create_call, new_call};
-use crate::operating::Operation;
-use crate::querying::{Told, Wanted, query_call, update_call};
+use crate::querying::{query_call, update_call};
 use crate::session::Session;
-use crate::working::{held, lock_call, worked};
+use crate::working::{held, in_transaction, worked};
 use jpa_behaviour::{Behaviour, ServedUnit};
 use jpa_context::{PersistenceContext, UnitOfWork};
 use jpa_mapper::discriminator_law;
@@ -206,7 +206,8 @@ fn opened(alloc: Global, view: OpenSet, next: UndoList<u64>, numbers: Seq<u64>) 
     }
 }
 
-/// Serves a call; what stands between calls is shown where it is called.
+/// Serves a call, by the group to which its route belongs; what stands between calls is shown where
+/// it is called.
 fn served<R: RowSource, B: Behaviour>(
     alloc: Global,
     unit: &ServedUnit<B>,
@@ -214,138 +215,46 @@ fn served<R: RowSource, B: Behaviour>(
     rows: &mut R,
     call: Call,
 ) -> Reply
-    requires { IsServingOver (world_of_unit B.meaning unit.now) R.RowSource
-        session.old rows.old }
-    ensures step { let world = world_of_unit B.meaning unit.now in
-        Serves world session.old call result session.new }
+    requires { IsServingOver (world_of_unit B.meaning unit.now) R.RowSource session.old rows.old }
+    ensures step { Serves (world_of_unit B.meaning unit.now) session.old call result session.new }
     ensures rest { IsAtRest unit.now.metamodel session.new }
-    ensures stores { let world = world_of_unit B.meaning unit.now in
-        is_commit call ≡ true → StoresCall world R.RowSource (machine_of session.old) call result
-        (machine_of session.new) rows.old rows.new }
+    ensures stores { is_commit call ≡ true → StoresServing (world_of_unit B.meaning unit.now)
+        R.RowSource session.old call result session.new rows.old rows.new }
     ensures others { is_commit call ≡ false
         → (rows.new ≡ rows.old) × (tells_fault result ≡ false) }
-    ensures made { let world = world_of_unit B.meaning unit.now in
-        is_bulk call ≡ true
-        → OnOk result.answer (MakesRepresentable world (machine_of session.old) call) }
+    ensures made { is_bulk call ≡ true → OnOk result.answer
+        (MakesRepresentable (world_of_unit B.meaning unit.now) (machine_of session.old) call) }
 {
     match call {
         Call::CreateEntityManager => create_call(alloc, unit, session),
-        Call::NewObject { entity } => { new_call(alloc, unit, session, entity.as_str()) }
-        Call::SetValue {
-            object,
-            name,
-            value,
-        } => {
-            let operation = Operation::Set {
-                object,
-                name,
-                value,
-            };
-            held(alloc, unit, session, object, operation)
-        }
-        Call::Get { object, name } => {
-            let operation = Operation::Get { object, name };
-            held(alloc, unit, session, object, operation)
-        }
-        Call::Add {
-            object,
-            name,
-            member,
-        } => {
-            let operation = Operation::Add {
-                object,
-                name,
-                member,
-            };
-            held(alloc, unit, session, object, operation)
-        }
-        Call::TakeOut {
-            object,
-            name,
-            member,
-        } => {
-            let operation = Operation::TakeOut {
-                object,
-                name,
-                member,
-            };
-            held(alloc, unit, session, object, operation)
-        }
+        Call::NewObject { entity } => new_call(alloc, unit, session, entity.as_str()),
+        Call::SetValue { object, .. } => held(alloc, unit, session, object, call),
+        Call::Get { object, .. } => held(alloc, unit, session, object, call),
+        Call::Add { object, .. } => held(alloc, unit, session, object, call),
+        Call::TakeOut { object, .. } => held(alloc, unit, session, object, call),
         Call::Begin { em } => begin_call(alloc, unit, session, em),
-        Call::Persist { em, object } => {
-            let operation = Operation::Persist { object };
-            worked(alloc, unit, session, em, operation)
-        }
-        Call::Remove { em, object } => {
-            let operation = Operation::Remove { object };
-            worked(alloc, unit, session, em, operation)
-        }
-        Call::Refresh { em, object } => {
-            let operation = Operation::Refresh { object };
-            worked(alloc, unit, session, em, operation)
-        }
-        Call::Detach { em, object } => {
-            let operation = Operation::Detach { object };
-            worked(alloc, unit, session, em, operation)
-        }
-        Call::Merge { em, object } => {
-            let operation = Operation::Merge { object };
-            worked(alloc, unit, session, em, operation)
-        }
-        Call::Lock { em, object, mode } => { lock_call(alloc, unit, session, em, object, mode) }
+        Call::Persist { em, object } => worked(alloc, unit, session, em, object, call),
+        Call::Remove { em, object } => worked(alloc, unit, session, em, object, call),
+        Call::Refresh { em, object } => worked(alloc, unit, session, em, object, call),
+        Call::Detach { em, object } => worked(alloc, unit, session, em, object, call),
+        Call::Merge { em, object } => worked(alloc, unit, session, em, object, call),
+        Call::Lock { em, object, .. } => in_transaction(alloc, unit, session, em, object, call),
         Call::Flush { em } => flush_call(alloc, unit, session, em),
         Call::Commit { em } => commit_call(alloc, unit, session, rows, em),
         Call::Rollback { em } => rollback_call(alloc, unit, session, em),
-        Call::SetRollbackOnly { em } => { set_rollback_only_call(alloc, unit, session, em) }
-        Call::Find { em, entity, key } => {
-            let operation = Operation::Find { entity, key };
-            worked(alloc, unit, session, em, operation)
-        }
-        Call::GetReference { em, entity, key } => {
-            let operation = Operation::GetReference { entity, key };
-            worked(alloc, unit, session, em, operation)
-        }
-        Call::Contains { em, object } => { contains_call(alloc, unit, session, em, object) }
+        Call::SetRollbackOnly { em } => set_rollback_only_call(alloc, unit, session, em),
+        Call::Find { em, .. } => find_call(alloc, unit, session, em, call),
+        Call::GetReference { em, .. } => find_call(alloc, unit, session, em, call),
+        Call::Contains { em, object } => contains_call(alloc, unit, session, em, object),
         Call::Clear { em } => clear_call(alloc, unit, session, em),
-        Call::SetFlushMode { em, mode } => { set_flush_mode_call(alloc, unit, session, em, mode) }
-        Call::Query {
-            em,
-            text,
-            parameters,
-            first,
-            max,
-        } => {
-            let wanted = Wanted {
-                text,
-                parameters,
-                first,
-                max,
-            };
-            query_call(alloc, unit, session, em, wanted, Told::All)
-        }
-        Call::QuerySingle {
-            em,
-            text,
-            parameters,
-            first,
-            max,
-        } => {
-            let wanted = Wanted {
-                text,
-                parameters,
-                first,
-                max,
-            };
-            query_call(alloc, unit, session, em, wanted, Told::Single)
-        }
+        Call::SetFlushMode { em, mode } => set_flush_mode_call(alloc, unit, session, em, mode),
+        Call::Query { em, .. } => query_call(alloc, unit, session, em, call),
+        Call::QuerySingle { em, .. } => query_call(alloc, unit, session, em, call),
         Call::ExecuteUpdate {
             em,
             text,
             parameters,
-        } => {
-            let (text, parameters) = (text.as_str(), parameters.as_slice());
-            update_call(alloc, unit, session, em, text, parameters)
-        }
+        } => update_call(alloc, unit, session, em, text, parameters),
         Call::Close { em } => close_call(alloc, unit, session, em),
     }
 }
@@ -358,17 +267,13 @@ fn serve<R: RowSource, B: Behaviour>(
     rows: &mut R,
     call: Call,
 ) -> Reply
-    requires { IsServingOver (world_of_unit B.meaning unit.now) R.RowSource
-        session.old rows.old }
+    requires { IsServingOver (world_of_unit B.meaning unit.now) R.RowSource session.old rows.old }
     ensures serving { IsServingOver (world_of_unit B.meaning unit.now) R.RowSource
         session.new rows.new }
-    ensures step { let world = world_of_unit B.meaning unit.now in
-        Serves world session.old call result session.new }
-    ensures changes { ChangesAtMost (machine_of session.old) call result
-        (machine_of session.new) }
-    ensures stores { let world = world_of_unit B.meaning unit.now in
-        StoresCall world R.RowSource (machine_of session.old) call result
-        (machine_of session.new) rows.old rows.new }
+    ensures step { Serves (world_of_unit B.meaning unit.now) session.old call result session.new }
+    ensures changes { ChangesAtMost (machine_of session.old) call result (machine_of session.new) }
+    ensures stores { StoresServing (world_of_unit B.meaning unit.now) R.RowSource session.old call
+        result session.new rows.old rows.new }
 {
     hands_representable(&call);
     served(alloc, unit, session, rows, call)

@@ -14,7 +14,7 @@ ghost use Rattle.jpa_protocol.specs.declared.call.Call.{Call};
 ghost use Rattle.jpa_machine.specs.Faults.{tells_fault};
 ghost use Rattle.jpa_machine.specs.Machine as machine;
 ghost use Rattle.jpa_machine.specs.Querying as querying;
-ghost use Rattle.jpa_provider.specs.Operations as operations;
+ghost use Rattle.jpa_provider.specs.Operations.{by_query};
 ghost use Rattle.jpa_machine.specs.Routes.{route, ToQuery};
 ghost use Rattle.jpa_provider.specs.Stages.{CanFlush};
 ghost use Rattle.jpa_provider.specs.Serving.{machine_of, IsAtRest, IsServing, Serves, is_begun_status};
@@ -30,28 +30,11 @@ use jpa_asked::{Asked, Binding};
 use jpa_behaviour::{Behaviour, ServedUnit};
 use jpa_context::UnitOfWork;
 use jpa_heap::Handed;
-use jpa_protocol::{Answer, FlushMode, Given, Parameter, Reply};
+use jpa_protocol::{Answer, Call, FlushMode, Given, Parameter, Reply};
 use jpa_queries::{query, query_single};
 use jpa_updates::execute_update;
 use jpa_value::{Cause, Seq, Text, TryCopy};
 use std::alloc::Global;
-
-/// What a call asks: a statement's text, what is bound to its parameters, how many rows are
-/// skipped, and how many are kept at most.
-#[derive(Drop)]
-pub struct Wanted {
-    pub text: Text,
-    pub parameters: Seq<Parameter>,
-    pub first: Option<i64>,
-    pub max: Option<i64>,
-}
-
-/// Which rows are told: all of query, or the one of querySingle.
-#[derive(Clone, Copy)]
-pub enum Told {
-    All,
-    Single,
-}
 
 /// What is handed in for a parameter; none where a number names no object.
 fn handed_in(work: &UnitOfWork, given: &Given) -> Result<Option<Handed>, Cause>
@@ -122,46 +105,66 @@ fn bound(alloc: Global, work: &UnitOfWork, parameters: &[Parameter]) -> Result<S
 }
 
 /// What a call asks, with what is bound to its parameters. Refused as `bound` is.
-fn asked_of(alloc: Global, work: &UnitOfWork, wanted: Wanted) -> Result<Asked, Cause>
-    ensures meets { Meets result (now work.now) (operations.asked wanted (now work.now)) }
+fn asked_of(
+    alloc: Global,
+    work: &UnitOfWork,
+    text: Text,
+    parameters: Seq<Parameter>,
+    first: Option<i64>,
+    max: Option<i64>,
+) -> Result<Asked, Cause>
+    ensures meets { Meets result (now work.now)
+        (querying.asked_of text parameters first max (now work.now)) }
     ensures bound { IfOk result (λ asked. AreInHeap work.now.objects.now asked.bindings) }
 {
-    let bindings = bound(alloc, work, wanted.parameters.as_slice())?;
+    let bindings = bound(alloc, work, parameters.as_slice())?;
     Ok(Asked {
-        text: wanted.text,
+        text,
         bindings,
-        first: wanted.first,
-        max: wanted.max,
+        first,
+        max,
     })
 }
 
-/// A query of a manager at work, and its answer. Refused as `query` and `query_single` are.
+/// Does what a call does that asks for rows. Refused as `query` and `query_single` are.
 fn query_work<B: Behaviour>(
     alloc: Global,
     unit: &ServedUnit<B>,
     work: &mut UnitOfWork,
     flushes: bool,
-    wanted: Wanted,
-    told: Told,
+    call: Call,
 ) -> Result<Answer, Cause>
     requires can_flush { CanFlush unit.now.metamodel work.old }
     requires then_ready { StaysReady flushes (world_of_unit B.meaning unit.now)
         (now work.old) }
     ensures meets { let world = world_of_unit B.meaning unit.now in
-        Meets result (now work.new) (operations.query_told told wanted flushes world
-        (now work.old)) }
+        Meets result (now work.new) (by_query call flushes world (now work.old)) }
     ensures since { since work.new ≡ since work.old }
 {
-    let asked = asked_of(alloc, work, wanted)?;
-    match told {
-        Told::All => {
+    match call {
+        Call::Query {
+            text,
+            parameters,
+            first,
+            max,
+            ..
+        } => {
+            let asked = asked_of(alloc, work, text, parameters, first, max)?;
             let rows = query(alloc, unit, work, flushes, &asked)?;
             Ok(Answer::Rows(rows))
         }
-        Told::Single => {
+        Call::QuerySingle {
+            text,
+            parameters,
+            first,
+            max,
+            ..
+        } => {
+            let asked = asked_of(alloc, work, text, parameters, first, max)?;
             let row = query_single(alloc, unit, work, flushes, &asked)?;
             Ok(Answer::Row(row))
         }
+        _ => Ok(Answer::Null),
     }
 }
 
@@ -182,13 +185,11 @@ pub(crate) fn query_call<B: Behaviour>(
     unit: &ServedUnit<B>,
     session: &mut Session,
     em: i64,
-    wanted: Wanted,
-    told: Told,
+    call: Call,
 ) -> Reply
     requires serving { IsServing (world_of_unit B.meaning unit.now) session.old }
-    ensures step { let world = world_of_unit B.meaning unit.now in
-        (call : Call) → route call ≡ ToQuery em (operations.query_told told wanted)
-        → Serves world session.old call result session.new }
+    ensures step { route call ≡ ToQuery em (by_query call)
+        → Serves (world_of_unit B.meaning unit.now) session.old call result session.new }
     ensures untold { tells_fault result ≡ false }
     ensures rest { IsAtRest unit.now.metamodel session.new }
 {
@@ -201,7 +202,7 @@ pub(crate) fn query_call<B: Behaviour>(
     );
     take_work(session, manager);
     let work = &mut session.work;
-    let answered = query_work(alloc, unit, work, flushes, wanted, told);
+    let answered = query_work(alloc, unit, work, flushes, call);
     conclude(
         alloc,
         &unit.metamodel,
@@ -220,8 +221,8 @@ fn update_work<B: Behaviour>(
     work: &mut UnitOfWork,
     is_active: bool,
     flushes: bool,
-    text: &str,
-    parameters: &[Parameter],
+    text: Text,
+    parameters: Seq<Parameter>,
 ) -> Result<Answer, Cause>
     requires can_flush { CanFlush unit.now.metamodel work.old }
     requires flushing { flushes ≡ true → is_active ≡ true }
@@ -229,15 +230,16 @@ fn update_work<B: Behaviour>(
         (now work.old) }
     ensures meets { let world = world_of_unit B.meaning unit.now in
         Meets result (now work.new)
-        (querying.update_call text.now parameters.now is_active flushes world (now work.old)) }
+        (querying.update_call text parameters is_active flushes world (now work.old)) }
     ensures representable { OnOk result ((v : Work)
         → flush_if flushes (world_of_unit B.meaning unit.now) (now work.old)
         ≡ Done tt v → all_representable v.view ≡ true
         → all_representable (now work.new).view ≡ true) }
     ensures since { since work.new ≡ since work.old }
 {
-    let bindings = bound(alloc, work, parameters)?;
+    let bindings = bound(alloc, work, parameters.as_slice())?;
     let bindings = bindings.as_slice();
+    let text = text.as_str();
     let count = execute_update(alloc, unit, work, is_active, flushes, text, bindings)?;
     Ok(Answer::Number(count as u64))
 }
@@ -249,17 +251,17 @@ pub(crate) fn update_call<B: Behaviour>(
     unit: &ServedUnit<B>,
     session: &mut Session,
     em: i64,
-    text: &str,
-    parameters: &[Parameter],
+    text: Text,
+    parameters: Seq<Parameter>,
 ) -> Reply
     requires serving { IsServing (world_of_unit B.meaning unit.now) session.old }
     ensures step { Serves (world_of_unit B.meaning unit.now) session.old
-        (Call.ExecuteUpdate em text.now parameters.now) result session.new }
+        (Call.ExecuteUpdate em text parameters) result session.new }
     ensures untold { tells_fault result ≡ false }
     ensures rest { IsAtRest unit.now.metamodel session.new }
     ensures made { let world = world_of_unit B.meaning unit.now in
         OnOk result.answer (MakesRepresentable world (machine_of session.old)
-        (Call.ExecuteUpdate em text.now parameters.now)) }
+        (Call.ExecuteUpdate em text parameters)) }
 {
     let Some(manager) = manager_named(session, em) else {
         return because(alloc, Cause::NoSuchManager);

@@ -8,7 +8,7 @@ use Rattle.jpa_context.specs.Undo.{now}
 use Rattle.jpa_queries.specs.Premises.{StaysReady}
 use Rattle.jpa_provider.specs.declared.replies.Rule.{Rule}
 use Rattle.jpa_machine.specs.Machine.{flushes_in, flushes_first, work_of}
-use Rattle.jpa_provider.specs.Operations.{query_told}
+use Rattle.jpa_provider.specs.Operations.{by_query}
 use Rattle.jpa_provider.specs.Serving.{machine_of, is_begun_status, named}
 use Rattle.jpa_provider.proofs.Active.{can_flush, query_ready}
 use Rattle.jpa_provider.proofs.Routed.{asked_so}
@@ -38,9 +38,9 @@ conclude-requires-clause-ready g c =
     let done = c.query_work-answered in
     let serving = c.requires.serving in
     let first = c.flushes_first-flushes.result in
-    let op = query_told c.args.told c.args.wanted first world in
+    let op = by_query c.args.call first world in
     ready_after world M m done.result (now done.new.work) (op (work_of M m)) (subst (λ (w : Work). Meets done.result (now done.new.work) (op w)) c.take_work.ensures.work done.ensures.meets)
-    (asks world M m serving.orderly serving.regular serving.machine c.args.told c.args.wanted first)
+    (asks world M m serving.orderly serving.regular serving.machine c.args.call first)
 
 pub conclude-requires-clause-before : goal.conclude-requires-clause-before
 conclude-requires-clause-before g c =
@@ -48,13 +48,13 @@ conclude-requires-clause-before g c =
     (still_marked c.take_work.new.session done.new.work (c.take_work.ensures.marked c.args.unit.now.metamodel (c.requires.serving).marked) done.ensures.since).own
 
 pub returns-clause-step : goal.returns-clause-step
-returns-clause-step g c = λ call e.
+returns-clause-step g c = λ e.
     let s = c.args.session.now in
     let M = machine_of s in
     let m = c.in-Some.manager in
     let world = world_of_unit g.B.Behaviour.meaning c.args.unit.now in
     let done = c.query_work-answered in
-    let op = query_told c.args.told c.args.wanted in
+    let op = by_query c.args.call in
     let is : named s c.args.em ≡ Some m = ap (named s) (sym (to_z-of_z c.ranges.em)) ∙ sym c.in-Some.ensures.named in
     let at = manager_there s m in
     let flushes : c.flushes_first-flushes.result ≡ flushes_first M m =
@@ -63,7 +63,7 @@ returns-clause-step g c = λ call e.
     let working = still_working c.take_work.new.session done.new.work c.take_work.ensures.working done.ensures.since in
     let met = subst (λ b. Meets done.result (now done.new.work) (op b world (work_of M m))) flushes
     (subst (λ (w : Work). Meets done.result (now done.new.work) (op c.flushes_first-flushes.result world w)) c.take_work.ensures.work done.ensures.meets) in
-    asked_so world s c.args.em op call e c.conclude.new.session m c.conclude.result is
+    asked_so world s c.args.em op c.args.call e c.conclude.new.session m c.conclude.result is
     (ends_so Rule.OfManager M (machine_of c.conclude.new.session) m (op (flushes_first M m) world (work_of M m)) done.result (now done.new.work) c.conclude.result met
     (c.conclude.ensures.concludes M working.away (if_refused done.result working)))
 
@@ -78,4 +78,4 @@ pub returns-clause-untold : goal.returns-clause-untold
 returns-clause-untold g c =
     let world = world_of_unit g.B.Behaviour.meaning c.args.unit.now in
     let done = c.query_work-answered in
-    c.conclude.ensures.untold (no_fault done.result (now done.new.work) (query_told c.args.told c.args.wanted c.flushes_first-flushes.result world (now c.take_work.new.session.work)) done.ensures.meets)
+    c.conclude.ensures.untold (no_fault done.result (now done.new.work) (by_query c.args.call c.flushes_first-flushes.result world (now c.take_work.new.session.work)) done.ensures.meets)

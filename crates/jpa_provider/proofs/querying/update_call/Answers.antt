@@ -55,8 +55,8 @@ conclude-requires-clause-ready g c =
     let world = world_of_unit g.B.Behaviour.meaning c.args.unit.now in
     let done = c.update_work-answered in
     let serving = c.requires.serving in
-    let text = c.args.text.now in
-    let ps = c.args.parameters.now in
+    let text = c.args.text in
+    let ps = c.args.parameters in
     let active = c.is_begun.result in
     let first = c.flushes_first-flushes.result in
     let w : Work = work_of M m in
@@ -79,7 +79,7 @@ returns-clause-step g c =
     let m = c.in-Some.manager in
     let world = world_of_unit g.B.Behaviour.meaning c.args.unit.now in
     let done = c.update_work-answered in
-    let op = update_call c.args.text.now c.args.parameters.now in
+    let op = update_call c.args.text c.args.parameters in
     let is : named s c.args.em ≡ Some m = ap (named s) (sym (to_z-of_z c.ranges.em)) ∙ sym c.in-Some.ensures.named in
     let at = manager_there s m in
     let active : c.is_begun.result ≡ has_transaction (manager_at M m) = c.is_begun.ensures ∙ ap is_begun_status c.status_of-status.ensures ∙ sym (begun_there s m) in
@@ -89,8 +89,8 @@ returns-clause-step g c =
     let working = still_working c.take_work.new.session done.new.work c.take_work.ensures.working done.ensures.since in
     let met = subst (λ (p : Bool × Bool). Meets done.result (now done.new.work) (op p.0 p.1 world (work_of M m))) (λ i. (active i, flushes i))
     (subst (λ (w : Work). Meets done.result (now done.new.work) (op c.is_begun.result c.flushes_first-flushes.result world w)) c.take_work.ensures.work done.ensures.meets) in
-    update_so world s c.args.em c.args.text.now c.args.parameters.now c.conclude.new.session m c.conclude.result is
-    (ends_so Rule.OfManager M (machine_of c.conclude.new.session) m (update_outcome world M c.args.text.now c.args.parameters.now m) done.result (now done.new.work) c.conclude.result met
+    update_so world s c.args.em c.args.text c.args.parameters c.conclude.new.session m c.conclude.result is
+    (ends_so Rule.OfManager M (machine_of c.conclude.new.session) m (update_outcome world M c.args.text c.args.parameters m) done.result (now done.new.work) c.conclude.result met
     (c.conclude.ensures.concludes M working.away (if_refused done.result working)))
 
 pub returns-clause-made : goal.returns-clause-made
@@ -100,8 +100,8 @@ returns-clause-made g c =
     let m = c.in-Some.manager in
     let world = world_of_unit g.B.Behaviour.meaning c.args.unit.now in
     let done = c.update_work-answered in
-    let text = c.args.text.now in
-    let ps = c.args.parameters.now in
+    let text = c.args.text in
+    let ps = c.args.parameters in
     let w : Work = work_of M m in
     let new : Work = now done.new.work in
     let is : named s c.args.em ≡ Some m = ap (named s) (sym (to_z-of_z c.ranges.em)) ∙ sym c.in-Some.ensures.named in
@@ -131,4 +131,4 @@ pub returns-clause-untold : goal.returns-clause-untold
 returns-clause-untold g c =
     let world = world_of_unit g.B.Behaviour.meaning c.args.unit.now in
     let done = c.update_work-answered in
-    c.conclude.ensures.untold (no_fault done.result (now done.new.work) (update_call c.args.text.now c.args.parameters.now c.is_begun.result c.flushes_first-flushes.result world (now c.take_work.new.session.work)) done.ensures.meets)
+    c.conclude.ensures.untold (no_fault done.result (now done.new.work) (update_call c.args.text c.args.parameters c.is_begun.result c.flushes_first-flushes.result world (now c.take_work.new.session.work)) done.ensures.meets)

@@ -1,4 +1,4 @@
-use Rattle.std.proofs.Common.{ap, sym, subst}
+use Rattle.std.proofs.Common.{◌<◌, length, ap, sym, subst}
 use Rattle.jpa_open.specs.Opened.{Opened}
 use Rattle.jpa_behaviour.specs.Served.{world_of_unit}
 use Rattle.jpa_context.specs.Work.{Work}
@@ -6,7 +6,7 @@ use Rattle.jpa_context.specs.Steps.{Meets}
 use Rattle.jpa_context.specs.Undo.{now}
 use Rattle.jpa_fetch.specs.Grown.{IsReady}
 use Rattle.jpa_machine.specs.Machine.{work_of}
-use Rattle.jpa_provider.specs.Operations.{operation_of}
+use Rattle.jpa_provider.specs.Operations.{at_object}
 use Rattle.jpa_provider.specs.Serving.{machine_of}
 use Rattle.jpa_machine.proofs.AtWork.{work_ready}
 use Rattle.jpa_provider.proofs.Marked.{keeps_away, ready_after}
@@ -19,6 +19,7 @@ pub operate-answered-requires : goal.operate-answered-requires
 operate-answered-requires g c = record {
   orderly = (c.requires.serving).orderly;
   ready = subst (IsReady c.args.unit.now.metamodel) (sym c.take_work.ensures.work) (work_ready c.args.manager (c.requires.serving).machine);
+  object = subst (λ (w : Work). c.args.place < length w.objects) (sym c.take_work.ensures.work) c.requires.object;
   kept = c.take_work.ensures.kept;
 }
 
@@ -27,11 +28,11 @@ conclude-requires-clause-ready g c =
     let M = machine_of c.args.session.now in
     let m = c.args.manager in
     let world = world_of_unit g.B.Behaviour.meaning c.args.unit.now in
-    let op = operation_of c.args.operation world in
+    let op = at_object c.args.call world c.args.place in
     let done = c.operate-answered in
     let serving = c.requires.serving in
     let met = subst (λ (w : Work). Meets done.result (now done.new.work) (op w)) c.take_work.ensures.work done.ensures.meets in
-    ready_after world M m done.result (now done.new.work) (op (work_of M m)) met (operates world M m serving.orderly serving.regular serving.machine c.args.operation c.sets_representable.ensures)
+    ready_after world M m done.result (now done.new.work) (op (work_of M m)) met (operates world M m serving.orderly serving.regular serving.machine c.args.call c.hands_representable.ensures c.args.place c.requires.object)
 
 pub conclude-requires-clause-before : goal.conclude-requires-clause-before
 conclude-requires-clause-before g c =
@@ -43,7 +44,7 @@ returns-clause-ends g c =
     let M = machine_of c.args.session.now in
     let m = c.args.manager in
     let world = world_of_unit g.B.Behaviour.meaning c.args.unit.now in
-    let op = operation_of c.args.operation world in
+    let op = at_object c.args.call world c.args.place in
     let done = c.operate-answered in
     let s = c.take_work.new.session in
     let away = still_away s done.new.work (c.take_work.ensures.working).away (ap (λ (w : Opened). w.kept) done.ensures.view) (ap (λ (w : Opened). w.begun) done.ensures.view) (ap (λ (w : Opened). w.committed) done.ensures.view) in
@@ -56,7 +57,7 @@ pub returns-clause-untold : goal.returns-clause-untold
 returns-clause-untold g c =
     let world = world_of_unit g.B.Behaviour.meaning c.args.unit.now in
     let done = c.operate-answered in
-    c.conclude.ensures.untold (no_fault done.result (now done.new.work) (operation_of c.args.operation world (now c.take_work.new.session.work)) done.ensures.meets)
+    c.conclude.ensures.untold (no_fault done.result (now done.new.work) (at_object c.args.call world c.args.place (now c.take_work.new.session.work)) done.ensures.meets)
 
 pub returns-clause-rest : goal.returns-clause-rest
 returns-clause-rest g c =

@@ -13,7 +13,7 @@ use Rattle.jpa_provider.specs.declared.session.EntityManager.{EntityManager}
 use Rattle.jpa_provider.specs.declared.session.Session.{Session}
 use Rattle.jpa_context.specs.declared.work.UnitOfWork.{UnitOfWork}
 use Rattle.jpa_machine.specs.Machine.{work_of}
-use Rattle.jpa_provider.specs.Operations.{operation_of, is_marked_by, told_of}
+use Rattle.jpa_provider.specs.Operations.{at_object, is_marked_by, told_of}
 use Rattle.jpa_provider.specs.Serving.{machine_of}
 use Rattle.jpa_machine.proofs.AtWork.{work_ready}
 use Rattle.jpa_provider.proofs.Counted.{counted_here}
@@ -33,6 +33,7 @@ operate-answered-requires g c =
     record {
       orderly = (c.requires.serving).orderly;
       ready = subst (IsReady c.args.unit.now.metamodel) (sym same) (work_ready n (c.requires.serving).machine);
+      object = c.requires.object;
       kept = record { objects = kept.objects; context = c.new.ensures.since ∙ sym c.new.ensures.now; numbers = kept.numbers; view = kept.view };
     }
 
@@ -42,7 +43,7 @@ returns-in-Ok-clause-ends g c =
     let M = machine_of s in
     let n = length s.managers.items in
     let world = world_of_unit g.B.Behaviour.meaning c.args.unit.now in
-    let op = operation_of c.args.operation world in
+    let op = at_object c.args.call world c.args.place in
     let done = c.operate-answered in
     let w = now done.new.work in
     let v : Work = record { manager = c.len-session.result; objects = s.work.objects.now; context = c.new.result.now; numbers = s.work.numbers.now; view = (s.work.view).seen; events = s.work.events } in
@@ -63,7 +64,7 @@ returns-in-Err-clause-ends g c =
     let M = machine_of s in
     let n = length s.managers.items in
     let world = world_of_unit g.B.Behaviour.meaning c.args.unit.now in
-    let op = operation_of c.args.operation world in
+    let op = at_object c.args.call world c.args.place in
     let done = c.operate-answered in
     let r = c.in-Err.cause in
     let w = now done.new.work in

@@ -1,9 +1,5 @@
-use Rattle.std.proofs.Common.{rules, ◌≡◌, List, length, ap, sym, subst, ◌∙◌}
-use Rattle.std.specs.Prelude.{Some}
-use Rattle.std.proofs.Math.Facts.{to_z-of_z}
-use Rattle.jpa_value.specs.declared.refusal.Cause.{Cause}
+use Rattle.std.proofs.Common.{rules, List, ap, sym, subst, ◌∙◌}
 use Rattle.jpa_behaviour.specs.Served.{world_of_unit}
-use Rattle.jpa_heap.specs.Objects.{place_of}
 use Rattle.jpa_context.specs.Steps.{after, give, Done, IsRefusedAs}
 use Rattle.jpa_context.specs.declared.work.UnitOfWork.{UnitOfWork}
 use Rattle.jpa_context.specs.Undo.{now, since}
@@ -12,34 +8,26 @@ use Rattle.jpa_heap.specs.declared.LiveObject.{LiveObject}
 use Rattle.jpa_marking.specs.Shared.{LetsGo, is_held_by}
 use Rattle.jpa_protocol.specs.declared.reply.Answer.{Answer}
 use Rattle.jpa_ops.specs.States.{detach}
-use Rattle.jpa_machine.specs.Calls.{give_or, nothing, told_as}
-use Rattle.jpa_machine.specs.Routes.{detach_call}
+use Rattle.jpa_machine.specs.Calls.{nothing, told_as}
 use Rattle.jpa_provider.proofs.Called.{refused_on}
 use Rattle.jpa_provider.proofs.LetGo.{detach_lets_go}
 use Rattle.jpa_provider.proofs.Marked.{whole_marked}
-use Rattle.jpa_provider.proofs.operating.detach_numbered.Goals as goal
+use Rattle.jpa_provider.proofs.operating.detach_at.Goals as goal
 
 pub returns-in_err-detach-clause-meets : goal.returns-in_err-detach-clause-meets
 returns-in_err-detach-clause-meets g c =
     let world = world_of_unit g.B.Behaviour.meaning c.args.unit.now in
     let w = now c.args.work.now in
-    let place : place_of (length w.objects) c.args.object ≡ Some c.in-Some.place =
-    ap (λ k. place_of k c.args.object) (sym c.len.ensures) ∙ ap (place_of c.len.result) (sym (to_z-of_z c.ranges.object)) ∙ sym c.in-Some.ensures.place in
     let r = c.in_err-detach.field-0.0 in
     let events = (now c.detach.new.work).events in
-    let refused : IsRefusedAs r events (detach_call world c.args.object w) =
-    subst (IsRefusedAs r events) (sym (ap (λ o. after (give_or Cause.NoSuchObject o w) (λ n. told_as nothing (detach world n))) place))
-    (refused_on r events (detach world c.in-Some.place w) (λ u. give (nothing u)) (c.in_err-detach.ensures.meets world)) in
+    let refused : IsRefusedAs r events (told_as nothing (detach world c.args.place) w) =
+    refused_on r events (detach world c.args.place w) (λ u. give (nothing u)) (c.in_err-detach.ensures.meets world) in
     search (rules, refused)
 
 pub returns-clause-meets : goal.returns-clause-meets
 returns-clause-meets g c =
     let world = world_of_unit g.B.Behaviour.meaning c.args.unit.now in
-    let w = now c.args.work.now in
-    let place : place_of (length w.objects) c.args.object ≡ Some c.in-Some.place =
-    ap (λ k. place_of k c.args.object) (sym c.len.ensures) ∙ ap (place_of c.len.result) (sym (to_z-of_z c.ranges.object)) ∙ sym c.in-Some.ensures.place in
-    ap (λ o. after (give_or Cause.NoSuchObject o w) (λ n. told_as nothing (detach world n))) place ∙ ap (λ o. after o (λ u. give (nothing u))) (c.in_ok-detach.ensures.meets world)
-    ∙ ap (Done Answer.Null) (λ i. record (now c.detach.new.work) { context = sym c.mark.ensures.now i })
+    ap (λ o. after o (λ u. give (nothing u))) (c.in_ok-detach.ensures.meets world) ∙ ap (Done Answer.Null) (λ i. record (now c.detach.new.work) { context = sym c.mark.ensures.now i })
 
 pub returns-clause-marked : goal.returns-clause-marked
 returns-clause-marked g c =
@@ -49,7 +37,7 @@ returns-clause-marked g c =
     let new : UnitOfWork = record mid { context = c.mark.new.self } in
     let model = c.args.unit.now.metamodel in
     let kept = c.in_ok-detach.ensures.kept c.requires.kept in
-    let let_go = detach_lets_go world c.in-Some.place (now old) (now mid) (c.in_ok-detach.ensures.meets world) in
+    let let_go = detach_lets_go world c.args.place (now old) (now mid) (c.in_ok-detach.ensures.meets world) in
     let since_then : LetsGo (is_held_by old.manager) (before old).objects (before new).objects =
     subst (λ (p : List LiveObject × List LiveObject). LetsGo (is_held_by old.manager) p.0 p.1) (λ i. (sym (c.requires.kept).objects i, sym kept.objects i)) let_go in
     record {
