@@ -152,6 +152,12 @@ pub record IsAtRest (u : PersistenceUnit) (s : Session) : Type 0 where
   pub settled : IsSettled s
   pub marked : AreAllMarked u s
 
+-- what is at rest is so still: nothing is left to be undone or told, and the marks say what they are
+-- to say
+pub record StaysAtRest (s t : Session) : Type 0 where
+  pub settled : IsSettled s → IsSettled t
+  pub marked : (u : PersistenceUnit) → AreAllMarked u s → AreAllMarked u t
+
 -- what holds between calls
 pub record IsServing (world : World) (s : Session) : Type 0 where
   pub orderly : IsOrderly world.model

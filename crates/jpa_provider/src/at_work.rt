@@ -11,7 +11,7 @@ ghost use Rattle.jpa_model.specs.declared.unit.PersistenceUnit.{PersistenceUnit}
 ghost use Rattle.jpa_provider.specs.Operations.{Concludes};
 ghost use Rattle.jpa_provider.specs.Stages.{IsUndoneTo};
 ghost use Rattle.jpa_provider.specs.Serving as serving;
-ghost use Rattle.jpa_provider.specs.Serving.{machine_of, marks_in, named, AreAllMarked, AreMarkedAway, AreMarkedNow, IsAtRest, IsAway, IsSettled, IsWorking};
+ghost use Rattle.jpa_provider.specs.Serving.{machine_of, marks_in, named, AreAllMarked, AreMarkedAway, AreMarkedNow, IsAtRest, IsAway, IsSettled, IsWorking, StaysAtRest};
 
 use crate::handing::place_of;
 use crate::replies::{Rule, is_marked_by, told_of};
@@ -104,9 +104,7 @@ fn marked(status: Status) -> Status
 pub(crate) fn mark(session: &mut Session, manager: usize)
     requires within { manager < length session.old.managers.items }
     ensures marked { machine_of session.new ≡ marked (machine_of session.old) manager }
-    ensures settled { IsSettled session.old → IsSettled session.new }
-    ensures marks { (u : PersistenceUnit) → AreAllMarked u session.old
-        → AreAllMarked u session.new }
+    ensures rest { StaysAtRest session.old session.new }
 {
     let status = marked(status_of(&session.managers, manager));
     set_status(&mut session.managers, manager, status);

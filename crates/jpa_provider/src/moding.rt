@@ -1,11 +1,10 @@
 //! The call setFlushMode (Jakarta Persistence 3.1, chapter 3.10.8).
 ghost use Rattle.std.specs.Prelude.{◌≡◌, ◌<◌, false, length};
 ghost use Rattle.jpa_behaviour.specs.Served.{world_of_unit};
-ghost use Rattle.jpa_model.specs.declared.unit.PersistenceUnit.{PersistenceUnit};
 ghost use Rattle.jpa_protocol.specs.declared.call.Call.{Call};
 ghost use Rattle.jpa_machine.specs.Faults.{tells_fault};
 ghost use Rattle.jpa_machine.specs.Machine.{with_mode};
-ghost use Rattle.jpa_provider.specs.Serving.{machine_of, AreAllMarked, IsAtRest, IsServing, IsSettled, Serves};
+ghost use Rattle.jpa_provider.specs.Serving.{machine_of, IsAtRest, IsServing, Serves, StaysAtRest};
 
 use crate::at_work::manager_named;
 use crate::replies::{accepted, because};
@@ -19,9 +18,7 @@ use std::alloc::Global;
 fn change_mode(session: &mut Session, manager: usize, mode: FlushMode)
     requires within { manager < length session.old.managers.items }
     ensures mode { machine_of session.new ≡ with_mode (machine_of session.old) manager mode }
-    ensures settled { IsSettled session.old → IsSettled session.new }
-    ensures marked { (u : PersistenceUnit) → AreAllMarked u session.old
-        → AreAllMarked u session.new }
+    ensures rest { StaysAtRest session.old session.new }
 {
     set_mode(&mut session.managers, manager, mode);
 }

@@ -34,6 +34,6 @@ returns-after-is_marked_by-clause-rest c = λ M away working marked.
     let settled = c.restore.ensures.settled M there in
     let back = c.restore.ensures.marked u M there (still_marked s w marked refl) in
     elim c.if-is_marked_by.branch [
-      | then-is_marked_by v ↦ subst (IsAtRest u) (sym v.session-is) (record { settled = v.mark.ensures.settled settled; marked = v.mark.ensures.marks u back })
+      | then-is_marked_by v ↦ subst (IsAtRest u) (sym v.session-is) (record { settled = v.mark.ensures.rest.settled settled; marked = v.mark.ensures.rest.marked u back })
       | else-is_marked_by v ↦ subst (IsAtRest u) (sym v.session-is) (record { settled = settled; marked = back })
     ]

@@ -18,8 +18,8 @@ returns-clause-marked c =
     let with : Status → List EntityManager = λ st. slice_set xs c.args.manager (record x { status = st }) in
     marked_there s t c.args.manager refl refl (c.set_status.ensures ∙ ap with (c.marked-status.ensures ∙ ap marked_status c.status_of.ensures))
 
-pub returns-clause-settled : goal.returns-clause-settled
-returns-clause-settled c = λ settled.
+pub returns-clause-rest : goal.returns-clause-rest
+returns-clause-rest c =
     let s = c.args.session.now in
     let t : Session = record s { managers = c.set_status.new.managers } in
     let xs : List EntityManager = s.managers.items in
@@ -28,17 +28,12 @@ returns-clause-settled c = λ settled.
     let y : EntityManager = record x { status = marked_status x.status } in
     let e : t.managers.items ≡ slice_set xs c.args.manager y = c.set_status.ensures ∙ ap with (c.marked-status.ensures ∙ ap marked_status c.status_of.ensures) in
     record {
-      kept = settled.kept;
-      quiet = settled.quiet;
-      resting = settled.resting;
-      idle = idle_changed xs t.managers.items c.args.manager y c.requires.within e (λ none. settled.idle c.args.manager (sym (marked_begun x.status) ∙ none)) settled.idle;
-      counted = counted_same s t c.args.manager y settled.counted e (marked_open x.status) refl;
+      settled = λ settled. record {
+        kept = settled.kept;
+        quiet = settled.quiet;
+        resting = settled.resting;
+        idle = idle_changed xs t.managers.items c.args.manager y c.requires.within e (λ none. settled.idle c.args.manager (sym (marked_begun x.status) ∙ none)) settled.idle;
+        counted = counted_same s t c.args.manager y settled.counted e (marked_open x.status) refl;
+      };
+      marked = λ model marks. same_marked model s t refl (context_kept xs t.managers.items c.args.manager y c.requires.within e refl) marks;
     }
-
-pub returns-clause-marks : goal.returns-clause-marks
-returns-clause-marks c = λ model marks.
-    let s = c.args.session.now in
-    let t : Session = record s { managers = c.set_status.new.managers } in
-    let xs : List EntityManager = s.managers.items in
-    let x : EntityManager = record (manager_in xs c.args.manager) { status = c.marked-status.result } in
-    same_marked model s t refl (context_kept xs t.managers.items c.args.manager x c.requires.within c.set_status.ensures refl) marks

@@ -2,6 +2,6 @@ use Rattle.jpa_provider.proofs.ending.set_rollback_only_call.Goals as goal
 
 pub returns-clause-rest : goal.returns-clause-rest
 returns-clause-rest g c = record {
-  settled = c.mark.ensures.settled c.requires.settled;
-  marked = c.mark.ensures.marks c.args._unit.now.metamodel c.requires.marked;
+  settled = c.mark.ensures.rest.settled c.requires.settled;
+  marked = c.mark.ensures.rest.marked c.args._unit.now.metamodel c.requires.marked;
 }

@@ -13,23 +13,19 @@ returns-clause-mode c =
     let t : Session = record s { managers = c.set_mode.new.managers } in
     mode_there s t c.args.manager c.args.mode refl refl c.set_mode.ensures
 
-pub returns-clause-settled : goal.returns-clause-settled
-returns-clause-settled c = λ settled.
+pub returns-clause-rest : goal.returns-clause-rest
+returns-clause-rest c =
     let s = c.args.session.now in
     let t : Session = record s { managers = c.set_mode.new.managers } in
     let x : EntityManager = manager_in s.managers.items c.args.manager in
     let y : EntityManager = record x { mode = c.args.mode } in
     record {
-      kept = settled.kept;
-      quiet = settled.quiet;
-      resting = settled.resting;
-      idle = idle_changed s.managers.items t.managers.items c.args.manager y c.requires.within c.set_mode.ensures (settled.idle c.args.manager) settled.idle;
-      counted = counted_same s t c.args.manager y settled.counted c.set_mode.ensures refl refl;
+      settled = λ settled. record {
+        kept = settled.kept;
+        quiet = settled.quiet;
+        resting = settled.resting;
+        idle = idle_changed s.managers.items t.managers.items c.args.manager y c.requires.within c.set_mode.ensures (settled.idle c.args.manager) settled.idle;
+        counted = counted_same s t c.args.manager y settled.counted c.set_mode.ensures refl refl;
+      };
+      marked = λ model marked. same_marked model s t refl (context_kept s.managers.items t.managers.items c.args.manager y c.requires.within c.set_mode.ensures refl) marked;
     }
-
-pub returns-clause-marked : goal.returns-clause-marked
-returns-clause-marked c = λ model marked.
-    let s = c.args.session.now in
-    let t : Session = record s { managers = c.set_mode.new.managers } in
-    let y : EntityManager = record (manager_in s.managers.items c.args.manager) { mode = c.args.mode } in
-    same_marked model s t refl (context_kept s.managers.items t.managers.items c.args.manager y c.requires.within c.set_mode.ensures refl) marked
