@@ -18,8 +18,8 @@ use Rattle.jpa_provider.proofs.Told.{no_fault}
 use Rattle.jpa_provider.proofs.Worked.{still_working, if_refused, ends_so}
 use Rattle.jpa_provider.proofs.finding.find_call.Goals as goal
 
-pub find_work-answered-requires-clause-ready : goal.find_work-answered-requires-clause-ready
-find_work-answered-requires-clause-ready g c = subst (IsReady c.args.unit.now.metamodel) (sym c.take_work.ensures.work) (work_ready c.in-Some.manager (c.requires.serving).machine)
+pub find_work-answered-requires : goal.find_work-answered-requires
+find_work-answered-requires g c = record { ready = subst (IsReady c.args.unit.now.metamodel) (sym c.take_work.ensures.work) (work_ready c.in-Some.manager (c.requires.serving).machine) }
 
 pub conclude-requires-clause-ready : goal.conclude-requires-clause-ready
 conclude-requires-clause-ready g c =
