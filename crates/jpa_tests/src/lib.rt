@@ -9,8 +9,6 @@ mod cells;
 #[cfg(test)]
 mod hearing;
 #[cfg(test)]
-mod lines;
-#[cfg(test)]
 mod pairs;
 #[cfg(test)]
 mod refusals;

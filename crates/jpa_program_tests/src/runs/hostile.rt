@@ -137,5 +137,9 @@ fn writes_fail(rt: HostRuntime) -> Result<(), Fail> {
             "at write {write}"
         );
     }
+    let (ended, written, cells) = ran_with(a, text.as_bytes(), 31, (NEVER, 82))?;
+    assert_eq!(rt; ended, Ok(()));
+    assert_eq!(rt; written.as_slice(), all.as_bytes());
+    assert_eq!(rt; cells, cells_after(a, 6)?);
     Ok(())
 }
