@@ -7,7 +7,7 @@
 mod alone;
 mod along;
 mod chains;
-mod check;
+mod checking;
 mod describe;
 mod events;
 mod names;
@@ -15,4 +15,4 @@ mod numbers;
 mod relations;
 mod well_formed;
 
-pub use check::check;
+pub use checking::check;

@@ -7,8 +7,8 @@ ghost use Rattle.jpa_value.specs.declared.refusal.Cause.{Cause};
 ghost use Rattle.jpa_value.specs.Value.{identity_cmp};
 ghost use Rattle.jpa_row_laws.specs.Handing.{Hands, Follows};
 ghost use Rattle.jpa_rows.specs.Faults.{IsStoreCause, faults_after};
+ghost use Rattle.jpa_rows.specs.Looks.{LooksOnly, LooksAtOneTable};
 ghost use Rattle.jpa_rows.specs.Rows.{Rows, AreRising, table_rows};
-ghost use Rattle.jpa_rows.specs.Statements.{IsAtMostOne};
 ghost use Rattle.jpa_overlay.specs.Overlay.{rows_put, rows_under, row_unless, stands_first};
 ghost use Rattle.jpa_overlay.specs.Merging.{IsMemory};
 
@@ -52,14 +52,8 @@ pub fn each_under<'l, 's, R: RowReader, K: RowSink>(
         Hands K.takes IsStoreCause sink.old
         (rows_under changes.now (table_rows table rows)) result sink.new }
     ensures any { (found : Rows) × Hands K.takes (λ _. ⊤) sink.old found result sink.new }
-    ensures kept { (rows : Rows) → R.holds source.old rows → R.holds source.new rows }
-    ensures told { R.faults source.new ≡ faults_after result (R.faults source.old) }
-    ensures read { IsAtMostOne (R.table_selects source.old) (R.table_selects source.new) }
-    ensures rows { R.row_selects source.new ≡ R.row_selects source.old }
-    ensures unwritten { R.writes source.new ≡ R.writes source.old }
-    ensures crash { R.endures source.old source.new (λ _. ⊥) }
-    ensures was_clean { R.clean source.new → R.clean source.old }
-    ensures schema { R.schema source.new ≡ R.schema source.old }
+    ensures looks { LooksOnly R.RowReader result source.old source.new }
+    ensures economy { LooksAtOneTable R.RowReader source.old source.new }
 {
     let mut merging = Merging {
         left: changes,

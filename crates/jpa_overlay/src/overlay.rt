@@ -6,9 +6,9 @@ ghost use Rattle.jpa_value.specs.declared.refusal.Cause.{Cause};
 ghost use Rattle.jpa_value.specs.Value.{identity_cmp};
 ghost use Rattle.jpa_stored.specs.Places.{IsAt, IsGap};
 ghost use Rattle.jpa_row_laws.specs.Handing.{Hands};
-ghost use Rattle.jpa_rows.specs.Faults.{IsStoreCause, faults_after};
+ghost use Rattle.jpa_rows.specs.Faults.{IsStoreCause};
+ghost use Rattle.jpa_rows.specs.Looks.{LooksOnly, LooksAtOneRow, LooksAtOneTable, LooksAtRows};
 ghost use Rattle.jpa_rows.specs.Rows.{Rows, AreRising, table_rows, entry_of, rows_after};
-ghost use Rattle.jpa_rows.specs.Statements.{AreAtMost, IsAtMostOne};
 ghost use Rattle.jpa_row_laws.specs.Changes.{AreDifference};
 ghost use Rattle.jpa_overlay.specs.Overlay.{Recalls, rows_under, with_change, with_row};
 ghost use Rattle.jpa_overlay.specs.Same.{same_row};
@@ -80,14 +80,8 @@ impl Overlay {
             IfOk result (λ row. find identity_cmp id.now self.now ≡ Some row) }
         ensures own { IsSome (find identity_cmp id.now self.now) → (source.new ≡ source.old)
             × IfErr result (λ cause. cause ≡ Cause.OutOfMemory) }
-        ensures kept { (rows : Rows) → R.holds source.old rows → R.holds source.new rows }
-        ensures told { R.faults source.new ≡ faults_after result (R.faults source.old) }
-        ensures read { IsAtMostOne (R.row_selects source.old) (R.row_selects source.new) }
-        ensures tables { R.table_selects source.new ≡ R.table_selects source.old }
-        ensures unwritten { R.writes source.new ≡ R.writes source.old }
-        ensures crash { R.endures source.old source.new (λ _. ⊥) }
-        ensures was_clean { R.clean source.new → R.clean source.old }
-        ensures schema { R.schema source.new ≡ R.schema source.old }
+        ensures looks { LooksOnly R.RowReader result source.old source.new }
+        ensures economy { LooksAtOneRow R.RowReader source.old source.new }
     {
         match self.search(id) {
             Ok(at) => copy_row(&self.entries[at].get().1),
@@ -109,14 +103,8 @@ impl Overlay {
             R.holds source.old rows → Hands K.takes IsStoreCause sink.old
             (table_rows table (rows_under self.now rows)) result sink.new }
         ensures any { (found : Rows) × Hands K.takes (λ _. ⊤) sink.old found result sink.new }
-        ensures kept { (rows : Rows) → R.holds source.old rows → R.holds source.new rows }
-        ensures told { R.faults source.new ≡ faults_after result (R.faults source.old) }
-        ensures read { IsAtMostOne (R.table_selects source.old) (R.table_selects source.new) }
-        ensures rows { R.row_selects source.new ≡ R.row_selects source.old }
-        ensures unwritten { R.writes source.new ≡ R.writes source.old }
-        ensures crash { R.endures source.old source.new (λ _. ⊥) }
-        ensures was_clean { R.clean source.new → R.clean source.old }
-        ensures schema { R.schema source.new ≡ R.schema source.old }
+        ensures looks { LooksOnly R.RowReader result source.old source.new }
+        ensures economy { LooksAtOneTable R.RowReader source.old source.new }
     {
         each_under(self.of_table(table), source, table, sink)
     }
@@ -140,15 +128,8 @@ impl Overlay {
         ensures err { R.clean source.new → IfErr result
             (λ cause. (rows : Rows) → R.holds source.old rows → (cause ≡ Cause.OutOfMemory)
             ⊎ (cause ≡ Cause.StoreFault)) }
-        ensures kept { (rows : Rows) → R.holds source.old rows → R.holds source.new rows }
-        ensures told { R.faults source.new ≡ faults_after result (R.faults source.old) }
-        ensures read { AreAtMost (length self.now) (R.row_selects source.old)
-            (R.row_selects source.new) }
-        ensures tables { R.table_selects source.new ≡ R.table_selects source.old }
-        ensures unwritten { R.writes source.new ≡ R.writes source.old }
-        ensures crash { R.endures source.old source.new (λ _. ⊥) }
-        ensures was_clean { R.clean source.new → R.clean source.old }
-        ensures schema { R.schema source.new ≡ R.schema source.old }
+        ensures looks { LooksOnly R.RowReader result source.old source.new }
+        ensures economy { LooksAtRows R.RowReader (length self.now) source.old source.new }
     {
         let mut changes = Seq::new(self.allocator());
         for entry in self.entries.as_slice() {

@@ -7,7 +7,7 @@ ghost use Rattle.jpa_stored.specs.Sets.{StoredSet};
 ghost use Rattle.jpql_by_key.specs.ByKey.{key_of};
 ghost use Rattle.jpql_plan.specs.Selection.{selected};
 ghost use Rattle.jpa_row_queries.specs.Answered.{Answers, IsAskingCause, RefusesOnly};
-ghost use Rattle.jpa_row_queries.specs.Looking.{LooksOnly};
+ghost use Rattle.jpa_rows.specs.Looks.{LooksOnly};
 ghost use Rattle.jpa_row_queries.specs.Seen.{SeesSet};
 ghost use Rattle.jpa_questions.specs.Asking.{LooksAtTwoRows, RefusesRevision};
 ghost use Rattle.jpa_questions.specs.Revisions.{AreOfRevision};

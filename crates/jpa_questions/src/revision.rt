@@ -3,7 +3,7 @@ ghost use Rattle.std.specs.Prelude.{◌≡◌, ◌⊎◌, IfOk, IfErr};
 ghost use Rattle.jpa_value.specs.declared.refusal.Cause.{Cause};
 ghost use Rattle.jpa_object_rows.specs.Objects.{number_id};
 ghost use Rattle.jpa_rows.specs.Rows.{Rows};
-ghost use Rattle.jpa_row_queries.specs.Looking.{LooksAtOneRow, LooksOnly};
+ghost use Rattle.jpa_rows.specs.Looks.{LooksAtOneRow, LooksOnly};
 ghost use Rattle.jpa_questions.specs.Revisions as spec;
 
 use jpa_key::encode_key;

@@ -24,7 +24,7 @@ use Rattle.jpql_eval.specs.declared.datum.Datum.{Datum}
 use Rattle.jpql_plan.specs.Selection.{selected}
 use Rattle.jpql_run.specs.Keys.{CanBeLookedUp}
 use Rattle.jpql_types.specs.declared.typed.TypedSelect.{TypedSelect}
-use Rattle.jpa_row_queries.specs.Looking.{IsReadingCause}
+use Rattle.jpa_row_queries.specs.Unread.{IsReadingCause}
 use Rattle.jpa_row_queries.specs.Seen.{StandsAlone}
 use Rattle.jpa_row_queries.proofs.Looks.{IsOwnCause}
 use Rattle.jpa_row_queries.specs.Answered.{Answers, IsAskingCause, Refuses}

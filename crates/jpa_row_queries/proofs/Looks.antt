@@ -1,38 +1,13 @@
--- Looks one after another.
+-- Why a look fails, and what is made of its answer.
 use Rattle.std.specs.Prelude.{◌≡◌, ◌⊎◌, ℕ, Result, Ok, Err, IfErr, IsErrAnd, MatchResult}
 use Rattle.std.proofs.Common.{refl, sym, ap, subst, ◌∙◌, inl, inr}
 use Rattle.jpa_value.specs.declared.refusal.Cause.{Cause}
 use Rattle.jpa_value.specs.declared.refusal.Cause.TheVariants as cause
 use Rattle.jpa_rows.specs.declared.reader.RowReader.{Ghosts}
+use Rattle.jpa_rows.proofs.Looks.{looks_alike}
 use Rattle.jpa_rows.specs.Faults.{IsStoreCause, faults_after}
-use Rattle.jpa_row_queries.specs.Looking.{IsDamage, IsReadingCause, LooksOnly, LooksAtOneRow}
-
--- an answer, whichever it is
-abbrev pub done : Result (Unit {0}) Cause
-done = Ok tt
-
-module _ {S : Type 0} (store : Ghosts S) where
-  -- where nothing was looked at
-  pub looks_none : {A : Type 0} (r : Result A Cause) (s : S) → faults_after r (store.faults s) ≡ store.faults s → store.endures s s (λ _. ⊥) → LooksOnly store r s s
-  looks_none r s same still = record { kept = λ rows held. held; told = sym same; unwritten = refl; crash = still; was_clean = λ clean. clean; schema = refl }
-
-  pub none_at_one : (s : S) → LooksAtOneRow store s s
-  none_at_one s = record { row = inl refl; tables = refl }
-
-  -- two looks, the second of which is answered
-  pub looks_then : {B : Type 0} (r : Result B Cause) (first mid last : S) → LooksOnly store done first mid → LooksOnly store r mid last → LooksOnly store r first last
-  looks_then r first mid last one two = record {
-    kept = λ rows held. two.kept rows (one.kept rows held);
-    told = two.told ∙ ap (faults_after r) one.told;
-    unwritten = two.unwritten ∙ one.unwritten;
-    crash = store.wider first last (λ _. ⊥ ⊎ ⊥) (λ _. ⊥) (λ rows none. elim none [ inl x ↦ x | inr x ↦ x ]) (store.then first mid last (λ _. ⊥) (λ _. ⊥) one.schema one.crash two.crash);
-    was_clean = λ clean. one.was_clean (two.was_clean clean);
-    schema = two.schema ∙ one.schema;
-  }
-
-  -- what follows a look is no fault of the store
-  pub looks_alike : {A B : Type 0} (r : Result A Cause) (s : Result B Cause) (old new : S) → ((n : ℕ) → faults_after s n ≡ faults_after r n) → LooksOnly store r old new → LooksOnly store s old new
-  looks_alike r s old new same h = record { kept = h.kept; told = h.told ∙ sym (same (store.faults old)); unwritten = h.unwritten; crash = h.crash; was_clean = h.was_clean; schema = h.schema }
+use Rattle.jpa_row_queries.specs.Unread.{IsDamage, IsReadingCause}
+use Rattle.jpa_rows.specs.Looks.{LooksOnly}
 
 -- ---- causes that are no fault of the store
 

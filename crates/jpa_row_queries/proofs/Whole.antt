@@ -7,7 +7,7 @@ use Rattle.jpa_stored.specs.Sets.{StoredSet}
 use Rattle.jpa_rows.specs.Faults.{IsStoreCause}
 use Rattle.jpa_rows.specs.Rows.{Rows}
 use Rattle.jpa_store_reader.specs.OfSet.{AreOf, TellsNone}
-use Rattle.jpa_row_queries.specs.Looking.{IsDamage}
+use Rattle.jpa_row_queries.specs.Unread.{IsDamage}
 
 -- rows of a set are refused for want of memory alone
 pub refused_as : (world : World) (found : Rows) (set : StoredSet) (numbers : List ℕ) → AreOf world found set numbers → (e : Cause) → (e ≡ Cause.OutOfMemory) ⊎ TellsNone world found e → IsStoreCause e

@@ -4,7 +4,7 @@ use Rattle.jpa_value.specs.declared.refusal.Cause.{Cause}
 use Rattle.jpa_value.specs.declared.refusal.Cause.TheVariants as cause
 use Rattle.jpa_rows.specs.Rows.{Rows, AreRising}
 use Rattle.jpa_rows.specs.declared.reader.RowReader.{Ghosts}
-use Rattle.jpa_row_queries.specs.Looking.{IsReadingCause}
+use Rattle.jpa_row_queries.specs.Unread.{IsReadingCause}
 use Rattle.jpql_eval.specs.Answers.{Answer, gives, overflows}
 
 -- what a refusal says of the wanted answer: Overflow is the answer, want of memory and a fault of the store say

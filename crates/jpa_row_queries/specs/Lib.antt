@@ -1,4 +1,4 @@
-pub mod Looking
+pub mod Unread
 pub mod Seen
 pub mod Gathering
 pub mod Answered

@@ -8,7 +8,8 @@ ghost use Rattle.jpa_store_reader.specs.OfSet.{AreOf};
 ghost use Rattle.jpa_rows.specs.Faults.{IsStoreCause};
 ghost use Rattle.jpa_rows.specs.Rows.{Rows};
 ghost use Rattle.jpa_stored.specs.Sets.{StoredSet, is_shaped, stored_at};
-ghost use Rattle.jpa_row_queries.specs.Looking.{IsDamage, IsReadingCause, LooksAtOneRow, LooksOnly};
+ghost use Rattle.jpa_row_queries.specs.Unread.{IsDamage, IsReadingCause};
+ghost use Rattle.jpa_rows.specs.Looks.{LooksAtOneRow, LooksOnly};
 ghost use Rattle.jpa_row_queries.specs.Seen.{SeesSet, StandsAlone};
 
 use jpa_behaviour::{Behaviour, Registry};

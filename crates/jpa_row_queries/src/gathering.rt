@@ -13,7 +13,8 @@ ghost use Rattle.jpa_stored.specs.Sets.{StoredSet, all_shaped};
 ghost use Rattle.jpa_overlay.specs.Overlay.{rows_under};
 ghost use Rattle.std.specs.FinMap.{is_sorted};
 ghost use Rattle.jpa_value.specs.Value.{identity_cmp};
-ghost use Rattle.jpa_row_queries.specs.Looking.{IsDamage, IsReadingCause, LooksOnly};
+ghost use Rattle.jpa_row_queries.specs.Unread.{IsDamage, IsReadingCause};
+ghost use Rattle.jpa_rows.specs.Looks.{LooksOnly};
 ghost use Rattle.jpa_row_queries.specs.Seen.{SeesSet};
 
 use jpa_behaviour::{Behaviour, Registry};

@@ -6,8 +6,8 @@
 //! under changes of its own: a statement that asks one object by its key reads that object's row
 //! alone; another reads all rows. The program's `--query` calls it.
 //!
-//! `specs/Seen.antt` says which set is seen, `specs/Looking.antt` what a look leaves of the store,
-//! and `specs/Answered.antt` what a refusal says of the answer. The crate stands on the overlay of
+//! `specs/Seen.antt` says which set is seen, and `specs/Answered.antt` what a refusal says of the
+//! answer; what a look leaves of the store stands in `Looks` of `jpa_rows`. The crate stands on the overlay of
 //! rows (`jpa_overlay`), on objects as rows (`jpa_mapper`), on the judgment of rows (`jpa_store_reader`)
 //! and on `jpql_select`, the one evaluator.
 #![tactic(auto)]

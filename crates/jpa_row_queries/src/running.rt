@@ -9,7 +9,8 @@ ghost use Rattle.jpql_by_key.specs.ByKey.{key_of};
 ghost use Rattle.jpql_plan.specs.Selection.{selected};
 ghost use Rattle.jpql_run.specs.Keys.{CanBeLookedUp};
 ghost use Rattle.jpa_row_queries.specs.Answered.{Answers, IsAskingCause, RefusesOnly};
-ghost use Rattle.jpa_row_queries.specs.Looking.{IsReadingCause, LooksAtOneRow, LooksOnly};
+ghost use Rattle.jpa_row_queries.specs.Unread.{IsReadingCause};
+ghost use Rattle.jpa_rows.specs.Looks.{LooksAtOneRow, LooksOnly};
 ghost use Rattle.jpa_row_queries.specs.Seen.{SeesSet};
 
 use crate::answering::answered;

@@ -7,7 +7,8 @@ ghost use Rattle.jpa_rows.specs.Rows.{Rows, AreRising};
 ghost use Rattle.jpa_stored.specs.Sets.{StoredSet, stored_at};
 ghost use Rattle.jpql_by_key.specs.ByKey.{only};
 ghost use Rattle.jpql_run.specs.Keys.{CanBeLookedUp};
-ghost use Rattle.jpa_row_queries.specs.Looking.{IsReadingCause, LooksAtOneRow, LooksOnly};
+ghost use Rattle.jpa_row_queries.specs.Unread.{IsReadingCause};
+ghost use Rattle.jpa_rows.specs.Looks.{LooksAtOneRow, LooksOnly};
 ghost use Rattle.jpa_row_queries.specs.Seen.{SeesSet, StandsAlone};
 
 use crate::alone::object_under;

@@ -1,5 +1,6 @@
 pub mod Classes
 pub mod Commits
+pub mod Looks
 pub mod Contents
 pub mod Fields
 pub mod Found

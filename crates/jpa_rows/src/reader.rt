@@ -5,9 +5,9 @@ ghost use Rattle.jpa_value.specs.Value.{identity_cmp};
 ghost use Rattle.jpa_value.specs.declared.refusal.Cause.{Cause};
 ghost use Rattle.jpa_row_laws.specs.Handing.{Hands};
 ghost use Rattle.jpa_rows.specs.declared.schema.Schema.{Schema};
-ghost use Rattle.jpa_rows.specs.Faults.{IsStoreCause, faults_after};
+ghost use Rattle.jpa_rows.specs.Faults.{IsStoreCause};
+ghost use Rattle.jpa_rows.specs.Looking.{Looks, LooksAtRow, LooksAtTable};
 ghost use Rattle.jpa_rows.specs.Rows.{Rows, table_rows};
-ghost use Rattle.jpa_rows.specs.Statements.{IsAtMostOne};
 
 use crate::row::{Row, RowId};
 use crate::sink::RowSink;
@@ -57,14 +57,8 @@ pub trait RowReader {
         ensures err { clean self.new → IfErr result
             (λ cause. (rows : Rows) → holds self.old rows → (cause ≡ Cause.OutOfMemory)
             ⊎ (cause ≡ Cause.StoreFault)) }
-        ensures kept { (rows : Rows) → holds self.old rows → holds self.new rows }
-        ensures told { faults self.new ≡ faults_after result (faults self.old) }
-        ensures was_clean { clean self.new → clean self.old }
-        ensures read { IsAtMostOne (row_selects self.old) (row_selects self.new) }
-        ensures tables { table_selects self.new ≡ table_selects self.old }
-        ensures unwritten { writes self.new ≡ writes self.old }
-        ensures crash { endures self.old self.new (λ _. ⊥) }
-        ensures schema { schema self.new ≡ schema self.old };
+        ensures looks { Looks schema holds clean faults writes endures result self.old self.new }
+        ensures economy { LooksAtRow row_selects table_selects self.old self.new };
 
     /// Hands the rows of a table on, in the order of their ids, by one statement at most: `true`
     /// once all were taken and more are wanted, `false` after the first with which no more are
@@ -74,14 +68,8 @@ pub trait RowReader {
         ensures handed { clean self.new → (rows : Rows) → holds self.old rows →
             Hands K.takes IsStoreCause sink.old (table_rows table rows) result sink.new }
         ensures any { (found : Rows) × Hands K.takes (λ _. ⊤) sink.old found result sink.new }
-        ensures kept { (rows : Rows) → holds self.old rows → holds self.new rows }
-        ensures told { faults self.new ≡ faults_after result (faults self.old) }
-        ensures was_clean { clean self.new → clean self.old }
-        ensures read { IsAtMostOne (table_selects self.old) (table_selects self.new) }
-        ensures rows { row_selects self.new ≡ row_selects self.old }
-        ensures unwritten { writes self.new ≡ writes self.old }
-        ensures crash { endures self.old self.new (λ _. ⊥) }
-        ensures schema { schema self.new ≡ schema self.old };
+        ensures looks { Looks schema holds clean faults writes endures result self.old self.new }
+        ensures economy { LooksAtTable row_selects table_selects self.old self.new };
 
     /// Where nothing happened, a crash leaves what it could leave before.
     ghost still: { (source : Self) → endures source source (λ _. ⊥) };

@@ -1,9 +1,10 @@
 use Rattle.std.specs.Prelude.{⊤}
-use Rattle.std.proofs.Common.{sym, subst, inl}
+use Rattle.std.proofs.Common.{rules, sym, subst, inl}
 use Rattle.jpa_row_laws.specs.Handing.{Hands}
 use Rattle.jpa_row_laws.proofs.Handing.{hands_keep}
 use Rattle.jpa_rows.specs.Faults.{IsStoreCause}
 use Rattle.jpa_rows.specs.Rows.{table_rows}
+use Rattle.jpa_rows.proofs.Looks.{looks_told}
 use Rattle.jpa_overlay.specs.Overlay.{rows_under}
 use Rattle.jpa_overlay.proofs.Merging.{walked, goes}
 use Rattle.jpa_overlay.proofs.merge.each_under.Goals as goal
@@ -28,3 +29,10 @@ returns-clause-any g c =
     let all = walked last (λ s. s.left.now) (λ s. s.sink.now) takes _ (λ s e out t h. h.1) (λ _. ⊤) (λ x e. tt) walk.0 _ c.each-answer.result walk.1 c.hand_rest.result c.hand_rest.new.sink
     (goes takes (λ _. ⊤) (λ x e. tt) _ _ _ _ _ c.hand_rest.ensures.handed) in
     (all.0, subst (λ k. Hands takes (λ _. ⊤) c.args.sink.now all.0 c.hand_rest.result k) (sym (c.sink-1.given.1 (sym same))) all.1)
+
+pub returns-clause-looks : goal.returns-clause-looks
+returns-clause-looks g c =
+    looks_told g.R.RowReader c.each-answer.result c.hand_rest.result c.args.source.now c.each-answer.new.self c.each-answer.ensures.looks (search rules)
+
+pub returns-clause-economy : goal.returns-clause-economy
+returns-clause-economy g c = c.each-answer.ensures.economy

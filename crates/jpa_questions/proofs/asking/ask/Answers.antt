@@ -5,7 +5,8 @@ use Rattle.jpql_by_key.specs.ByKey.{key_of}
 use Rattle.jpql_plan.specs.Selection.{selected}
 use Rattle.jpa_row_queries.specs.Answered.{Answers, IsAskingCause}
 use Rattle.jpa_questions.specs.Asking.{RefusesRevision}
-use Rattle.jpa_questions.proofs.Looked.{err_is, looks_both, looks_passed, rows_both, rows_first, sees_then}
+use Rattle.jpa_row_queries.proofs.Looks.{err_is, looks_passed}
+use Rattle.jpa_questions.proofs.Looked.{looks_both, rows_both, rows_first, sees_then}
 use Rattle.jpa_questions.proofs.Revised.{of_revision, refused_answer, refused_asking, refused_revision}
 use Rattle.jpa_questions.proofs.asking.ask.Goals as goal
 

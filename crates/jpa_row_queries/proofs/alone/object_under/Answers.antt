@@ -3,7 +3,7 @@ use Rattle.jpa_overlay.specs.Overlay.{rows_under}
 use Rattle.jpa_rows.specs.Faults.{IsStoreCause}
 use Rattle.jpa_stored.specs.declared.stored.Stored.{Stored}
 use Rattle.jpa_stored.specs.Sets.{stored_at}
-use Rattle.jpa_row_queries.specs.Looking.{IsReadingCause}
+use Rattle.jpa_row_queries.specs.Unread.{IsReadingCause}
 use Rattle.jpa_row_queries.proofs.Looks.{damage_own, damage_reading, if_err, if_passed, looks_own, looks_passed, err_is, match_err, store_reading}
 use Rattle.jpa_row_queries.proofs.alone.object_under.Goals as goal
 
@@ -19,10 +19,10 @@ pub returns-in_err-row-clause-looks : goal.returns-in_err-row-clause-looks
 returns-in_err-row-clause-looks g c =
     let e = c.in_err-row.field-0.0 in
     looks_passed g.R.RowReader c.args.source.now c.get.new.source e c.get.result c.from_residual.result c.in_err-row.was (err_is c.from_residual.result e c.from_residual.ensures.1)
-    (record { kept = c.get.ensures.kept; told = c.get.ensures.told; unwritten = c.get.ensures.unwritten; crash = c.get.ensures.crash; was_clean = c.get.ensures.was_clean; schema = c.get.ensures.schema })
+    c.get.ensures.looks
 
 pub returns-in_err-row-clause-economy : goal.returns-in_err-row-clause-economy
-returns-in_err-row-clause-economy g c = record { row = c.get.ensures.read; tables = c.get.ensures.tables }
+returns-in_err-row-clause-economy g c = c.get.ensures.economy
 
 pub returns-clause-object : goal.returns-clause-object
 returns-clause-object g c clean alone set numbers sees =
@@ -34,8 +34,8 @@ returns-clause-err g c clean rows holds = if_err c.object_of.result damage_readi
 pub returns-clause-looks : goal.returns-clause-looks
 returns-clause-looks g c =
     looks_own g.R.RowReader c.args.source.now c.get.new.source c.in_ok-row.row c.get.result c.object_of.result c.in_ok-row.was
-    (record { kept = c.get.ensures.kept; told = c.get.ensures.told; unwritten = c.get.ensures.unwritten; crash = c.get.ensures.crash; was_clean = c.get.ensures.was_clean; schema = c.get.ensures.schema })
+    c.get.ensures.looks
     (if_err c.object_of.result damage_own c.object_of.ensures.err)
 
 pub returns-clause-economy : goal.returns-clause-economy
-returns-clause-economy g c = record { row = c.get.ensures.read; tables = c.get.ensures.tables }
+returns-clause-economy g c = c.get.ensures.economy

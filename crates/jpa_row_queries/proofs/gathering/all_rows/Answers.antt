@@ -6,7 +6,8 @@ use Rattle.jpa_rows.specs.Tables.{schema_of}
 use Rattle.jpa_overlay.specs.Overlay.{rows_under}
 use Rattle.jpa_store_reader.specs.Reads.{AreNumbersOf}
 use Rattle.jpa_row_queries.proofs.Gathered.{all_gathered}
-use Rattle.jpa_row_queries.proofs.Looks.{if_passed, looks_none, match_err, match_weak, memory_store}
+use Rattle.jpa_rows.proofs.Looks.{looks_none}
+use Rattle.jpa_row_queries.proofs.Looks.{if_passed, match_err, match_weak, memory_store}
 use Rattle.jpa_row_queries.proofs.gathering.all_rows.Goals as goal
 
 pub returns-in_err-numbers-clause-rows : goal.returns-in_err-numbers-clause-rows

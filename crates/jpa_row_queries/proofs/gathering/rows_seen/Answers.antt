@@ -4,7 +4,8 @@ use Rattle.jpa_rows.specs.Faults.{IsStoreCause}
 use Rattle.jpa_rows.specs.Rows.{Rows, table_rows}
 use Rattle.jpa_overlay.specs.Overlay.{rows_under}
 use Rattle.jpa_row_queries.proofs.Handed.{takes_all, takes_more, taken, failed}
-use Rattle.jpa_row_queries.proofs.Looks.{done, looks_then, match_err}
+use Rattle.jpa_rows.proofs.Looks.{done, looks_then, looks_told}
+use Rattle.jpa_row_queries.proofs.Looks.{match_err}
 use Rattle.jpa_row_queries.proofs.gathering.rows_seen.Goals as goal
 
 pub returns-in_err-each-clause-rows : goal.returns-in_err-each-clause-rows
@@ -17,14 +18,14 @@ returns-in_err-each-clause-rows g c clean rows rise holds =
 pub returns-in_err-each-clause-looks : goal.returns-in_err-each-clause-looks
 returns-in_err-each-clause-looks g c =
     looks_then g.R.RowReader c.from_residual.result c.args.source.now c.loop-table.source c.each.new.source c.loop-table.invariant.looks
-    (record { kept = c.each.ensures.kept; told = search rules; unwritten = c.each.ensures.unwritten; crash = c.each.ensures.crash; was_clean = c.each.ensures.was_clean; schema = c.each.ensures.schema })
+    (looks_told g.R.RowReader c.each.result c.from_residual.result c.loop-table.source c.each.new.source c.each.ensures.looks (search rules))
 
 pub loop-table-preserved : goal.loop-table-preserved
 loop-table-preserved g c = record {
   looks = looks_then g.R.RowReader done c.args.source.now c.loop-table.source c.each.new.source c.loop-table.invariant.looks
-      (record { kept = c.each.ensures.kept; told = c.in_ok-each.ensures.told; unwritten = c.each.ensures.unwritten; crash = c.each.ensures.crash; was_clean = c.each.ensures.was_clean; schema = c.each.ensures.schema });
+      (looks_told g.R.RowReader c.each.result done c.loop-table.source c.each.new.source c.each.ensures.looks c.in_ok-each.ensures.looks.told);
   rows = λ clean rows rise holds.
-      let before = c.loop-table.invariant.rows (c.each.ensures.was_clean clean) rows rise holds in
+      let before = c.loop-table.invariant.rows (c.each.ensures.looks.was_clean clean) rows rise holds in
       let part : Rows = table_rows (slice_index_or c.args.numbers.now c.loop-table.table-index 0) (rows_under c.args.overlay.now rows) in
       let all = c.each.ensures.handed clean rows rise (c.loop-table.invariant.looks.kept rows holds) in
       takes_more (λ n. table_rows n (rows_under c.args.overlay.now rows)) c.args.numbers.now c.loop-table.table-index c.loop-table-test.true c.loop-table.pairs c.each.new.sink before

@@ -2,8 +2,8 @@ use Rattle.std.proofs.Common.{◌≡◌, take}
 use Rattle.std.specs.List.{flat_map}
 use Rattle.jpa_rows.specs.Rows.{Rows, AreRising, table_rows}
 use Rattle.jpa_overlay.specs.Overlay.{rows_under}
-use Rattle.jpa_row_queries.specs.Looking.{LooksOnly}
-use Rattle.jpa_row_queries.proofs.Looks.{done}
+use Rattle.jpa_rows.specs.Looks.{LooksOnly}
+use Rattle.jpa_rows.proofs.Looks.{done}
 use Rattle.jpa_row_queries.proofs.gathering.rows_seen.Given as goal
 
 -- the rows of the first tables, and what looks at them leave

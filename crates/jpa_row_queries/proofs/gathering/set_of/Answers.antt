@@ -3,7 +3,7 @@ use Rattle.jpa_value.specs.declared.refusal.Cause.{Cause}
 use Rattle.jpa_behaviour.specs.Registered.{world_of}
 use Rattle.jpa_rows.specs.Faults.{IsStoreCause}
 use Rattle.jpa_stored.specs.Sets.{StoredSet}
-use Rattle.jpa_row_queries.specs.Looking.{IsDamage}
+use Rattle.jpa_row_queries.specs.Unread.{IsDamage}
 use Rattle.jpa_row_queries.proofs.Looks.{if_passed, match_err}
 use Rattle.jpa_row_queries.proofs.Whole.{refused_as, tells_damage}
 use Rattle.jpa_row_queries.proofs.gathering.set_of.Goals as goal

@@ -7,7 +7,7 @@ use Rattle.jpa_overlay.specs.Overlay.{rows_under}
 use Rattle.jpa_rows.specs.Rows.{Rows}
 use Rattle.jpa_rows.specs.Faults.{IsStoreCause}
 use Rattle.jpa_stored.specs.Sets.{StoredSet}
-use Rattle.jpa_row_queries.specs.Looking.{IsReadingCause}
+use Rattle.jpa_row_queries.specs.Unread.{IsReadingCause}
 use Rattle.jpa_row_queries.proofs.Looks.{damage_own, damage_reading, if_err, if_passed, looks_own, looks_passed, err_is, match_err, store_reading}
 use Rattle.jpa_row_queries.proofs.gathering.set_seen.Goals as goal
 

@@ -2,8 +2,9 @@ use Rattle.std.proofs.Common.{rules, refl, sym, ◌∙◌, inl}
 use Rattle.jpa_value.specs.declared.refusal.Cause.{Cause}
 use Rattle.jpa_row_laws.proofs.Facts.{some_none}
 use Rattle.jpa_rows.specs.Faults.{IsStoreCause}
-use Rattle.jpa_row_queries.specs.Looking.{IsReadingCause}
-use Rattle.jpa_row_queries.proofs.Looks.{if_passed, looks_none, match_err, memory_reading, none_at_one}
+use Rattle.jpa_row_queries.specs.Unread.{IsReadingCause}
+use Rattle.jpa_rows.proofs.Looks.{looks_none, none_at_one}
+use Rattle.jpa_row_queries.proofs.Looks.{if_passed, match_err, memory_reading}
 use Rattle.jpa_row_queries.proofs.Asked.{GivesSame, asked_alone, asked_whole, held_looked_up, stands_alone}
 use Rattle.jpa_row_queries.proofs.running.set_asked.Goals as goal
 

@@ -3,7 +3,7 @@ use Rattle.jpa_open.specs.Opened.{Opened, now}
 use Rattle.jpa_rows.specs.Faults.{IsStoreCause}
 use Rattle.jpa_stored.specs.Sets.{stored_at}
 use Rattle.jpql_by_key.specs.ByKey.{only}
-use Rattle.jpa_row_queries.specs.Looking.{IsReadingCause}
+use Rattle.jpa_row_queries.specs.Unread.{IsReadingCause}
 use Rattle.jpa_row_queries.proofs.Looks.{err_is, if_err, if_passed, looks_own, looks_passed, match_err, memory_own, memory_reading}
 use Rattle.jpa_row_queries.proofs.Asked.{alone_looked_up, opened_as, opened_looked}
 use Rattle.jpa_row_queries.proofs.seen.alone_seen.Goals as goal

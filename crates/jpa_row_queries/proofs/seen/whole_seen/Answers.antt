@@ -1,7 +1,7 @@
 use Rattle.std.proofs.Common.{◌≡◌}
 use Rattle.jpa_open.specs.Opened.{Opened, now}
 use Rattle.jpa_rows.specs.Faults.{IsStoreCause}
-use Rattle.jpa_row_queries.specs.Looking.{IsReadingCause}
+use Rattle.jpa_row_queries.specs.Unread.{IsReadingCause}
 use Rattle.jpa_row_queries.proofs.Looks.{err_is, if_err, if_passed, looks_own, looks_passed, match_err, memory_own, memory_reading}
 use Rattle.jpa_row_queries.proofs.Asked.{opened_as, opened_looked}
 use Rattle.jpa_row_queries.proofs.seen.whole_seen.Goals as goal

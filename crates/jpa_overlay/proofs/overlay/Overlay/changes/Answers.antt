@@ -1,5 +1,5 @@
-use Rattle.std.specs.Prelude.{◌≡◌, ◌⊎◌, ◌+◌, Option, Some, T, All, length}
-use Rattle.std.proofs.Common.{sym, ap, subst, ◌∙◌, get_or, inl, inr, arith}
+use Rattle.std.specs.Prelude.{◌≡◌, ◌+◌, Option, Some, T, All, length}
+use Rattle.std.proofs.Common.{rules, sym, ap, subst, ◌∙◌, get_or, arith}
 use Rattle.std.proofs.lemmas.List.{take_all}
 use Rattle.std.proofs.lemmas.List.Elements.{All-push}
 use Rattle.std.specs.FinMap.{find, is_sorted}
@@ -10,12 +10,14 @@ use Rattle.jpa_row_laws.specs.Changes.{AreDifference}
 use Rattle.jpa_overlay.specs.Overlay.{Changes, rows_under}
 use Rattle.jpa_overlay.specs.Same.{same_row}
 use Rattle.jpa_overlay.proofs.Difference.{differing, turned_more, turned_same, stands, are_difference, same_seen, rises_more, rises_same, all_rise}
-use Rattle.jpa_overlay.proofs.Statements.{one_more, within}
+use Rattle.jpa_overlay.proofs.Statements.{row_more, rows_within}
+use Rattle.jpa_rows.proofs.Looks.{done, looks_then, looks_told}
 use Rattle.jpa_overlay.proofs.overlay.Overlay.changes.Goals as goal
 use Rattle.jpa_overlay.proofs.overlay.Overlay.changes.Goals.{then-not-is_same+in_ok-try_copy+in_ok-copy_row+in_ok-push, else-not-is_same}
 
 pub loop-entry-preserved : goal.loop-entry-preserved
 loop-entry-preserved g c =
+    let store = g.R.RowReader in
     let items = c.as_slice-entry-items.result.now in
     let cs_is = c.as_slice-entry-items.ensures.value ∙ c.self.view_is in
     let sorted = subst (λ es. T (is_sorted identity_cmp es)) (sym c.as_slice-entry-items.ensures.value) c.self.invariant in
@@ -25,18 +27,12 @@ loop-entry-preserved g c =
     let entry : RowId × Option Row = c.entry-item.result in
     let e_is : c.get.result.now ≡ entry = c.get.ensures in
     record {
-      kept = λ rows holds. c.get-in-loop-entry.ensures.kept rows (c.loop-entry.invariant.kept rows holds);
-      schema = c.get-in-loop-entry.ensures.schema ∙ c.loop-entry.invariant.schema;
-      told = c.in_ok-there.ensures.told ∙ c.loop-entry.invariant.told;
-      was_clean = λ clean. c.loop-entry.invariant.was_clean (c.get-in-loop-entry.ensures.was_clean clean);
-      read = one_more c.loop-entry.entry-index _ _ _ c.loop-entry.invariant.read c.get-in-loop-entry.ensures.read;
-      tables = c.get-in-loop-entry.ensures.tables ∙ c.loop-entry.invariant.tables;
-      unwritten = c.get-in-loop-entry.ensures.unwritten ∙ c.loop-entry.invariant.unwritten;
-      crash = g.R.RowReader.wider c.args.source.now c.get-in-loop-entry.new.self (λ _. ⊥ ⊎ ⊥) (λ _. ⊥) (λ rows none. elim none [ inl x ↦ x | inr x ↦ x ])
-          (g.R.RowReader.then c.args.source.now c.loop-entry.source c.get-in-loop-entry.new.self (λ _. ⊥) (λ _. ⊥) c.loop-entry.invariant.schema c.loop-entry.invariant.crash c.get-in-loop-entry.ensures.crash);
+      looks = looks_then store done c.args.source.now c.loop-entry.source c.get-in-loop-entry.new.self c.loop-entry.invariant.looks
+          (looks_told store c.get-in-loop-entry.result done c.loop-entry.source c.get-in-loop-entry.new.self c.get-in-loop-entry.ensures.looks c.in_ok-there.ensures.looks.told);
+      economy = row_more store c.loop-entry.entry-index _ _ _ c.loop-entry.invariant.economy c.get-in-loop-entry.ensures.economy;
       real = λ clean rows holds.
-          let so_far = c.loop-entry.invariant.real (c.get-in-loop-entry.ensures.was_clean clean) rows holds in
-          let below = c.in_ok-there.ensures.ok clean rows (c.loop-entry.invariant.kept rows holds) in
+          let so_far = c.loop-entry.invariant.real (c.get-in-loop-entry.ensures.looks.was_clean clean) rows holds in
+          let below = c.in_ok-there.ensures.ok clean rows (c.loop-entry.invariant.looks.kept rows holds) in
           let test : c.is_same.result ≡ same_row entry.1 (find identity_cmp entry.0 rows) =
           c.is_same.ensures ∙ ap (same_row c.get.result.now.1) below ∙ ap (λ (z : RowId × Option Row). same_row z.1 (find identity_cmp z.0 rows)) e_is in
           elim c.if-not-is_same.branch [
@@ -84,76 +80,55 @@ returns-clause-seen g c = λ clean rows rise holds.
 pub returns-clause-rising : goal.returns-clause-rising
 returns-clause-rising g c = all_rise c.as_slice-entry-items.result.now c.loop-entry.entry-index c.loop-entry.changes c.loop-entry-test.false c.loop-entry.invariant.rising
 
-pub returns-in_err-there-clause-read : goal.returns-in_err-there-clause-read
-returns-in_err-there-clause-read g c =
+pub returns-in_err-there-clause-looks : goal.returns-in_err-there-clause-looks
+returns-in_err-there-clause-looks g c =
+    looks_then g.R.RowReader c.from_residual.result c.args.source.now c.loop-entry.source c.get-in-loop-entry.new.self c.loop-entry.invariant.looks
+    (looks_told g.R.RowReader c.get-in-loop-entry.result c.from_residual.result c.loop-entry.source c.get-in-loop-entry.new.self c.get-in-loop-entry.ensures.looks (search rules))
+
+pub returns-in_err-there-clause-economy : goal.returns-in_err-there-clause-economy
+returns-in_err-there-clause-economy g c =
     let many : length c.as_slice-entry-items.result.now ≡ length c.args.self.now = ap length (c.as_slice-entry-items.ensures.value ∙ c.self.view_is) in
-    within (c.loop-entry.entry-index + 1) (length c.args.self.now) _ _ (omega (arith, many, c.loop-entry-test.true))
-    (one_more c.loop-entry.entry-index _ _ _ c.loop-entry.invariant.read c.get-in-loop-entry.ensures.read)
+    rows_within g.R.RowReader (c.loop-entry.entry-index + 1) (length c.args.self.now) _ _ (omega (arith, many, c.loop-entry-test.true))
+    (row_more g.R.RowReader c.loop-entry.entry-index _ _ _ c.loop-entry.invariant.economy c.get-in-loop-entry.ensures.economy)
 
-pub returns-in_err-there-clause-tables : goal.returns-in_err-there-clause-tables
-returns-in_err-there-clause-tables g c = c.get-in-loop-entry.ensures.tables ∙ c.loop-entry.invariant.tables
+pub returns-in_err-try_copy-clause-looks : goal.returns-in_err-try_copy-clause-looks
+returns-in_err-try_copy-clause-looks g c =
+    looks_then g.R.RowReader c.from_residual-in_err-try_copy.result c.args.source.now c.loop-entry.source c.get-in-loop-entry.new.self c.loop-entry.invariant.looks
+    (looks_told g.R.RowReader c.get-in-loop-entry.result c.from_residual-in_err-try_copy.result c.loop-entry.source c.get-in-loop-entry.new.self c.get-in-loop-entry.ensures.looks (search rules))
 
-pub returns-in_err-there-clause-unwritten : goal.returns-in_err-there-clause-unwritten
-returns-in_err-there-clause-unwritten g c = c.get-in-loop-entry.ensures.unwritten ∙ c.loop-entry.invariant.unwritten
-
-pub returns-in_err-there-clause-crash : goal.returns-in_err-there-clause-crash
-returns-in_err-there-clause-crash g c =
-    g.R.RowReader.wider c.args.source.now c.get-in-loop-entry.new.self (λ _. ⊥ ⊎ ⊥) (λ _. ⊥) (λ rows none. elim none [ inl x ↦ x | inr x ↦ x ])
-    (g.R.RowReader.then c.args.source.now c.loop-entry.source c.get-in-loop-entry.new.self (λ _. ⊥) (λ _. ⊥) c.loop-entry.invariant.schema c.loop-entry.invariant.crash c.get-in-loop-entry.ensures.crash)
-
-pub returns-in_err-try_copy-clause-read : goal.returns-in_err-try_copy-clause-read
-returns-in_err-try_copy-clause-read g c =
+pub returns-in_err-try_copy-clause-economy : goal.returns-in_err-try_copy-clause-economy
+returns-in_err-try_copy-clause-economy g c =
     let many : length c.as_slice-entry-items.result.now ≡ length c.args.self.now = ap length (c.as_slice-entry-items.ensures.value ∙ c.self.view_is) in
-    within (c.loop-entry.entry-index + 1) (length c.args.self.now) _ _ (omega (arith, many, c.loop-entry-test.true))
-    (one_more c.loop-entry.entry-index _ _ _ c.loop-entry.invariant.read c.get-in-loop-entry.ensures.read)
+    rows_within g.R.RowReader (c.loop-entry.entry-index + 1) (length c.args.self.now) _ _ (omega (arith, many, c.loop-entry-test.true))
+    (row_more g.R.RowReader c.loop-entry.entry-index _ _ _ c.loop-entry.invariant.economy c.get-in-loop-entry.ensures.economy)
 
-pub returns-in_err-try_copy-clause-tables : goal.returns-in_err-try_copy-clause-tables
-returns-in_err-try_copy-clause-tables g c = c.get-in-loop-entry.ensures.tables ∙ c.loop-entry.invariant.tables
+pub returns-in_err-copy_row-clause-looks : goal.returns-in_err-copy_row-clause-looks
+returns-in_err-copy_row-clause-looks g c =
+    looks_then g.R.RowReader c.from_residual-in_err-copy_row.result c.args.source.now c.loop-entry.source c.get-in-loop-entry.new.self c.loop-entry.invariant.looks
+    (looks_told g.R.RowReader c.get-in-loop-entry.result c.from_residual-in_err-copy_row.result c.loop-entry.source c.get-in-loop-entry.new.self c.get-in-loop-entry.ensures.looks (search rules))
 
-pub returns-in_err-try_copy-clause-unwritten : goal.returns-in_err-try_copy-clause-unwritten
-returns-in_err-try_copy-clause-unwritten g c = c.get-in-loop-entry.ensures.unwritten ∙ c.loop-entry.invariant.unwritten
-
-pub returns-in_err-try_copy-clause-crash : goal.returns-in_err-try_copy-clause-crash
-returns-in_err-try_copy-clause-crash g c =
-    g.R.RowReader.wider c.args.source.now c.get-in-loop-entry.new.self (λ _. ⊥ ⊎ ⊥) (λ _. ⊥) (λ rows none. elim none [ inl x ↦ x | inr x ↦ x ])
-    (g.R.RowReader.then c.args.source.now c.loop-entry.source c.get-in-loop-entry.new.self (λ _. ⊥) (λ _. ⊥) c.loop-entry.invariant.schema c.loop-entry.invariant.crash c.get-in-loop-entry.ensures.crash)
-
-pub returns-in_err-copy_row-clause-read : goal.returns-in_err-copy_row-clause-read
-returns-in_err-copy_row-clause-read g c =
+pub returns-in_err-copy_row-clause-economy : goal.returns-in_err-copy_row-clause-economy
+returns-in_err-copy_row-clause-economy g c =
     let many : length c.as_slice-entry-items.result.now ≡ length c.args.self.now = ap length (c.as_slice-entry-items.ensures.value ∙ c.self.view_is) in
-    within (c.loop-entry.entry-index + 1) (length c.args.self.now) _ _ (omega (arith, many, c.loop-entry-test.true))
-    (one_more c.loop-entry.entry-index _ _ _ c.loop-entry.invariant.read c.get-in-loop-entry.ensures.read)
+    rows_within g.R.RowReader (c.loop-entry.entry-index + 1) (length c.args.self.now) _ _ (omega (arith, many, c.loop-entry-test.true))
+    (row_more g.R.RowReader c.loop-entry.entry-index _ _ _ c.loop-entry.invariant.economy c.get-in-loop-entry.ensures.economy)
 
-pub returns-in_err-copy_row-clause-tables : goal.returns-in_err-copy_row-clause-tables
-returns-in_err-copy_row-clause-tables g c = c.get-in-loop-entry.ensures.tables ∙ c.loop-entry.invariant.tables
+pub returns-in_err-push-clause-looks : goal.returns-in_err-push-clause-looks
+returns-in_err-push-clause-looks g c =
+    looks_then g.R.RowReader c.from_residual-in_err-push.result c.args.source.now c.loop-entry.source c.get-in-loop-entry.new.self c.loop-entry.invariant.looks
+    (looks_told g.R.RowReader c.get-in-loop-entry.result c.from_residual-in_err-push.result c.loop-entry.source c.get-in-loop-entry.new.self c.get-in-loop-entry.ensures.looks (search rules))
 
-pub returns-in_err-copy_row-clause-unwritten : goal.returns-in_err-copy_row-clause-unwritten
-returns-in_err-copy_row-clause-unwritten g c = c.get-in-loop-entry.ensures.unwritten ∙ c.loop-entry.invariant.unwritten
-
-pub returns-in_err-copy_row-clause-crash : goal.returns-in_err-copy_row-clause-crash
-returns-in_err-copy_row-clause-crash g c =
-    g.R.RowReader.wider c.args.source.now c.get-in-loop-entry.new.self (λ _. ⊥ ⊎ ⊥) (λ _. ⊥) (λ rows none. elim none [ inl x ↦ x | inr x ↦ x ])
-    (g.R.RowReader.then c.args.source.now c.loop-entry.source c.get-in-loop-entry.new.self (λ _. ⊥) (λ _. ⊥) c.loop-entry.invariant.schema c.loop-entry.invariant.crash c.get-in-loop-entry.ensures.crash)
-
-pub returns-in_err-push-clause-read : goal.returns-in_err-push-clause-read
-returns-in_err-push-clause-read g c =
+pub returns-in_err-push-clause-economy : goal.returns-in_err-push-clause-economy
+returns-in_err-push-clause-economy g c =
     let many : length c.as_slice-entry-items.result.now ≡ length c.args.self.now = ap length (c.as_slice-entry-items.ensures.value ∙ c.self.view_is) in
-    within (c.loop-entry.entry-index + 1) (length c.args.self.now) _ _ (omega (arith, many, c.loop-entry-test.true))
-    (one_more c.loop-entry.entry-index _ _ _ c.loop-entry.invariant.read c.get-in-loop-entry.ensures.read)
+    rows_within g.R.RowReader (c.loop-entry.entry-index + 1) (length c.args.self.now) _ _ (omega (arith, many, c.loop-entry-test.true))
+    (row_more g.R.RowReader c.loop-entry.entry-index _ _ _ c.loop-entry.invariant.economy c.get-in-loop-entry.ensures.economy)
 
-pub returns-in_err-push-clause-tables : goal.returns-in_err-push-clause-tables
-returns-in_err-push-clause-tables g c = c.get-in-loop-entry.ensures.tables ∙ c.loop-entry.invariant.tables
+pub returns-clause-looks : goal.returns-clause-looks
+returns-clause-looks g c = looks_told g.R.RowReader done _ c.args.source.now c.loop-entry.source c.loop-entry.invariant.looks c.loop-entry.invariant.looks.told
 
-pub returns-in_err-push-clause-unwritten : goal.returns-in_err-push-clause-unwritten
-returns-in_err-push-clause-unwritten g c = c.get-in-loop-entry.ensures.unwritten ∙ c.loop-entry.invariant.unwritten
-
-pub returns-in_err-push-clause-crash : goal.returns-in_err-push-clause-crash
-returns-in_err-push-clause-crash g c =
-    g.R.RowReader.wider c.args.source.now c.get-in-loop-entry.new.self (λ _. ⊥ ⊎ ⊥) (λ _. ⊥) (λ rows none. elim none [ inl x ↦ x | inr x ↦ x ])
-    (g.R.RowReader.then c.args.source.now c.loop-entry.source c.get-in-loop-entry.new.self (λ _. ⊥) (λ _. ⊥) c.loop-entry.invariant.schema c.loop-entry.invariant.crash c.get-in-loop-entry.ensures.crash)
-
-pub returns-clause-read : goal.returns-clause-read
-returns-clause-read g c =
+pub returns-clause-economy : goal.returns-clause-economy
+returns-clause-economy g c =
     let many : length c.as_slice-entry-items.result.now ≡ length c.args.self.now = ap length (c.as_slice-entry-items.ensures.value ∙ c.self.view_is) in
     let ended = c.loop-entry.auto.entry-index-end in
-    within c.loop-entry.entry-index (length c.args.self.now) _ _ (omega (arith, many, ended)) c.loop-entry.invariant.read
+    rows_within g.R.RowReader c.loop-entry.entry-index (length c.args.self.now) _ _ (omega (arith, many, ended)) c.loop-entry.invariant.economy

@@ -16,3 +16,9 @@ returns-clause-handed g c = λ clean rows rise holds.
     let parts = ap (λ (cs : Changes). rows_under cs (table_rows table rows)) c.of_table.ensures.table ∙ sym (of_one_table table rows c.args.self.now rise) in
     subst (λ (rs : Rows). Hands g.K.RowSink.takes IsStoreCause c.args.sink.now rs c.each_under.result c.each_under.new.sink) parts
     (c.each_under.ensures.handed clean rows holds c.of_table.ensures.rising (is_sorted-where_key identity_cmp (λ id. id.table == table) rows rise))
+
+pub returns-clause-looks : goal.returns-clause-looks
+returns-clause-looks g c = c.each_under.ensures.looks
+
+pub returns-clause-economy : goal.returns-clause-economy
+returns-clause-economy g c = c.each_under.ensures.economy

@@ -1,9 +1,10 @@
 use Rattle.std.specs.Prelude.{Some, IsSome}
-use Rattle.std.proofs.Common.{sym, ap, subst, ◌∙◌, get_or, T}
+use Rattle.std.proofs.Common.{rules, sym, ap, subst, ◌∙◌, get_or, T}
 use Rattle.std.proofs.lemmas.Bool.{false≢true}
 use Rattle.std.specs.FinMap.Entries.{is_sorted}
 use Rattle.jpa_value.specs.Value.{identity_cmp}
 use Rattle.jpa_value.proofs.Orders.{identity_total}
+use Rattle.jpa_rows.proofs.Looks.{looks_none, none_at_one}
 use Rattle.jpa_stored.proofs.Entries.{find_at, find_gap}
 use Rattle.jpa_overlay.proofs.Changes.{got_changed, got_change, got_below}
 use Rattle.jpa_overlay.proofs.overlay.Overlay.get.Goals as goal
@@ -39,3 +40,15 @@ returns-in-Ok-clause-changed g c = λ some.
 
 pub returns-in-Err-clause-changed : goal.returns-in-Err-clause-changed
 returns-in-Err-clause-changed g c = λ some. absurd (false≢true (subst IsSome (find_gap identity_total c.args.self.now c.args.id.now c.in-Err.field-0 c.in-Err.ensures.absent) some))
+
+pub returns-in-Ok-clause-looks : goal.returns-in-Ok-clause-looks
+returns-in-Ok-clause-looks g c = looks_none g.R.RowReader c.copy_row.result c.args.source.now (search rules) (g.met.R.RowReader.still c.args.source.now)
+
+pub returns-in-Err-clause-looks : goal.returns-in-Err-clause-looks
+returns-in-Err-clause-looks g c = c.get-in-Err.ensures.looks
+
+pub returns-in-Ok-clause-economy : goal.returns-in-Ok-clause-economy
+returns-in-Ok-clause-economy g c = none_at_one g.R.RowReader c.args.source.now
+
+pub returns-in-Err-clause-economy : goal.returns-in-Err-clause-economy
+returns-in-Err-clause-economy g c = c.get-in-Err.ensures.economy

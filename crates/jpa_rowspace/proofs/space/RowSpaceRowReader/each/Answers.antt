@@ -16,15 +16,17 @@ pub returns-clause-any : goal.returns-clause-any
 returns-clause-any g c =
     each_some g.S.Store c.args.self.now.schema c.args.table c.args.self.now.store.conn c.each.new.self.store.conn g.K.RowSink.takes c.args.sink.now c.each.new.sink c.each.result c.each.ensures.handed c.each.ensures.unknown
 
-pub returns-clause-kept : goal.returns-clause-kept
-returns-clause-kept g c rows held =
+pub returns-clause-looks : goal.returns-clause-looks
+returns-clause-looks g c =
+    let schema = c.args.self.now.schema in
     let old = c.args.self.now.store.conn in
     let new = c.each.new.self.store.conn in
-    let same : c.each.new.self.schema ≡ c.args.self.now.schema = ap (λ (s : Space g.row.S.Denot). s.schema) c.each.ensures.others in
-    subst (λ (schema : Schema). HoldsRows g.S.Store schema new rows) (sym same) (keeps_rows g.S.Store c.args.self.now.schema old new (λ _. ⊥) c.each.ensures.kept c.each.ensures.crash rows held)
-
-pub returns-clause-told : goal.returns-clause-told
-returns-clause-told g c = counted c.args.self.now.store.faults c.each.new.self.store.faults c.each.result c.each.ensures.told
-
-pub returns-clause-crash : goal.returns-clause-crash
-returns-clause-crash g c = crash_none g.S.Store c.args.self.now.schema c.args.self.now.store.conn c.each.new.self.store.conn c.each.ensures.crash
+    let same : c.each.new.self.schema ≡ schema = ap (λ (s : Space g.row.S.Denot). s.schema) c.each.ensures.others in
+    record {
+      kept = λ rows held. subst (λ (schema : Schema). HoldsRows g.S.Store schema new rows) (sym same) (keeps_rows g.S.Store schema old new (λ _. ⊥) c.each.ensures.kept c.each.ensures.crash rows held);
+      told = counted c.args.self.now.store.faults c.each.new.self.store.faults c.each.result c.each.ensures.told;
+      unwritten = ap (λ (s : Space g.row.S.Denot). s.store.writes) c.each.ensures.others;
+      crash = crash_none g.S.Store schema old new c.each.ensures.crash;
+      was_clean = clean_before g.S.Store old new (λ _. ⊥) c.each.ensures.crash;
+      same = same;
+    }

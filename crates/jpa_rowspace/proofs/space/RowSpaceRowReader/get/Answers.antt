@@ -19,15 +19,17 @@ returns-clause-err g c clean =
     gets_err g.S.Store c.args.self.now.schema c.args.id.now old new c.get.result c.get.ensures.refused (λ is. (c.get.ensures.unknown is).0)
     (clean_before g.S.Store old new (λ _. ⊥) c.get.ensures.crash) clean
 
-pub returns-clause-kept : goal.returns-clause-kept
-returns-clause-kept g c rows held =
+pub returns-clause-looks : goal.returns-clause-looks
+returns-clause-looks g c =
+    let schema = c.args.self.now.schema in
     let old = c.args.self.now.store.conn in
     let new = c.get.new.self.store.conn in
-    let same : c.get.new.self.schema ≡ c.args.self.now.schema = ap (λ (s : Space g.row.S.Denot). s.schema) c.get.ensures.others in
-    subst (λ (schema : Schema). HoldsRows g.S.Store schema new rows) (sym same) (keeps_rows g.S.Store c.args.self.now.schema old new (λ _. ⊥) c.get.ensures.kept c.get.ensures.crash rows held)
-
-pub returns-clause-told : goal.returns-clause-told
-returns-clause-told g c = counted c.args.self.now.store.faults c.get.new.self.store.faults c.get.result c.get.ensures.told
-
-pub returns-clause-crash : goal.returns-clause-crash
-returns-clause-crash g c = crash_none g.S.Store c.args.self.now.schema c.args.self.now.store.conn c.get.new.self.store.conn c.get.ensures.crash
+    let same : c.get.new.self.schema ≡ schema = ap (λ (s : Space g.row.S.Denot). s.schema) c.get.ensures.others in
+    record {
+      kept = λ rows held. subst (λ (schema : Schema). HoldsRows g.S.Store schema new rows) (sym same) (keeps_rows g.S.Store schema old new (λ _. ⊥) c.get.ensures.kept c.get.ensures.crash rows held);
+      told = counted c.args.self.now.store.faults c.get.new.self.store.faults c.get.result c.get.ensures.told;
+      unwritten = ap (λ (s : Space g.row.S.Denot). s.store.writes) c.get.ensures.others;
+      crash = crash_none g.S.Store schema old new c.get.ensures.crash;
+      was_clean = clean_before g.S.Store old new (λ _. ⊥) c.get.ensures.crash;
+      same = same;
+    }
