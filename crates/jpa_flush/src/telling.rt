@@ -8,7 +8,7 @@ ghost use Rattle.jpa_flush.specs.Passes.{Performs};
 ghost use Rattle.jpa_flush.specs.Plan as plans;
 
 use crate::planning::Planned;
-use crate::steps::Step;
+use crate::steps::FlushAction;
 use jpa_behaviour::{Behaviour, ServedUnit};
 use jpa_context::UnitOfWork;
 use jpa_lifecycle::callback;
