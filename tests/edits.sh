@@ -4,10 +4,8 @@
 # is proved.
 set -u
 cd "$(dirname "$0")/.." || exit 1
-if ! command -v python3 >/dev/null 2>&1; then
-    echo "python3 is not on this machine, so the edits were not held against the text"
-    exit 77
-fi
+. tests/shared.bash || exit 1
+needs python3 "the edits were not held against the text"
 python3 - <<'END'
 import glob, os, sys
 

@@ -3,8 +3,6 @@
 # where dist/jpa fits, that it runs at once. No toolchain is needed, and nothing is built.
 set -u
 cd "$(dirname "$0")/.." || exit 1
-if ! command -v python3 >/dev/null 2>&1; then
-    echo "python3 is not on this machine, so the first run was not tried"
-    exit 77
-fi
+. tests/shared.bash || exit 1
+needs python3 "the first run was not tried"
 python3 tests/first_run.py 2>&1

@@ -10,14 +10,12 @@ all is as it must be.
 """
 from __future__ import annotations
 
-import json, os, resource, shutil, signal, subprocess, sys, tempfile
-from typing import TYPE_CHECKING, Any
+import json, os, resource, shutil, signal, subprocess, sys
+from typing import Any, Callable
 
 sys.dont_write_bytecode = True
 from runs import FLAT, HERE, SECONDS, cells, read
-
-if TYPE_CHECKING:
-    from model.kinds import Key, Part
+from trials import Differs, see, tried
 
 FIRST = os.path.join(HERE, "runs", "first-run")
 CALLS, REPLIES, CELLS = (
@@ -32,15 +30,6 @@ LINE_LENGTH = 1_048_576
 # of it reaches.
 COMMIT = next(number for number, line in enumerate(CALLS.splitlines(), 1) if b'"commit"' in line)
 STORE_LENGTH = 8 * LINE_LENGTH
-
-
-class Differs(Exception):
-    pass
-
-
-def see(found: Any, wanted: Any, where: Key | str) -> None:
-    if found != wanted:
-        raise Differs(f"{where}: {found!r}, and not {wanted!r}"[:600])
 
 
 def cells_after(calls: int) -> str:
@@ -309,21 +298,16 @@ def words(program: str, store: str, _: int) -> None:
 def main(given: list[str]) -> int:
     if len(given) not in (1, 2):
         sys.exit(__doc__)
-    step, failed = int(given[1]) if given[1:] else 1, 0
-    for number, attempt in enumerate(
-        [
-            cut_anywhere, byte_by_byte, unreadable, unwritable, lengths, other_bytes, full_disk,
-            disk_that_fills, unwritable_folder, words,
-        ]
-    ):
-        with tempfile.TemporaryDirectory() as place:
-            try:
-                attempt(given[0], os.path.join(place, "store.db"), step)
-            except (Differs, subprocess.TimeoutExpired) as why:
-                failed += 1
-                print(f"differs: {attempt.__name__}: {why}")
-    print(f"{number + 1 - failed} trials of the input are as they must be, {failed} differ")
-    return 1 if failed else 0
+    step = int(given[1]) if given[1:] else 1
+    trials = [
+        cut_anywhere, byte_by_byte, unreadable, unwritable, lengths, other_bytes, full_disk,
+        disk_that_fills, unwritable_folder, words,
+    ]
+
+    def run(trial: Callable[[str, str, int], None], place: str) -> None:
+        trial(given[0], os.path.join(place, "store.db"), step)
+
+    return tried(trials, "the input", run)
 
 
 if __name__ == "__main__":

@@ -3,8 +3,6 @@
 # No program is run.
 set -u
 cd "$(dirname "$0")/.." || exit 1
-if ! command -v python3 >/dev/null 2>&1; then
-    echo "python3 is not on this machine, so the model was not tried"
-    exit 77
-fi
+. tests/shared.bash || exit 1
+needs python3 "the model was not tried"
 python3 tests/model/against_runs.py tests/runs

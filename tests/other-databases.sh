@@ -3,14 +3,10 @@
 # table is taken, and one that holds anything else is refused and left as it was.
 set -u
 cd "$(dirname "$0")/.." || exit 1
-if ! command -v sqlite3 >/dev/null 2>&1; then
-    echo "sqlite3 is not on this machine, so no other program made a database"
-    exit 77
-fi
-programs=$(bash tools/built) || exit $?
-folder=$(mktemp -d) || exit 1
-trap 'rm -rf "$folder"' EXIT
-first=tests/runs/first-run
+. tests/shared.bash || exit 1
+needs sqlite3 "no other program made a database"
+find_programs
+make_folder
 cell="CREATE TABLE cell (t INTEGER NOT NULL, r BLOB NOT NULL, c INTEGER NOT NULL, v BLOB NOT NULL, \
 PRIMARY KEY (t, r, c)) STRICT"
 other="CREATE TABLE other (a INTEGER PRIMARY KEY, b TEXT UNIQUE, c REAL); CREATE INDEX by_c ON other \
@@ -21,16 +17,6 @@ make() {
     store=$folder/store.db
     rm -f "$store" "$store-wal" "$store-shm"
     sqlite3 "$store" "$1" >"$folder/made" || exit 1
-}
-
-# The first run is served over the store, and sqlite3 finds its cells.
-is_taken() {
-    "$program" --mapping tests/mappings/flat.json --db "$store" <"$first/calls.jsonl" \
-        >"$folder/replies" || exit 1
-    columns="t || ', ' || lower(hex(r)) || ', ' || c || ', ' || lower(hex(v))"
-    sqlite3 "$store" "SELECT $columns FROM cell ORDER BY t, r, c" >"$folder/found"
-    diff "$first/replies.jsonl" "$folder/replies" || exit 1
-    diff "$first/cells.txt" "$folder/found" || exit 1
 }
 
 # The store is refused, and sqlite3 finds in it what was there.
@@ -52,15 +38,15 @@ is_refused() {
 for program in $programs; do
     for mode in delete wal; do
         make "PRAGMA journal_mode = $mode; CREATE TABLE other (a); DROP TABLE other"
-        is_taken
+        serve_first_run "$program" "$store"
         make "PRAGMA journal_mode = $mode; $cell"
-        is_taken
+        serve_first_run "$program" "$store"
         make "PRAGMA journal_mode = $mode; $other"
         is_refused "a database with other tables"
         make "PRAGMA journal_mode = $mode; $cell; $other"
         is_refused "a database with cells and other tables"
         sqlite3 "$store" "DROP VIEW seen; DROP TABLE other"
-        is_taken
+        serve_first_run "$program" "$store"
         make "PRAGMA journal_mode = $mode; CREATE TABLE cell (t INTEGER PRIMARY KEY, r, c, v)"
         is_refused "a table of another schema"
         make "PRAGMA journal_mode = $mode; $cell; CREATE INDEX by_v ON cell (v)"

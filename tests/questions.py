@@ -7,12 +7,13 @@ Exit status 0 where all is as it must be.
 """
 from __future__ import annotations
 
-import json, os, sqlite3, subprocess, sys, tempfile
+import json, os, sqlite3, subprocess, sys
 from contextlib import closing
 from typing import Any
 
 sys.dont_write_bytecode = True
 from runs import HERE, SECONDS, cells, fill, read
+from trials import see, tried
 
 HINT = "\n\nFor more information, try '--help'.\n"
 EM = {"call": "createEntityManager"}
@@ -128,15 +129,6 @@ PLANS: list[tuple[list[str], list[str]]] = [
      ["reads all rows of Person", "reads all rows of Order"]),
     (["SELECT p FROM Person p"], ["reads all rows of Person", "reads all rows of Order"]),
 ]
-
-
-class Differs(Exception):
-    pass
-
-
-def see(found: Any, wanted: Any, where: Any) -> None:
-    if found != wanted:
-        raise Differs(f"{where}: {found!r}, and not {wanted!r}"[:800])
 
 
 def files_in(place: str) -> dict[str, bytes]:
@@ -302,16 +294,8 @@ def in_use(ask: Asking) -> None:
 def main(given: list[str]) -> int:
     if len(given) != 1:
         sys.exit(__doc__)
-    trials, failed = [persons, places, words_refused, no_stores, damaged, revisions, in_use], 0
-    for trial in trials:
-        with tempfile.TemporaryDirectory() as place:
-            try:
-                trial(Asking(given[0], place))
-            except (Differs, subprocess.TimeoutExpired) as why:
-                failed += 1
-                print(f"differs: {trial.__name__}: {why}")
-    print(f"{len(trials) - failed} trials of questions are as they must be, {failed} differ")
-    return 1 if failed else 0
+    trials = [persons, places, words_refused, no_stores, damaged, revisions, in_use]
+    return tried(trials, "questions", lambda trial, place: trial(Asking(given[0], place)))
 
 
 if __name__ == "__main__":

@@ -3,15 +3,12 @@
 # gate has built, as each of the two compilers makes it.
 set -u
 cd "$(dirname "$0")/.." || exit 1
-if ! command -v python3 >/dev/null 2>&1; then
-    echo "python3 is not on this machine, so no question was tried"
-    exit 77
-fi
-programs=$(bash tools/built) || exit $?
-failed=0
-for program in $programs; do
-    echo "$(basename "$program"):"
-    python3 tests/questions.py "$program" || failed=1
-    python3 tests/fuzz/hostile-questions --stores 12 --texts 120 --program "$program" || failed=1
-done
-exit "$failed"
+. tests/shared.bash || exit 1
+needs python3 "no question was tried"
+ask() {
+    local failed=0
+    python3 tests/questions.py "$1" || failed=1
+    python3 tests/fuzz/hostile-questions --stores 12 --texts 120 --program "$1" || failed=1
+    return "$failed"
+}
+over_each_program ask

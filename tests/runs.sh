@@ -3,14 +3,7 @@
 # makes it.
 set -u
 cd "$(dirname "$0")/.." || exit 1
-if ! command -v python3 >/dev/null 2>&1; then
-    echo "python3 is not on this machine, so no run was tried"
-    exit 77
-fi
-programs=$(bash tools/built) || exit $?
-failed=0
-for program in $programs; do
-    echo "$(basename "$program"):"
-    python3 tests/runs.py "$program" tests/runs || failed=1
-done
-exit "$failed"
+. tests/shared.bash || exit 1
+needs python3 "no run was tried"
+try_runs() { python3 tests/runs.py "$1" tests/runs; }
+over_each_program try_runs

@@ -21,15 +21,12 @@ sys.dont_write_bytecode = True
 sys.path[0] = os.path.dirname(os.path.dirname(os.path.abspath(__file__)))
 from model.against_runs import cells_of, left_by, stands
 from runs import SECONDS, cells, fill, read, unserved_stage, words_of
+from trials import Differs
 
 if TYPE_CHECKING:
     from model.kinds import Cell
 
 WANT = b'{"error":{"name":"OutOfMemory","no":1},"events":[]}\n'
-
-
-class Differs(Exception):
-    pass
 
 
 def answered(process: subprocess.Popen[bytes], line: bytes) -> bytes:
