@@ -12,10 +12,10 @@ ghost use Rattle.jpa_row_queries.specs.Seen.{SeesSet};
 ghost use Rattle.jpa_questions.specs.Asking.{LooksAtTwoRows, RefusesRevision};
 ghost use Rattle.jpa_questions.specs.Revisions.{AreOfRevision};
 
+use crate::question::Question;
 use crate::revision::check_revision;
 use jpa_behaviour::{Behaviour, ServedUnit};
 use jpa_overlay::Overlay;
-use jpa_questions::Question;
 use jpa_row_queries::run;
 use jpa_rows::RowReader;
 use jpa_value::{Cause, Seq};

@@ -12,10 +12,10 @@ ghost use Rattle.jpa_row_queries.specs.Answered.{Answers};
 ghost use Rattle.jpa_questions.specs.Asking.{HoldsSet, LeavesRows};
 
 use crate::asking::ask;
+use crate::question::Question;
 use jpa_behaviour::{Behaviour, ServedUnit};
 use jpa_cells::CellStore;
 use jpa_model::Metamodel;
-use jpa_questions::Question;
 use jpa_rows::Schema;
 use jpa_rowspace::RowSpace;
 use jpa_value::{Cause, Seq};
