@@ -5,8 +5,9 @@ ghost use Rattle.jpa_value.specs.declared.refusal.Cause.{Cause};
 ghost use Rattle.jpql_by_key.specs.ByKey.{key_of};
 ghost use Rattle.jpa_questions.specs.Plans as spec;
 
+use crate::line::write_row;
+use crate::question::Question;
 use jpa_model::{Entity, Metamodel, Origin};
-use jpa_questions::{Question, write_row};
 use jpa_value::{Cause, Identity};
 use jpql_by_key::key_of;
 use jpql_eval::Datum;
