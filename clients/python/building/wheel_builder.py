@@ -9,7 +9,7 @@ import re
 import tarfile
 import zipfile
 from pathlib import Path
-from typing import Any, Dict, List, Optional
+from typing import Any, Dict, Optional
 
 TOP = Path(__file__).resolve().parents[1]
 LINE = re.compile(r'^([a-z-]+) = "([^"]*)"$', re.MULTILINE)
@@ -53,14 +53,14 @@ def build_wheel(
 ) -> str:
     """Writes a wheel with the package alone, for any system, and gives its name."""
     return _write_wheel(
-        wheel_directory, {f"{NAME}/{path.name}": path.read_bytes() for path in _modules()}
+        wheel_directory, {name: path.read_bytes() for name, path in _modules().items()}
     )
 
 
 def build_program_wheel(wheel_directory: str, program: bytes, notices: bytes) -> str:
     """Writes a wheel that brings the program with the package, as the command `jpa`, and gives its
     name."""
-    files = {f"{NAME}/{path.name}": path.read_bytes() for path in _modules()}
+    files = {name: path.read_bytes() for name, path in _modules().items()}
     files[f"{SCRIPTS}jpa"] = program
     files[f"{INFO}/NOTICES"] = notices
     return _write_wheel(wheel_directory, files, PROGRAM_TAG)
@@ -79,13 +79,15 @@ def build_sdist(sdist_directory: str, config_settings: Settings = None) -> str:
     with tarfile.open(Path(sdist_directory, archive), "w:gz") as out:
         for name in ("pyproject.toml", "README.md", "building/wheel_builder.py"):
             out.add(TOP / name, f"{RELEASE}/{name}")
-        for path in _modules():
-            out.add(path, f"{RELEASE}/{NAME}/{path.name}")
+        for name, path in _modules().items():
+            out.add(path, f"{RELEASE}/{name}")
     return archive
 
 
-def _modules() -> List[Path]:
-    return sorted(path for path in (TOP / NAME).iterdir() if path.suffix in (".py", ".typed"))
+def _modules() -> Dict[str, Path]:
+    """The files of the package, by their names from its folder on."""
+    paths = (path for path in (TOP / NAME).rglob("*") if path.suffix in (".py", ".typed"))
+    return {path.relative_to(TOP).as_posix(): path for path in sorted(paths)}
 
 
 def _write_wheel(folder: str, files: Dict[str, bytes], tag: str = PLAIN_TAG) -> str:

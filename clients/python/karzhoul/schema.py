@@ -6,10 +6,10 @@ from __future__ import annotations
 from typing import Any, Dict, List
 
 from .lines import LifecycleEvent
-from .linter import (
-    _FORMS, _MAKES, _SIDES, _SIDES_OF, _WORDS, MOST_ENTITIES, MOST_KEY_PARTS, MOST_MEMBERS,
-    MOST_NUMBER, REVISIONS,
-)
+from .linter import MOST_ENTITIES, MOST_KEY_PARTS, MOST_MEMBERS, MOST_NUMBER, REVISIONS
+from .linter.functions import MAKES
+from .linter.rules import SIDES_OF
+from .linter.shapes import FORMS, SIDES, WORDS
 from .strict_json import GREATEST_INTEGER, LEAST_INTEGER
 
 Schema = Dict[str, Any]
@@ -121,7 +121,7 @@ _OWN: Dict[str, Schema] = {
 
 def mapping_schema() -> Schema:
     """The schema, of draft 7."""
-    definitions = {name: _form(name) for name in _FORMS if name != "mapping"}
+    definitions = {name: _form(name) for name in FORMS if name != "mapping"}
     definitions["entity"] = {
         "if": {"required": ["extends"]},
         "then": {"$ref": f"{_REF}subclass"},
@@ -129,7 +129,7 @@ def mapping_schema() -> Schema:
     }
     definitions["relation"].update(_sides())
     definitions["value"] = {"anyOf": [_PLAIN["integer"], _PLAIN["text"], _hex()]}
-    definitions["function"] = {"oneOf": [_function(make) for make in _MAKES]}
+    definitions["function"] = {"oneOf": [_function(make) for make in MAKES]}
     return {
         "$schema": "http://json-schema.org/draft-07/schema#",
         "title": "A mapping of Karzhoul",
@@ -141,7 +141,7 @@ def mapping_schema() -> Schema:
 
 
 def _form(name: str) -> Schema:
-    form = _FORMS[name]
+    form = FORMS[name]
     members = {member.rstrip("?"): check for member, check in form.members.items()}
     said = {**_SAID["entity"], **_SAID[name]} if name in ("root", "subclass") else _SAID[name]
     return {
@@ -160,20 +160,20 @@ def _checked(check: str) -> Schema:
     if check.startswith("list "):
         most = {"maxItems": MOST_MEMBERS} if check in ("list attribute", "list relation") else {}
         return {"type": "array", "items": _checked(check[len("list ") :]), **most}
-    if check in _WORDS:
-        return {"enum": list(_WORDS[check])}
+    if check in WORDS:
+        return {"enum": list(WORDS[check])}
     return _PLAIN.get(check, {"$ref": f"{_REF}{check}"})
 
 
 def _sides() -> Schema:
     """What goes with which kind of relation."""
     kinds: List[Schema] = []
-    for kind, sides in _SIDES_OF.items():
+    for kind, sides in SIDES_OF.items():
         held: Schema = {"anyOf": [{"required": [side]} for side in sides]}
         if kind not in ("oneToOne", "oneToMany"):
             held["properties"] = {"orphanRemoval": {"enum": [False]}}
         kinds.append({"if": {"properties": {"kind": {"enum": [kind]}}}, "then": held})
-    one = [{"required": [side]} for side in _SIDES]
+    one = [{"required": [side]} for side in SIDES]
     return {"oneOf": one, "dependencies": {"required": ["column"]}, "allOf": kinds}
 
 
@@ -188,7 +188,7 @@ def _hex() -> Schema:
 
 
 def _function(make: str) -> Schema:
-    is_listener, own = _MAKES[make]
+    is_listener, own = MAKES[make]
     value = {"$ref": f"{_REF}value"}
     pair = {"type": "array", "minItems": 2, "maxItems": 2, "items": value}
     members: Schema = {

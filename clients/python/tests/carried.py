@@ -6,15 +6,13 @@ import contextlib
 import io
 import json
 import sqlite3
-import tempfile
-import unittest
 from pathlib import Path
 from typing import Any, Iterator, List, Tuple
 
 import karzhoul
 from karzhoul.command import main
 
-from .support import HERE, PROGRAM
+from .support import HERE, PROGRAM, FolderTest
 
 CARRIED = HERE / "data" / "carried.json"
 
@@ -25,15 +23,13 @@ def cells(db: Path) -> List[Tuple[Any, ...]]:
         return list(store.execute("SELECT t, hex(r), c, hex(v) FROM cell ORDER BY t, r, c"))
 
 
-class Carrying(unittest.TestCase):
+class Carrying(FolderTest):
     """A test in a folder of its own, over a mapping that stands there."""
 
     mapping: Any = json.loads(CARRIED.read_text(encoding="utf-8"))
 
     def setUp(self) -> None:
-        place = tempfile.TemporaryDirectory()
-        self.addCleanup(place.cleanup)
-        self.place = Path(place.name)
+        super().setUp()
         self.db, self.other = self.place / "app.db", self.place / "other.db"
         self.written("mapping.json", json.dumps(self.mapping))
 

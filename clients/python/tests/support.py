@@ -11,7 +11,7 @@ import sys
 import tempfile
 import unittest
 from pathlib import Path
-from typing import Any, Dict, Iterator, List, NamedTuple, Optional, Sequence
+from typing import Any, Dict, Iterator, List, NamedTuple, Optional
 from unittest import mock
 
 import karzhoul
@@ -21,6 +21,7 @@ HERE = Path(__file__).resolve().parent
 TOP = HERE.parents[2]
 DATA = TOP / "crates" / "jpa_examples" / "data"
 FLAT = TOP / "tests" / "mappings" / "flat.json"
+ORDERS = TOP / "tests" / "mappings" / "persons.json"
 STUB = HERE / "stub.py"
 
 sys.path.append(str(TOP / "tests"))
@@ -98,15 +99,33 @@ PERSONS: Dict[str, Any] = {
 """Entities as every program serves them."""
 
 
-class ProgramTest(unittest.TestCase):
-    """A test over a program of its own, with its store in memory."""
+class FolderTest(unittest.TestCase):
+    """A test in a folder of its own."""
 
-    mapping: Any = PERSONS
+    def setUp(self) -> None:
+        place = tempfile.TemporaryDirectory()
+        self.addCleanup(place.cleanup)
+        self.place = Path(place.name)
+
+
+class ManagerTest(unittest.TestCase):
+    """A test over a program of its own, with its store in memory, and a manager."""
+
+    mapping: Any
 
     def setUp(self) -> None:
         self.app = karzhoul.open(self.mapping, program=PROGRAM)
         self.addCleanup(self.app.close)
         self.em = self.app.create_entity_manager()
+
+
+class ProgramTest(ManagerTest):
+    """A test over the entities of every program."""
+
+    mapping = PERSONS
+
+    def setUp(self) -> None:
+        super().setUp()
         self.Person = self.app.entity("Person")
         self.Place = self.app.entity("Place")
         self.Order = self.app.entity("Order")

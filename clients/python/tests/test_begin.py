@@ -8,7 +8,7 @@ from typing import Any, Callable, List
 import karzhoul
 from karzhoul import EntityManager
 
-from .support import PROGRAM, TOP, ProgramTest, needs_program
+from .support import ORDERS, ManagerTest, ProgramTest, needs_program
 
 
 @needs_program
@@ -115,14 +115,13 @@ class Retry(ProgramTest):
 
 
 @needs_program
-class Together(unittest.TestCase):
+class Together(ManagerTest):
     """Persons and their orders: Ada has the orders 1 and 2, Bob has 3, and 4 is nobody's."""
 
+    mapping = ORDERS
+
     def setUp(self) -> None:
-        mapping = TOP / "tests" / "mappings" / "persons.json"
-        self.app = karzhoul.open(mapping, program=PROGRAM)
-        self.addCleanup(self.app.close)
-        self.em = self.app.create_entity_manager()
+        super().setUp()
         self.persons = self.app.new_many("Person", [{"name": name} for name in ("Ada", "Bob")])
         ada, bob = self.persons
         owners = ((1, ada), (2, ada), (3, bob), (4, None))

@@ -11,9 +11,7 @@ import re
 import shlex
 import subprocess
 import sys
-import tempfile
 import unittest
-from pathlib import Path
 from typing import Any, Iterator, Tuple
 
 from karzhoul import beginnings
@@ -21,7 +19,7 @@ from karzhoul.command import main
 from karzhoul.linter import Fault, lint
 from karzhoul.schema import mapping_schema
 
-from .support import PROGRAM, TOP, needs_program, package_elsewhere
+from .support import PROGRAM, TOP, FolderTest, needs_program, package_elsewhere
 from .test_linter import worked_mappings
 
 TYPES = {"object": dict, "array": list, "string": str, "integer": int, "boolean": bool}
@@ -145,11 +143,9 @@ class Schema(unittest.TestCase):
         self.assertEqual((status, json.loads(out)), (0, mapping_schema()))
 
 
-class New(unittest.TestCase):
+class New(FolderTest):
     def setUp(self) -> None:
-        place = tempfile.TemporaryDirectory()
-        self.addCleanup(place.cleanup)
-        self.place = Path(place.name)
+        super().setUp()
         self.folder = self.place / "first"
 
     def test_the_files(self) -> None:

@@ -17,7 +17,7 @@ from typing import Any
 
 import karzhoul
 
-from .support import HERE, STUB
+from .support import HERE, STUB, FolderTest
 
 
 def builder() -> Any:
@@ -38,17 +38,13 @@ def takes_the_program() -> bool:
     return os.uname()[0::4] == ("Linux", "x86_64") and numbers >= (2, 34)
 
 
-class Wheels(unittest.TestCase):
-    def setUp(self) -> None:
-        place = tempfile.TemporaryDirectory()
-        self.addCleanup(place.cleanup)
-        self.place = place.name
-
+class Wheels(FolderTest):
     def test_the_plain_one_is_for_any_system_and_brings_no_program(self) -> None:
         name = builder().build_wheel(self.place)
         self.assertTrue(name.endswith("-py3-none-any.whl"), name)
         with zipfile.ZipFile(Path(self.place, name)) as wheel:
             self.assertEqual([it for it in wheel.namelist() if "jpa" in it or "NOTICES" in it], [])
+            self.assertIn("karzhoul/linter/rules.py", wheel.namelist())
 
     @unittest.skipIf(sys.version_info < (3, 11), "Python reads TOML from version 3.11 on")
     def test_it_has_the_metadata_of_pyproject(self) -> None:

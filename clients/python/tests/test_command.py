@@ -26,7 +26,7 @@ from karzhoul.diagram import diagram
 from karzhoul.shell import Shell, members_of, usage
 from karzhoul.unit import entities_of
 
-from .support import HERE, PERSONS, PROGRAM, examples, needs_program, played
+from .support import HERE, PERSONS, PROGRAM, FolderTest, examples, needs_program, played
 
 BROWSERS = ("chromium", "chromium-browser", "google-chrome", "firefox")
 
@@ -68,13 +68,11 @@ class Page(HTMLParser):
         assert self.open.pop() == tag, tag
 
 
-class WithStore(unittest.TestCase):
+class WithStore(FolderTest):
     """A test over a database with a few objects."""
 
     def setUp(self) -> None:
-        place = tempfile.TemporaryDirectory()
-        self.addCleanup(place.cleanup)
-        self.place = Path(place.name)
+        super().setUp()
         self.mapping, self.db = str(self.place / "mapping.json"), str(self.place / "app.db")
         Path(self.mapping).write_text(json.dumps(PERSONS), encoding="utf-8")
         with karzhoul.open(self.mapping, self.db, program=PROGRAM) as app:
@@ -282,15 +280,14 @@ class Keys(unittest.TestCase):
                 show.keys_of([wrong], entities)
 
 
-class CheckAlone(unittest.TestCase):
+class CheckAlone(FolderTest):
     """A check by the client alone, with no program to start."""
 
     def setUp(self) -> None:
-        place = tempfile.TemporaryDirectory()
-        self.addCleanup(place.cleanup)
-        self.mapping = str(Path(place.name, "mapping.json"))
+        super().setUp()
+        self.mapping = str(self.place / "mapping.json")
         Path(self.mapping).write_text(json.dumps(PERSONS), encoding="utf-8")
-        nowhere = mock.patch.dict(os.environ, {"KARZHOUL_PROGRAM": str(Path(place.name, "none"))})
+        nowhere = mock.patch.dict(os.environ, {"KARZHOUL_PROGRAM": str(self.place / "none")})
         nowhere.start()
         self.addCleanup(nowhere.stop)
 

@@ -7,7 +7,6 @@ import hashlib
 import io
 import os
 import shutil
-import tempfile
 import unittest
 from pathlib import Path
 from typing import Any, Optional, Tuple
@@ -16,7 +15,7 @@ from unittest import mock
 import karzhoul
 from karzhoul.finding import find_program
 
-from .support import PERSONS, STUB, TOP
+from .support import PERSONS, STUB, TOP, FolderTest
 
 
 def sums(top: Path, *names: str) -> str:
@@ -26,13 +25,12 @@ def sums(top: Path, *names: str) -> str:
     )
 
 
-class Finding(unittest.TestCase):
+class Finding(FolderTest):
     """Each test looks from a package that is elsewhere than this one."""
 
     def setUp(self) -> None:
-        place = tempfile.TemporaryDirectory()
-        self.addCleanup(place.cleanup)
-        self.place = Path(place.name).resolve()
+        super().setUp()
+        self.place = self.place.resolve()
         said: Any = mock.patch("karzhoul.finding._said", set())
         env: Any = mock.patch.dict(os.environ)
         for patch in (said, env):

@@ -22,7 +22,9 @@ from unittest import mock
 
 import karzhoul
 
-from .support import FLAT, HERE, PERSONS, PROGRAM, ProgramTest, needs_program, present
+from .support import (
+    FLAT, HERE, PERSONS, PROGRAM, FolderTest, ProgramTest, needs_program, present,
+)
 from .test_program import PACKAGE, lives
 
 LEDGER = HERE / "ledger.py"
@@ -30,13 +32,12 @@ LEDGER = HERE / "ledger.py"
 INTERRUPTS = int(os.environ.get("KARZHOUL_INTERRUPTS", "100"))
 
 
-class Interrupted(unittest.TestCase):
+class Interrupted(FolderTest):
     """A test over a ledger, whose alarm raises a KeyboardInterrupt as Ctrl-C does."""
 
     def setUp(self) -> None:
-        place = tempfile.TemporaryDirectory()
-        self.addCleanup(place.cleanup)
-        self.log = Path(place.name, "log")
+        super().setUp()
+        self.log = self.place / "log"
         with mock.patch.dict(os.environ, KARZHOUL_LEDGER=str(self.log)):
             self.app = karzhoul.open(PERSONS, program=LEDGER)
         self.addCleanup(self.app.close)

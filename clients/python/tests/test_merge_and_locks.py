@@ -9,17 +9,17 @@ from typing import Any, Callable, List, Type, cast
 import karzhoul
 from karzhoul import LifecycleEvent, LockModeType
 
-from .support import PROGRAM, TOP, needs_program, present
+from .support import ORDERS, ManagerTest, needs_program, present
 
 
 @needs_program
-class MergeAndLocksTest(unittest.TestCase):
+class MergeAndLocksTest(ManagerTest):
     """A test over a program of its own, with its store in memory."""
 
+    mapping = ORDERS
+
     def setUp(self) -> None:
-        self.app = karzhoul.open(TOP / "tests" / "mappings" / "persons.json", program=PROGRAM)
-        self.addCleanup(self.app.close)
-        self.em = self.app.create_entity_manager()
+        super().setUp()
         self.Person, self.Order = map(self.app.entity, ("Person", "Order"))
 
     def committed(self, *numbers: int) -> Any:

@@ -5,7 +5,6 @@ from __future__ import annotations
 
 import json
 import sqlite3
-import tempfile
 import unittest
 from pathlib import Path
 from typing import Any, Dict, Iterator, List, Optional, Tuple
@@ -14,7 +13,7 @@ from unittest import mock
 import karzhoul
 from karzhoul.migration import outlook
 
-from .support import PERSONS, PROGRAM, TOP, needs_program, needs_revision_2
+from .support import PERSONS, PROGRAM, TOP, FolderTest, needs_program, needs_revision_2
 from .test_command import alone
 
 RUNS = TOP / "tests" / "runs"
@@ -34,13 +33,11 @@ def cells_of(text: str) -> Cells:
     ]
 
 
-class WithStore(unittest.TestCase):
+class WithStore(FolderTest):
     """A test over a store's file."""
 
     def setUp(self) -> None:
-        place = tempfile.TemporaryDirectory()
-        self.addCleanup(place.cleanup)
-        self.place = Path(place.name)
+        super().setUp()
         self.db, self.mapping = self.place / "app.db", self.place / "mapping.json"
 
     def fill(self, cells: Cells) -> None:

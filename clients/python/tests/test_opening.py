@@ -6,7 +6,6 @@ import os
 import sqlite3
 import subprocess
 import sys
-import tempfile
 import unittest
 from contextlib import closing
 from pathlib import Path
@@ -15,17 +14,15 @@ from unittest import mock
 import karzhoul
 from karzhoul import opening
 
-from .support import FLAT, HERE, PROGRAM, needs_program
+from .support import FLAT, HERE, PROGRAM, FolderTest, needs_program
 
 needs_locks = unittest.skipUnless(Path("/proc/locks").exists(), "no system that lists its locks")
 
 
 @needs_program
-class Opening(unittest.TestCase):
+class Opening(FolderTest):
     def setUp(self) -> None:
-        place = tempfile.TemporaryDirectory()
-        self.addCleanup(place.cleanup)
-        self.place = Path(place.name)
+        super().setUp()
         self.db = self.place / "app.db"
 
     def fails(self, *told: str) -> None:

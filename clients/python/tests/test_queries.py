@@ -8,18 +8,18 @@ from typing import Any, Callable, List, Type
 import karzhoul
 from karzhoul import FlushModeType, LifecycleEvent
 
-from .support import PROGRAM, TOP, needs_program
+from .support import ORDERS, PROGRAM, ManagerTest, needs_program
 
 
 @needs_program
-class Queries(unittest.TestCase):
+class Queries(ManagerTest):
     """A test over a program of its own, with its store in memory: Ada has the orders 10 and 11, and
     nobody has the order 12."""
 
+    mapping = ORDERS
+
     def setUp(self) -> None:
-        self.app = karzhoul.open(TOP / "tests" / "mappings" / "persons.json", program=PROGRAM)
-        self.addCleanup(self.app.close)
-        self.em = self.app.create_entity_manager()
+        super().setUp()
         self.Person, self.Order = map(self.app.entity, ("Person", "Order"))
         self.person = self.Person(name="Ada")
         self.orders = [

@@ -12,7 +12,7 @@ import karzhoul
 from karzhoul.rewriting import counting, with_lists
 from karzhoul.rows import Names, Row, Rows
 
-from .support import PROGRAM, TOP, counted, needs_program
+from .support import ORDERS, ManagerTest, counted, needs_program
 
 
 def named(text: str) -> Any:
@@ -142,15 +142,14 @@ TEXTS = (
 
 
 @needs_program
-class Pages(unittest.TestCase):
+class Pages(ManagerTest):
     """The persons a to d, of whom d has no order, and orders with the numbers -7 to 19, the last of
     which is nobody's."""
 
+    mapping = ORDERS
+
     def setUp(self) -> None:
-        mapping = TOP / "tests" / "mappings" / "persons.json"
-        self.app = karzhoul.open(mapping, program=PROGRAM)
-        self.addCleanup(self.app.close)
-        self.em = self.app.create_entity_manager()
+        super().setUp()
         persons = self.app.new_many("Person", [{"name": name} for name in "abcd"])
         rows: List[Any] = [{"number": n, "amount": n % 4, "person": persons[n % 3]} for n in range(-7, 19)]
         orders = self.app.new_many("Order", [*rows, {"number": 19}])
@@ -239,14 +238,13 @@ GIVEN = {"some": [1, 3, 5, 99], "none": ()}
 
 
 @needs_program
-class Asked(unittest.TestCase):
+class Asked(ManagerTest):
     """Ada has the orders 1 and 2."""
 
+    mapping = ORDERS
+
     def setUp(self) -> None:
-        mapping = TOP / "tests" / "mappings" / "persons.json"
-        self.app = karzhoul.open(mapping, program=PROGRAM)
-        self.addCleanup(self.app.close)
-        self.em = self.app.create_entity_manager()
+        super().setUp()
         self.person = self.app.new("Person", name="Ada")
         self.orders = self.app.new_many("Order", [{"number": n, "amount": 5} for n in (1, 2)])
         with self.em.transaction():
