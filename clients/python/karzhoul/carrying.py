@@ -19,7 +19,7 @@ from .linter import lint
 from .loading import HEARD, HEARD_OF_CHANGES, Loader
 from .plans import Plan, Terms, checked
 from .progress import Progress
-from .records import Key, Next, Shape, bare, shapes_of
+from .records import Key, Shape, bare, shapes_of
 from .refusals import KarzhoulError, ProgramEnded, Refused
 from .sources import RowFault, Source
 from .spelling import FORMAT, Begun, Ended, cells_of, columns_of, line_of_item, row_of_cells

@@ -5,11 +5,10 @@ from __future__ import annotations
 
 import json
 from itertools import islice
-from typing import TYPE_CHECKING, Any, Dict, Iterable, Iterator, List, Mapping, Optional
+from typing import TYPE_CHECKING, Any, Dict, Iterable, Iterator, Mapping, Optional
 
 from .arguments import meant
 from .culprits import Culprits
-from .entities import Entity
 from .jpql_check import BYTES, INT, TEXT, Kind, check
 from .line_check import faults_of_line
 from .refusals import BadLine, KarzhoulError

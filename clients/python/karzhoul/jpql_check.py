@@ -11,7 +11,7 @@ from typing import Any, Dict, FrozenSet, List, Mapping, NamedTuple, Optional, Se
 
 from . import jpql
 from .arguments import meant
-from .jpql import Block, Bulk, Item, Node, Source, Statement, Token
+from .jpql import Block, Bulk, Node, Source, Statement, Token
 from .jpql_words import UNSERVED, syntax_told
 from .unit import EntityDescription, Member, MemberKind
 

@@ -4,7 +4,7 @@ from __future__ import annotations
 
 from contextlib import AbstractContextManager
 from typing import (
-    TYPE_CHECKING, Any, Iterable, Iterator, List, Mapping, Optional, Type, Union, overload,
+    TYPE_CHECKING, Any, Iterable, Iterator, List, Optional, Type, Union, overload,
 )
 
 from .concern import Concern
