@@ -4,7 +4,8 @@ ghost use Rattle.std.specs.Prelude.{◌≡◌, [], false, IsTrue, OnOk, OnErr};
 ghost use Rattle.sqlite.specs.Held.{state};
 ghost use Rattle.sqlite.specs.State.{HasCleanDisk, KeepsCommit, Survives};
 ghost use Rattle.jpa_cells_meaning.specs.Schema.{no_schema};
-ghost use Rattle.jpa_cells_meaning.specs.Content.{KeepsContent, Makes, Made, Leaves};
+ghost use Rattle.jpa_cells_meaning.specs.Content.{Makes, Made};
+ghost use Rattle.jpa_cells.specs.Calls.{Commits};
 
 use sqlite::{Alter, Connection, Error, Transaction};
 
@@ -34,12 +35,7 @@ pub fn create<S: Alter>(conn: &mut Connection<S>) -> Result<(), Error>
     requires empty { HasCleanDisk (state S.Store conn.old) →
         IsTrue (state S.Store conn.old).is_open → (state S.Store conn.old).now.schema
         ≡ no_schema }
-    ensures idle { conn.new.in_transaction ≡ false }
-    ensures made { HasCleanDisk (state S.Store conn.new) →
-        OnOk result (Made (state S.Store conn.old) (state S.Store conn.new)) }
-    ensures kept { OnErr result (KeepsContent (state S.Store conn.old) (state S.Store conn.new)) }
-    ensures crash { Survives (state S.Store conn.old) (state S.Store conn.new)
-        (Leaves (λ tables. tables ≡ (λ t. []))) }
+    ensures { Commits S.Store Made (λ tables. tables ≡ (λ t. [])) conn.old conn.new result }
 {
     let _idle = conn.is_autocommit();
     let mut tx = conn.transaction();

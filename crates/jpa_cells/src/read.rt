@@ -6,8 +6,9 @@ ghost use Rattle.sqlite.specs.Held.{state};
 ghost use Rattle.sqlite.specs.State.{HasCleanDisk, Survives};
 ghost use Rattle.jpa_value.specs.declared.refusal.Cause.{Cause};
 ghost use Rattle.jpa_cells_meaning.specs.Tables.{cells_at, row_of};
-ghost use Rattle.jpa_cells_meaning.specs.Content.{IsCellStore, KeepsContent, IsExcused, Leaves, ShowsCells, tables_of, shown_cell, shown_entry, IsShownCell, IsShownEntry, added};
+ghost use Rattle.jpa_cells_meaning.specs.Content.{ShowsCells, tables_of, shown_cell, shown_entry, IsShownCell, IsShownEntry, added};
 ghost use Rattle.jpa_cells_meaning.specs.Store.{IsStoreCause, OnlyReads, HandsTable};
+ghost use Rattle.jpa_cells.specs.Calls.{IsIdle, Selects};
 ghost use Rattle.jpa_cells_meaning.specs.Reads.{ShowsOn};
 
 use crate::sink::{CellSink, hand_on};
@@ -131,17 +132,11 @@ fn next_entry<S: Alter>(rows: &mut Rows<'_, S>) -> Result<Option<(Bytes, Cell)>,
 }
 
 fn select_row<S: Alter>(conn: &mut Connection<S>, table: i64, row: &[u8]) -> Result<Vec<Row>, Error>
-    requires idle { conn.old.in_transaction ≡ false }
-    requires cells { IsCellStore (state S.Store conn.old) }
-    ensures idle { conn.new.in_transaction ≡ false }
+    requires { IsIdle S.Store conn.old }
     ensures shows { HasCleanDisk (state S.Store conn.new) →
         IfOk result (λ rows. ShowsCells (state S.Store conn.old) (state S.Store conn.new) table
         row.now rows.items) }
-    ensures kept { KeepsContent (state S.Store conn.old) (state S.Store conn.new) }
-    ensures cause { HasCleanDisk (state S.Store conn.new) →
-        IfErr result (IsExcused (state S.Store conn.old) (state S.Store conn.new)) }
-    ensures survives { Survives (state S.Store conn.old) (state S.Store conn.new)
-        (Leaves (λ _. ⊥)) }
+    ensures selects { Selects S.Store conn.old conn.new result }
 {
     let _idle = conn.is_autocommit();
     conn.query_all(SELECT_ROW, params![table, row])
@@ -154,20 +149,14 @@ pub fn read_row<S: Alter>(
     table: i64,
     row: &[u8],
 ) -> Result<Seq<Cell>, Error>
-    requires idle { conn.old.in_transaction ≡ false }
-    requires cells { IsCellStore (state S.Store conn.old) }
-    ensures idle { conn.new.in_transaction ≡ false }
+    requires { IsIdle S.Store conn.old }
     ensures cells { HasCleanDisk (state S.Store conn.new) →
         IfOk result (λ cells. cells ≡ cells_at row.now
         (tables_of (state S.Store conn.old).now table)) }
     ensures stays { HasCleanDisk (state S.Store conn.new) →
         OnOk result (IsTrue (state S.Store conn.old).is_open
         × IsTrue (state S.Store conn.new).is_open) }
-    ensures kept { KeepsContent (state S.Store conn.old) (state S.Store conn.new) }
-    ensures cause { HasCleanDisk (state S.Store conn.new) →
-        IfErr result (IsExcused (state S.Store conn.old) (state S.Store conn.new)) }
-    ensures survives { Survives (state S.Store conn.old) (state S.Store conn.new)
-        (Leaves (λ _. ⊥)) }
+    ensures selects { Selects S.Store conn.old conn.new result }
 {
     let rows = select_row(conn, table, row)?;
     cells_of(alloc, rows.as_slice())
@@ -181,8 +170,7 @@ pub fn hand_table<S: Alter, K: CellSink>(
     table: i64,
     sink: &mut K,
 ) -> Result<bool, Cause>
-    requires idle { conn.old.in_transaction ≡ false }
-    requires cells { IsCellStore (state S.Store conn.old) }
+    requires { IsIdle S.Store conn.old }
     ensures handed { HandsTable S.Store K.takes IsStoreCause table conn.old conn.new sink.old result
         sink.new }
     ensures reads { OnlyReads S.Store conn.old conn.new result }

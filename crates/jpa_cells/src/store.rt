@@ -1,12 +1,10 @@
 //! The store of cells.
 
-ghost use Rattle.std.specs.Prelude.{◌≡◌, ◌≢◌, ◌⊎◌, ◌+◌, ◌<◌, false, [], length, sum_by, IfOk, IfErr, OnOk, OnErr};
+ghost use Rattle.std.specs.Prelude.{◌≡◌, ◌≢◌, ◌+◌, ◌<◌, false, length, sum_by, IfOk, IfErr, OnOk};
 ghost use Rattle.std.specs.Result.{IsOk};
-ghost use Rattle.sqlite.specs.Held.{state};
-ghost use Rattle.jpa_cells_meaning.specs.Content.{KeepsContent};
-ghost use Rattle.jpa_cells_meaning.specs.Schema.{no_schema};
-ghost use Rattle.jpa_cells_meaning.specs.Tables.{cells_at, tables_after, statements_of, AreRows, NameColumnsOnce};
-ghost use Rattle.jpa_cells_meaning.specs.Store.{up_to_greatest, Counts, Tells, TellsOf, faults_after, IsStoreCause, HandsTable, new_store, IsClean, IsOpen, tables_in, HoldsTable, IsOrderedIfFound, IsReady, Keeps, Becomes, Opens, Endures, Allows, HasFault, FaultHasCause, StaysOpen};
+ghost use Rattle.jpa_cells_meaning.specs.Tables.{cells_at, statements_of, AreRows, NameColumnsOnce};
+ghost use Rattle.jpa_cells_meaning.specs.Store.{up_to_greatest, Counts, Tells, TellsOf, faults_after, IsStoreCause, HandsTable, new_store, IsClean, tables_in, HoldsTable, IsOrderedIfFound, IsReady, StaysOpen};
+ghost use Rattle.jpa_cells.specs.Calls.{OfRow, OfTable, IsTable, IsOpened, IsRefused, Looks, Applies};
 
 use crate::found;
 use crate::make::create;
@@ -89,21 +87,9 @@ impl<S: Alter + Drop> CellStore<S> {
         mut conn: Connection<S>,
     ) -> Result<CellStore<S>, (Cause, Connection<S>)>
         requires { IsOrderedIfFound S.Store conn }
-        ensures opens { IfOk result (Opens S.Store conn) }
-        ensures crash { IfOk result (λ store. Endures S.Store conn store.conn
-            (λ tables. tables ≡ (λ t. []))) }
-        ensures refused { IfErr result (λ e. (e.0 ≡ Cause.OutOfMemory)
-            ⊎ (e.0 ≡ Cause.StoreFault)) }
+        ensures opened { IfOk result (IsOpened S.Store conn) }
         ensures takes { conn.in_transaction ≡ false → HoldsTable S.Store conn → IsOk result }
-        ensures memory { IfErr result (λ e. e.0 ≡ Cause.OutOfMemory →
-            (conn.in_transaction ≡ false) × ((state S.Store conn).now.schema ≡ no_schema)) }
-        ensures kept { IfErr result (λ e. Keeps S.Store conn e.1) }
-        ensures kept_content { IfErr result (λ e. KeepsContent (state S.Store conn)
-            (state S.Store e.1)) }
-        ensures idle { IfErr result (λ e. e.1.in_transaction ≡ conn.in_transaction) }
-        ensures again { IfErr result (λ e. IsOrderedIfFound S.Store e.1) }
-        ensures crash_err { IfErr result (λ e. Endures S.Store conn e.1
-            (λ tables. tables ≡ (λ t. []))) }
+        ensures refused { IfErr result (IsRefused S.Store conn) }
     {
         let mut faults = 0;
         if !conn.is_autocommit() {
@@ -195,17 +181,9 @@ impl<S: Alter> CellStore<S> {
             IfOk result (λ cells. cells ≡ cells_at row.now
             (tables_in S.Store self.old.conn table)) }
         ensures open { StaysOpen S.Store result self.old.conn self.new.conn }
-        ensures kept { Keeps S.Store self.old.conn self.new.conn }
         ensures counted { self.new.row_selects ≡ up_to_greatest (self.old.row_selects + 1) }
         ensures told { Tells result self.old.faults self.new.faults }
-        ensures cause { FaultHasCause S.Store result self.old.conn self.new.conn }
-        ensures others { self.new
-            ≡ record self.old {
-              conn = self.new.conn;
-              row_selects = self.new.row_selects;
-              faults = self.new.faults;
-            } }
-        ensures crash { Endures S.Store self.old.conn self.new.conn (λ _. ⊥) }
+        ensures looks { Looks S.Store OfRow self.old self.new result }
     {
         self.row_selects = self.row_selects.saturating_add(1);
         match read_row(&mut self.conn, self.alloc, table, row) {
@@ -217,23 +195,12 @@ impl<S: Alter> CellStore<S> {
     /// The rows of a table, in rising order of their bytes, each with its cells in rising order of
     /// their columns, by one SELECT.
     pub fn table(&mut self, table: i64) -> Result<Seq<CellRow>, Cause>
-        ensures rows { IsClean S.Store self.new.conn →
-            IfOk result (λ rows. rows ≡ tables_in S.Store self.old.conn table) }
-        ensures rise { IsClean S.Store self.new.conn → IfOk result AreRows }
+        ensures found { IsClean S.Store self.new.conn →
+            IfOk result (IsTable S.Store self.old.conn table) }
         ensures open { StaysOpen S.Store result self.old.conn self.new.conn }
-        ensures kept { Keeps S.Store self.old.conn self.new.conn }
-        ensures kept_content { KeepsContent (state S.Store self.old.conn)
-            (state S.Store self.new.conn) }
         ensures counted { self.new.table_selects ≡ up_to_greatest (self.old.table_selects + 1) }
         ensures told { Tells result self.old.faults self.new.faults }
-        ensures cause { FaultHasCause S.Store result self.old.conn self.new.conn }
-        ensures others { self.new
-            ≡ record self.old {
-              conn = self.new.conn;
-              table_selects = self.new.table_selects;
-              faults = self.new.faults;
-            } }
-        ensures crash { Endures S.Store self.old.conn self.new.conn (λ _. ⊥) }
+        ensures looks { Looks S.Store OfTable self.old self.new result }
     {
         let mut kept = Kept {
             rows: Vec::new(self.alloc),
@@ -252,19 +219,8 @@ impl<S: Alter> CellStore<S> {
         ensures rise { IsClean S.Store self.new.conn →
             OnOk result (AreRows (tables_in S.Store self.old.conn table)) }
         ensures open { StaysOpen S.Store result self.old.conn self.new.conn }
-        ensures kept { Keeps S.Store self.old.conn self.new.conn }
-        ensures kept_content { KeepsContent (state S.Store self.old.conn)
-            (state S.Store self.new.conn) }
         ensures counted { self.new.table_selects ≡ up_to_greatest (self.old.table_selects + 1) }
-        ensures told { self.new.faults ≡ faults_after result self.old.faults }
-        ensures cause { FaultHasCause S.Store result self.old.conn self.new.conn }
-        ensures others { self.new
-            ≡ record self.old {
-              conn = self.new.conn;
-              table_selects = self.new.table_selects;
-              faults = self.new.faults;
-            } }
-        ensures crash { Endures S.Store self.old.conn self.new.conn (λ _. ⊥) }
+        ensures looks { Looks S.Store OfTable self.old self.new result }
     {
         self.table_selects = self.table_selects.saturating_add(1);
         let answer = hand_table(&mut self.conn, self.alloc, table, sink);
@@ -279,27 +235,12 @@ impl<S: Alter> CellStore<S> {
     /// each cell and where rowids are left for all of them, a `StoreFault` has a fault as its
     /// cause.
     pub fn apply(&mut self, changes: &[CellChange]) -> Result<(), Cause>
-        ensures applied { 0 < length changes.now → OnOk result
-            (Becomes S.Store self.old.conn self.new.conn (tables_after changes.now)) }
+        ensures applies { Applies S.Store changes.now self.old self.new result }
         ensures nothing { length changes.now ≡ 0 → (result ≡ Ok tt)
             × (self.new ≡ self.old) }
-        ensures kept { OnErr result (Keeps S.Store self.old.conn self.new.conn) }
         ensures counted { 0 < length changes.now → Counts result self.old.writes self.new.writes
             (sum_by statements_of changes.now) }
         ensures once { IsClean S.Store self.new.conn → OnOk result (NameColumnsOnce changes.now) }
-        ensures told { Tells result self.old.faults self.new.faults }
-        ensures cause { IsClean S.Store self.new.conn →
-            Allows S.Store self.old.conn changes.now → result ≡ Err Cause.StoreFault →
-            HasFault S.Store self.old.conn self.new.conn }
-        ensures others { self.new
-            ≡ record self.old {
-              conn = self.new.conn;
-              writes = self.new.writes;
-              faults = self.new.faults;
-            } }
-        ensures crash { Endures S.Store self.old.conn self.new.conn
-            (λ tables. IsOpen S.Store self.old.conn
-            × (tables ≡ tables_after changes.now (tables_in S.Store self.old.conn))) }
     {
         if changes.is_empty() {
             return Ok(());

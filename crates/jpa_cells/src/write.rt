@@ -1,11 +1,12 @@
 //! The DELETE and the INSERT, and the transaction that makes a list of changes.
 
-ghost use Rattle.std.specs.Prelude.{◌≡◌, ◌+◌, ◌<◌, ◌≤◌, [], ◌∷◌, false, length, sum_by, IsTrue, IfErr, OnOk, OnErr};
+ghost use Rattle.std.specs.Prelude.{◌≡◌, ◌+◌, ◌<◌, ◌≤◌, ⊤, [], ◌∷◌, length, sum_by, IsTrue, IfErr, OnOk};
 ghost use Rattle.sqlite.specs.Held.{state};
-ghost use Rattle.sqlite.specs.State.{HasCleanDisk, KeepsCommit, Survives};
+ghost use Rattle.sqlite.specs.State.{HasCleanDisk};
 ghost use Rattle.jpa_cells_meaning.specs.Tables.{statements_of, tables_after, ColumnsDiffer, NameColumnsOnce};
 ghost use Rattle.jpa_cells_meaning.specs.Store.{Counts, up_to_greatest};
-ghost use Rattle.jpa_cells_meaning.specs.Content.{IsCellStore, KeepsContent, IsExcused, Steps, Turns, Applied, Leaves, TakesRowids, CanAdd, CanTake, tables_of, with_cell, with_cells, without_cells, replaced};
+ghost use Rattle.jpa_cells.specs.Calls.{IsIdle, IsInside, Performs, Commits};
+ghost use Rattle.jpa_cells_meaning.specs.Content.{IsExcused, Steps, Turns, Applied, TakesRowids, CanAdd, CanTake, tables_of, with_cell, with_cells, without_cells, replaced};
 
 use jpa_cells_meaning::{Cell, CellChange};
 use sqlite::{Alter, Connection, Error, Transaction, params};
@@ -22,25 +23,16 @@ fn insert<S: Alter>(
     cell: &Cell,
     writes: &mut u64,
 ) -> Result<usize, Error>
-    requires inside { HasCleanDisk (state S.Store tx.old.conn.now) →
-        IsTrue (state S.Store tx.old.conn.now).in_transaction }
-    requires cells { IsCellStore (state S.Store tx.old.conn.now) }
+    requires { IsInside S.Store tx.old.conn.now }
     ensures same_reference { tx.new.conn.ghost_name ≡ tx.old.conn.ghost_name }
-    ensures steps { HasCleanDisk (state S.Store tx.new.conn.now) →
-        OnOk result (Steps (state S.Store tx.old.conn.now) (state S.Store tx.new.conn.now)
-        (with_cell table row.now cell.now)) }
-    ensures kept { HasCleanDisk (state S.Store tx.new.conn.now) →
-        OnErr result (KeepsCommit (state S.Store tx.old.conn.now) (state S.Store tx.new.conn.now)) }
-    ensures survives { Survives (state S.Store tx.old.conn.now) (state S.Store tx.new.conn.now)
-        (λ _. ⊥) }
+    ensures performs { Performs S.Store (λ old new. Steps old new
+        (with_cell table row.now cell.now)) (CanAdd (state S.Store tx.old.conn.now) table row.now
+        (cell.now ∷ [])) tx.old.conn.now tx.new.conn.now result }
     ensures counted { writes.new ≡ up_to_greatest (writes.old + 1) }
     ensures grown { writes.old ≤ writes.new }
     ensures takes { HasCleanDisk (state S.Store tx.new.conn.now) →
         OnOk result (TakesRowids (state S.Store tx.old.conn.now) (state S.Store tx.new.conn.now)
         1) }
-    ensures cause { HasCleanDisk (state S.Store tx.new.conn.now) →
-        CanAdd (state S.Store tx.old.conn.now) table row.now (cell.now ∷ []) →
-        IfErr result (IsExcused (state S.Store tx.old.conn.now) (state S.Store tx.new.conn.now)) }
 {
     *writes = writes.saturating_add(1);
     tx.execute(
@@ -56,24 +48,15 @@ fn delete<S: Alter>(
     row: &[u8],
     writes: &mut u64,
 ) -> Result<usize, Error>
-    requires inside { HasCleanDisk (state S.Store tx.old.conn.now) →
-        IsTrue (state S.Store tx.old.conn.now).in_transaction }
-    requires cells { IsCellStore (state S.Store tx.old.conn.now) }
+    requires { IsInside S.Store tx.old.conn.now }
     ensures same_reference { tx.new.conn.ghost_name ≡ tx.old.conn.ghost_name }
-    ensures steps { HasCleanDisk (state S.Store tx.new.conn.now) →
-        OnOk result (Steps (state S.Store tx.old.conn.now) (state S.Store tx.new.conn.now)
-        (without_cells table row.now)) }
-    ensures kept { HasCleanDisk (state S.Store tx.new.conn.now) →
-        OnErr result (KeepsCommit (state S.Store tx.old.conn.now) (state S.Store tx.new.conn.now)) }
-    ensures survives { Survives (state S.Store tx.old.conn.now) (state S.Store tx.new.conn.now)
-        (λ _. ⊥) }
+    ensures performs { Performs S.Store (λ old new. Steps old new (without_cells table row.now))
+        ⊤ tx.old.conn.now tx.new.conn.now result }
     ensures counted { writes.new ≡ up_to_greatest (writes.old + 1) }
     ensures grown { writes.old ≤ writes.new }
     ensures takes { HasCleanDisk (state S.Store tx.new.conn.now) →
         OnOk result (TakesRowids (state S.Store tx.old.conn.now) (state S.Store tx.new.conn.now)
         0) }
-    ensures cause { HasCleanDisk (state S.Store tx.new.conn.now) →
-        IfErr result (IsExcused (state S.Store tx.old.conn.now) (state S.Store tx.new.conn.now)) }
 {
     *writes = writes.saturating_add(1);
     tx.execute(DELETE, params![table, row])
@@ -87,26 +70,17 @@ fn insert_all<S: Alter>(
     cells: &[Cell],
     writes: &mut u64,
 ) -> Result<(), Error>
-    requires inside { HasCleanDisk (state S.Store tx.old.conn.now) →
-        IsTrue (state S.Store tx.old.conn.now).in_transaction }
-    requires cells { IsCellStore (state S.Store tx.old.conn.now) }
+    requires ready { IsInside S.Store tx.old.conn.now }
     requires open { HasCleanDisk (state S.Store tx.old.conn.now) →
         IsTrue (state S.Store tx.old.conn.now).is_open }
     ensures same_reference { tx.new.conn.ghost_name ≡ tx.old.conn.ghost_name }
-    ensures steps { HasCleanDisk (state S.Store tx.new.conn.now) →
-        OnOk result (Steps (state S.Store tx.old.conn.now) (state S.Store tx.new.conn.now)
-        (with_cells table row.now cells.now)) }
-    ensures kept { HasCleanDisk (state S.Store tx.new.conn.now) →
-        OnErr result (KeepsCommit (state S.Store tx.old.conn.now) (state S.Store tx.new.conn.now)) }
-    ensures survives { Survives (state S.Store tx.old.conn.now) (state S.Store tx.new.conn.now)
-        (λ _. ⊥) }
+    ensures performs { Performs S.Store (λ old new. Steps old new
+        (with_cells table row.now cells.now)) (CanAdd (state S.Store tx.old.conn.now) table row.now
+        cells.now) tx.old.conn.now tx.new.conn.now result }
     ensures counted { Counts result writes.old writes.new (length cells.now) }
     ensures takes { HasCleanDisk (state S.Store tx.new.conn.now) →
         OnOk result (TakesRowids (state S.Store tx.old.conn.now) (state S.Store tx.new.conn.now)
         (length cells.now)) }
-    ensures cause { HasCleanDisk (state S.Store tx.new.conn.now) →
-        CanAdd (state S.Store tx.old.conn.now) table row.now cells.now →
-        IfErr result (IsExcused (state S.Store tx.old.conn.now) (state S.Store tx.new.conn.now)) }
 {
     let _writes = *writes;
     'cells: for cell in cells {
@@ -121,26 +95,17 @@ fn put<S: Alter>(
     change: &CellChange,
     writes: &mut u64,
 ) -> Result<(), Error>
-    requires inside { HasCleanDisk (state S.Store tx.old.conn.now) →
-        IsTrue (state S.Store tx.old.conn.now).in_transaction }
-    requires cells { IsCellStore (state S.Store tx.old.conn.now) }
+    requires { IsInside S.Store tx.old.conn.now }
     ensures same_reference { tx.new.conn.ghost_name ≡ tx.old.conn.ghost_name }
-    ensures steps { HasCleanDisk (state S.Store tx.new.conn.now) →
-        OnOk result (Steps (state S.Store tx.old.conn.now) (state S.Store tx.new.conn.now)
-        (replaced change.now)) }
-    ensures kept { HasCleanDisk (state S.Store tx.new.conn.now) →
-        OnErr result (KeepsCommit (state S.Store tx.old.conn.now) (state S.Store tx.new.conn.now)) }
-    ensures survives { Survives (state S.Store tx.old.conn.now) (state S.Store tx.new.conn.now)
-        (λ _. ⊥) }
+    ensures performs { Performs S.Store (λ old new. Steps old new (replaced change.now))
+        (CanTake (state S.Store tx.old.conn.now).now (change.now ∷ [])) tx.old.conn.now
+        tx.new.conn.now result }
     ensures counted { Counts result writes.old writes.new (statements_of change.now) }
     ensures takes { HasCleanDisk (state S.Store tx.new.conn.now) →
         OnOk result (TakesRowids (state S.Store tx.old.conn.now) (state S.Store tx.new.conn.now)
         (length change.now.cells)) }
     ensures once { HasCleanDisk (state S.Store tx.new.conn.now) →
         OnOk result (ColumnsDiffer change.now.cells) }
-    ensures cause { HasCleanDisk (state S.Store tx.new.conn.now) →
-        CanTake (state S.Store tx.old.conn.now).now (change.now ∷ []) →
-        IfErr result (IsExcused (state S.Store tx.old.conn.now) (state S.Store tx.new.conn.now)) }
 {
     delete(tx, change.table, change.row.as_slice(), writes)?;
     insert_all(
@@ -160,23 +125,14 @@ fn put_all<S: Alter>(
     writes: &mut u64,
 ) -> Result<(), Error>
     requires some { 0 < length changes.now }
-    requires inside { HasCleanDisk (state S.Store tx.old.conn.now) →
-        IsTrue (state S.Store tx.old.conn.now).in_transaction }
-    requires cells { IsCellStore (state S.Store tx.old.conn.now) }
+    requires ready { IsInside S.Store tx.old.conn.now }
     ensures same_reference { tx.new.conn.ghost_name ≡ tx.old.conn.ghost_name }
-    ensures turns { HasCleanDisk (state S.Store tx.new.conn.now) →
-        OnOk result (Turns (state S.Store tx.old.conn.now) (state S.Store tx.new.conn.now)
-        changes.now) }
-    ensures kept { HasCleanDisk (state S.Store tx.new.conn.now) →
-        OnErr result (KeepsCommit (state S.Store tx.old.conn.now) (state S.Store tx.new.conn.now)) }
-    ensures survives { Survives (state S.Store tx.old.conn.now) (state S.Store tx.new.conn.now)
-        (λ _. ⊥) }
+    ensures performs { Performs S.Store (λ old new. Turns old new changes.now)
+        (CanTake (state S.Store tx.old.conn.now).now changes.now) tx.old.conn.now tx.new.conn.now
+        result }
     ensures counted { Counts result writes.old writes.new (sum_by statements_of changes.now) }
     ensures once { HasCleanDisk (state S.Store tx.new.conn.now) →
         OnOk result (NameColumnsOnce changes.now) }
-    ensures cause { HasCleanDisk (state S.Store tx.new.conn.now) →
-        CanTake (state S.Store tx.old.conn.now).now changes.now →
-        IfErr result (IsExcused (state S.Store tx.old.conn.now) (state S.Store tx.new.conn.now)) }
 {
     let _writes = *writes;
     'changes: for change in changes {
@@ -192,15 +148,11 @@ pub fn apply_all<S: Alter>(
     writes: &mut u64,
 ) -> Result<(), Error>
     requires some { 0 < length changes.now }
-    requires idle { conn.old.in_transaction ≡ false }
-    requires cells { IsCellStore (state S.Store conn.old) }
-    ensures idle { conn.new.in_transaction ≡ false }
-    ensures applied { HasCleanDisk (state S.Store conn.new) →
-        OnOk result (Applied (state S.Store conn.old) (state S.Store conn.new) changes.now) }
-    ensures kept { OnErr result (KeepsContent (state S.Store conn.old) (state S.Store conn.new)) }
-    ensures crash { Survives (state S.Store conn.old) (state S.Store conn.new)
-        (Leaves (λ tables. IsTrue (state S.Store conn.old).is_open
-        × (tables ≡ tables_after changes.now (tables_of (state S.Store conn.old).now)))) }
+    requires ready { IsIdle S.Store conn.old }
+    ensures commits { Commits S.Store (λ old new. Applied old new changes.now)
+        (λ tables. IsTrue (state S.Store conn.old).is_open
+        × (tables ≡ tables_after changes.now (tables_of (state S.Store conn.old).now)))
+        conn.old conn.new result }
     ensures counted { Counts result writes.old writes.new (sum_by statements_of changes.now) }
     ensures once { HasCleanDisk (state S.Store conn.new) →
         OnOk result (NameColumnsOnce changes.now) }

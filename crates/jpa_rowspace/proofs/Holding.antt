@@ -190,9 +190,9 @@ module _ {S : Type 0} (g : Ghosts S) where
     }
 
     pub commits_ok : (r : Result ⊤ Cause) (changes : List RowChange) → AreChanges schema changes → (0 < length changes → OnOk r (Becomes g old new (tables_after (cell_changes changes)))) → (length changes ≡ 0 → new ≡ old)
-        → OnOk r ((rows : Rows) → HoldsRows g schema old rows → HoldsRows g schema new (rows_after changes rows))
-    commits_ok (Ok _) changes h becomes nothing = commits changes h becomes nothing
-    commits_ok (Err _) changes h becomes nothing = tt
+        → (rows : Rows) → HoldsRows g schema old rows → OnOk r (HoldsRows g schema new (rows_after changes rows))
+    commits_ok (Ok _) changes h becomes nothing rows held = commits changes h becomes nothing rows held
+    commits_ok (Err _) changes h becomes nothing rows held = tt
 
   pub keeps_err : (r : Result ⊤ Cause) (schema : Schema) (old new : Held S) (Commits : Tables → Type 0) → OnErr r (Keeps g old new) → Endures g old new Commits
       → OnErr r ((rows : Rows) → HoldsRows g schema old rows → HoldsRows g schema new rows)

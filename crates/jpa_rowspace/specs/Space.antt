@@ -1,13 +1,15 @@
 -- A store of the rows of a schema, and what it is to hold rows.
-use Rattle.std.specs.Prelude.{refl}
+use Rattle.std.specs.Prelude.{◌≡◌, ⊤, refl, Result, OnOk}
 use Rattle.std.specs.Coded.{Coded, code_by, coded×}
 use Rattle.sqlite_trees.specs.declared.store.Store.{Ghosts}
 use Rattle.sqlite.specs.Held.{Held}
+use Rattle.jpa_value.specs.declared.refusal.Cause.{Cause}
 pub use Rattle.jpa_rows.specs.Faults.{IsStoreCause}
 use Rattle.jpa_rows.specs.declared.schema.Schema.{Schema}
 use Rattle.jpa_rows.specs.contracts.schema.Schema as schema
 use Rattle.jpa_rows.specs.Rows.{Rows}
-use Rattle.jpa_cells_meaning.specs.Store.{Stored, stored_code, IsClean, IsOpen, tables_in}
+use Rattle.jpa_cells_meaning.specs.Store.{Stored, stored_code, IsClean, IsOpen, tables_in, Endures}
+use Rattle.jpa_cells.specs.Calls.{Select, Looks}
 use Rattle.jpa_rowspace.specs.Stored.{AreRowsOf, AreStored}
 
 -- the tables and columns of the rows, and the store of their cells
@@ -27,3 +29,14 @@ module _ {S : Type 0} (g : Ghosts S) where
   pub record HoldsRows (schema : Schema) (conn : Held S) (rows : Rows) : Type 0 where
     pub whole : IsClean g conn → AreRowsOf schema rows
     pub stored : IsClean g conn → IsOpen g conn → AreStored schema (tables_in g conn) rows
+
+  -- What a call that runs one SELECT at most leaves of a store of rows: what it leaves of the store of their cells.
+  pub record LooksIn {T : Type 0} (select : Select) (old new : Space S) (result : Result T Cause) : Type 0 where
+    pub others : new ≡ record old { store = new.store }
+    pub store : Looks g select old.store new.store result
+
+  -- Of a store that holds rows a commit makes one that holds these, where it is accepted, and a crash leaves what was
+  -- before or these.
+  pub record CommitsRows (schema : Schema) (old new : Held S) (after : Rows) (result : Result ⊤ Cause) : Type 0 where
+    pub holds : OnOk result (HoldsRows schema new after)
+    pub crash : Endures g old new (λ tables. AreStored schema tables after)

@@ -1,7 +1,8 @@
 //! From rows of cells to rows, one at a time.
 ghost use Rattle.std.specs.Prelude.{◌≡◌, ◌+◌, pos, OnOk};
 ghost use Rattle.jpa_cells_meaning.specs.Tables.{AreRows};
-ghost use Rattle.jpa_cells_meaning.specs.Store.{up_to_greatest, faults_after, HandsTable, IsClean, tables_in, Keeps, Endures, FaultHasCause, StaysOpen};
+ghost use Rattle.jpa_cells_meaning.specs.Store.{up_to_greatest, HandsTable, IsClean, tables_in, StaysOpen};
+ghost use Rattle.jpa_cells.specs.Calls.{OfTable, Looks};
 ghost use Rattle.jpa_rowspace.specs.Reading.{ReadsRow};
 ghost use Rattle.jpa_rowspace.specs.Space.{IsStoreCause};
 
@@ -48,16 +49,8 @@ pub(crate) fn each_under<'l, 's, S: Alter, K: RowSink>(
     ensures rise { IsClean S.Store store.new.conn →
         OnOk result (AreRows (tables_in S.Store store.old.conn (pos table.now.table))) }
     ensures open { StaysOpen S.Store result store.old.conn store.new.conn }
-    ensures kept { Keeps S.Store store.old.conn store.new.conn }
     ensures counted { store.new.table_selects ≡ up_to_greatest (store.old.table_selects + 1) }
-    ensures told { store.new.faults ≡ faults_after result store.old.faults }
-    ensures cause { FaultHasCause S.Store result store.old.conn store.new.conn }
-    ensures others { store.new ≡ record store.old {
-      conn = store.new.conn;
-      table_selects = store.new.table_selects;
-      faults = store.new.faults;
-    } }
-    ensures crash { Endures S.Store store.old.conn store.new.conn (λ _. ⊥) }
+    ensures looks { Looks S.Store OfTable store.old store.new result }
 {
     let mut reading = Reading { alloc, table, sink };
     let answer = store.each(number_of(table), &mut reading);

@@ -3,7 +3,8 @@ ghost use Rattle.std.specs.Prelude.{◌≡◌, ◌⊎◌, ◌+◌, pos, IfOk, If
 ghost use Rattle.jpa_value.specs.declared.refusal.Cause.{Cause};
 ghost use Rattle.jpa_key.specs.Keys.{key_bytes};
 ghost use Rattle.jpa_cells_meaning.specs.Tables.{cells_at};
-ghost use Rattle.jpa_cells_meaning.specs.Store.{up_to_greatest, faults_after, IsClean, IsOpen, tables_in, Keeps, Endures, FaultHasCause, StaysOpen};
+ghost use Rattle.jpa_cells_meaning.specs.Store.{up_to_greatest, IsClean, IsOpen, tables_in, StaysOpen};
+ghost use Rattle.jpa_cells.specs.Calls.{OfRow, Looks};
 ghost use Rattle.jpa_rowspace.specs.Reading.{IsFound, IsIllFormed};
 ghost use Rattle.jpa_rowspace.specs.Space.{IsStoreCause};
 
@@ -33,16 +34,9 @@ pub(crate) fn row_under<S: Alter>(
         × IsOpen S.Store store.new.conn × IsIllFormed table.now
         (cells_at (key_bytes key.now) (tables_in S.Store store.old.conn (pos table.now.table)))))) }
     ensures open { StaysOpen S.Store result store.old.conn store.new.conn }
-    ensures kept { Keeps S.Store store.old.conn store.new.conn }
     ensures counted { OnOk result (store.new.row_selects
         ≡ up_to_greatest (store.old.row_selects + 1)) }
-    ensures at_most_one { (store.new.row_selects ≡ store.old.row_selects)
-        ⊎ (store.new.row_selects ≡ up_to_greatest (store.old.row_selects + 1)) }
-    ensures told { store.new.faults ≡ faults_after result store.old.faults }
-    ensures cause { FaultHasCause S.Store result store.old.conn store.new.conn }
-    ensures others { store.new ≡ record store.old
-        { conn = store.new.conn; row_selects = store.new.row_selects; faults = store.new.faults } }
-    ensures crash { Endures S.Store store.old.conn store.new.conn (λ _. ⊥) }
+    ensures looks { Looks S.Store OfRow store.old store.new result }
 {
     let bytes = encode_key(alloc, key)?;
     let cells = store.row(number_of(table), bytes.as_slice())?;

@@ -1,16 +1,15 @@
 //! The rows of a schema.
-ghost use Rattle.std.specs.Prelude.{◌≡◌, ◌⊎◌, ◌+◌, ◌<◌, pos, length, Ok, Err, None, Some, true, IsSome, IfSome, IfOk, IfErr, OnOk, OnErr, sum_by};
+ghost use Rattle.std.specs.Prelude.{◌≡◌, ◌⊎◌, ◌+◌, pos, length, Ok, None, true, IsSome, IfSome, IfOk, IfErr, OnOk, sum_by};
 ghost use Rattle.jpa_value.specs.declared.refusal.Cause.{Cause};
 ghost use Rattle.jpa_key.specs.Keys.{key_bytes};
 ghost use Rattle.jpa_rows.specs.Rows.{Rows, AreRising, AreChanges, rows_after, table_of};
 ghost use Rattle.jpa_rows.specs.Statements.{statements_of};
-ghost use Rattle.sqlite.specs.Held.{state};
-ghost use Rattle.jpa_cells_meaning.specs.Content.{KeepsContent};
-ghost use Rattle.jpa_cells_meaning.specs.Tables.{AreRows, cells_at, tables_after};
-ghost use Rattle.jpa_cells_meaning.specs.Store.{up_to_greatest, Counts, Tells, faults_after, HandsTable, IsClean, IsOpen, tables_in, Keeps, Becomes, Endures, Allows, HasFault, FaultHasCause, StaysOpen};
+ghost use Rattle.jpa_cells_meaning.specs.Tables.{AreRows, cells_at};
+ghost use Rattle.jpa_cells_meaning.specs.Store.{up_to_greatest, Counts, Tells, HandsTable, IsClean, IsOpen, tables_in, StaysOpen};
+ghost use Rattle.jpa_cells.specs.Calls.{OfRow, OfTable, IsTable, Applies};
 ghost use Rattle.jpa_rowspace.specs.Stored as stored;
 ghost use Rattle.jpa_rowspace.specs.Reading.{IsFound, IsIllFormed, AreRead, ReadsRow};
-ghost use Rattle.jpa_rowspace.specs.Space.{HoldsRows, IsStoreCause};
+ghost use Rattle.jpa_rowspace.specs.Space.{HoldsRows, IsStoreCause, LooksIn, CommitsRows};
 
 use crate::handing::each_under;
 use crate::read::rows_of;
@@ -83,23 +82,10 @@ impl<S: Alter> RowSpace<S> {
         ensures open { IsClean S.Store self.new.store.conn →
             IsSome (stored.table_for self.old.schema id.now) →
             OnOk result (IsOpen S.Store self.old.store.conn × IsOpen S.Store self.new.store.conn) }
-        ensures kept { Keeps S.Store self.old.store.conn self.new.store.conn }
         ensures counted { IsSome (stored.table_for self.old.schema id.now) →
             OnOk result (self.new.store.row_selects
             ≡ up_to_greatest (self.old.store.row_selects + 1)) }
-        ensures at_most_one { (self.new.store.row_selects ≡ self.old.store.row_selects)
-            ⊎ (self.new.store.row_selects ≡ up_to_greatest (self.old.store.row_selects + 1)) }
-        ensures told { self.new.store.faults ≡ faults_after result self.old.store.faults }
-        ensures cause { FaultHasCause S.Store result self.old.store.conn self.new.store.conn }
-        ensures others { self.new
-            ≡ record self.old {
-              store = record self.old.store {
-                conn = self.new.store.conn;
-                row_selects = self.new.store.row_selects;
-                faults = self.new.store.faults;
-              };
-            } }
-        ensures crash { Endures S.Store self.old.store.conn self.new.store.conn (λ _. ⊥) }
+        ensures looks { LooksIn S.Store OfRow self.old self.new result }
     {
         match self.schema.table(id.table) {
             Some(table) => {
@@ -116,26 +102,13 @@ impl<S: Alter> RowSpace<S> {
     /// The rows of cells of one of the schema's tables, by one SELECT.
     pub fn cells(&mut self, table: u64) -> Result<Seq<CellRow>, Cause>
         requires { IsSome (table_of self.old.schema table) }
-        ensures rows { IsClean S.Store self.new.store.conn →
-            IfOk result (λ rows. rows ≡ tables_in S.Store self.old.store.conn (pos table)) }
-        ensures rise { IsClean S.Store self.new.store.conn → IfOk result AreRows }
+        ensures found { IsClean S.Store self.new.store.conn →
+            IfOk result (IsTable S.Store self.old.store.conn (pos table)) }
         ensures open { StaysOpen S.Store result self.old.store.conn self.new.store.conn }
-        ensures kept { Keeps S.Store self.old.store.conn self.new.store.conn }
-        ensures kept_content { KeepsContent (state S.Store self.old.store.conn)
-            (state S.Store self.new.store.conn) }
         ensures counted { self.new.store.table_selects
             ≡ up_to_greatest (self.old.store.table_selects + 1) }
         ensures told { Tells result self.old.store.faults self.new.store.faults }
-        ensures cause { FaultHasCause S.Store result self.old.store.conn self.new.store.conn }
-        ensures others { self.new
-            ≡ record self.old {
-              store = record self.old.store {
-                conn = self.new.store.conn;
-                table_selects = self.new.store.table_selects;
-                faults = self.new.store.faults;
-              };
-            } }
-        ensures crash { Endures S.Store self.old.store.conn self.new.store.conn (λ _. ⊥) }
+        ensures looks { LooksIn S.Store OfTable self.old self.new result }
     {
         let number = number_of(known_table(&self.schema, table));
         self.store.table(number)
@@ -177,23 +150,9 @@ impl<S: Alter> RowSpace<S> {
         ensures open { IsClean S.Store self.new.store.conn →
             IsSome (table_of self.old.schema table) →
             OnOk result (IsOpen S.Store self.old.store.conn × IsOpen S.Store self.new.store.conn) }
-        ensures kept { Keeps S.Store self.old.store.conn self.new.store.conn }
         ensures counted { IsSome (table_of self.old.schema table) → self.new.store.table_selects
             ≡ up_to_greatest (self.old.store.table_selects + 1) }
-        ensures at_most_one { (self.new.store.table_selects ≡ self.old.store.table_selects)
-            ⊎ (self.new.store.table_selects
-            ≡ up_to_greatest (self.old.store.table_selects + 1)) }
-        ensures told { self.new.store.faults ≡ faults_after result self.old.store.faults }
-        ensures cause { FaultHasCause S.Store result self.old.store.conn self.new.store.conn }
-        ensures others { self.new
-            ≡ record self.old {
-              store = record self.old.store {
-                conn = self.new.store.conn;
-                table_selects = self.new.store.table_selects;
-                faults = self.new.store.faults;
-              };
-            } }
-        ensures crash { Endures S.Store self.old.store.conn self.new.store.conn (λ _. ⊥) }
+        ensures looks { LooksIn S.Store OfTable self.old self.new result }
     {
         match self.schema.table(table) {
             Some(rule) => each_under(self.alloc, &mut self.store, rule, sink),
@@ -205,36 +164,17 @@ impl<S: Alter> RowSpace<S> {
     /// INSERT for each column of its new row. An empty list runs no statement.
     pub fn commit(&mut self, changes: &[RowChange]) -> Result<(), Cause>
         requires { AreChanges self.old.schema changes.now }
-        ensures applied { 0 < length changes.now → OnOk result
-            (Becomes S.Store self.old.store.conn self.new.store.conn
-            (tables_after (stored.cell_changes changes.now))) }
-        ensures holds { OnOk result ((rows : Rows) →
-            HoldsRows S.Store self.old.schema self.old.store.conn rows →
-            HoldsRows S.Store self.old.schema self.new.store.conn (rows_after changes.now rows)) }
+        ensures applies { Applies S.Store (stored.cell_changes changes.now) self.old.store
+            self.new.store result }
         ensures nothing { length changes.now ≡ 0 → (result ≡ Ok tt)
             × (self.new ≡ self.old) }
-        ensures kept { OnErr result (Keeps S.Store self.old.store.conn self.new.store.conn) }
         ensures counted { Counts result self.old.store.writes self.new.store.writes
             (sum_by statements_of changes.now) }
-        ensures told { Tells result self.old.store.faults self.new.store.faults }
-        ensures cause { IsClean S.Store self.new.store.conn →
-            Allows S.Store self.old.store.conn (stored.cell_changes changes.now) → result
-            ≡ Err Cause.StoreFault → HasFault S.Store self.old.store.conn self.new.store.conn }
-        ensures others { self.new
-            ≡ record self.old {
-              store = record self.old.store {
-                conn = self.new.store.conn;
-                writes = self.new.store.writes;
-                faults = self.new.store.faults;
-              };
-            } }
-        ensures crash { Endures S.Store self.old.store.conn self.new.store.conn
-            (λ tables. IsOpen S.Store self.old.store.conn
-            × (tables ≡ tables_after (stored.cell_changes changes.now)
-            (tables_in S.Store self.old.store.conn))) }
-        ensures crash_rows { (rows : Rows) → HoldsRows S.Store self.old.schema self.old.store.conn
-            rows → Endures S.Store self.old.store.conn self.new.store.conn
-            (λ tables. stored.AreStored self.old.schema tables (rows_after changes.now rows)) }
+        ensures others { self.new ≡ record self.old { store = self.new.store } }
+        ensures rows { (rows : Rows) →
+            HoldsRows S.Store self.old.schema self.old.store.conn rows →
+            CommitsRows S.Store self.old.schema self.old.store.conn self.new.store.conn
+            (rows_after changes.now rows) result }
     {
         let _writes = self.store.writes();
         let made = cell_changes(self.alloc, &self.schema, changes)?;

@@ -1,4 +1,4 @@
-use Rattle.std.proofs.Common.{to_z-of_z, not, ap, ◌∙◌, arith}
+use Rattle.std.proofs.Common.{rules, to_z-of_z, not, ap, ◌∙◌, arith}
 use Rattle.sqlite.specs.Held.{state}
 use Rattle.sqlite.specs.State.{HasCleanDisk}
 use Rattle.jpa_cells_meaning.proofs.Texts.{row_plain}
@@ -15,21 +15,17 @@ returns-clause-shows g c clean =
     if_ok c.query_all.result (λ rows. row_shown old new c.requires.cells early c.args.table c.args.row.now rows.items)
     (rw (c.params-to_sql.ensures, c.params-to_sql-2.ensures, to_z-of_z c.ranges.table) at (c.query_all.ensures.ok clean))
 
-pub returns-clause-kept : goal.returns-clause-kept
-returns-clause-kept g c clean live =
+pub returns-clause-selects : goal.returns-clause-selects
+returns-clause-selects g c =
     let old = state g.S.Store c.args.conn.now in
     let new = state g.S.Store c.query_all.new.self in
-    let early : HasCleanDisk old = omega (arith, c.query_all.ensures.survives.clean) in
     let settled = c.is_autocommit-idle.ensures.settled (c.is_autocommit-idle.ensures.value ∙ ap not c.requires.idle) in
-    read_keeps row_text row_plain _ old new c.requires.cells early settled (λ rows. rows.items) c.query_all.result (c.query_all.ensures.ok clean) (c.query_all.ensures.err clean) live
-
-pub returns-clause-survives : goal.returns-clause-survives
-returns-clause-survives g c = row_survives (state g.S.Store c.args.conn.now) (state g.S.Store c.query_all.new.self) _ c.query_all.ensures.survives
-
-pub returns-clause-cause : goal.returns-clause-cause
-returns-clause-cause g c clean =
-    let old = state g.S.Store c.args.conn.now in
-    let new = state g.S.Store c.query_all.new.self in
-    let early : HasCleanDisk old = omega (arith, c.query_all.ensures.survives.clean) in
-    if_err c.query_all.result (row_fault old new c.requires.cells early c.args.table c.args.row.now)
-    (rw (c.params-to_sql.ensures, c.params-to_sql-2.ensures, to_z-of_z c.ranges.table) at (c.query_all.ensures.err clean))
+    let early = λ (clean : HasCleanDisk new). let it : HasCleanDisk old = omega (arith, c.query_all.ensures.survives.clean) in it in
+    record {
+      idle = search rules;
+      kept = λ clean live. read_keeps row_text row_plain _ old new c.requires.cells (early clean) settled (λ rows. rows.items) c.query_all.result (c.query_all.ensures.ok clean) (c.query_all.ensures.err clean) live;
+      cause = λ clean.
+          if_err c.query_all.result (row_fault old new c.requires.cells (early clean) c.args.table c.args.row.now)
+          (rw (c.params-to_sql.ensures, c.params-to_sql-2.ensures, to_z-of_z c.ranges.table) at (c.query_all.ensures.err clean));
+      survives = row_survives old new _ c.query_all.ensures.survives;
+    }

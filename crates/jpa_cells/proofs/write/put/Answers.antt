@@ -10,17 +10,23 @@ use Rattle.jpa_cells_meaning.proofs.Inside.{steps_change}
 use Rattle.jpa_cells_meaning.proofs.Taking.{takes_then, written_differ, can_fill, excused_later}
 use Rattle.jpa_cells.proofs.write.put.Goals as goal
 
-pub returns-clause-steps : goal.returns-clause-steps
-returns-clause-steps g c clean =
+pub returns-clause-performs : goal.returns-clause-performs
+returns-clause-performs g c =
     let first = state g.S.Store c.args.tx.now.conn.now in
     let mid = state g.S.Store c.delete.new.tx.conn.now in
     let last = state g.S.Store c.insert_all.new.tx.conn.now in
     let change = c.args.change.now in
     let table : SFits w64 c.args.change.now.table = search rules in
-    let early : HasCleanDisk mid = omega (arith, c.insert_all.ensures.survives.clean) in
-    let dropped : Steps first mid (without_cells change.table change.row) = rw (c.as_slice.ensures, to_z-of_z table) at (c.in_ok-delete.ensures.steps early) in
-    let written : Steps mid last (with_cells change.table change.row change.cells) = rw (c.as_slice-2.ensures, c.as_slice-3.ensures, to_z-of_z table) at (c.in_ok-insert_all.ensures.steps clean) in
-    steps_change first mid last change dropped written
+    record {
+      done = λ clean.
+          let early : HasCleanDisk mid = omega (arith, c.insert_all.ensures.performs.survives.clean) in
+          let dropped : Steps first mid (without_cells change.table change.row) = rw (c.as_slice.ensures, to_z-of_z table) at (c.in_ok-delete.ensures.performs.done early) in
+          let written : Steps mid last (with_cells change.table change.row change.cells) = rw (c.as_slice-2.ensures, c.as_slice-3.ensures, to_z-of_z table) at (c.in_ok-insert_all.ensures.performs.done clean) in
+          steps_change first mid last change dropped written;
+      kept = search rules;
+      survives = search rules;
+      cause = search rules;
+    }
 
 pub returns-in_err-delete-clause-counted : goal.returns-in_err-delete-clause-counted
 returns-in_err-delete-clause-counted g c =
@@ -39,7 +45,7 @@ returns-clause-takes g c clean =
     let first = state g.S.Store c.args.tx.now.conn.now in
     let mid = state g.S.Store c.delete.new.tx.conn.now in
     let last = state g.S.Store c.insert_all.new.tx.conn.now in
-    let early : HasCleanDisk mid = omega (arith, c.insert_all.ensures.survives.clean) in
+    let early : HasCleanDisk mid = omega (arith, c.insert_all.ensures.performs.survives.clean) in
     let written : TakesRowids mid last (length c.args.change.now.cells) = rw (c.as_slice-3.ensures) at (c.in_ok-insert_all.ensures.takes clean) in
     subst (TakesRowids first last) (zero-add (length c.args.change.now.cells)) (takes_then first mid last 0 (length c.args.change.now.cells) (c.in_ok-delete.ensures.takes early) written)
 
@@ -47,19 +53,25 @@ pub returns-clause-once : goal.returns-clause-once
 returns-clause-once g c clean =
     let first = state g.S.Store c.args.tx.now.conn.now in
     let last = state g.S.Store c.insert_all.new.tx.conn.now in
-    written_differ first last c.args.change.now (returns-clause-steps g c clean)
+    written_differ first last c.args.change.now ((returns-clause-performs g c).done clean)
 
-pub returns-in_err-insert_all-clause-cause : goal.returns-in_err-insert_all-clause-cause
-returns-in_err-insert_all-clause-cause g c clean can =
+pub returns-in_err-insert_all-clause-performs : goal.returns-in_err-insert_all-clause-performs
+returns-in_err-insert_all-clause-performs g c =
     let first = state g.S.Store c.args.tx.now.conn.now in
     let mid = state g.S.Store c.delete.new.tx.conn.now in
     let last = state g.S.Store c.insert_all.new.tx.conn.now in
     let change = c.args.change.now in
     let table : SFits w64 c.args.change.now.table = search rules in
-    let early : HasCleanDisk mid = omega (arith, c.insert_all.ensures.survives.clean) in
-    let dropped : Steps first mid (without_cells change.table change.row) = rw (c.as_slice.ensures, to_z-of_z table) at (c.in_ok-delete.ensures.steps early) in
-    let ready = can_fill first mid change dropped (c.in_ok-delete.ensures.takes early) can in
-    let fault : IfErr c.insert_all.result (IsExcused mid last) = (rw (c.as_slice-2.ensures, c.as_slice-3.ensures, to_z-of_z table) at (c.insert_all.ensures.cause clean)) ready in
-    let since_first : IfErr c.insert_all.result (IsExcused first last) =
-    IfErr-weaker c.insert_all.result (IsExcused mid last) (IsExcused first last) (λ e. excused_later first mid last _ e c.delete.ensures.survives early c.insert_all.ensures.survives.counts) fault in
-    search (rules, since_first)
+    record {
+      done = search rules;
+      kept = search rules;
+      survives = search rules;
+      cause = λ clean can.
+          let early : HasCleanDisk mid = omega (arith, c.insert_all.ensures.performs.survives.clean) in
+          let dropped : Steps first mid (without_cells change.table change.row) = rw (c.as_slice.ensures, to_z-of_z table) at (c.in_ok-delete.ensures.performs.done early) in
+          let ready = can_fill first mid change dropped (c.in_ok-delete.ensures.takes early) can in
+          let fault : IfErr c.insert_all.result (IsExcused mid last) = (rw (c.as_slice-2.ensures, c.as_slice-3.ensures, to_z-of_z table) at (c.insert_all.ensures.performs.cause clean)) ready in
+          let since_first : IfErr c.insert_all.result (IsExcused first last) =
+          IfErr-weaker c.insert_all.result (IsExcused mid last) (IsExcused first last) (λ e. excused_later first mid last _ e c.delete.ensures.performs.survives early c.insert_all.ensures.performs.survives.counts) fault in
+          search (rules, since_first);
+    }

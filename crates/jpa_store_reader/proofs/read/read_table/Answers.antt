@@ -22,6 +22,6 @@ returns-clause-opened g c =
     c.note_due.ensures ∙ ap (λ (rs : List CellRow). record before { is_due = due_after world.model c.args.table rs before.is_due }) c.as_slice.ensures.value in
     reads_opened g.S.Store world c.unit-unit.ensures.described c.args.history.now c.args.space.now c.cells.new.self c.args.table before c.note_due.new.migration c.opened_rows.new.migration stored c.in_ok-rows.rows.items
     c.in_ok-entries.field-0.0 c.in_ok-entries.field-0.1
-    (λ clean. c.into_vec-stored.ensures ∙ cells.rows clean) (λ clean. subst AreRows (sym c.into_vec-stored.ensures) (cells.rise clean)) noted rows.rows rows.changes rows.due rows.none
-    (subst (λ (s : Schema). IfSome (table_of s c.args.table) (λ rule. AreRead rule c.in_ok-rows.rows.items c.in_ok-entries.field-0.0 c.in_ok-entries.field-0.1)) (ap (λ (s : Space g.row.S.Denot). s.schema) cells.others) c.in_ok-entries.ensures.read)
+    (λ clean. c.into_vec-stored.ensures ∙ (cells.found clean).rows) (λ clean. subst AreRows (sym c.into_vec-stored.ensures) (cells.found clean).rise) noted rows.rows rows.changes rows.due rows.none
+    (subst (λ (s : Schema). IfSome (table_of s c.args.table) (λ rule. AreRead rule c.in_ok-rows.rows.items c.in_ok-entries.field-0.0 c.in_ok-entries.field-0.1)) (ap (λ (s : Space g.row.S.Denot). s.schema) cells.looks.others) c.in_ok-entries.ensures.read)
     c.in_ok-entries.ensures.rising cells.open

@@ -27,13 +27,13 @@ returns-in_err-apply-clause-cause g c clean allows is =
     record {
       makes = λ clean. subst (MakesOpened world h (tables_in g.S.Store first.store.conn)) (sym c.as_slice.ensures) (read.changes clean);
       nothing = λ none. (c.apply.ensures.nothing none).1 ∙ store_is;
-      survives = subst (λ (s : Stored g.row.S.Denot). Endures g.S.Store s.conn new.conn (λ tables. IsOpen g.S.Store s.conn × (tables ≡ tables_after changes (tables_in g.S.Store s.conn)))) store_is c.apply.ensures.crash;
+      survives = subst (λ (s : Stored g.row.S.Denot). Endures g.S.Store s.conn new.conn (λ tables. IsOpen g.S.Store s.conn × (tables ≡ tables_after changes (tables_in g.S.Store s.conn)))) store_is c.apply.ensures.applies.crash;
     } in
     let told = err_from_is_err_and c.from_residual-in_err-apply.result c.from_residual-in_err-apply.ensures.1 in
     let fault = c.in_err-apply.was ∙ ap Err (sym told.2 ∙ one_error c.from_residual-in_err-apply.result told.0 Cause.StoreFault told.1 is) in
     fault_first g.S.Store world h first mid new read.keeps read.open changes w c.in_err-apply.field-0.0 (λ none. sym c.in_err-apply.was ∙ (c.apply.ensures.nothing none).0)
     (λ clean allows. subst (λ (s : Stored g.row.S.Denot). HasFault g.S.Store s.conn new.conn) store_is
-    (c.apply.ensures.cause clean (subst (λ (s : Stored g.row.S.Denot). Allows g.S.Store s.conn changes) (sym store_is) allows) fault)) clean allows
+    (c.apply.ensures.applies.cause clean (subst (λ (s : Stored g.row.S.Denot). Allows g.S.Store s.conn changes) (sym store_is) allows) fault)) clean allows
 
 pub returns-in_err-apply-clause-crash : goal.returns-in_err-apply-clause-crash
 returns-in_err-apply-clause-crash g c =
@@ -49,7 +49,7 @@ returns-in_err-apply-clause-crash g c =
     record {
       makes = λ clean. subst (MakesOpened world h (tables_in g.S.Store first.store.conn)) (sym c.as_slice.ensures) (read.changes clean);
       nothing = λ none. (c.apply.ensures.nothing none).1 ∙ store_is;
-      survives = subst (λ (s : Stored g.row.S.Denot). Endures g.S.Store s.conn new.conn (λ tables. IsOpen g.S.Store s.conn × (tables ≡ tables_after changes (tables_in g.S.Store s.conn)))) store_is c.apply.ensures.crash;
+      survives = subst (λ (s : Stored g.row.S.Denot). Endures g.S.Store s.conn new.conn (λ tables. IsOpen g.S.Store s.conn × (tables ≡ tables_after changes (tables_in g.S.Store s.conn)))) store_is c.apply.ensures.applies.crash;
     } in
     migrates g.S.Store world h first mid new read.keeps read.open changes w
 
@@ -67,9 +67,9 @@ returns-clause-holds g c clean =
     record {
       makes = λ clean. subst (MakesOpened world h (tables_in g.S.Store first.store.conn)) (sym c.as_slice.ensures) (read.changes clean);
       nothing = λ none. (c.apply.ensures.nothing none).1 ∙ store_is;
-      survives = subst (λ (s : Stored g.row.S.Denot). Endures g.S.Store s.conn new.conn (λ tables. IsOpen g.S.Store s.conn × (tables ≡ tables_after changes (tables_in g.S.Store s.conn)))) store_is c.apply.ensures.crash;
+      survives = subst (λ (s : Stored g.row.S.Denot). Endures g.S.Store s.conn new.conn (λ tables. IsOpen g.S.Store s.conn × (tables ≡ tables_after changes (tables_in g.S.Store s.conn)))) store_is c.apply.ensures.applies.crash;
     } in
-    let became = becomes g.S.Store world h first mid new read.keeps read.open changes w (λ some. subst (λ (s : Stored g.row.S.Denot). Becomes g.S.Store s.conn new.conn (tables_after changes)) store_is (c.in_ok-apply.ensures.applied some)) in
+    let became = becomes g.S.Store world h first mid new read.keeps read.open changes w (λ some. subst (λ (s : Stored g.row.S.Denot). Becomes g.S.Store s.conn new.conn (tables_after changes)) store_is (c.in_ok-apply.ensures.applies.applied some)) in
     (read.can_be_held, holds_rows g.S.Store world h first mid new read.keeps read.open changes w became c.in_ok-committed.committed read.committed clean)
 
 pub returns-clause-stand : goal.returns-clause-stand
@@ -86,9 +86,9 @@ returns-clause-stand g c clean _ =
     record {
       makes = λ clean. subst (MakesOpened world h (tables_in g.S.Store first.store.conn)) (sym c.as_slice.ensures) (read.changes clean);
       nothing = λ none. (c.apply.ensures.nothing none).1 ∙ store_is;
-      survives = subst (λ (s : Stored g.row.S.Denot). Endures g.S.Store s.conn new.conn (λ tables. IsOpen g.S.Store s.conn × (tables ≡ tables_after changes (tables_in g.S.Store s.conn)))) store_is c.apply.ensures.crash;
+      survives = subst (λ (s : Stored g.row.S.Denot). Endures g.S.Store s.conn new.conn (λ tables. IsOpen g.S.Store s.conn × (tables ≡ tables_after changes (tables_in g.S.Store s.conn)))) store_is c.apply.ensures.applies.crash;
     } in
-    let became = becomes g.S.Store world h first mid new read.keeps read.open changes w (λ some. subst (λ (s : Stored g.row.S.Denot). Becomes g.S.Store s.conn new.conn (tables_after changes)) store_is (c.in_ok-apply.ensures.applied some)) in
+    let became = becomes g.S.Store world h first mid new read.keeps read.open changes w (λ some. subst (λ (s : Stored g.row.S.Denot). Becomes g.S.Store s.conn new.conn (tables_after changes)) store_is (c.in_ok-apply.ensures.applies.applied some)) in
     stands g.S.Store world h first mid new read.keeps read.open changes w became c.in_ok-committed.committed read.committed clean
 
 pub returns-clause-opens : goal.returns-clause-opens
@@ -105,9 +105,9 @@ returns-clause-opens g c =
     record {
       makes = λ clean. subst (MakesOpened world h (tables_in g.S.Store first.store.conn)) (sym c.as_slice.ensures) (read.changes clean);
       nothing = λ none. (c.apply.ensures.nothing none).1 ∙ store_is;
-      survives = subst (λ (s : Stored g.row.S.Denot). Endures g.S.Store s.conn new.conn (λ tables. IsOpen g.S.Store s.conn × (tables ≡ tables_after changes (tables_in g.S.Store s.conn)))) store_is c.apply.ensures.crash;
+      survives = subst (λ (s : Stored g.row.S.Denot). Endures g.S.Store s.conn new.conn (λ tables. IsOpen g.S.Store s.conn × (tables ≡ tables_after changes (tables_in g.S.Store s.conn)))) store_is c.apply.ensures.applies.crash;
     } in
-    becomes g.S.Store world h first mid new read.keeps read.open changes w (λ some. subst (λ (s : Stored g.row.S.Denot). Becomes g.S.Store s.conn new.conn (tables_after changes)) store_is (c.in_ok-apply.ensures.applied some))
+    becomes g.S.Store world h first mid new read.keeps read.open changes w (λ some. subst (λ (s : Stored g.row.S.Denot). Becomes g.S.Store s.conn new.conn (tables_after changes)) store_is (c.in_ok-apply.ensures.applies.applied some))
 
 pub returns-clause-written : goal.returns-clause-written
 returns-clause-written g c =
@@ -123,7 +123,7 @@ returns-clause-written g c =
     record {
       makes = λ clean. subst (MakesOpened world h (tables_in g.S.Store first.store.conn)) (sym c.as_slice.ensures) (read.changes clean);
       nothing = λ none. (c.apply.ensures.nothing none).1 ∙ store_is;
-      survives = subst (λ (s : Stored g.row.S.Denot). Endures g.S.Store s.conn new.conn (λ tables. IsOpen g.S.Store s.conn × (tables ≡ tables_after changes (tables_in g.S.Store s.conn)))) store_is c.apply.ensures.crash;
+      survives = subst (λ (s : Stored g.row.S.Denot). Endures g.S.Store s.conn new.conn (λ tables. IsOpen g.S.Store s.conn × (tables ≡ tables_after changes (tables_in g.S.Store s.conn)))) store_is c.apply.ensures.applies.crash;
     } in
     let inside : c.space.inside.store.writes < 2 ^ 64 = search rules in
     let small : mid.store.writes < 2 ^ 64 = subst (λ (s : Stored g.row.S.Denot). s.writes < 2 ^ 64) store_is inside in
@@ -144,6 +144,6 @@ returns-clause-crash g c =
     record {
       makes = λ clean. subst (MakesOpened world h (tables_in g.S.Store first.store.conn)) (sym c.as_slice.ensures) (read.changes clean);
       nothing = λ none. (c.apply.ensures.nothing none).1 ∙ store_is;
-      survives = subst (λ (s : Stored g.row.S.Denot). Endures g.S.Store s.conn new.conn (λ tables. IsOpen g.S.Store s.conn × (tables ≡ tables_after changes (tables_in g.S.Store s.conn)))) store_is c.apply.ensures.crash;
+      survives = subst (λ (s : Stored g.row.S.Denot). Endures g.S.Store s.conn new.conn (λ tables. IsOpen g.S.Store s.conn × (tables ≡ tables_after changes (tables_in g.S.Store s.conn)))) store_is c.apply.ensures.applies.crash;
     } in
     migrates g.S.Store world h first mid new read.keeps read.open changes w
