@@ -3,6 +3,7 @@
 ghost use Rattle.std.specs.Prelude.{◌≡◌, ◌↔◌, [], ◌∷◌, IsTrue};
 ghost use Rattle.sqlite_value.specs.Keys.{plain};
 ghost use Rattle.jpa_cells_meaning.specs.Schema.{column_of, cell_table, cell_index, cell_schema, no_schema};
+ghost use Rattle.jpa_cells.specs.Holding.{IsTableOfCells};
 
 use sqlite_items::Items;
 use sqlite_schema::code::Terms;
@@ -131,11 +132,11 @@ fn are_no_stamps(stamps: &Stamps) -> bool
     stamps.places.is_empty() && is_empty_list(&stamps.terms) && stamps.formats.is_empty()
 }
 
-fn is_cell_table(table: &Table) -> bool
-    ensures { IsTrue result ↔ (table.now ≡ cell_table) }
+/// Whether it is the table of cells, in any tree.
+pub fn is_table_of_cells(table: &Table) -> bool
+    ensures { IsTrue result ↔ IsTableOfCells table.now }
 {
     is_named(&table.name, b"cell")
-        && table.tree == 0
         && are_cell_columns(table.columns.as_slice())
         && table.key.is_none()
         && are_key_places(table.primary.as_slice())
@@ -146,6 +147,12 @@ fn is_cell_table(table: &Table) -> bool
         && table.computed.is_empty()
         && are_no_stamps(&table.stamps)
         && !table.is_counted
+}
+
+fn is_cell_table(table: &Table) -> bool
+    ensures { IsTrue result ↔ (table.now ≡ cell_table) }
+{
+    table.tree == 0 && is_table_of_cells(table)
 }
 
 fn is_cell_index(index: &Index) -> bool

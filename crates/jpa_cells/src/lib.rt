@@ -13,9 +13,11 @@ mod found;
 mod make;
 mod read;
 mod sink;
+mod standing;
 mod store;
 mod write;
 
 pub use jpa_cells_meaning::{Cell, CellChange, CellRow};
 pub use sink::CellSink;
+pub use standing::{Holding, holding_of};
 pub use store::CellStore;

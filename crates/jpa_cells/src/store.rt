@@ -2,6 +2,8 @@
 
 ghost use Rattle.std.specs.Prelude.{◌≡◌, ◌≢◌, ◌+◌, ◌<◌, false, length, sum_by, IfOk, IfErr, OnOk};
 ghost use Rattle.std.specs.Result.{IsOk};
+ghost use Rattle.sqlite.specs.Held.{state};
+ghost use Rattle.jpa_cells_meaning.specs.Schema.{cell_schema, no_schema};
 ghost use Rattle.jpa_cells_meaning.specs.Tables.{cells_at, statements_of, AreRows, NameColumnsOnce};
 ghost use Rattle.jpa_cells_meaning.specs.Store.{up_to_greatest, Counts, Tells, TellsOf, faults_after, IsStoreCause, HandsTable, new_store, IsClean, tables_in, HoldsTable, IsOrderedIfFound, IsReady, StaysOpen};
 ghost use Rattle.jpa_cells.specs.Calls.{OfRow, OfTable, IsTable, IsOpened, IsRefused, Looks, Applies};
@@ -79,15 +81,19 @@ impl<S: Alter + Drop> CellStore<S> {
     /// Takes the table `cell` where it stands in the database, and makes it where the database is
     /// empty. Refused, it hands the connection back, in a transaction only where it was in one, and
     /// its database is as it was, unless a fault shut it or the disk returned something else than
-    /// was written: `StoreFault` where the database holds anything else, where the connection is in
-    /// a transaction, and where the store refuses the statement for another cause than memory;
-    /// `OutOfMemory` only where it set out to make the table.
+    /// was written: `StoreFault` where the database holds anything else, of which `holding_of`
+    /// tells what it is, where the connection is in a transaction, and where the store refuses the
+    /// statement for another cause than memory; `OutOfMemory` only where it set out to make the
+    /// table.
     pub fn open(
         alloc: Global,
         mut conn: Connection<S>,
     ) -> Result<CellStore<S>, (Cause, Connection<S>)>
         requires { IsOrderedIfFound S.Store conn }
         ensures opened { IfOk result (IsOpened S.Store conn) }
+        ensures foreign { (state S.Store conn).now.schema ≢ no_schema →
+            (state S.Store conn).now.schema ≢ cell_schema →
+            result ≡ Err (Cause.StoreFault, conn) }
         ensures takes { conn.in_transaction ≡ false → HoldsTable S.Store conn → IsOk result }
         ensures refused { IfErr result (IsRefused S.Store conn) }
     {
