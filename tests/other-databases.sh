@@ -19,7 +19,7 @@ make() {
     sqlite3 "$store" "$1" >"$folder/made" || exit 1
 }
 
-# The store is refused, and sqlite3 finds in it what was there.
+# The store is refused in these words, and sqlite3 finds in it what was there.
 is_refused() {
     sqlite3 "$store" .dump >"$folder/before"
     "$program" --mapping tests/mappings/flat.json --db "$store" <"$first/calls.jsonl" \
@@ -28,7 +28,7 @@ is_refused() {
     sqlite3 "$store" .dump "PRAGMA integrity_check" >"$folder/after"
     echo ok >>"$folder/before"
     if [ "$status" -ne 3 ] || [ -s "$folder/replies" ] ||
-        [ "$(cat "$folder/said")" != "jpa: StoreFault" ]; then
+        [ "$(cat "$folder/said")" != "jpa: the database has $2"$'\n'"jpa: StoreFault" ]; then
         echo "$1: status $status, and it said '$(cat "$folder/said")'"
         exit 1
     fi
@@ -42,15 +42,16 @@ for program in $programs; do
         make "PRAGMA journal_mode = $mode; $cell"
         serve_first_run "$program" "$store"
         make "PRAGMA journal_mode = $mode; $other"
-        is_refused "a database with other tables"
+        is_refused "a database with other tables" "tables, indexes or views, and no table of cells"
         make "PRAGMA journal_mode = $mode; $cell; $other"
-        is_refused "a database with cells and other tables"
+        is_refused "a database with cells and other tables" \
+            "other tables, indexes or views beside its cells"
         sqlite3 "$store" "DROP VIEW seen; DROP TABLE other"
         serve_first_run "$program" "$store"
         make "PRAGMA journal_mode = $mode; CREATE TABLE cell (t INTEGER PRIMARY KEY, r, c, v)"
-        is_refused "a table of another schema"
+        is_refused "a table of another schema" "a table 'cell' that is no table of cells"
         make "PRAGMA journal_mode = $mode; $cell; CREATE INDEX by_v ON cell (v)"
-        is_refused "a table with another index"
+        is_refused "a table with another index" "a table 'cell' that is no table of cells"
     done
 done
 echo "databases that sqlite3 made are taken where they hold cells or nothing, else refused and left"

@@ -12,6 +12,7 @@ ghost use Rattle.jpa_functions.specs.Known as known;
 ghost use Rattle.jpa.specs.Served as spec;
 
 use jpa_behaviour::{Registry, ServedUnit};
+use jpa_cells::{Holding, holding_of};
 use jpa_functions::{ProgramFunctions, read_functions, registry_of};
 use jpa_history::History;
 use jpa_lines::RunFault;
@@ -131,6 +132,21 @@ fn unit_from(
     }
 }
 
+/// Tells on standard error what a database holds, where it was refused since that is no store. So a
+/// fault of the disk, which is told by its name alone, is told from it.
+fn tell_holding<S: Alter>(rt: &HostRuntime, cause: &Cause, conn: &Connection<S>) {
+    if !matches!(cause, Cause::StoreFault) {
+        return;
+    }
+    let words = match holding_of(conn) {
+        Holding::Nothing | Holding::Cells => return,
+        Holding::CellsAndMore => "the database has other tables, indexes or views beside its cells",
+        Holding::OtherCell => "the database has a table 'cell' that is no table of cells",
+        Holding::Others => "the database has tables, indexes or views, and no table of cells",
+    };
+    let _told = eprintln!(rt; "jpa: {words}");
+}
+
 /// Answers the calls on standard input until it ends, over the cells of a connection, which is
 /// handed back.
 fn serve<S: Alter + Drop>(
@@ -150,7 +166,10 @@ fn serve<S: Alter + Drop>(
 {
     let mut provider = match open(rt.alloc(), conn, unit, history) {
         Ok(provider) => provider,
-        Err((cause, _)) => return Err(cause),
+        Err((cause, refused)) => {
+            tell_holding(rt, &cause, &refused);
+            return Err(cause);
+        }
     };
     let stop = match run(
         rt.alloc(),
@@ -249,7 +268,10 @@ fn rows_found(
         Ok(conn) => conn,
         Err((error, _)) => return Err(cause_of(error)),
     };
-    let (rows, _conn) = ask_store(rt.alloc(), conn, unit, question);
+    let (rows, conn) = ask_store(rt.alloc(), conn, unit, question);
+    if let Err(cause) = &rows {
+        tell_holding(rt, cause, &conn);
+    }
     rows
 }
 

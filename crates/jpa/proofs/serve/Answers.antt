@@ -18,7 +18,7 @@ true_false e = cc
 
 pub returns-in-Err-clause-unservable : goal.returns-in-Err-clause-unservable
 returns-in-Err-clause-unservable g c fails =
-    either_cause c.open.result c.in-Err.cause _ _ c.in-Err.field-0-1 c.args.conn c.in-Err.is (unservable c.open.result _ _ c.args.unit c.args.history.now c.open.ensures.unknown c.open.ensures.thrown fails)
+    either_cause c.open.result c.in-Err.cause _ _ c.in-Err.refused c.args.conn c.in-Err.is (unservable c.open.result _ _ c.args.unit c.args.history.now c.open.ensures.unknown c.open.ensures.thrown fails)
 
 pub returns-clause-unservable : goal.returns-clause-unservable
 returns-clause-unservable g c fails = true_false (sym (servable c.open.result _ _ c.args.unit c.args.history.now c.open.ensures.unknown c.open.ensures.thrown c.in-Ok.provider c.in-Ok.is) ∙ fails)
