@@ -4,4 +4,4 @@ use Rattle.jpql_select.specs.declared.case.Case.{Case}
 
 -- a tuple with its group, as the meaning has it
 abbrev pub case_in : Case → meaning.Case
-case_in c = record { tuple = c.tuple; group = c.group.items }
+case_in c = record { tuple = c.tuple.now; group = c.group.now }

@@ -4,4 +4,5 @@ pub mod Selects
 pub mod Short
 pub mod Keys
 pub mod Rows
+pub mod Sortings
 pub mod Tables

@@ -1,5 +1,5 @@
 -- What the parts of a SELECT mean, over what it is run over.
-use Rattle.std.specs.Prelude.{Bool, List}
+use Rattle.std.specs.Prelude.{Bool, List, [], map}
 use Rattle.jpa_open.specs.Opened.{now}
 use Rattle.jpql_types.specs.declared.scope.TypedPath.{TypedPath}
 use Rattle.jpql_types.specs.declared.typed.TypedKey.{TypedKey}
@@ -52,3 +52,7 @@ row_of run q at = selection.row_of run.metamodel.now (now run.set.now) run.param
 -- the rows of what HAVING is true of
 abbrev pub rows_of : Run → TypedSelect → List Case → Answer (List Row)
 rows_of run q cases = selection.rows_of run.metamodel.now (now run.set.now) run.parameters.now q cases
+
+-- the rows of groups of tuples, before DISTINCT and ORDER BY
+abbrev pub rows_of_groups : Run → TypedSelect → List Tuple → Answer (List Row)
+rows_of_groups run q ts = rows_of run q (map selection.case_of (selection.put_tuples (group_key run q.groups) [] ts))

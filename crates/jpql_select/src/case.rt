@@ -2,22 +2,28 @@
 //! and 4.9).
 ghost use Rattle.std.specs.Prelude.{◌≡◌, ◌∷◌, [], map, IfOk};
 ghost use Rattle.std.specs.List.{list_any};
+ghost use Rattle.jpa_open.specs.Opened as opened;
+ghost use Rattle.jpql_eval.specs.Finds.{Finds};
 ghost use Rattle.jpql_plan.specs.Meaning as meaning;
 ghost use Rattle.jpql_plan.specs.Selection as selection;
+ghost use Rattle.jpql_run.specs.Keys as keys;
 ghost use Rattle.jpql_select.specs.Cases.{case_in};
 ghost use Rattle.jpql_select.specs.Groups.{groups_in};
 ghost use Rattle.jpql_select.specs.Selects as selects;
 
 use crate::groups::grouped;
+use crate::row::Row;
+use crate::rows::rows_of;
+use jpql_eval::Failure;
 use jpql_run::{Run, Tuple};
 use jpql_types::{TypedPath, TypedSelect, TypedValue};
 use std::alloc::{AllocError, Global};
 
-/// A tuple, and the group that it is the first of.
-#[derive(Drop)]
-pub(crate) struct Case<'a> {
-    pub(crate) tuple: Tuple<'a>,
-    pub(crate) group: Vec<Tuple<'a>>,
+/// A tuple, and the group that it is the first of, where they stand.
+#[derive(Clone, Copy)]
+pub(crate) struct Case<'t, 'a> {
+    pub(crate) tuple: &'t Tuple<'a>,
+    pub(crate) group: &'t [Tuple<'a>],
 }
 
 /// Whether a value has an aggregate.
@@ -69,82 +75,125 @@ fn is_grouping(select: &TypedSelect) -> bool
 }
 
 /// Each tuple alone.
-fn each_alone<'a>(alloc: Global, tuples: Vec<Tuple<'a>>) -> Result<Vec<Case<'a>>, AllocError>
-    ensures { IfOk result (λ cases. map case_in cases.items
-        ≡ map meaning.alone tuples.entry.items) }
+fn each_alone<'t, 'a>(
+    alloc: Global,
+    tuples: &'t [Tuple<'a>],
+) -> Result<Vec<Case<'t, 'a>>, AllocError>
+    ensures { IfOk result (λ cases. map case_in cases.items ≡ map meaning.alone tuples.now) }
 {
     let mut cases = Vec::with_capacity(alloc, tuples.len())?;
+    let (group, _) = tuples.split_at(0);
     for tuple in tuples {
-        cases.push(Case {
-            tuple,
-            group: Vec::new(alloc),
-        })?;
+        cases.push(Case { tuple, group })?;
     }
     Ok(cases)
+}
+
+/// Groups of tuples, and a tuple without variables.
+#[derive(Drop)]
+struct Groups<'a> {
+    groups: Vec<Vec<Tuple<'a>>>,
+    nothing: Tuple<'a>,
 }
 
 /// A group; that of nothing has no variables.
-fn case_of<'a>(alloc: Global, group: Vec<Tuple<'a>>) -> Result<Case<'a>, AllocError>
-    ensures { IfOk result (λ case. case_in case ≡ selection.case_of group.entry.items) }
+fn case_of<'t, 'a>(nothing: &'t Tuple<'a>, group: &'t [Tuple<'a>]) -> Case<'t, 'a>
+    requires nothing { nothing.now ≡ [] }
+    ensures { case_in result ≡ selection.case_of group.now }
 {
-    let tuple = match group.as_slice() {
-        [] => Tuple::new(alloc),
-        [first, ..] => first.copied(alloc)?,
-    };
-    Ok(Case { tuple, group })
+    match group {
+        [] => Case {
+            tuple: nothing,
+            group,
+        },
+        [first, ..] => Case {
+            tuple: first,
+            group,
+        },
+    }
 }
 
 /// Each group.
-fn each_group<'a>(alloc: Global, groups: Vec<Vec<Tuple<'a>>>) -> Result<Vec<Case<'a>>, AllocError>
+fn each_group<'t, 'a>(alloc: Global, all: &'t Groups<'a>) -> Result<Vec<Case<'t, 'a>>, AllocError>
+    requires nothing { all.now.nothing ≡ [] }
     ensures { IfOk result (λ cases. map case_in cases.items
-        ≡ map selection.case_of (groups_in groups.entry.items)) }
+        ≡ map selection.case_of (groups_in all.now.groups.items)) }
 {
-    let mut cases = Vec::with_capacity(alloc, groups.len())?;
-    for group in groups {
-        cases.push(case_of(alloc, group)?)?;
+    let mut cases = Vec::with_capacity(alloc, all.groups.len())?;
+    for group in &all.groups {
+        cases.push(case_of(&all.nothing, group.as_slice()))?;
     }
     Ok(cases)
 }
 
-/// All tuples as one group.
-fn one_group<'a>(alloc: Global, tuples: Vec<Tuple<'a>>) -> Result<Vec<Case<'a>>, AllocError>
-    ensures { IfOk result (λ cases. map case_in cases.items
-        ≡ selection.case_of tuples.entry.items ∷ []) }
-{
-    let mut cases = Vec::new(alloc);
-    cases.push(case_of(alloc, tuples)?)?;
-    Ok(cases)
-}
-
-/// The groups of tuples; without GROUP BY there is one, also of nothing.
-fn groups_of<'a>(
+/// The rows of groups.
+fn rows_of_each<'a>(
     alloc: Global,
     run: &Run<'a>,
-    paths: &[TypedPath],
-    tuples: Vec<Tuple<'a>>,
-) -> Result<Vec<Case<'a>>, AllocError>
-    ensures { IfOk result (λ cases. map case_in cases.items
-        ≡ selects.groups_of run.now paths.now tuples.entry.items) }
+    select: &'a TypedSelect,
+    groups: Vec<Vec<Tuple<'a>>>,
+) -> Result<Vec<Row<'a>>, Failure>
+    requires looked_up { keys.CanBeLookedUp run.now.metamodel.now (opened.now run.now.set.now) }
+    ensures { Finds (λ v. v.items) result (selects.rows_of run.now select.now
+        (map selection.case_of (groups_in groups.entry.items))) }
 {
-    match paths {
-        [] => one_group(alloc, tuples),
-        [_, ..] => each_group(alloc, grouped(alloc, run, paths, tuples)?),
+    let all = Groups {
+        groups,
+        nothing: Tuple::new(alloc),
+    };
+    let cases = each_group(alloc, &all)?;
+    rows_of(alloc, run, select, cases)
+}
+
+/// The row of all tuples as one group, also of nothing.
+fn row_of_all<'a>(
+    alloc: Global,
+    run: &Run<'a>,
+    select: &'a TypedSelect,
+    tuples: Vec<Tuple<'a>>,
+) -> Result<Vec<Row<'a>>, Failure>
+    requires looked_up { keys.CanBeLookedUp run.now.metamodel.now (opened.now run.now.set.now) }
+    ensures { Finds (λ v. v.items) result (selects.rows_of run.now select.now
+        (selection.case_of tuples.entry.items ∷ [])) }
+{
+    let mut groups = Vec::new(alloc);
+    groups.push(tuples)?;
+    rows_of_each(alloc, run, select, groups)
+}
+
+/// The rows of the groups of tuples.
+fn rows_of_groups<'a>(
+    alloc: Global,
+    run: &Run<'a>,
+    select: &'a TypedSelect,
+    tuples: Vec<Tuple<'a>>,
+) -> Result<Vec<Row<'a>>, Failure>
+    requires looked_up { keys.CanBeLookedUp run.now.metamodel.now (opened.now run.now.set.now) }
+    ensures { Finds (λ v. v.items) result
+        (selects.rows_of_groups run.now select.now tuples.entry.items) }
+{
+    let groups = grouped(alloc, run, select.groups.as_slice(), tuples)?;
+    rows_of_each(alloc, run, select, groups)
+}
+
+/// The rows of a statement, before DISTINCT and ORDER BY: of each tuple, or of each group; without
+/// GROUP BY there is one group, also of nothing.
+pub(crate) fn rows_for<'a>(
+    alloc: Global,
+    run: &Run<'a>,
+    select: &'a TypedSelect,
+    tuples: Vec<Tuple<'a>>,
+) -> Result<Vec<Row<'a>>, Failure>
+    requires looked_up { keys.CanBeLookedUp run.now.metamodel.now (opened.now run.now.set.now) }
+    ensures { Finds (λ v. v.items) result (selects.rows_of run.now select.now
+        (selects.cases_of run.now select.now tuples.entry.items)) }
+{
+    if !is_grouping(select) {
+        let cases = each_alone(alloc, &tuples)?;
+        return rows_of(alloc, run, select, cases);
     }
-}
-
-/// What the items of a statement are computed for.
-pub(crate) fn cases_of<'a>(
-    alloc: Global,
-    run: &Run<'a>,
-    select: &TypedSelect,
-    tuples: Vec<Tuple<'a>>,
-) -> Result<Vec<Case<'a>>, AllocError>
-    ensures { IfOk result (λ cases. map case_in cases.items
-        ≡ selects.cases_of run.now select.now tuples.entry.items) }
-{
-    if is_grouping(select) {
-        groups_of(alloc, run, select.groups.as_slice(), tuples)
-    } else {
-        each_alone(alloc, tuples)
+    match select.groups.as_slice() {
+        [] => row_of_all(alloc, run, select, tuples),
+        [_, ..] => rows_of_groups(alloc, run, select, tuples),
     }
 }

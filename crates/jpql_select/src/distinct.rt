@@ -18,6 +18,8 @@ fn once<'a>(alloc: Global, rows: Vec<Row<'a>>) -> Result<Vec<Row<'a>>, AllocErro
     for row in rows {
         if met.insert(key_of(alloc, &row.items)?)? {
             kept.push(row)?;
+        } else {
+            drop(row);
         }
     }
     Ok(kept)

@@ -1,10 +1,11 @@
 //! ORDER BY (chapter 4.10): nulls come first, DESC turns a key round, and rows that tie stay in
 //! their order.
-ghost use Rattle.std.specs.Prelude.{◌≡◌, map, IfOk};
+ghost use Rattle.std.specs.Prelude.{◌≡◌, ◌∷◌, [], map, IfOk};
 ghost use Rattle.jpql_eval.specs.Seen.{seen};
 ghost use Rattle.jpql_plan.specs.Selection as selection;
+ghost use Rattle.jpql_select.specs.Sortings.{sorting_data};
 
-use crate::row::Row;
+use crate::row::{Row, Sorting};
 use jpql_eval::{Seen, order};
 use jpql_types::TypedKey;
 use std::alloc::AllocError;
@@ -57,11 +58,42 @@ fn by_keys<'a>(keys: &[TypedKey], left: &[Seen<'a>], right: &[Seen<'a>]) -> Orde
     }
 }
 
+/// By one datum each.
+fn by_one<'a>(keys: &[TypedKey], left: &Seen<'a>, right: &Seen<'a>) -> Ordering
+    ensures { result
+        ≡ selection.keys_cmp keys.now (seen left.now ∷ []) (seen right.now ∷ []) }
+{
+    match keys {
+        [key] => match by_key(key.is_descending, left, right) {
+            Ordering::Equal => Ordering::Equal,
+            order => order,
+        },
+        _ => by_keys(
+            keys,
+            std::slice::from_ref(left),
+            std::slice::from_ref(right),
+        ),
+    }
+}
+
+/// What a row is ordered by, as a list.
+fn data_of<'s, 'a>(sorting: &'s Sorting<'a>) -> &'s [Seen<'a>]
+    ensures { map seen result.now ≡ sorting_data sorting.now }
+{
+    match sorting {
+        Sorting::One(datum) => std::slice::from_ref(datum),
+        Sorting::Several(data) => data.as_slice(),
+    }
+}
+
 /// Row by row.
 fn by_rows<'a>(keys: &[TypedKey], left: &Row<'a>, right: &Row<'a>) -> Ordering
     ensures { result ≡ selection.keys_cmp keys.now left.now.keys right.now.keys }
 {
-    by_keys(keys, &left.keys, &right.keys)
+    match (&left.keys, &right.keys) {
+        (Sorting::One(left), Sorting::One(right)) => by_one(keys, left, right),
+        (left, right) => by_keys(keys, data_of(left), data_of(right)),
+    }
 }
 
 /// The rows in the order of their keys.

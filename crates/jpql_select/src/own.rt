@@ -27,11 +27,11 @@ fn row_of(alloc: Global, items: &[Seen<'_>]) -> Result<Seq<Datum>, Cause>
     ensures ok { IfOk result (λ row. row ≡ map seen items.now) }
     ensures err { IfErr result (λ cause. cause ≡ Cause.OutOfMemory) }
 {
-    let mut row = Seq::new(alloc);
+    let mut row = Vec::with_capacity(alloc, items.len())?;
     for item in items {
         row.push(datum_of(item)?)?;
     }
-    Ok(row)
+    Ok(Seq::of(row))
 }
 
 /// Rows of their own. Fails for want of memory alone, with `OutOfMemory`.
@@ -39,9 +39,9 @@ pub fn rows_of(alloc: Global, table: &[Vec<Seen<'_>>]) -> Result<Seq<Seq<Datum>>
     ensures ok { IfOk result (λ rows. rows ≡ map (λ row. map seen row.items) table.now) }
     ensures err { IfErr result (λ cause. cause ≡ Cause.OutOfMemory) }
 {
-    let mut rows = Seq::new(alloc);
+    let mut rows = Vec::with_capacity(alloc, table.len())?;
     for row in table {
         rows.push(row_of(alloc, row.as_slice())?)?;
     }
-    Ok(rows)
+    Ok(Seq::of(rows))
 }

@@ -5,8 +5,7 @@ ghost use Rattle.jpql_plan.specs.Selection as selection;
 ghost use Rattle.jpql_run.specs.Keys as keys;
 ghost use Rattle.jpql_select.specs.Tables.{rows_in};
 
-use crate::case::cases_of;
-use crate::rows::rows_of;
+use crate::case::rows_for;
 use crate::table::{Table, ordered};
 use crate::tuples::selected_tuples;
 use jpa_model::Metamodel;
@@ -45,8 +44,7 @@ pub fn select<'a>(
         parameters,
     };
     let tuples = selected_tuples(alloc, &run, statement)?;
-    let cases = cases_of(alloc, &run, statement, tuples)?;
-    let rows = rows_of(alloc, &run, statement, cases)?;
+    let rows = rows_for(alloc, &run, statement, tuples)?;
     let table = ordered(
         alloc,
         statement.order.as_slice(),

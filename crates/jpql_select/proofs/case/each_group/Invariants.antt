@@ -1,4 +1,4 @@
-use Rattle.std.proofs.Common.{◌≡◌, ◌++◌, map, drop, length}
+use Rattle.std.proofs.Common.{◌≡◌, ◌++◌, map, drop}
 use Rattle.jpql_plan.specs.Selection.{case_of}
 use Rattle.jpql_select.specs.Cases.{case_in}
 use Rattle.jpql_select.specs.Groups.{groups_in}
@@ -7,4 +7,4 @@ use Rattle.jpql_select.proofs.case.each_group.Given as goal
 -- those before, and those that are left
 abbrev pub invariant-loop-group : goal.invariant-loop-group
 invariant-loop-group l =
-    map case_of (groups_in l.fn.groups.items) ≡ map case_in l.cases.items ++ map case_of (groups_in (drop (length l.yielded) l.fn.groups.items))
+    map case_of (groups_in l.all.groups.items) ≡ map case_in l.cases.items ++ map case_of (groups_in (drop l.group-index l.all.groups.items))
