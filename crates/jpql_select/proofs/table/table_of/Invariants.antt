@@ -1,8 +1,4 @@
-use Rattle.std.proofs.Common.{◌≡◌, ◌++◌, List, drop, length, map}
-use Rattle.std.specs.Global.{Vec}
-use Rattle.jpql_eval.specs.declared.seen.Seen.{Seen}
-use Rattle.jpql_eval.specs.Seen.{seen}
-use Rattle.jpql_plan.specs.Selection.{Row}
+use Rattle.std.proofs.Common.{◌≡◌, ◌++◌, drop, length}
 use Rattle.jpql_select.specs.Tables.{rows_in, items_in}
 use Rattle.jpql_select.proofs.table.table_of.Given as goal
 

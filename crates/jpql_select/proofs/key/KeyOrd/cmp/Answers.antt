@@ -1,7 +1,4 @@
-use Rattle.std.proofs.Common.{rules, ◌≡◌, ◌∙◌, ap, sym, List, map}
-use Rattle.jpql_eval.specs.declared.datum.Datum.{Datum}
-use Rattle.jpql_eval.specs.Seen.{seen}
-use Rattle.jpql_select.specs.Keys.{data_cmp}
+use Rattle.std.proofs.Common.{rules}
 use Rattle.jpql_select.proofs.Keys.{by_seen}
 use Rattle.jpql_select.proofs.key.KeyOrd.cmp.Goals as goal
 
