@@ -1,11 +1,12 @@
 #!/usr/bin/env python3
-"""tests/paper_examples.py PROGRAM: runs the examples of README.md and docs/GUIDE.md.
+"""tests/paper_examples.py PROGRAM: runs the examples of README.md, docs/GUIDE.md, docs/CALLS.md.
 
 - A block `jsonl` is calls; the block `text` behind it is the end of what the program answers.
 - A block `json` is a mapping. The calls behind it are a run over it and an empty store; a `text`
   behind it is its refusal.
 - The block `jsonl beginning` of a page makes a store of the persons that are served without a
-  mapping. The page's other calls are runs over it; where a page has none, over no store.
+  mapping. The page's other calls are runs over it, and so are those of the pages behind it; those
+  of the pages before it are over no store.
 - A block `python` is run with the client, and prints the `text` behind it.
 
 It is started from the top of the repository. Exit status 0 where all of them do.
@@ -24,7 +25,7 @@ from typing import TYPE_CHECKING, Any
 if TYPE_CHECKING:
     from pathlib import Path
 
-PAGES = ["README.md", "docs/GUIDE.md"]
+PAGES = ["README.md", "docs/GUIDE.md", "docs/CALLS.md"]
 BLOCK = re.compile(r"^```(\w+)(?: (\w+))?\n(.*?)^```$", re.MULTILINE | re.DOTALL)
 SECONDS = 60
 
@@ -80,9 +81,10 @@ def printed(program: str, example: dict[str, str], store: Path | None, folder: P
     return ran.stdout.splitlines()[-wanted:] + ran.stderr.splitlines()
 
 
-def differing(program: str, page: str) -> tuple[int, list[Any]]:
-    """How many examples a page has, and what differs in them."""
-    found, beginning, rest = examples(page)
+def differing(program: str, page: str, before: str | None) -> tuple[int, list[Any], str | None]:
+    """How many examples a page has, what differs in them, and what the next page begins with."""
+    found, own, rest = examples(page)
+    beginning = own or before
     faults = [f"{page}: an example has no answers: {rest}"] if rest else []
     with tempfile.TemporaryDirectory() as name:
         folder = pathlib.Path(name)
@@ -95,13 +97,13 @@ def differing(program: str, page: str) -> tuple[int, list[Any]]:
             answers = printed(program, example, store, place)
             if answers != example["text"].splitlines():
                 faults.append("\n".join([f"{page}: {example}", "is answered", *answers]))
-    return len(found), faults
+    return len(found), faults, beginning
 
 
 def main(program: str) -> int:
-    count, faults = 0, []
+    count, faults, beginning = 0, [], None
     for page in PAGES:
-        found, differ = differing(program, page)
+        found, differ, beginning = differing(program, page, beginning)
         count += found
         faults += differ
     for fault in faults:

@@ -10,7 +10,7 @@
 - Each public definition of crates/*/specs has a comment right above it, and no line there has more
   than 120 columns.
 - The version of CHANGELOG.md is that of the program and of the client.
-- The calls are as many as docs/GUIDE.md says, all are in its tables and those of docs/QUERIES.md,
+- The calls are as many as docs/CALLS.md says, all are in its tables and those of docs/QUERIES.md,
   and no other paper counts them.
 
 It prints what is not so. Exit status 0 where all of it is so. With --index it first writes the
@@ -234,18 +234,18 @@ def check_version(page: str) -> None:
             fault(page, f"its first version {version} is not that of {name}")
 
 
-def check_calls(guide: str) -> None:
+def check_calls(reference: str) -> None:
     words = found_in(r'^ +"(\w+)" => Ok\(Word::', read("crates/jpa_lines/src/reading.rt"))
-    tables = read(guide) + read("docs/QUERIES.md")
+    tables = read(reference) + read("docs/QUERIES.md")
     for word in sorted(set(words) - set(found_in(r'^\| `\{"call":"(\w+)"', tables))):
-        fault(guide, f"neither its table of calls nor that of docs/QUERIES.md has {word}")
+        fault(reference, f"neither its table of calls nor that of docs/QUERIES.md has {word}")
     wanted = f"{COUNTS[len(words)]} calls"
     counts = re.compile(rf"\b(?:twenty-\w+|{len(words)})(?: \w+)? calls\b", re.IGNORECASE)
     for page in pages():
         text = "" if page.startswith("crates/") else " ".join(prose(read(page)).split())
         for count in counts.findall(text):
-            if page != guide or count.lower() != wanted:
-                fault(page, f"'{count}': {guide} alone counts the calls, as '{wanted}'")
+            if page != reference or count.lower() != wanted:
+                fault(page, f"'{count}': {reference} alone counts the calls, as '{wanted}'")
 
 
 def main(words: list[Any]) -> int:
@@ -265,7 +265,7 @@ def main(words: list[Any]) -> int:
     for name in sorted(pathlib.Path("crates").glob("*/specs/**/*.antt")):
         check_definitions(name)
     check_version("CHANGELOG.md")
-    check_calls("docs/GUIDE.md")
+    check_calls("docs/CALLS.md")
     for line in faults:
         print(line)
     print(f"{len(found)} papers, {len(faults)} faults")

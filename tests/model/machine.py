@@ -1,7 +1,7 @@
-"""What the program answers to lines, in plain Python after docs/GUIDE.md and docs/DEFINITIONS.md:
-the call that a line means (tests/model/reading.py), the machine that calls change, and the cells
-of what was committed (tests/model/cells.py). It serves what the program serves, and knows
-nothing of how that is built.
+"""What the program answers to lines, in plain Python after docs/GUIDE.md, docs/CALLS.md and
+docs/DEFINITIONS.md: the call that a line means (tests/model/reading.py), the machine that calls
+change, and the cells of what was committed (tests/model/cells.py). It serves what the program
+serves, and knows nothing of how that is built.
 
 Values are None, int, str (a text), bytes and Number (the number of an object); an identity is a
 root entity's name with the key as a tuple.

@@ -70,7 +70,7 @@ MARKING = {
 
 
 class Refused(KarzhoulError):
-    """A call that was refused; docs/GUIDE.md tells what a refused call leaves.
+    """A call that was refused; docs/CALLS.md tells what a refused call leaves.
 
     `name` and `number` are the refusal's, `detail` its `why`, `events` what the call told before it
     was refused, `line` what was sent, and `later` the refusals of calls that had been sent along in
