@@ -1,7 +1,8 @@
 pub mod Calls
-pub mod Grouping
 pub mod Kept
 pub mod Placed
+pub mod Counted
+pub mod Rising
 mod Shortness
 pub mod Keys
 pub mod Once

@@ -53,7 +53,7 @@ module _ (key : Tuple → List Datum) where
   first_by true o e = refl
   first_by false o e = absurd (suc_zero o e)
 
-  none_by : (b : Bool) (o : Option ℕ) → cond b (Some 0) (option_map suc o) ≡ None → (b ≡ false) × (o ≡ None)
+  pub none_by : (b : Bool) (o : Option ℕ) → cond b (Some 0) (option_map suc o) ≡ None → (b ≡ false) × (o ≡ None)
   none_by true o e = absurd (cc)
   none_by false o e = (refl, suc_none o e)
 
@@ -140,7 +140,7 @@ module _ (key : Tuple → List Datum) where
   same_begin k q [] e = refl
   same_begin k q (one ∷ more) e = same_laws.symm (key one) k ∙ same_laws.congr k q (key one) e ∙ same_laws.symm q (key one)
 
-  same_place : (k q : List Datum) (gs : List (List Tuple)) → same_data k q ≡ true → place_of key k gs ≡ place_of key q gs
+  pub same_place : (k q : List Datum) (gs : List (List Tuple)) → same_data k q ≡ true → place_of key k gs ≡ place_of key q gs
   same_place k q [] e = refl
   same_place k q (g ∷ gs) e = by_key _ _ _ _ (same_begin k q g e) (same_place k q gs e)
 

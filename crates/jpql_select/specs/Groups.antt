@@ -2,9 +2,12 @@
 use Rattle.std.specs.Prelude.{◌≡◌, ℕ, zero, suc, Bool, true, false, List, [], ◌∷◌, ◌++◌, map, Option, Some, None}
 use Rattle.std.specs.Prelude.{option_map, if◌then◌else◌}
 use Rattle.std.specs.Global.{Vec}
+use Rattle.std.specs.Ordering.{is_lt}
+use Rattle.std.specs.declared.cmp.Ordering.TheVariants.{Less}
 use Rattle.jpql_eval.specs.declared.datum.Datum.{Datum}
 use Rattle.jpql_eval.specs.Data.{same_data}
 use Rattle.jpql_plan.specs.Paths.{Tuple}
+use Rattle.jpql_select.specs.Keys.{data_cmp}
 
 -- the groups, as lists
 abbrev pub groups_in : {T : Type 0} → List (Vec T) → List (List T)
@@ -31,6 +34,17 @@ abbrev pub AreApart : (Tuple → List Datum) → List (List Tuple) → Type 0
 AreApart key [] = Unit {0}
 AreApart key ([] ∷ gs) = AreApart key gs
 AreApart key ((one ∷ more) ∷ gs) = (place_of key (key one) gs ≡ None) × AreApart key gs
+
+-- each group's key stands before this one
+abbrev pub AreBefore : (Tuple → List Datum) → List Datum → List (List Tuple) → Type 0
+AreBefore key k [] = Unit {0}
+AreBefore key k ([] ∷ gs) = AreBefore key k gs
+AreBefore key k ((one ∷ more) ∷ gs) = (data_cmp (key one) k ≡ Less) × AreBefore key k gs
+
+-- whether a key stands behind the one before it; the first one does
+abbrev pub is_risen : Option (List Datum) → List Datum → Bool
+is_risen None k = true
+is_risen (Some before) k = is_lt (data_cmp before k)
 
 -- whether each group has a tuple
 abbrev pub all_some : List (List Tuple) → Bool

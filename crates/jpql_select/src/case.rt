@@ -1,9 +1,10 @@
 //! What items, HAVING and ORDER BY are computed for: a tuple, or a group of tuples (chapters 4.8
 //! and 4.9).
-ghost use Rattle.std.specs.Prelude.{◌≡◌, ◌∷◌, [], map, IfOk};
+ghost use Rattle.std.specs.Prelude.{◌≡◌, ◌∷◌, [], map, IfOk, IfErr, IfSome};
 ghost use Rattle.std.specs.List.{list_any};
 ghost use Rattle.jpa_open.specs.Opened as opened;
-ghost use Rattle.jpql_eval.specs.Finds.{Finds};
+ghost use Rattle.jpql_eval.specs.Answers.{gives};
+ghost use Rattle.jpql_eval.specs.Finds.{Finds, Fails};
 ghost use Rattle.jpql_plan.specs.Meaning as meaning;
 ghost use Rattle.jpql_plan.specs.Selection as selection;
 ghost use Rattle.jpql_run.specs.Keys as keys;
@@ -11,7 +12,7 @@ ghost use Rattle.jpql_select.specs.Cases.{case_in};
 ghost use Rattle.jpql_select.specs.Groups.{groups_in};
 ghost use Rattle.jpql_select.specs.Selects as selects;
 
-use crate::groups::grouped;
+use crate::groups::{grouped, rising};
 use crate::row::Row;
 use crate::rows::rows_of;
 use jpql_eval::Failure;
@@ -161,6 +162,26 @@ fn row_of_all<'a>(
     rows_of_each(alloc, run, select, groups)
 }
 
+/// The rows of the groups of tuples, where the keys of these rise: then each group stands in one
+/// place, and none is looked for.
+fn rows_of_rising<'a>(
+    alloc: Global,
+    run: &Run<'a>,
+    select: &'a TypedSelect,
+    tuples: &[Tuple<'a>],
+) -> Result<Option<Vec<Row<'a>>>, Failure>
+    requires looked_up { keys.CanBeLookedUp run.now.metamodel.now (opened.now run.now.set.now) }
+    ensures rows { IfOk result (λ found. IfSome found (λ rows.
+        selects.rows_of_groups run.now select.now tuples.now ≡ gives rows.items)) }
+    ensures err { IfErr result (λ failure.
+        Fails failure (selects.rows_of_groups run.now select.now tuples.now)) }
+{
+    let Some(cases) = rising(alloc, run, select.groups.as_slice(), tuples)? else {
+        return Ok(None);
+    };
+    Ok(Some(rows_of(alloc, run, select, cases)?))
+}
+
 /// The rows of the groups of tuples.
 fn rows_of_groups<'a>(
     alloc: Global,
@@ -172,6 +193,9 @@ fn rows_of_groups<'a>(
     ensures { Finds (λ v. v.items) result
         (selects.rows_of_groups run.now select.now tuples.entry.items) }
 {
+    if let Some(rows) = rows_of_rising(alloc, run, select, &tuples)? {
+        return Ok(rows);
+    }
     let groups = grouped(alloc, run, select.groups.as_slice(), tuples)?;
     rows_of_each(alloc, run, select, groups)
 }

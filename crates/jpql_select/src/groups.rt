@@ -1,13 +1,16 @@
 //! GROUP BY (chapter 4.8): tuples with the same key stand in one group, and groups in the order of
 //! their first tuples.
 ghost use Rattle.std.specs.BTreeMap.{get, Updates};
-ghost use Rattle.std.specs.Prelude.{◌≡◌, ◌<◌, ◌++◌, ◌∷◌, [], length, slice_index_or, unwrap_or, Some, OnOk, IfOk};
+ghost use Rattle.std.specs.Prelude.{◌≡◌, ◌<◌, ◌≤◌, ◌++◌, ◌∷◌, [], length, map, take, slice_index_or, unwrap_or};
+ghost use Rattle.std.specs.Prelude.{Some, true, All, OnOk, IfOk, IfSome};
 ghost use Rattle.jpql_eval.specs.Data.{same_data};
-ghost use Rattle.jpql_plan.specs.Selection.{put_tuples};
+ghost use Rattle.jpql_plan.specs.Selection.{case_of, put_tuples};
+ghost use Rattle.jpql_select.specs.Cases.{case_in};
 ghost use Rattle.jpql_select.specs.Keys.{data_cmp};
-ghost use Rattle.jpql_select.specs.Groups.{groups_in, add_at, begins_with};
+ghost use Rattle.jpql_select.specs.Groups.{groups_in, add_at, begins_with, is_risen};
 ghost use Rattle.jpql_select.specs.Selects as selects;
 
+use crate::case::Case;
 use crate::key::Key;
 use jpql_eval::is_same;
 use jpql_run::{Run, Tuple, path};
@@ -91,6 +94,67 @@ fn is_at<'a>(
             [first, ..] => are_alike(run, paths, first, tuple),
         },
     }
+}
+
+/// How many of these tuples, from the first on, are grouped by the same as a tuple before them.
+fn alike<'a>(run: &Run<'a>, paths: &[TypedPath], first: &Tuple<'a>, tuples: &[Tuple<'a>]) -> usize
+    ensures at_most { result ≤ length tuples.now }
+    ensures alike { let key = selects.group_key run.now paths.now in
+        All (λ t. same_data (key first.now) (key t) ≡ true) (take result tuples.now) }
+{
+    let mut count = 0;
+    for tuple in tuples {
+        if !are_alike(run, paths, first, tuple) {
+            return count;
+        }
+        count += 1;
+    }
+    count
+}
+
+/// Whether a key stands behind the one before it; the first one does.
+fn is_above<'a>(before: &Option<Key<'a>>, key: &Key<'a>) -> bool
+    ensures { result ≡ is_risen before.now key.now }
+{
+    match before {
+        None => true,
+        Some(before) => before.cmp(key).is_lt(),
+    }
+}
+
+/// The groups of tuples by these paths, where they stand, if each stands in one place and their
+/// keys rise from one to the next.
+pub(crate) fn rising<'t, 'a>(
+    alloc: Global,
+    run: &Run<'a>,
+    paths: &[TypedPath],
+    tuples: &'t [Tuple<'a>],
+) -> Result<Option<Vec<Case<'t, 'a>>>, AllocError>
+    ensures { IfOk result (λ found. IfSome found (λ cases. map case_in cases.items
+        ≡ map case_of (put_tuples (selects.group_key run.now paths.now) [] tuples.now))) }
+{
+    let mut cases = Vec::new(alloc);
+    let mut before = None;
+    let mut place = 0;
+    while place < tuples.len() {
+        let (_, rest) = tuples.split_at(place);
+        let [first, others @ ..] = rest else {
+            return Ok(None);
+        };
+        let key = key_at(alloc, run, paths, first)?;
+        if !is_above(&before, &key) {
+            return Ok(None);
+        }
+        let count = alike(run, paths, first, others);
+        let (group, _) = rest.split_at(1 + count);
+        cases.push(Case {
+            tuple: first,
+            group,
+        })?;
+        before = Some(key);
+        place += 1 + count;
+    }
+    Ok(Some(cases))
 }
 
 /// The place of a key's group, which is this one where none is there yet; it is found by one walk.
