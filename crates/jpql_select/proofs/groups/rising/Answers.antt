@@ -1,4 +1,4 @@
-use Rattle.std.proofs.Common.{arith, ◌≡◌, ◌∙◌, ◌+◌, ◌-◌, ◌≤◌, [], ◌∷◌, List, ap, sym, refl, drop, take, length}
+use Rattle.std.proofs.Common.{arith, ◌≡◌, ◌∙◌, ◌-◌, ◌≤◌, [], ◌∷◌, List, ap, sym, refl, drop, take, length}
 use Rattle.std.proofs.lemmas.List.{drop_more, take_all, length-drop}
 use Rattle.jpql_plan.specs.Paths.{Tuple}
 use Rattle.jpql_plan.specs.Selection.{put_tuples}
