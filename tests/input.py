@@ -97,12 +97,15 @@ def unreadable(program: str, store: str, _: int) -> None:
 
 def unwritable(program: str, store: str, _: int) -> None:
     """Standard output that takes nothing: the status is 4, and the cells are those of a front of
-    the calls."""
+    the calls. The same of one call that the input's end ends, without a line feed."""
     with open("/dev/full", "wb") as full:
         status, _, said, left = ran(program, store, input=CALLS, stdout=full)
     see((status, said), (4, b""), "output that can't be written")
     if left not in ("", CELLS.decode()):
         raise Differs(f"output that can't be written leaves {left!r}")
+    with open("/dev/full", "wb") as full:
+        status, _, said, _ = ran(program, store, input=CALLS.splitlines()[0], stdout=full)
+    see((status, said), (4, b""), "a last line's reply that can't be written")
 
 
 def lengths(program: str, store: str, _: int) -> None:

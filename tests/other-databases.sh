@@ -51,7 +51,7 @@ for program in $programs; do
         make "PRAGMA journal_mode = $mode; CREATE TABLE cell (t INTEGER PRIMARY KEY, r, c, v)"
         is_refused "a table of another schema" "a table 'cell' that is no table of cells"
         make "PRAGMA journal_mode = $mode; $cell; CREATE INDEX by_v ON cell (v)"
-        is_refused "a table with another index" "a table 'cell' that is no table of cells"
+        is_refused "a table with another index" "other tables, indexes or views beside its cells"
     done
 done
 echo "databases that sqlite3 made are taken where they hold cells or nothing, else refused and left"

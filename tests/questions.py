@@ -244,7 +244,8 @@ def no_stores(ask: Asking) -> None:
     with closing(sqlite3.connect(ask.store)) as other:
         other.execute("CREATE TABLE note (id INTEGER PRIMARY KEY) STRICT")
         other.commit()
-    ask.refuses(text, "StoreFault")
+    words = "jpa: the database has tables, indexes or views, and no table of cells\n"
+    ask.asks(text, (3, "", f"{words}jpa: StoreFault\n"))
     os.remove(ask.store)
     os.mkdir(ask.store)
     found = ask.ran("--db", ask.store, "--query", *text)
