@@ -16,12 +16,12 @@ use Rattle.jpa_context.specs.Places.{entry_place}
 use Rattle.jpa_context.specs.Undo.{now, since, undone, Since}
 use Rattle.jpa_context.specs.Work.{Work, base_in, base_of, is_managed, object, state_from, state_of}
 use Rattle.jpa_fetch.specs.Grown.{AreDistinct}
-use Rattle.jpa_flush.specs.Flush.{links_stored, remembered}
+use Rattle.jpa_flush.specs.Flush.{links_stored}
 use Rattle.jpa_flush.specs.Marked.{AreLooked, AreMarked, AreMarkedBefore, AreRising, IsUntouched, before, has_no_orphan, is_linked, is_linked_if_managed}
 use Rattle.jpa_flush.specs.Touched.{HaveBelow, HaveFrom, HaveTouched, IsKnown, IsLinkedStill}
 use Rattle.jpa_flush.proofs.Entered.{find_at}
 use Rattle.jpa_flush.proofs.Noted.{since_by}
-use Rattle.jpa_flush.proofs.Silent.{calm_orphans, calm_parts, calm_remembered, later_or, linked_stored}
+use Rattle.jpa_flush.proofs.Silent.{calm_orphans, calm_parts, later_or, linked_stored}
 use Rattle.jpa_flush.proofs.TurnsOfUpdates.{other_object}
 use Rattle.jpa_flush.proofs.Untouched.{calm_on, linked_on}
 
@@ -135,9 +135,6 @@ looked_as P Q es places f looked = record { rising = looked.rising; others = λ 
 
 module _ (m : PersistenceUnit) (w : Work) where
   module _ (linked : Bool) (es : List Entry) (places : List ℕ) (looked : AreLooked (IsUntouched m w linked) es places) where
-    pub remembered_looked : AreLooked (λ (e : Entry). remembered m w e ≡ e) es places
-    remembered_looked = looked_as (IsUntouched m w linked) (λ (e : Entry). remembered m w e ≡ e) es places (λ k d l u. calm_remembered m w (get_or es k d) u.calm) looked
-
     pub linked_looked : linked ≡ true → AreLooked (λ (e : Entry). is_linked_if_managed m w e.object ≡ true) es places
     linked_looked h =
         looked_as (IsUntouched m w linked) (λ (e : Entry). is_linked_if_managed m w e.object ≡ true) es places

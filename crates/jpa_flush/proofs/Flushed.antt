@@ -4,6 +4,7 @@ use Rattle.std.specs.Prelude.{All, is_some, ◌||◌, Option, Some, None}
 use Rattle.std.specs.List.{filter, flat_map}
 use Rattle.std.specs.FinMap.Entries.{is_sorted}
 use Rattle.std.proofs.lemmas.Bool.{and_from}
+use Rattle.std.proofs.lemmas.List.Elements.{All-nil, All-cons, All-head, All-tail}
 use Rattle.jpa_value.specs.declared.value.Identity.{Identity}
 use Rattle.jpa_value.specs.declared.refusal.Cause.{Cause}
 use Rattle.jpa_value.specs.declared.refusal.PersistenceFault.{PersistenceFault}
@@ -19,11 +20,13 @@ use Rattle.jpa_context.specs.Steps.{◌>>◌, Outcome, Done, Refused, Op, after,
 use Rattle.jpa_fetch.specs.Grown.{IsReady}
 use Rattle.jpa_ops.specs.Names.{has_distinct_entries}
 use Rattle.jpa_flush.specs.declared.planning.Planned.{Planned}
+use Rattle.jpa_flush.specs.declared.writing.Written.{Written}
 use Rattle.jpa_flush.specs.Changes.{IsWritten}
 use Rattle.jpa_flush.specs.Flush.{Action, Insert, Replace, Drop, persist_reachable, remove_orphans, check_links, pre_update, check_actions, written, actions, listed, replaces_row, joined as joins, joined_all, flushed, sound_or, settled, settled_all, all_remembered, after_flush, post_event, post, write_all, flush}
-use Rattle.jpa_flush.specs.Plan.{class_there, item, plan_of, write_each, settled_by, told_by, applied, writing}
+use Rattle.jpa_flush.specs.Plan.{class_there, item, plan_of, write_each, written_as, written_by, settled_by, learned_by, told_by, applied, writing}
 use Rattle.jpa_flush.proofs.Alike.{alike_ready}
 use Rattle.jpa_flush.proofs.Changed.{plan_of_class}
+use Rattle.jpa_flush.proofs.Learned.{learned_remembered}
 use Rattle.jpa_flush.proofs.Joined.{Write, joined, replaced, drops_rest, same_set}
 use Rattle.jpa_flush.proofs.Names.{plan_apart}
 use Rattle.jpa_flush.proofs.Settled.{settled_alike, settled_events}
@@ -63,7 +66,7 @@ settled_items : (m : PersistenceUnit) (w : Work) (as' : List (ℕ × Action)) (v
 settled_items m w [] v = refl
 settled_items m w (a ∷ as') v = settled_items m w as' (settled a.0 (written m w a.0 a.1) v)
 
-told_items : (world : World) (w : Work) (as' : List (ℕ × Action)) (v : Work) → each (post world) as' v ≡ told_by world (map (item world.model w) as') v
+told_items : (world : World) (w : Work) (as' : List (ℕ × Action)) (v : Work) → each (post world) as' v ≡ told_by world (written_by (map (item world.model w) as')) v
 told_items world w [] v = refl
 told_items world w (a ∷ as') v = λ i. after (post world a v) (λ _ u. told_items world w as' u i)
 
@@ -135,14 +138,14 @@ ending world plan set = change (after_flush world.model plan set) >> each (post 
 applied_is : (m : PersistenceUnit) (w : Work) (set : StoredSet) → after_flush m (actions m w) set w ≡ applied m (plan_of m w) set w
 applied_is m w set = ap {A = Work} {B = Work} (λ v. record (all_remembered m v) { view = set }) (settled_items m w (actions m w) w)
 
-ended : (world : World) (w : Work) (set : StoredSet) → ending world (actions world.model w) set w ≡ told_by world (plan_of world.model w) (applied world.model (plan_of world.model w) set w)
+ended : (world : World) (w : Work) (set : StoredSet) → ending world (actions world.model w) set w ≡ told_by world (written_by (plan_of world.model w)) (applied world.model (plan_of world.model w) set w)
 ended world w set =
     let m = world.model in
     ap (each (post world) (actions m w)) (applied_is m w set) ∙ told_items world w (actions m w) (applied m (plan_of m w) set w)
 
 -- the fault of the new set, else the plan
 abbrev told_of : World → Work → Outcome (Unit {0})
-told_of world w = told_by world (plan_of world.model w) (applied world.model (plan_of world.model w) (new_view world.model w) w)
+told_of world w = told_by world (written_by (plan_of world.model w)) (applied world.model (plan_of world.model w) (new_view world.model w) w)
 
 by_fault : (w : Work) (fault : Option PersistenceFault) (next : Op (Unit {0})) (o : Outcome (Unit {0})) → next w ≡ o → after (sound_or fault w) (λ _. next) ≡ after (sound_or fault w) (λ _ _. o)
 by_fault w None next o e = e
@@ -178,40 +181,46 @@ refused_by_fault world w v r rising distinct passed set same h =
     (refused_alike (fault_of m (new_view m w)) r w v (told_of world w) same (subst (λ s. IsRefusedAs r v.events (sound_or (fault_of m s) v)) set h))
 
 pub sound : (world : World) (w : Work) → T (is_sorted identity_cmp w.view) → has_distinct_entries world.model w ≡ true → check_actions world w ≡ Done tt w → fault_of world.model (new_view world.model w) ≡ None →
-    writing world w ≡ told_by world (plan_of world.model w) (applied world.model (plan_of world.model w) (new_view world.model w) w)
+    writing world w ≡ told_by world (written_by (plan_of world.model w)) (applied world.model (plan_of world.model w) (new_view world.model w) w)
 sound world w rising distinct passed e =
     ap (λ o. after o (λ _. write_all world)) passed ∙ written_is world w rising distinct ∙ ap (λ f. after (sound_or f w) (λ _ _. told_of world w)) e
 
 -- ---- what code makes of a work
 
 -- settled, remembered and written is the plan applied
-pub made : (m : PersistenceUnit) (w v1 v2 v3 : Work) (ps qs : List Planned) → ps ≡ plan_of m w → qs ≡ plan_of m w → v1 ≡ settled_by ps w → v2 ≡ all_remembered m v1 → v3 ≡ record v2 { view = write_each qs v2.view } →
+pub made : (m : PersistenceUnit) (w v1 v2 v3 : Work) (ps qs : List Planned) → ps ≡ plan_of m w → qs ≡ plan_of m w → v1 ≡ learned_by m ps w → v2 ≡ all_remembered m v1 → v3 ≡ record v2 { view = write_each qs v2.view } →
     v3 ≡ applied m (plan_of m w) (new_view m w) w
 made m w v1 v2 v3 ps qs p q settled remembered wrote =
     let plan = plan_of m w in
-    let all : v2 ≡ all_remembered m (settled_by plan w) = remembered ∙ ap (all_remembered m) (settled ∙ ap (λ xs. settled_by xs w) p) in
+    let all : v2 ≡ all_remembered m (settled_by plan w) = remembered ∙ ap (all_remembered m) settled ∙ learned_remembered m w ps p in
     wrote
     ∙ (λ i. record (all i) { view = write_each (q i) (all i).view })
     ∙ ap {A = StoredSet} {B = Work} (λ s. record (all_remembered m (settled_by plan w)) { view = write_each plan s }) (settled_alike plan w).view
 
-pub settled_ready : (m : PersistenceUnit) (w v : Work) (ps : List Planned) → v ≡ settled_by ps w → IsReady m w → IsReady m v
-settled_ready m w v ps same ready = subst (IsReady m) (sym same) (alike_ready m w (settled_by ps w) (settled_alike ps w) ready)
-
 pub applied_shapes : (m : PersistenceUnit) (w v : Work) (plan : List Planned) (set : StoredSet) → v ≡ applied m plan set w → IsReady m w → All (HasShape m) v.objects
 applied_shapes m w v plan set same ready = subst (λ (u : Work). All (HasShape m) u.objects) (sym same) (alike_ready m w (settled_by plan w) (settled_alike plan w) ready).placed.objects
 
-pub applied_within : (m : PersistenceUnit) (w v : Work) (plan ps : List Planned) (set : StoredSet) → v ≡ applied m plan set w → All (λ p. p.object < length w.objects) ps → All (λ p. p.object < length v.objects) ps
-applied_within m w v plan ps set same within =
-    subst (λ n. All (λ (p : Planned). p.object < n) ps) (sym (ap (λ (u : Work). length u.objects) same ∙ (settled_alike plan w).count)) within
+written_within : (n : ℕ) (ps : List Planned) → All (λ p. p.object < n) ps → All (λ x. x.object < n) (written_by ps)
+written_within n [] h = All-nil (λ (x : Written). x.object < n)
+written_within n (p ∷ ps) h =
+    All-cons (λ (x : Written). x.object < n) (written_as p) (written_by ps) (All-head (λ (q : Planned). q.object < n) p ps h) (written_within n ps (All-tail (λ (q : Planned). q.object < n) p ps h))
+
+pub applied_within : (m : PersistenceUnit) (w v : Work) (plan ps : List Planned) (xs : List Written) (set : StoredSet) → xs ≡ written_by ps → v ≡ applied m plan set w → All (λ p. p.object < length w.objects) ps →
+    All (λ x. x.object < length v.objects) xs
+applied_within m w v plan ps xs set all same within =
+    subst (λ n. All (λ (x : Written). x.object < n) xs) (sym (ap (λ (u : Work). length u.objects) same ∙ (settled_alike plan w).count))
+    (subst (λ (ys : List Written). All (λ x. x.object < length w.objects) ys) (sym all) (written_within (length w.objects) ps within))
 
 -- the set that is judged is what the plan made of the one before
-pub written_of : (m : PersistenceUnit) (w v : Work) (ps : List Planned) → ps ≡ plan_of m w → v ≡ applied m (plan_of m w) (new_view m w) w → T (is_sorted identity_cmp w.view) → IsSound m w.view → IsWritten m w ps v.view
-written_of m w v ps p same rising whole =
+pub written_of : (m : PersistenceUnit) (w v : Work) (ps : List Planned) (xs : List Written) → ps ≡ plan_of m w → xs ≡ written_by ps → v ≡ applied m (plan_of m w) (new_view m w) w → T (is_sorted identity_cmp w.view) → IsSound m w.view →
+    IsWritten m w ps xs v.view
+written_of m w v ps xs p all same rising whole =
     record {
       rising = rising;
       sound = whole;
-      classes = subst (λ (xs : List Planned). All (λ q. q.class_before ≡ class_there (row_at w q.id)) xs) (sym p) (plan_of_class m w);
-      written = ap (λ (u : Work). u.view) same ∙ ap (λ xs. write_each xs w.view) (sym p);
+      objects = all;
+      classes = subst (λ (ys : List Written). All (λ x. x.class_before ≡ class_there (row_at w x.id)) ys) (sym (all ∙ ap written_by p)) (plan_of_class m w);
+      set = ap (λ (u : Work). u.view) same ∙ ap (λ qs. write_each qs w.view) (sym p);
     }
 
 -- and what code answers then is the flush's outcome
@@ -220,9 +229,9 @@ pub refused_at_fault : (world : World) (w v : Work) (r : Cause) → T (is_sorted
 refused_at_fault world w v r rising distinct passed same h =
     refused_by_fault world w v r rising distinct passed (ap (λ (u : Work). u.view) same) (ap (λ (u : Work). u.events) same ∙ settled_events (plan_of world.model w) w) h
 
-pub told_at_end : (world : World) (w v : Work) (ps : List Planned) → T (is_sorted identity_cmp w.view) → has_distinct_entries world.model w ≡ true → check_actions world w ≡ Done tt w →
-    ps ≡ plan_of world.model w → v ≡ applied world.model (plan_of world.model w) (new_view world.model w) w → sound_or (fault_of world.model v.view) v ≡ Done tt v → told_by world ps v ≡ writing world w
-told_at_end world w v ps rising distinct passed p same whole =
+pub told_at_end : (world : World) (w v : Work) (xs : List Written) → T (is_sorted identity_cmp w.view) → has_distinct_entries world.model w ≡ true → check_actions world w ≡ Done tt w →
+    xs ≡ written_by (plan_of world.model w) → v ≡ applied world.model (plan_of world.model w) (new_view world.model w) w → sound_or (fault_of world.model v.view) v ≡ Done tt v → told_by world xs v ≡ writing world w
+told_at_end world w v xs rising distinct passed all same whole =
     let m = world.model in
-    (λ i. told_by world (p i) (same i))
+    (λ i. told_by world (all i) (same i))
     ∙ sym (sound world w rising distinct passed (ap (λ (u : Work). fault_of m u.view) (sym same) ∙ no_fault (fault_of m v.view) v v whole))

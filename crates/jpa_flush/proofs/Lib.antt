@@ -9,6 +9,7 @@ mod Examples
 pub mod Flushed
 pub mod Gaps
 pub mod Joined
+pub mod Learned
 mod Linked
 mod Locked
 pub mod Names
@@ -27,6 +28,7 @@ pub mod Silent
 pub mod Turns
 pub mod TurnsOfMemory
 pub mod TurnsOfUpdates
+pub mod Unplanned
 pub mod Unreached
 pub mod Untouched
 pub mod Updated

@@ -7,6 +7,7 @@ use Rattle.std.proofs.lemmas.Bool.{both_ways, and_parts, and_from, or_parts, not
 use Rattle.std.proofs.lemmas.List.{length-map}
 use Rattle.std.proofs.lemmas.List.Folds.{list_any_at}
 use Rattle.std.proofs.lemmas.Option.{slice_get-get_or, slice_get-map, slice_get_within, same_Some}
+use Rattle.jpa_value.specs.declared.value.Identity.{Identity}
 use Rattle.jpa_model.specs.declared.unit.PersistenceUnit.{PersistenceUnit}
 use Rattle.jpa_stored.specs.declared.stored.Stored.{Stored}
 use Rattle.jpa_stored.specs.Sets.{all_distinct}
@@ -17,7 +18,7 @@ use Rattle.jpa_flush.specs.Entered.{are_entered, has_entry}
 use Rattle.jpa_flush.specs.Flush.{Action, action_of}
 use Rattle.jpa_flush.specs.Flush as flushes
 use Rattle.jpa_flush.specs.Plan.{item, planned_of, plan_of}
-use Rattle.jpa_flush.proofs.Settled.{settled_as, settled_if}
+use Rattle.jpa_flush.proofs.Settled.{learned_as, learned_if}
 use Rattle.jpa_flush.proofs.Actions.{all_planned}
 use Rattle.jpa_flush.proofs.Silent.{later_or}
 
@@ -26,28 +27,28 @@ AreDistinct es = all_distinct (λ a b. a.object == b.object) es ≡ true
 
 -- ---- an entry alone changes
 
-others : (n : ℕ) (x : Option Stored) (es : List Entry) → list_any (λ b. n == b.object) es ≡ false → map (settled_if n x) es ≡ es
-others n x [] h = refl
-others n x (e ∷ es) h =
+others : (ms : List (Option (List Identity))) (n : ℕ) (x : Option Stored) (es : List Entry) → list_any (λ b. n == b.object) es ≡ false → map (learned_if ms n x) es ≡ es
+others ms n x [] h = refl
+others ms n x (e ∷ es) h =
     let apart = or_parts (n == e.object) (list_any (λ b. n == b.object) es) h in
-    let same : settled_if n x e ≡ e = cond-false (e.object == n) (settled_as x e) e (ne_eqb e.object n (λ q. eqb-false n e.object (apart.0) (sym q))) in
-    λ j. same j ∷ others n x es (apart.1) j
+    let same : learned_if ms n x e ≡ e = cond-false (e.object == n) (learned_as ms x e) e (ne_eqb e.object n (λ q. eqb-false n e.object (apart.0) (sym q))) in
+    λ j. same j ∷ others ms n x es (apart.1) j
 
-pub one_settled : (x : Option Stored) (es : List Entry) (i : ℕ) (e : Entry) → AreDistinct es → i < length es → e ≡ get_or es i e → slice_set es i (settled_as x e) ≡ map (settled_if e.object x) es
-one_settled x [] i e h l read = absurd (omega arith)
-one_settled x (y ∷ ys) zero e h l read =
+pub one_learned : (ms : List (Option (List Identity))) (x : Option Stored) (es : List Entry) (i : ℕ) (e : Entry) → AreDistinct es → i < length es → e ≡ get_or es i e → slice_set es i (learned_as ms x e) ≡ map (learned_if ms e.object x) es
+one_learned ms x [] i e h l read = absurd (omega arith)
+one_learned ms x (y ∷ ys) zero e h l read =
     let apart = not-true (list_any (λ b. y.object == b.object) ys) ((and_parts (not (list_any (λ b. y.object == b.object) ys)) (all_distinct (λ a b. a.object == b.object) ys) h).0) in
-    let hit : settled_if y.object x y ≡ settled_as x y = cond-true (y.object == y.object) (settled_as x y) y (eq-eqb y.object y.object refl) in
-    subst (λ (v : Entry). settled_as x v ∷ ys ≡ map (settled_if v.object x) (y ∷ ys)) (sym read) (λ j. sym hit j ∷ sym (others y.object x ys apart) j)
-one_settled x (y ∷ ys) (suc i) e h l read =
+    let hit : learned_if ms y.object x y ≡ learned_as ms x y = cond-true (y.object == y.object) (learned_as ms x y) y (eq-eqb y.object y.object refl) in
+    subst (λ (v : Entry). learned_as ms x v ∷ ys ≡ map (learned_if ms v.object x) (y ∷ ys)) (sym read) (λ j. sym hit j ∷ sym (others ms y.object x ys apart) j)
+one_learned ms x (y ∷ ys) (suc i) e h l read =
     let parts = and_parts (not (list_any (λ b. y.object == b.object) ys)) (all_distinct (λ a b. a.object == b.object) ys) h in
     let apart = not-true (list_any (λ b. y.object == b.object) ys) (parts.0) in
     let within : i < length ys = omega (arith, l) in
     let other : (y.object ≡ e.object → ⊥) =
     λ q. both_ways (list_any (λ b. y.object == b.object) ys) apart
     (list_any_at (λ (b : Entry). y.object == b.object) ys i e within (eq-eqb y.object (get_or ys i e).object (q ∙ ap (λ (v : Entry). v.object) read))) in
-    let same : settled_if e.object x y ≡ y = cond-false (y.object == e.object) (settled_as x y) y (ne_eqb y.object e.object other) in
-    λ j. sym same j ∷ one_settled x ys i e (parts.1) within read j
+    let same : learned_if ms e.object x y ≡ y = cond-false (y.object == e.object) (learned_as ms x y) y (ne_eqb y.object e.object other) in
+    λ j. sym same j ∷ one_learned ms x ys i e (parts.1) within read j
 
 -- what stands where an object is named
 pub named_at : (es : List Entry) (i n : ℕ) (e : Entry) → slice_get (map (λ v. v.object) es) i ≡ Some n → e ≡ get_or es i e → (i < length es) × (e.object ≡ n)
@@ -58,30 +59,20 @@ named_at es i n e h read =
 
 -- ---- the objects of the entries stay
 
-settled_object : (x : Option Stored) (e : Entry) → (settled_as x e).object ≡ e.object
-settled_object None e = refl
-settled_object (Some x) e = refl
+learned_object : (ms : List (Option (List Identity))) (x : Option Stored) (e : Entry) → (learned_as ms x e).object ≡ e.object
+learned_object ms None e = refl
+learned_object ms (Some x) e = refl
 
-same_object : (n : ℕ) (x : Option Stored) (e : Entry) → (settled_if n x e).object ≡ e.object
-same_object n x e = cond_both (e.object == n) (settled_as x e) e (λ (v : Entry). v.object ≡ e.object) (λ q. settled_object x e) (λ q. refl)
+same_object : (ms : List (Option (List Identity))) (n : ℕ) (x : Option Stored) (e : Entry) → (learned_if ms n x e).object ≡ e.object
+same_object ms n x e = cond_both (e.object == n) (learned_as ms x e) e (λ (v : Entry). v.object ≡ e.object) (λ q. learned_object ms x e) (λ q. refl)
 
-any_after : (n : ℕ) (x : Option Stored) (k : ℕ) (es : List Entry) → list_any (λ (b : Entry). k == b.object) (map (settled_if n x) es) ≡ list_any (λ b. k == b.object) es
-any_after n x k [] = refl
-any_after n x k (e ∷ es) = λ j. (k == same_object n x e j) || any_after n x k es j
+has_entry_after : (ms : List (Option (List Identity))) (n : ℕ) (x : Option Stored) (p : Planned) (es : List Entry) → has_entry (map (learned_if ms n x) es) p ≡ has_entry es p
+has_entry_after ms n x p [] = refl
+has_entry_after ms n x p (e ∷ es) = λ j. (same_object ms n x e j == p.object) || has_entry_after ms n x p es j
 
-pub distinct_after : (n : ℕ) (x : Option Stored) (es : List Entry) → all_distinct (λ (a b : Entry). a.object == b.object) (map (settled_if n x) es) ≡ all_distinct (λ a b. a.object == b.object) es
-distinct_after n x [] = refl
-distinct_after n x (e ∷ es) =
-    (λ j. not (list_any (λ (b : Entry). same_object n x e j == b.object) (map (settled_if n x) es)) && distinct_after n x es j)
-    ∙ ap (λ b. not b && all_distinct (λ (a b : Entry). a.object == b.object) es) (any_after n x e.object es)
-
-has_entry_after : (n : ℕ) (x : Option Stored) (p : Planned) (es : List Entry) → has_entry (map (settled_if n x) es) p ≡ has_entry es p
-has_entry_after n x p [] = refl
-has_entry_after n x p (e ∷ es) = λ j. (same_object n x e j == p.object) || has_entry_after n x p es j
-
-pub entered_after : (n : ℕ) (x : Option Stored) (ps : List Planned) (es : List Entry) → are_entered ps (map (settled_if n x) es) ≡ are_entered ps es
-entered_after n x [] es = refl
-entered_after n x (p ∷ ps) es = λ j. has_entry_after n x p es j && entered_after n x ps es j
+pub entered_after : (ms : List (Option (List Identity))) (n : ℕ) (x : Option Stored) (ps : List Planned) (es : List Entry) → are_entered ps (map (learned_if ms n x) es) ≡ are_entered ps es
+entered_after ms n x [] es = refl
+entered_after ms n x (p ∷ ps) es = λ j. has_entry_after ms n x p es j && entered_after ms n x ps es j
 
 -- ---- each object that the flush plans has an entry
 

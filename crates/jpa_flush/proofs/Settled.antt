@@ -3,22 +3,23 @@ use Rattle.std.proofs.Common.{◌≡◌, ◌∙◌, ℕ, zero, suc, ◌<◌, ◌
 use Rattle.std.specs.Prelude.{if◌then◌else◌, ◌==◌, slice_set, Option, Some, None}
 use Rattle.std.proofs.lemmas.Bool.{cond_both}
 use Rattle.std.proofs.lemmas.List.{length-set}
+use Rattle.jpa_value.specs.declared.value.Identity.{Identity}
 use Rattle.jpa_stored.specs.declared.stored.Stored.{Stored}
 use Rattle.jpa_context.specs.declared.Entry.{Entry}
 use Rattle.jpa_context.specs.Indexed.{placed}
 use Rattle.jpa_context.specs.Work.{Work, object}
 use Rattle.jpa_flush.specs.declared.planning.Planned.{Planned}
-use Rattle.jpa_flush.specs.Flush.{settled_entry, settled}
-use Rattle.jpa_flush.specs.Plan.{settled_by}
+use Rattle.jpa_flush.specs.Flush.{settled}
+use Rattle.jpa_flush.specs.Plan.{learned_entry, settled_by}
 use Rattle.jpa_flush.proofs.Alike.{IsAlike, alike_none, alike_twice, alike_entries, like_set, placed_map}
 
--- an entry of an object of which this was written, or which was taken out
-abbrev pub settled_as : Option Stored → Entry → Entry
-settled_as None e = record e { base = None }
-settled_as (Some x) e = settled_entry x e
+-- an entry of an object of which this was written, or which was taken out, with these members in its base
+abbrev pub learned_as : List (Option (List Identity)) → Option Stored → Entry → Entry
+learned_as ms None e = record e { base = None }
+learned_as ms (Some x) e = learned_entry ms x e
 
-abbrev pub settled_if : ℕ → Option Stored → Entry → Entry
-settled_if n o e = if e.object == n then settled_as o e else e
+abbrev pub learned_if : List (Option (List Identity)) → ℕ → Option Stored → Entry → Entry
+learned_if ms n o e = if e.object == n then learned_as ms o e else e
 
 -- the first i items changed, the others not
 abbrev pub partly : {X : Type 0} → (X → X) → ℕ → List X → List X
@@ -69,30 +70,26 @@ pub one_count : (n : ℕ) (o : Option Stored) (w : Work) → length (settled n o
 one_count n None w = refl
 one_count n (Some x) w = length-set w.objects n (record (object w n) { version = x.version })
 
-pub same_count : (plan : List Planned) (w : Work) → length (settled_by plan w).objects ≡ length w.objects
-same_count [] w = refl
-same_count (p ∷ ps) w = same_count ps (settled p.object p.stored w) ∙ one_count p.object p.stored w
-
-pub one_context : (n : ℕ) (o : Option Stored) (w : Work) → (settled n o w).context ≡ map (settled_if n o) w.context
+pub one_context : (n : ℕ) (o : Option Stored) (w : Work) → (settled n o w).context ≡ map (learned_if [] n o) w.context
 one_context n None w = refl
 one_context n (Some x) w = refl
 
 -- ---- operations stand on what is settled as on what was there
 
-settled_placed : (n : ℕ) (o : Option Stored) (e : Entry) → placed (settled_if n o e) ≡ placed e
-settled_placed n o e = cond_both (e.object == n) (settled_as o e) e (λ (v : Entry). placed v ≡ placed e) (λ q. as_it_was o) (λ q. refl)
+pub learned_placed : (ms : List (Option (List Identity))) (n : ℕ) (o : Option Stored) (e : Entry) → placed (learned_if ms n o e) ≡ placed e
+learned_placed ms n o e = cond_both (e.object == n) (learned_as ms o e) e (λ (v : Entry). placed v ≡ placed e) (λ q. as_it_was o) (λ q. refl)
   where
-    as_it_was : (x : Option Stored) → placed (settled_as x e) ≡ placed e
+    as_it_was : (x : Option Stored) → placed (learned_as ms x e) ≡ placed e
     as_it_was None = refl
     as_it_was (Some x) = refl
 
-one_alike : (n : ℕ) (o : Option Stored) (w : Work) → IsAlike w (settled n o w)
-one_alike n None w = alike_entries w (map (settled_if n None) w.context) (placed_map (settled_if n None) (settled_placed n None) w.context)
+pub one_alike : (n : ℕ) (o : Option Stored) (w : Work) → IsAlike w (settled n o w)
+one_alike n None w = alike_entries w (map (learned_if [] n None) w.context) (placed_map (learned_if [] n None) (learned_placed [] n None) w.context)
 one_alike n (Some x) w =
     record {
       numbers = refl;
       view = refl;
-      context = placed_map (settled_if n (Some x)) (settled_placed n (Some x)) w.context;
+      context = placed_map (learned_if [] n (Some x)) (learned_placed [] n (Some x)) w.context;
       count = one_count n (Some x) w;
       objects = λ k. like_set w.objects n k (record (object w n) { version = x.version }) (record { class = refl; key = refl; relations = refl; count = refl });
     }

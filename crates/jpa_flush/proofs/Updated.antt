@@ -16,7 +16,7 @@ use Rattle.jpa_lifecycle.specs.Callbacks.{callback}
 use Rattle.jpa_lifecycle.proofs.Keeps.{IsRevalued, revalued_none, revalued_twice, HasHappened, happened}
 use Rattle.jpa_fetch.specs.Grown.{IsReady}
 use Rattle.jpa_flush.specs.declared.steps.FlushAction.{FlushAction}
-use Rattle.jpa_flush.specs.declared.planning.Planned.{Planned}
+use Rattle.jpa_flush.specs.declared.writing.Written.{Written}
 use Rattle.jpa_flush.specs.Flush.{Action, Insert, Replace, Drop, action_of, pre_update_for, pre_update_one, pre_update}
 use Rattle.jpa_flush.specs.Plan.{update, tell, told_by}
 use Rattle.jpa_flush.proofs.Alike.{IsLike, IsAlike, alike_ready}
@@ -96,8 +96,8 @@ module _ (R : Work → Work → Type 0) (none : (w : Work) → R w w) (twice : (
   related_updates w v e = related_each (pre_update_one world) (λ x u t k. related_update x (action_of world.model u x) u t k) w.context w v e
 
   -- the Post events
-  pub related_told : (plan : List Planned) (w v : Work) → told_by world plan w ≡ Done tt v → R w v
-  related_told plan w v e = related_each (tell world) (λ p u t k. happens p.event p.object u t k) plan w v e
+  pub related_told : (xs : List Written) (w v : Work) → told_by world xs w ≡ Done tt v → R w v
+  related_told xs w v e = related_each (tell world) (λ x u t k. happens x.event x.object u t k) xs w v e
 
   -- one step of the flush
   pub related_step : (n : ℕ) (s : FlushAction) (w v : Work) → update world n s w ≡ Done tt v → R w v
@@ -109,8 +109,8 @@ module _ (R : Work → Work → Type 0) (none : (w : Work) → R w w) (twice : (
 pub by_updates : (world : World) (w v : Work) → pre_update world w ≡ Done tt v → IsUpdated w v
 by_updates world w v e = related_updates IsUpdated updated_none updated_twice world (by_callback world) w v e
 
-pub by_told : (world : World) (plan : List Planned) (w v : Work) → told_by world plan w ≡ Done tt v → IsUpdated w v
-by_told world plan w v e = related_told IsUpdated updated_none updated_twice world (by_callback world) plan w v e
+pub by_told : (world : World) (xs : List Written) (w v : Work) → told_by world xs w ≡ Done tt v → IsUpdated w v
+by_told world xs w v e = related_told IsUpdated updated_none updated_twice world (by_callback world) xs w v e
 
 pub by_step : (world : World) (n : ℕ) (s : FlushAction) (w v : Work) → update world n s w ≡ Done tt v → IsUpdated w v
 by_step world n s w v e = related_step IsUpdated updated_none updated_twice world (by_callback world) n s w v e

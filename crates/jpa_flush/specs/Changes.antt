@@ -12,31 +12,34 @@ use Rattle.jpa_context.specs.Work.{Work, row_at}
 use Rattle.jpa_fetch.specs.Grown.{IsReady}
 use Rattle.jpa_ops.specs.Names.{has_distinct_entries}
 use Rattle.jpa_flush.specs.declared.planning.Planned.{Planned}
-use Rattle.jpa_flush.specs.Plan.{class_there, write_each}
+use Rattle.jpa_flush.specs.declared.writing.Written.{Written}
+use Rattle.jpa_flush.specs.Plan.{class_there, write_each, written_by}
 
 -- an identity with the class of what stood there, where there is an identity
 abbrev pub place_in : Option Identity → Option ℕ → List (Identity × Option ℕ)
 place_in None class = []
 place_in (Some id) class = (id, class) ∷ []
 
--- where a plan writes or takes out, each with the class of what stood there
-abbrev pub places_of : List Planned → List (Identity × Option ℕ)
-places_of plan = flat_map (λ (p : Planned). place_in p.id p.class_before) plan
+-- where something was written or taken out, each with the class of what stood there
+abbrev pub places_of : List Written → List (Identity × Option ℕ)
+places_of xs = flat_map (λ (x : Written). place_in x.id x.class_before) xs
 
 -- where a change is, with the class of what stood there
 abbrev pub place_of : Change → Identity × Option ℕ
 place_of c = (c.id.now, c.class_before)
 
--- the changes are where the plan writes or takes out
-abbrev pub ArePlanned : List Planned → List Change → Type 0
-ArePlanned plan changes = map place_of changes ≡ places_of plan
+-- the changes are where something was written or taken out
+abbrev pub AreChangesOf : List Written → List Change → Type 0
+AreChangesOf xs changes = map place_of changes ≡ places_of xs
 
--- the set is what a plan made of the sound one that a work saw
-pub record IsWritten (m : PersistenceUnit) (w : Work) (plan : List Planned) (after : StoredSet) : Type 0 where
+-- the set is what a plan made of the sound one that a work saw, and these are its written objects
+pub record IsWritten (m : PersistenceUnit) (w : Work) (plan : List Planned) (xs : List Written) (after : StoredSet)
+    : Type 0 where
   pub rising : T (is_sorted identity_cmp w.view)
   pub sound : IsSound m w.view
-  pub classes : All (λ p. p.class_before ≡ class_there (row_at w p.id)) plan
-  pub written : after ≡ write_each plan w.view
+  pub objects : xs ≡ written_by plan
+  pub classes : All (λ x. x.class_before ≡ class_there (row_at w x.id)) xs
+  pub set : after ≡ write_each plan w.view
 
 -- what writing stands on: the work and its set are in order, and nothing comes twice
 pub record IsWritable (m : PersistenceUnit) (w : Work) : Type 0 where

@@ -1,7 +1,8 @@
 -- The flush as a plan: what it does with each entry of the context, and what it writes or takes out
 -- under which identity.
 use Rattle.std.specs.Prelude.{ℕ, ℤ, Bool, true, false, not, ◌&&◌, is_some, List, [], ◌∷◌, map, Option, Some, None}
-use Rattle.std.specs.Prelude.{option_map}
+use Rattle.std.specs.Prelude.{option_map, ◌==◌}
+use Rattle.std.specs.List.{list_any}
 use Rattle.jpa_value.specs.declared.value.Identity.{Identity}
 use Rattle.jpa_value.specs.declared.refusal.Cause.{Cause}
 use Rattle.jpa_value.specs.declared.refusal.PersistenceFault.{PersistenceFault}
@@ -12,14 +13,15 @@ use Rattle.jpa_behaviour.specs.Behaviour.{World}
 use Rattle.jpa_stored.specs.declared.stored.Stored.{Stored}
 use Rattle.jpa_stored.specs.Sets.{StoredSet, with_stored, without}
 use Rattle.jpa_context.specs.declared.Entry.{Entry}
-use Rattle.jpa_context.specs.Work.{Work, object, identity_at, row_at}
+use Rattle.jpa_context.specs.Work.{Work, object, identity_at, row_at, with_entry, with_object}
 use Rattle.jpa_context.specs.Steps.{◌>>=◌, ◌>>◌, Op, done, require, read, each}
 use Rattle.jpa_lifecycle.specs.Callbacks.{callback}
 use Rattle.jpa_flush.specs.declared.steps.FlushAction.{FlushAction}
 use Rattle.jpa_flush.specs.declared.planning.Planned.{Planned}
+use Rattle.jpa_flush.specs.declared.writing.Written.{Written}
 use Rattle.jpa_flush.specs.Flush.{Action, Insert, Replace, Drop, action_of, actions, stored_of, written, first_version}
 use Rattle.jpa_flush.specs.Flush.{raised, post_event, same_version, same_identities, can_rise, all_convert, settled}
-use Rattle.jpa_flush.specs.Flush.{all_remembered, check_actions, write_all}
+use Rattle.jpa_flush.specs.Flush.{all_remembered, check_actions, lowered, members_held, write_all}
 use Rattle.jpa_flush.specs.Flush as flushes
 
 -- ---- steps: actions, of whose base the version alone is asked
@@ -154,13 +156,40 @@ abbrev pub settled_by : List Planned → Work → Work
 settled_by [] w = w
 settled_by (p ∷ ps) w = settled_by ps (settled p.object p.stored w)
 
--- the event of a planned object runs
-abbrev pub tell : World → Planned → Op (Unit {0})
-tell world p = callback world p.event p.object
+-- an entry whose row was written, and whose base remembers these members at once
+abbrev pub learned_entry : List (Option (List Identity)) → Stored → Entry → Entry
+learned_entry members x e = record e { base = Some (record { stored = x; members = members }); lock = lowered e.lock }
 
--- the events of a plan run, in its order
-abbrev pub told_by : World → List Planned → Op (Unit {0})
-told_by world plan = each (tell world) plan
+-- an object settles, and its new base remembers what its relations hold; a dropped one has no base
+abbrev pub learned : PersistenceUnit → ℕ → Option Stored → Work → Work
+learned m n None w = settled n None w
+learned m n (Some x) w =
+    with_entry n (learned_entry (members_held m w n) x) (with_object n (record (object w n) { version = x.version }) w)
+
+-- the work after the objects of a plan have learned so, in turn
+abbrev pub learned_by : PersistenceUnit → List Planned → Work → Work
+learned_by m [] w = w
+learned_by m (p ∷ ps) w = learned_by m ps (learned m p.object p.stored w)
+
+-- whether an entry's object is one of a plan
+abbrev pub is_planned : List Planned → Entry → Bool
+is_planned plan e = list_any (λ (p : Planned). p.object == e.object) plan
+
+-- an object of a plan once it was written
+abbrev pub written_as : Planned → Written
+written_as p = record { object = p.object; id = p.id; event = p.event; class_before = p.class_before }
+
+-- the objects of a plan once they were written
+abbrev pub written_by : List Planned → List Written
+written_by plan = map written_as plan
+
+-- the event of a written object runs
+abbrev pub tell : World → Written → Op (Unit {0})
+tell world x = callback world x.event x.object
+
+-- the events of written objects run, in their order
+abbrev pub told_by : World → List Written → Op (Unit {0})
+told_by world xs = each (tell world) xs
 
 -- the work after a plan: objects are settled, bases remember, and the view is the new set
 abbrev pub applied : PersistenceUnit → List Planned → StoredSet → Work → Work

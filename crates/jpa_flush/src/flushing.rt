@@ -10,11 +10,11 @@ ghost use Rattle.jpa_flush.specs.Passes.{IsFlushable, Performs};
 ghost use Rattle.jpa_flush.specs.Plan as plans;
 
 use crate::judging::judge_written;
-use crate::passes::{check_links_looked, persist_looked, remember_looked, remove_orphans_looked};
+use crate::passes::{check_links_looked, persist_looked, remove_orphans_looked};
 use crate::settling::settle;
 use crate::telling::tell_written;
 use crate::touched::looked;
-use crate::walking::{plan_at, tell_updates_at};
+use crate::walking::{plan_at, remember_at, tell_updates_at};
 use crate::writing::write_all;
 use jpa_behaviour::{Behaviour, ServedUnit};
 use jpa_context::UnitOfWork;
@@ -33,7 +33,6 @@ fn write_changes<B: Behaviour>(
     places: &[usize],
 ) -> Result<(), Cause>
     requires writable { IsWritable unit.now.metamodel (now work.old) }
-    requires marked { marked.AreMarkedBefore unit.now.metamodel work.old }
     requires looked { marked.AreLooked (λ e. marked.is_calm unit.now.metamodel (now work.old) e
         ≡ true) work.old.context.now places.now }
     ensures meets { let world = world_of_unit B.meaning unit.now in
@@ -41,11 +40,11 @@ fn write_changes<B: Behaviour>(
     ensures since { since work.new ≡ since work.old }
 {
     let plan = plan_at(alloc, unit, work, places)?;
-    settle(alloc, work, plan.as_slice())?;
-    remember_looked(alloc, &unit.metamodel, work)?;
-    write_all(work, plan.as_slice())?;
-    judge_written(alloc, &unit.metamodel, work, plan.as_slice())?;
-    tell_written(alloc, unit, work, plan.as_slice())
+    settle(alloc, &unit.metamodel, work, plan.as_slice())?;
+    remember_at(alloc, &unit.metamodel, work, places, plan.as_slice())?;
+    let written = write_all(alloc, work, plan)?;
+    judge_written(alloc, &unit.metamodel, work, written.as_slice())?;
+    tell_written(alloc, unit, work, written.as_slice())
 }
 
 /// Writes what the objects of a manager's context differ in from the set that it sees, and takes

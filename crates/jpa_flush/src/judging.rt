@@ -1,31 +1,32 @@
 //! Whether the set is sound after a write.
-ghost use Rattle.std.specs.Prelude.{◌≡◌, IfOk, IfErr};
+ghost use Rattle.std.specs.Prelude.{◌≡◌, List, IfOk, IfErr};
 ghost use Rattle.jpa_context.specs.Steps.{Meets};
 ghost use Rattle.jpa_context.specs.Undo.{now};
 ghost use Rattle.jpa_context.specs.Work.{Work};
 ghost use Rattle.jpa_stored.specs.Sets.{fault_of};
 ghost use Rattle.jpa_value.specs.declared.refusal.Cause.{Cause};
-ghost use Rattle.jpa_flush.specs.Changes.{ArePlanned, IsWritten};
+ghost use Rattle.jpa_flush.specs.Changes.{AreChangesOf, IsWritten};
+ghost use Rattle.jpa_flush.specs.declared.planning.Planned.{Planned};
 ghost use Rattle.jpa_flush.specs.Flush as flushes;
 
-use crate::planning::Planned;
+use crate::writing::Written;
 use jpa_constraints::{Change, judge};
 use jpa_context::UnitOfWork;
 use jpa_model::Metamodel;
 use jpa_value::Cause;
 use std::alloc::Global;
 
-/// The changes that a plan makes of a set.
-fn changes_of(alloc: Global, plan: &[Planned]) -> Result<Vec<Change<'_>>, Cause>
-    ensures ok { IfOk result (λ changes. ArePlanned plan.now changes.items) }
+/// The changes of a set where these were written.
+fn changes_of(alloc: Global, written: &[Written]) -> Result<Vec<Change<'_>>, Cause>
+    ensures ok { IfOk result (λ changes. AreChangesOf written.now changes.items) }
     ensures err { IfErr result (λ cause. cause ≡ Cause.OutOfMemory) }
 {
     let mut changes = Vec::new(alloc);
-    for planned in plan {
-        if let Some(id) = &planned.id {
+    for object in written {
+        if let Some(id) = &object.id {
             changes.push(Change {
                 id,
-                class_before: planned.class_before,
+                class_before: object.class_before,
             })?;
         }
     }
@@ -40,13 +41,13 @@ pub fn judge_written(
     alloc: Global,
     metamodel: &Metamodel,
     work: &UnitOfWork,
-    plan: &[Planned],
+    written: &[Written],
 ) -> Result<(), Cause>
-    requires written { (before : Work) ×
-        IsWritten metamodel.now before plan.now (now work.now).view }
+    requires written { (before : Work) × (plan : List Planned) ×
+        IsWritten metamodel.now before plan written.now (now work.now).view }
     ensures meets { let fault = fault_of metamodel.now (now work.now).view in
         Meets result (now work.now) (flushes.sound_or fault (now work.now)) }
 {
-    let changes = changes_of(alloc, plan)?;
+    let changes = changes_of(alloc, written)?;
     judge(metamodel, &work.view, changes.as_slice())
 }

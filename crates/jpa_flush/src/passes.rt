@@ -1,22 +1,20 @@
 //! The passes of a flush over the entries that it looks at, found anew where the pass before may
 //! have touched others.
-ghost use Rattle.std.specs.Prelude.{◌≡◌, IfErr, OnOk};
 ghost use Rattle.jpa_behaviour.specs.Behaviour.{World};
 ghost use Rattle.jpa_behaviour.specs.Served.{world_of_unit};
 ghost use Rattle.jpa_context.specs.Steps.{Meets};
-ghost use Rattle.jpa_context.specs.Undo.{now, since};
+ghost use Rattle.jpa_context.specs.Undo.{now};
 ghost use Rattle.jpa_fetch.specs.Grown.{IsReady};
 ghost use Rattle.jpa_fetch.specs.Orderly.{IsOrderly};
 ghost use Rattle.jpa_flush.specs.Flush as flushes;
 ghost use Rattle.jpa_flush.specs.Marked as marked;
 ghost use Rattle.jpa_flush.specs.Passes.{Passes};
-ghost use Rattle.jpa_value.specs.declared.refusal.Cause.{Cause};
 
 use crate::chosen::Looked;
 use crate::links::check_links;
 use crate::reaching::persist_reachable;
 use crate::touched::looked;
-use crate::walking::{check_links_at, persist_from_looked, remember_at, remove_orphans_at};
+use crate::walking::{check_links_at, persist_from_looked, remove_orphans_at};
 use jpa_behaviour::{Behaviour, ServedUnit};
 use jpa_context::UnitOfWork;
 use jpa_model::Metamodel;
@@ -76,21 +74,4 @@ pub(crate) fn check_links_looked(
         return check_links_at(metamodel, work, found.places.as_slice());
     }
     check_links(metamodel, work)
-}
-
-/// `remember_at`, over the entries that are marked or were touched.
-pub(crate) fn remember_looked(
-    alloc: Global,
-    metamodel: &Metamodel,
-    work: &mut UnitOfWork,
-) -> Result<(), Cause>
-    requires ready { IsReady metamodel.now (now work.old) }
-    requires marked { marked.AreMarkedBefore metamodel.now work.old }
-    ensures ok { OnOk result
-        (now work.new ≡ flushes.all_remembered metamodel.now (now work.old)) }
-    ensures err { IfErr result (λ cause. cause ≡ Cause.OutOfMemory) }
-    ensures since { since work.new ≡ since work.old }
-{
-    let found = looked(alloc, metamodel, work)?;
-    remember_at(alloc, metamodel, work, found.places.as_slice())
 }

@@ -1,17 +1,20 @@
 //! The objects and what stands in their bases after a write.
-ghost use Rattle.std.specs.Prelude.{◌≡◌, ◌<◌, ◌==◌, true, Some, None, [], All, length, map, slice_get, IfOk, IfErr, OnOk};
+ghost use Rattle.std.specs.Prelude.{◌≡◌, ◌<◌, ◌==◌, true, Some, None, All, length, map, slice_get, IfOk, IfErr, OnOk};
 ghost use Rattle.jpa_context.specs.Undo.{now, since};
 ghost use Rattle.jpa_context.specs.Work as works;
+ghost use Rattle.jpa_fetch.specs.Grown.{IsReady};
 ghost use Rattle.jpa_stored.specs.Sets.{all_distinct};
 ghost use Rattle.jpa_value.specs.declared.refusal.Cause.{Cause};
 ghost use Rattle.jpa_flush.specs.Flush as flushes;
 ghost use Rattle.jpa_flush.specs.Entered.{are_entered};
 ghost use Rattle.jpa_flush.specs.Plan as plans;
 
+use crate::held::members_held;
 use crate::planning::Planned;
 use jpa_context::{Base, Entry, Lock, UnitOfWork};
+use jpa_model::Metamodel;
 use jpa_stored::Stored;
-use jpa_value::{Cause, Seq, TryCopy};
+use jpa_value::{Cause, Identity, Seq, TryCopy};
 use std::alloc::Global;
 
 /// The lock after a write: one that raises the version does so once.
@@ -37,9 +40,14 @@ fn without_base(entry: &Entry) -> Result<Entry, Cause>
     })
 }
 
-/// The entry of an object that was written.
-fn settled_entry(alloc: Global, entry: &Entry, stored: &Stored) -> Result<Entry, Cause>
-    ensures ok { IfOk result (λ settled. settled ≡ flushes.settled_entry stored.now entry.now) }
+/// The entry of an object that was written, and whose relations hold these members.
+fn settled_entry(
+    entry: &Entry,
+    stored: &Stored,
+    members: Seq<Option<Seq<Identity>>>,
+) -> Result<Entry, Cause>
+    ensures ok { IfOk result
+        (λ settled. settled ≡ plans.learned_entry members stored.now entry.now) }
     ensures err { IfErr result (λ cause. cause ≡ Cause.OutOfMemory) }
 {
     Ok(Entry {
@@ -48,12 +56,12 @@ fn settled_entry(alloc: Global, entry: &Entry, stored: &Stored) -> Result<Entry,
         lock: lowered(entry.lock),
         base: Some(Base {
             stored: stored.try_copy()?,
-            members: Seq::new(alloc),
+            members,
         }),
     })
 }
 
-/// An object takes the version that was written.
+/// An object takes the version that was written. Where neither has one, it stays as it is.
 fn settle_version(work: &mut UnitOfWork, object: usize, version: Option<i64>) -> Result<(), Cause>
     requires { object < length work.old.objects.now }
     ensures ok { let settled = record (works.object (now work.old) object) { version = version } in
@@ -61,31 +69,37 @@ fn settle_version(work: &mut UnitOfWork, object: usize, version: Option<i64>) ->
     ensures err { IfErr result (λ cause. cause ≡ Cause.OutOfMemory) }
     ensures since { since work.new ≡ since work.old }
 {
-    let mut settled = work.objects.as_slice()[object].try_copy()?;
+    let live = &work.objects.as_slice()[object];
+    if let (None, None) = (live.version, version) {
+        return Ok(());
+    }
+    let mut settled = live.try_copy()?;
     settled.version = version;
     work.objects.set(object, settled)?;
     Ok(())
 }
 
 /// An object that was written takes the version, and the entry at its place in the context what was
-/// written as its base.
+/// written as its base, with what its relations hold.
 fn settle_written(
     alloc: Global,
+    metamodel: &Metamodel,
     work: &mut UnitOfWork,
     place: usize,
     object: usize,
     stored: &Stored,
 ) -> Result<(), Cause>
+    requires ready { IsReady metamodel.now (now work.old) }
     requires object { object < length work.old.objects.now }
     requires place { slice_get (map (λ e. e.object) work.old.context.now) place ≡ Some object }
-    requires distinct { all_distinct (λ a b. a.object == b.object) work.old.context.now ≡ true }
-    ensures ok { OnOk result
-        (now work.new ≡ flushes.settled object (Some stored.now) (now work.old)) }
+    ensures ok { OnOk result (now work.new
+        ≡ plans.learned metamodel.now object (Some stored.now) (now work.old)) }
     ensures err { IfErr result (λ cause. cause ≡ Cause.OutOfMemory) }
     ensures since { since work.new ≡ since work.old }
 {
+    let members = members_held(alloc, metamodel, work, object)?;
     settle_version(work, object, stored.version)?;
-    let settled = settled_entry(alloc, &work.context.as_slice()[place], stored)?;
+    let settled = settled_entry(&work.context.as_slice()[place], stored, members)?;
     work.context.set(place, settled)?;
     Ok(())
 }
@@ -106,38 +120,46 @@ fn settle_taken(work: &mut UnitOfWork, place: usize, _object: usize) -> Result<(
 /// What becomes of an object of a plan and of the entry at its place in the context.
 fn settle_at(
     alloc: Global,
+    metamodel: &Metamodel,
     work: &mut UnitOfWork,
     place: usize,
     planned: &Planned,
 ) -> Result<(), Cause>
+    requires ready { IsReady metamodel.now (now work.old) }
     requires object { planned.now.object < length work.old.objects.now }
     requires place { slice_get (map (λ e. e.object) work.old.context.now) place
         ≡ Some planned.now.object }
-    requires distinct { all_distinct (λ a b. a.object == b.object) work.old.context.now ≡ true }
     ensures ok { OnOk result (now work.new
-        ≡ flushes.settled planned.now.object planned.now.stored (now work.old)) }
+        ≡ plans.learned metamodel.now planned.now.object planned.now.stored (now work.old)) }
     ensures err { IfErr result (λ cause. cause ≡ Cause.OutOfMemory) }
     ensures since { since work.new ≡ since work.old }
 {
     match &planned.stored {
         None => settle_taken(work, place, planned.object),
-        Some(stored) => settle_written(alloc, work, place, planned.object, stored),
+        Some(stored) => settle_written(alloc, metamodel, work, place, planned.object, stored),
     }
 }
 
-/// Each object of a plan takes the version that was written, and its base is what was written; one
-/// that was taken out has no base. It looks at the entries of these objects alone.
-pub(crate) fn settle(alloc: Global, work: &mut UnitOfWork, plan: &[Planned]) -> Result<(), Cause>
+/// Each object of a plan takes the version that was written, and its base is what was written, with
+/// what its relations hold; one that was taken out has no base. It looks at the entries of these
+/// objects alone.
+pub(crate) fn settle(
+    alloc: Global,
+    metamodel: &Metamodel,
+    work: &mut UnitOfWork,
+    plan: &[Planned],
+) -> Result<(), Cause>
+    requires ready { IsReady metamodel.now (now work.old) }
     requires objects { All (λ p. p.object < length work.old.objects.now) plan.now }
-    requires distinct { all_distinct (λ a b. a.object == b.object) work.old.context.now ≡ true }
     requires entered { are_entered plan.now work.old.context.now ≡ true }
-    ensures ok { OnOk result (now work.new ≡ plans.settled_by plan.now (now work.old)) }
+    ensures ok { OnOk result
+        (now work.new ≡ plans.learned_by metamodel.now plan.now (now work.old)) }
     ensures err { IfErr result (λ cause. cause ≡ Cause.OutOfMemory) }
     ensures since { since work.new ≡ since work.old }
 {
     for planned in plan {
         let place = work.context.place_of(planned.object).unwrap();
-        settle_at(alloc, work, place, planned)?;
+        settle_at(alloc, metamodel, work, place, planned)?;
     }
     Ok(())
 }

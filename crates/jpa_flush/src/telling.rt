@@ -7,8 +7,8 @@ ghost use Rattle.jpa_heap.specs.Shape.{HasShape};
 ghost use Rattle.jpa_flush.specs.Passes.{Performs};
 ghost use Rattle.jpa_flush.specs.Plan as plans;
 
-use crate::planning::Planned;
 use crate::steps::FlushAction;
+use crate::writing::Written;
 use jpa_behaviour::{Behaviour, ServedUnit};
 use jpa_context::UnitOfWork;
 use jpa_lifecycle::callback;
@@ -37,22 +37,22 @@ pub(crate) fn tell_update<B: Behaviour>(
     }
 }
 
-/// The event of each object that was written happens, in the order of the plan. Refused as the
+/// The event of each object that was written happens, in their order. Refused as the
 /// first listener or callback that refuses; `OutOfMemory` where a growth was refused.
 pub fn tell_written<B: Behaviour>(
     alloc: Global,
     unit: &ServedUnit<B>,
     work: &mut UnitOfWork,
-    plan: &[Planned],
+    written: &[Written],
 ) -> Result<(), Cause>
     requires shaped { All (HasShape unit.now.metamodel) work.old.objects.now }
-    requires objects { All (λ p. p.object < length work.old.objects.now) plan.now }
+    requires objects { All (λ x. x.object < length work.old.objects.now) written.now }
     ensures { let world = world_of_unit B.meaning unit.now in
-        Performs (plans.told_by world plan.now) result work.old work.new }
+        Performs (plans.told_by world written.now) result work.old work.new }
 {
-    for planned in plan {
-        let event = planned.event;
-        callback(alloc, unit, work, event, planned.object)?;
+    for told in written {
+        let event = told.event;
+        callback(alloc, unit, work, event, told.object)?;
     }
     Ok(())
 }

@@ -1,5 +1,6 @@
 //! Walks over the entries that a flush looks at, in the place of walks over all.
-ghost use Rattle.std.specs.Prelude.{◌≡◌, ◌<◌, All, length, true, IfOk, IfErr, OnOk};
+ghost use Rattle.std.specs.Prelude.{◌≡◌, ◌<◌, ◌==◌, All, length, true, IfOk, IfErr, OnOk};
+ghost use Rattle.std.specs.List.{list_any};
 ghost use Rattle.jpa_value.specs.declared.refusal.Cause.{Cause};
 ghost use Rattle.jpa_behaviour.specs.Behaviour.{World};
 ghost use Rattle.jpa_behaviour.specs.Served.{world_of_unit};
@@ -219,27 +220,46 @@ pub(crate) fn remove_orphans_at<B: Behaviour>(
     remove_orphans(alloc, unit, work)
 }
 
+/// Whether an object is the one at a place of a plan.
+fn is_planned_at(plan: &[Planned], at: usize, object: usize) -> bool
+    ensures { result ≡ true → at < length plan.now
+        × list_any (λ p. p.object == object) plan.now ≡ true }
+{
+    match plan.get(at) {
+        None => false,
+        Some(planned) => planned.object == object,
+    }
+}
+
 /// The base of each managed object takes the members that its relations have now (chapter 3.2.4),
-/// as far as they were read; those of the entries at other places have them. An entry changes only
-/// where these are others, so that a context that nothing was done to takes no memory for good.
-/// `OutOfMemory` is the only refusal.
+/// as far as they were read; those of the entries at other places have them, and so have those of
+/// a plan that settled. An entry changes only where these are others, so that a context that
+/// nothing was done to takes no memory for good. `OutOfMemory` is the only refusal.
+///
+/// What was planned is passed over, where it comes in the order of the places.
 pub(crate) fn remember_at(
     alloc: Global,
     metamodel: &Metamodel,
     work: &mut UnitOfWork,
     places: &[usize],
+    plan: &[Planned],
 ) -> Result<(), Cause>
     requires ready { IsReady metamodel.now (now work.old) }
     requires looked { marked.AreLooked (λ e. flushes.remembered metamodel.now (now work.old) e ≡ e)
         work.old.context.now places.now }
+    requires settled { All (λ e. plans.is_planned plan.now e ≡ true
+        → flushes.remembered metamodel.now (now work.old) e ≡ e) work.old.context.now }
     ensures ok { OnOk result
         (now work.new ≡ flushes.all_remembered metamodel.now (now work.old)) }
     ensures err { IfErr result (λ cause. cause ≡ Cause.OutOfMemory) }
     ensures since { since work.new ≡ since work.old }
 {
+    let mut next = 0;
     for place in places {
         let entry = &work.context.as_slice()[*place];
-        if let Some(current) = outdated(alloc, metamodel, work, entry)? {
+        if is_planned_at(plan, next, entry.object) {
+            next += 1;
+        } else if let Some(current) = outdated(alloc, metamodel, work, entry)? {
             work.context.set(*place, current)?;
         }
     }

@@ -84,7 +84,6 @@ write_changes-requires g c =
     let u = by_updates world x v c.in_ok-tell_updates_at.ensures.meets in
     let set : v.view ≡ (now c.args.work.now).view = u.view ∙ ap opened.now (c.remove_orphans_looked.ensures.carries.view ∙ c.persist_looked.ensures.carries.view) in
     record {
-      marked = marked_still m c.args.work.now c.tell_updates_at.new.work (c.tell_updates_at.ensures.since ∙ c.remove_orphans_looked.ensures.carries.since ∙ c.persist_looked.ensures.carries.since) c.requires.marked.before;
       looked = c.in_ok-tell_updates_at.ensures.still;
       writable =
           record {

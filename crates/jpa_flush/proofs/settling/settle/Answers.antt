@@ -1,18 +1,18 @@
 use Rattle.std.proofs.Common.{◌≡◌, ◌∙◌, ◌<◌, ◌+◌, ℕ, true, List, ◌∷◌, drop, map, length, ap, sym, subst}
-use Rattle.std.specs.Prelude.{◌==◌, is_some}
+use Rattle.std.specs.Prelude.{is_some}
 use Rattle.std.proofs.lemmas.Bool.{and_parts}
 use Rattle.std.proofs.lemmas.List.{drop_more, drop_all}
-use Rattle.jpa_stored.specs.Sets.{all_distinct}
 use Rattle.jpa_context.specs.declared.Entry.{Entry}
 use Rattle.jpa_context.specs.Undo.{now}
 use Rattle.jpa_context.specs.Work.{Work}
 use Rattle.jpa_flush.specs.declared.planning.Planned.{Planned}
 use Rattle.jpa_flush.specs.Entered.{are_entered, has_entry}
-use Rattle.jpa_flush.specs.Flush.{settled}
-use Rattle.jpa_flush.specs.Plan.{settled_by}
+use Rattle.jpa_flush.specs.Flush.{members_held}
+use Rattle.jpa_flush.specs.Plan.{learned, learned_by}
 use Rattle.jpa_flush.proofs.Entered.{is_placed, named_there}
-use Rattle.jpa_flush.proofs.OneEntry.{distinct_after, entered_after}
-use Rattle.jpa_flush.proofs.Settled.{settled_if, one_count, one_context}
+use Rattle.jpa_flush.proofs.Learned.{learned_context, learned_count, learned_ready}
+use Rattle.jpa_flush.proofs.OneEntry.{entered_after}
+use Rattle.jpa_flush.proofs.Settled.{learned_if}
 use Rattle.jpa_flush.proofs.settling.settle.Goals as goal
 
 -- the next object has an entry, and so have those behind it
@@ -42,10 +42,11 @@ pub returns-clause-ok : goal.returns-clause-ok
 returns-clause-ok c =
     let w = now c.loop-planned.work in
     let plan = c.args.plan.now in
-    ap (λ ps. settled_by ps w) (sym (drop_all c.loop-planned.planned-index plan c.loop-planned-test.false)) ∙ c.loop-planned.invariant.rest
+    ap (λ ps. learned_by c.args.metamodel.now ps w) (sym (drop_all c.loop-planned.planned-index plan c.loop-planned-test.false)) ∙ c.loop-planned.invariant.rest
 
 pub loop-planned-preserved : goal.loop-planned-preserved
 loop-planned-preserved c =
+    let m = c.args.metamodel.now in
     let plan = c.args.plan.now in
     let i = c.loop-planned.planned-index in
     let p = c.planned-item.result in
@@ -56,12 +57,13 @@ loop-planned-preserved c =
     let ps = drop (i + 1) plan in
     let before = c.loop-planned.invariant in
     let first : drop i plan ≡ p ∷ ps = drop_more plan i p c.loop-planned-test.true ∙ ap (λ q. q ∷ ps) (sym c.planned-item.is) in
-    let is : w2 ≡ settled n x w1 = c.in_ok-settle_at.ensures.ok in
-    let context : w2.context ≡ map (settled_if n x) w1.context = ap (λ (u : Work). u.context) is ∙ one_context n x w1 in
+    let ms = members_held m w1 n in
+    let is : w2 ≡ learned m n x w1 = c.in_ok-settle_at.ensures.ok in
+    let context : w2.context ≡ map (learned_if ms n x) w1.context = ap (λ (u : Work). u.context) is ∙ learned_context m n x w1 in
     record {
-      rest = ap (settled_by ps) is ∙ sym (ap (λ qs. settled_by qs w1) first) ∙ before.rest;
-      entered = ap (are_entered ps) context ∙ entered_after n x ps w1.context ∙ (next_entered plan i p w1.context first before.entered).1;
-      distinct = ap (all_distinct (λ (a b : Entry). a.object == b.object)) context ∙ distinct_after n x w1.context ∙ before.distinct;
-      objects = ap (λ (u : Work). length u.objects) is ∙ one_count n x w1 ∙ before.objects;
+      rest = ap (learned_by m ps) is ∙ sym (ap (λ qs. learned_by m qs w1) first) ∙ before.rest;
+      ready = learned_ready m n x w1 w2 is before.ready;
+      entered = ap (are_entered ps) context ∙ entered_after ms n x ps w1.context ∙ (next_entered plan i p w1.context first before.entered).1;
+      objects = ap (λ (u : Work). length u.objects) is ∙ learned_count m n x w1 ∙ before.objects;
       since = c.settle_at.ensures.since ∙ before.since;
     }

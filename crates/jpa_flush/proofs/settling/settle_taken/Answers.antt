@@ -1,9 +1,9 @@
 use Rattle.std.proofs.Common.{◌≡◌, ◌∙◌, ap, get_or, map, List}
-use Rattle.std.specs.Prelude.{slice_set, None}
+use Rattle.std.specs.Prelude.{slice_set, [], None}
 use Rattle.jpa_context.specs.declared.Entry.{Entry}
 use Rattle.jpa_context.specs.Undo.{now}
-use Rattle.jpa_flush.proofs.OneEntry.{named_at, one_settled}
-use Rattle.jpa_flush.proofs.Settled.{settled_as, settled_if}
+use Rattle.jpa_flush.proofs.OneEntry.{named_at, one_learned}
+use Rattle.jpa_flush.proofs.Settled.{learned_as, learned_if}
 use Rattle.jpa_flush.proofs.settling.settle_taken.Goals as goal
 
 pub returns-clause-ok : goal.returns-clause-ok
@@ -15,10 +15,10 @@ returns-clause-ok c =
     let y = c.in_ok-settled.settled in
     let read : e ≡ get_or w0.context i e = c.index-as_slice-place.is ∙ ap (λ (us : List Entry). get_or us i e) c.as_slice.ensures in
     let named = named_at w0.context i n e c.requires.place read in
-    let settled : y ≡ settled_as None e = c.in_ok-settled.ensures.ok in
-    let put : c.set.new.self.now ≡ map (settled_if n None) w0.context =
+    let settled : y ≡ learned_as [] None e = c.in_ok-settled.ensures.ok in
+    let put : c.set.new.self.now ≡ map (learned_if [] n None) w0.context =
     c.in_ok-set.ensures.changed
     ∙ (λ j. slice_set w0.context i (settled j))
-    ∙ one_settled None w0.context i e c.requires.distinct (named.0) read
-    ∙ ap (λ k. map (settled_if k None) w0.context) (named.1) in
+    ∙ one_learned [] None w0.context i e c.requires.distinct (named.0) read
+    ∙ ap (λ k. map (learned_if [] k None) w0.context) (named.1) in
     λ j. record w0 { context = put j }

@@ -6,14 +6,14 @@ use Rattle.jpa_flush.proofs.Rounds.{next_done}
 use Rattle.jpa_flush.proofs.Updated.{by_callback, updated_twice}
 use Rattle.jpa_flush.proofs.telling.tell_written.Goals as goal
 
-pub loop-planned-preserved : goal.loop-planned-preserved
-loop-planned-preserved g c =
+pub loop-told-preserved : goal.loop-told-preserved
+loop-told-preserved g c =
     let world = world_of_unit g.B.Behaviour.meaning c.args.unit.now in
-    let w = now c.loop-planned.work in
+    let w = now c.loop-told.work in
     let w' = now c.callback.new.work in
-    let p = c.planned-item.result in
+    let p = c.told-item.result in
     record {
-      rest = next_done (tell world) c.args.plan.now c.loop-planned.planned-index p w w' c.loop-planned-test.true c.planned-item.is c.in_ok-callback.ensures.meets ∙ c.loop-planned.invariant.rest;
-      same = updated_twice (now c.args.work.now) w w' c.loop-planned.invariant.same (by_callback world p.event p.object w w' c.in_ok-callback.ensures.meets);
-      since = c.callback.ensures.since ∙ c.loop-planned.invariant.since;
+      rest = next_done (tell world) c.args.written.now c.loop-told.told-index p w w' c.loop-told-test.true c.told-item.is c.in_ok-callback.ensures.meets ∙ c.loop-told.invariant.rest;
+      same = updated_twice (now c.args.work.now) w w' c.loop-told.invariant.same (by_callback world p.event p.object w w' c.in_ok-callback.ensures.meets);
+      since = c.callback.ensures.since ∙ c.loop-told.invariant.since;
     }

@@ -5,9 +5,9 @@ use Rattle.jpa_flush.specs.Plan.{told_by}
 use Rattle.jpa_flush.proofs.Updated.{IsUpdated}
 use Rattle.jpa_flush.proofs.telling.tell_written.Given as goal
 
-abbrev pub invariant-loop-planned : goal.invariant-loop-planned
-invariant-loop-planned g l = record {
-  rest : told_by (world_of_unit g.B.Behaviour.meaning l.unit) (drop l.planned-index l.plan) (now l.work) ≡ told_by (world_of_unit g.B.Behaviour.meaning l.unit) l.plan (now l.fn.work);
+abbrev pub invariant-loop-told : goal.invariant-loop-told
+invariant-loop-told g l = record {
+  rest : told_by (world_of_unit g.B.Behaviour.meaning l.unit) (drop l.told-index l.written) (now l.work) ≡ told_by (world_of_unit g.B.Behaviour.meaning l.unit) l.written (now l.fn.work);
   same : IsUpdated (now l.fn.work) (now l.work);
   since : since l.work ≡ since l.fn.work;
 }
