@@ -1,9 +1,10 @@
 -- Changes over rows, as an overlay has them.
-use Rattle.std.specs.Prelude.{◌≡◌, Bool, false, cond, List, [], ◌∷◌, Option, Some, None, IsSome}
+use Rattle.std.specs.Prelude.{◌≡◌, Bool, false, cond, T, All, List, [], ◌∷◌, map, Option, Some, None, IsSome}
 use Rattle.std.specs.List.{flat_map}
-use Rattle.std.specs.FinMap.{find, put}
+use Rattle.std.specs.FinMap.{find, put, is_sorted}
 use Rattle.jpa_value.specs.Value.{identity_cmp, same_identity}
-use Rattle.jpa_rows.specs.Rows.{RowId, Row, Rows}
+use Rattle.jpa_rows.specs.declared.row.RowChange.{RowChange}
+use Rattle.jpa_rows.specs.Rows.{RowId, Row, Rows, entry_of}
 use Rattle.jpa_row_laws.specs.Changes.{changed, seen}
 
 -- a finite map from row ids to the rows that are to stand there, or to none, as entries in rising
@@ -27,6 +28,11 @@ with_row id row rows = changed identity_cmp id row rows
 abbrev pub Recalls : Changes → Changes → Rows → Type 0
 Recalls stood changes rows = (id : RowId) → IsSome (find identity_cmp id changes) →
     find identity_cmp id (rows_under stood []) ≡ find identity_cmp id rows
+
+-- they are in the order of their ids, and each is a change of these
+pub record AreAmong (changes : Changes) (listed : List RowChange) : Type 0 where
+  pub rising : T (is_sorted identity_cmp (map entry_of listed))
+  pub among : All (λ change. find identity_cmp change.id changes ≡ Some change.row) listed
 
 -- ---- the changes alone
 

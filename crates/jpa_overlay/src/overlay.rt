@@ -10,7 +10,7 @@ ghost use Rattle.jpa_rows.specs.Faults.{IsStoreCause};
 ghost use Rattle.jpa_rows.specs.Looks.{LooksOnly, LooksAtOneRow, LooksAtOneTable, LooksAtRows};
 ghost use Rattle.jpa_rows.specs.Rows.{Rows, AreRising, table_rows, entry_of, rows_after};
 ghost use Rattle.jpa_row_laws.specs.Changes.{AreDifference};
-ghost use Rattle.jpa_overlay.specs.Overlay.{Recalls, rows_under, with_change, with_row};
+ghost use Rattle.jpa_overlay.specs.Overlay.{AreAmong, Recalls, rows_under, with_change, with_row};
 ghost use Rattle.jpa_overlay.specs.Same.{same_row};
 
 use crate::change::Change;
@@ -121,10 +121,7 @@ impl Overlay {
         ensures seen { R.clean source.new → IfOk result
             (λ changes. (rows : Rows) → AreRising rows → R.holds source.old rows →
             rows_after changes rows ≡ rows_under self.now rows) }
-        ensures rising { IfOk result
-            (λ changes. T (is_sorted identity_cmp (map entry_of changes))) }
-        ensures among { IfOk result (λ changes. All
-            (λ change. find identity_cmp change.id self.now ≡ Some change.row) changes) }
+        ensures among { IfOk result (AreAmong self.now) }
         ensures err { R.clean source.new → IfErr result
             (λ cause. (rows : Rows) → R.holds source.old rows → (cause ≡ Cause.OutOfMemory)
             ⊎ (cause ≡ Cause.StoreFault)) }

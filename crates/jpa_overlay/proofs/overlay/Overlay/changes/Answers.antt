@@ -77,8 +77,11 @@ returns-clause-seen g c = λ clean rows rise holds.
     let all = c.loop-entry.invariant.real clean rows holds ∙ ap (differing rows) (take_all c.loop-entry.entry-index items c.loop-entry-test.false) in
     ap (λ cs. rows_under cs rows) all ∙ same_seen rows items rise sorted ∙ ap (λ cs. rows_under cs rows) (c.as_slice-entry-items.ensures.value ∙ c.self.view_is)
 
-pub returns-clause-rising : goal.returns-clause-rising
-returns-clause-rising g c = all_rise c.as_slice-entry-items.result.now c.loop-entry.entry-index c.loop-entry.changes c.loop-entry-test.false c.loop-entry.invariant.rising
+pub returns-clause-among : goal.returns-clause-among
+returns-clause-among g c = record {
+  rising = all_rise c.as_slice-entry-items.result.now c.loop-entry.entry-index c.loop-entry.changes c.loop-entry-test.false c.loop-entry.invariant.rising;
+  among = search rules;
+}
 
 pub returns-in_err-there-clause-looks : goal.returns-in_err-there-clause-looks
 returns-in_err-there-clause-looks g c =
