@@ -7,4 +7,5 @@ pub mod Together
 pub mod Damage
 pub mod Reads
 pub mod Opened
+pub mod Opening
 pub mod OfSet

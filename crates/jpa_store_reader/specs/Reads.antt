@@ -1,11 +1,12 @@
 -- What is read of a store, one table after another, and the place that is told of what was read.
 use Rattle.std.specs.Prelude.{◌≡◌, ◌⊎◌, ◌<◌, ℕ, pos, true, ◌==◌, List, [], ◌∷◌, ◌++◌, length, map, Option, Some, None}
-use Rattle.std.specs.Prelude.{is_some}
+use Rattle.std.specs.Prelude.{is_some, Result, Err, IfErr}
 use Rattle.std.specs.List.{AllByRecursion, list_any}
 use Rattle.std.specs.List.Sorted.{IsPermutation}
 use Rattle.sqlite.specs.Held.{state}
 use Rattle.sqlite_trees.specs.declared.store.Store.{Ghosts}
 use Rattle.sqlite_trees.specs.Tree.{IsAscending}
+use Rattle.jpa_value.specs.declared.refusal.Cause.{Cause}
 use Rattle.jpa_key.specs.Keys.{key_bytes}
 use Rattle.jpa_behaviour.specs.Behaviour.{World}
 use Rattle.jpa_rows.specs.declared.schema.Schema.{Schema}
@@ -13,9 +14,9 @@ use Rattle.jpa_rows.specs.declared.schema.TableRule.{TableRule}
 use Rattle.jpa_rows.specs.Rows.{RowId, Row, Rows, AreRising, table_of, table_rows}
 use Rattle.jpa_cells_meaning.specs.Content.{KeepsContent}
 use Rattle.jpa_cells_meaning.specs.Tables.{Tables, AreRows}
-use Rattle.jpa_cells_meaning.specs.Store.{Keeps, Endures}
+use Rattle.jpa_cells_meaning.specs.Store.{Tells, IsClean, Keeps, Endures, HasFault}
 use Rattle.jpa_rowspace.specs.Reading.{AreRead, IsReadBy}
-use Rattle.jpa_rowspace.specs.Space.{Space}
+use Rattle.jpa_rowspace.specs.Space.{Space, IsStoreCause}
 use Rattle.jpa_store_reader.specs.Sound.{IsSoundRow, AreSoundRows}
 use Rattle.jpa_store_reader.specs.Judged.{AreOfNone}
 
@@ -99,3 +100,11 @@ pub record KeepsTables {S : Type 0} (g : Ghosts S) (old new : Space S) : Type 0 
       faults = new.store.faults;
     };
   }
+
+-- Whatever a reading of tables answers: it is refused for want of memory or by a fault alone, a
+-- fault is counted and has a cause, and the tables are kept.
+pub record ReadsOnly {S T : Type 0} (g : Ghosts S) (old new : Space S) (result : Result T Cause) : Type 0 where
+  pub refused : IfErr result IsStoreCause
+  pub told : Tells result old.store.faults new.store.faults
+  pub cause : IsClean g new.store.conn → result ≡ Err Cause.StoreFault → HasFault g old.store.conn new.store.conn
+  pub keeps : KeepsTables g old new

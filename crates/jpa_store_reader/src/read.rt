@@ -1,12 +1,12 @@
 //! The rows of a store as a unit opens them, read one table after another.
-ghost use Rattle.std.specs.Prelude.{◌≡◌, ◌+◌, ◌++◌, ◌<◌, ◌^◌, [], map, length, Err, None, IsSome, IfOk, IfErr, OnOk};
+ghost use Rattle.std.specs.Prelude.{◌≡◌, ◌+◌, ◌++◌, ◌<◌, ◌^◌, map, IsSome, IfOk, IfErr, OnOk};
 ghost use Rattle.jpa_value.specs.declared.refusal.Cause.{Cause};
 ghost use Rattle.jpa_behaviour.specs.Registered.{world_of};
 ghost use Rattle.jpa_rows.specs.Rows.{table_of};
 ghost use Rattle.jpa_rows.specs.Tables.{schema_of};
-ghost use Rattle.jpa_cells_meaning.specs.Store.{up_to_greatest, Tells, IsClean, IsOpen, tables_in, HasFault};
-ghost use Rattle.jpa_rowspace.specs.Space.{IsStoreCause};
-ghost use Rattle.jpa_store_reader.specs.Opened.{ReadsOpened, AreFound};
+ghost use Rattle.jpa_cells_meaning.specs.Store.{up_to_greatest};
+ghost use Rattle.jpa_store_reader.specs.Opened.{ReadsOpened};
+ghost use Rattle.jpa_store_reader.specs.Opening.{ReadsTables};
 ghost use Rattle.jpa_store_reader.specs.Reads as reads;
 
 use crate::migration::{Migration, note_due, opened_rows};
@@ -74,13 +74,9 @@ fn read_table<S: Alter, B: Behaviour>(
     ensures opened { IfOk result (λ read. ReadsOpened S.Store
         (world_of B.meaning metamodel.now registry.now) history.now space.old space.new table
         migration.old migration.new read.0 read.1) }
-    ensures refused { IfErr result IsStoreCause }
     ensures counted { space.new.store.table_selects
         ≡ up_to_greatest (space.old.store.table_selects + 1) }
-    ensures told { Tells result space.old.store.faults space.new.store.faults }
-    ensures cause { IsClean S.Store space.new.store.conn → result ≡ Err Cause.StoreFault →
-        HasFault S.Store space.old.store.conn space.new.store.conn }
-    ensures keeps { reads.KeepsTables S.Store space.old space.new }
+    ensures reads { reads.ReadsOnly S.Store space.old space.new result }
 {
     let _unit = metamodel.unit();
     let stored = space.cells(table)?.into_vec();
@@ -114,20 +110,10 @@ pub(crate) fn read_tables<S: Alter, B: Behaviour>(
 ) -> Result<Found, Cause>
     requires schema { space.old.schema ≡ schema_of metamodel.now }
     requires numbers { reads.AreNumbersOf space.old.schema numbers.now }
-    ensures found { IsClean S.Store space.new.store.conn →
-        IfOk result (AreFound (world_of B.meaning metamodel.now registry.now) history.now
-        space.old.schema (tables_in S.Store space.old.store.conn) numbers.now) }
-    ensures first { metamodel.now.revision ≡ 1 → IfOk result (λ found. found.changes ≡ []) }
-    ensures refused { IfErr result IsStoreCause }
-    ensures open { IsClean S.Store space.new.store.conn →
-        OnOk result (IsOpen S.Store space.old.store.conn × IsOpen S.Store space.new.store.conn) }
-    ensures counted { IfOk result (λ found. found.end ≡ None →
-        space.new.store.table_selects ≡ up_to_greatest
-        (space.old.store.table_selects + length numbers.now)) }
-    ensures told { Tells result space.old.store.faults space.new.store.faults }
-    ensures cause { IsClean S.Store space.new.store.conn → result ≡ Err Cause.StoreFault →
-        HasFault S.Store space.old.store.conn space.new.store.conn }
-    ensures keeps { reads.KeepsTables S.Store space.old space.new }
+    ensures found { IfOk result (ReadsTables S.Store
+        (world_of B.meaning metamodel.now registry.now) history.now space.old space.new
+        numbers.now) }
+    ensures reads { reads.ReadsOnly S.Store space.old space.new result }
 {
     let _unit = metamodel.unit();
     let mut rows = Seq::new(alloc);

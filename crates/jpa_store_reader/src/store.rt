@@ -11,7 +11,8 @@ ghost use Rattle.jpa_rowspace.specs.Stored.{AreRowsOf};
 ghost use Rattle.jpa_rowspace.specs.Space.{HoldsRows, IsStoreCause};
 ghost use Rattle.jpa_store_reader.specs.Judged.{AreHeld};
 ghost use Rattle.jpa_store_reader.specs.Reads.{IsTold, KeepsTables};
-ghost use Rattle.jpa_store_reader.specs.Opened.{MakesOpened, HaveCommitted, IsMigrated, AllowsDue, CountsDue};
+ghost use Rattle.jpa_store_reader.specs.Opened.{IsMigrated, AllowsDue, CountsDue};
+ghost use Rattle.jpa_store_reader.specs.Opening.{ReadsStore, RefusesStore};
 ghost use Rattle.jpa_store_reader.specs.Damage.{cells_in, AreDamagedAt};
 
 use crate::entries::are_rows_of;
@@ -77,31 +78,11 @@ fn read_store<S: Alter, B: Behaviour>(
     space: &mut RowSpace<S>,
 ) -> Result<(Committed, Seq<CellChange>), Cause>
     requires schema { space.old.schema ≡ schema_of metamodel.now }
-    ensures can_be_held { IfOk result (λ r. CanBeHeld
-        (world_of B.meaning metamodel.now registry.now) r.0.set r.0.numbers) }
-    ensures committed { IsClean S.Store space.new.store.conn →
-        IfOk result (λ r. HaveCommitted (world_of B.meaning metamodel.now registry.now)
-        (opened_tables (world_of B.meaning metamodel.now registry.now) history.now
-        (tables_in S.Store space.old.store.conn)) r.0) }
-    ensures changes { IsClean S.Store space.new.store.conn →
-        IfOk result (λ r. MakesOpened (world_of B.meaning metamodel.now registry.now) history.now
-        (tables_in S.Store space.old.store.conn) r.1) }
-    ensures first { metamodel.now.revision ≡ 1 → IfOk result (λ r. r.1 ≡ []) }
-    ensures refused { IfErr result (λ cause. IsStoreCause cause
-        ⊎ ((t : ℕ) × (bytes : List ℕ) × (cause ≡ Cause.Damaged t bytes)
-        × (IsClean S.Store space.new.store.conn →
-        AreDamagedAt (world_of B.meaning metamodel.now registry.now)
-        (opened_tables (world_of B.meaning metamodel.now registry.now) history.now
-        (tables_in S.Store space.new.store.conn)) t bytes))) }
-    ensures live { IsClean S.Store space.new.store.conn → (t : ℕ) (bytes : List ℕ) → result
-        ≡ Err (Cause.Damaged t bytes) → IsOpen S.Store space.old.store.conn
-        × IsOpen S.Store space.new.store.conn }
-    ensures open { IsClean S.Store space.new.store.conn →
-        OnOk result (IsOpen S.Store space.old.store.conn × IsOpen S.Store space.new.store.conn) }
+    ensures read { IfOk result (λ r. ReadsStore S.Store
+        (world_of B.meaning metamodel.now registry.now) history.now space.old space.new r.0 r.1) }
+    ensures refused { IfErr result (RefusesStore S.Store
+        (world_of B.meaning metamodel.now registry.now) history.now space.old space.new) }
     ensures keeps { KeepsTables S.Store space.old space.new }
-    ensures counted { OnOk result (space.new.store.table_selects
-        ≡ up_to_greatest (space.old.store.table_selects + length
-        (schema_of metamodel.now).tables)) }
     ensures told { space.new.store.faults ≡ faults_after result space.old.store.faults }
     ensures cause { IsClean S.Store space.new.store.conn → result ≡ Err Cause.StoreFault →
         HasFault S.Store space.old.store.conn space.new.store.conn }
