@@ -23,3 +23,4 @@ pub mod Among
 pub mod ByKey
 pub mod Left
 pub mod LeftOne
+pub mod Narrowed

@@ -12,3 +12,4 @@ pub mod Members
 pub mod Refused
 pub mod Grown
 pub mod Indexes
+pub mod Bounds

@@ -6,6 +6,7 @@
 
 mod asking;
 mod block;
+mod bounds;
 mod by_key;
 mod by_on;
 mod by_reference;
