@@ -18,6 +18,7 @@ use jpql_eval::{Seen, seen_value};
 use jpql_types::{Step, TypedPath};
 use std::alloc::{AllocError, Global};
 
+#[inline(always)]
 fn part<'a>(key: &'a [Value], place: usize) -> Seen<'a>
     ensures { seen result ≡ Datum.Plain (slice_index_or key.now place Value.Null) }
 {
@@ -56,6 +57,7 @@ fn entity<'a>(object: Option<Object<'a>>) -> Seen<'a>
 }
 
 /// What a member of an object is.
+#[inline(always)]
 fn member<'a>(run: &Run<'a>, object: &Object<'a>, step: Step) -> Seen<'a>
     ensures { seen result
         ≡ runs.member_datum run.now (entry object.now) step.class step.member }
@@ -69,6 +71,7 @@ fn member<'a>(run: &Run<'a>, object: &Object<'a>, step: Step) -> Seen<'a>
 }
 
 /// The last step of a path.
+#[inline(always)]
 fn last<'a>(run: &Run<'a>, object: Option<Object<'a>>, step: Step) -> Seen<'a>
     ensures { seen result ≡ runs.step_datum run.now (entry_of object.entry) step }
 {
@@ -117,7 +120,12 @@ fn breaks<'a>(run: &Run<'a>, object: Option<Object<'a>>, steps: &[Step]) -> bool
 pub fn path<'a>(run: &Run<'a>, tuple: &Tuple<'a>, path: &TypedPath) -> Seen<'a>
     ensures { seen result ≡ runs.path_datum run.now tuple.now path.now }
 {
-    walked(run, tuple.get(path.variable), path.steps.as_slice())
+    let object = tuple.get(path.variable);
+    match path.steps.as_slice() {
+        // (most paths have one step, which is told in place)
+        [step] => last(run, object, *step),
+        steps => walked(run, object, steps),
+    }
 }
 
 /// Whether a path of a tuple has a null step before its last.
