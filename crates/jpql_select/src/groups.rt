@@ -3,16 +3,19 @@
 ghost use Rattle.std.specs.BTreeMap.{get, Updates};
 ghost use Rattle.std.specs.Prelude.{◌≡◌, ◌<◌, ◌≤◌, ◌++◌, ◌∷◌, [], length, map, take, slice_index_or, unwrap_or};
 ghost use Rattle.std.specs.Prelude.{Some, true, All, OnOk, IfOk, IfSome};
-ghost use Rattle.jpql_eval.specs.Data.{same_data};
+ghost use Rattle.jpql_eval.specs.Data.{same_data, same_datum};
+ghost use Rattle.jpql_eval.specs.Seen.{seen};
 ghost use Rattle.jpql_plan.specs.Selection.{case_of, put_tuples};
+ghost use Rattle.jpql_run.specs.Runs as runs;
 ghost use Rattle.jpql_select.specs.Cases.{case_in};
 ghost use Rattle.jpql_select.specs.Keys.{data_cmp};
 ghost use Rattle.jpql_select.specs.Groups.{groups_in, add_at, begins_with, is_risen};
 ghost use Rattle.jpql_select.specs.Selects as selects;
 
 use crate::case::Case;
+use crate::compare::are_one;
 use crate::key::Key;
-use jpql_eval::is_same;
+use jpql_eval::Seen;
 use jpql_run::{Run, Tuple, path};
 use jpql_types::TypedPath;
 use std::alloc::{AllocError, Global};
@@ -69,7 +72,7 @@ fn are_alike<'a>(run: &Run<'a>, paths: &[TypedPath], one: &Tuple<'a>, other: &Tu
         (selects.group_key run.now paths.now other.now) }
 {
     for by in paths {
-        if !is_same(&path(run, one, by), &path(run, other, by)) {
+        if !are_one(&path(run, one, by), &path(run, other, by)) {
             return false;
         }
     }
@@ -96,15 +99,47 @@ fn is_at<'a>(
     }
 }
 
-/// How many of these tuples, from the first on, are grouped by the same as a tuple before them.
-fn alike<'a>(run: &Run<'a>, paths: &[TypedPath], first: &Tuple<'a>, tuples: &[Tuple<'a>]) -> usize
+/// Whether a path leads a tuple to this datum.
+fn leads_to<'a>(run: &Run<'a>, by: &TypedPath, datum: &Seen<'a>, tuple: &Tuple<'a>) -> bool
+    ensures { result
+        ≡ same_datum (seen datum.now) (runs.path_datum run.now tuple.now by.now) }
+{
+    are_one(datum, &path(run, tuple, by))
+}
+
+/// Whether a tuple is grouped by this key.
+fn is_grouped_by<'a>(
+    run: &Run<'a>,
+    paths: &[TypedPath],
+    key: &[Seen<'a>],
+    tuple: &Tuple<'a>,
+) -> bool
+    ensures { result
+        ≡ same_data (map seen key.now) (selects.group_key run.now paths.now tuple.now) }
+{
+    match paths {
+        [] => match key {
+            [] => true,
+            [_, ..] => false,
+        },
+        [by, others @ ..] => match key {
+            [] => false,
+            [datum, rest @ ..] => {
+                leads_to(run, by, datum, tuple) && is_grouped_by(run, others, rest, tuple)
+            }
+        },
+    }
+}
+
+/// How many of these tuples, from the first on, have this key.
+fn alike<'a>(run: &Run<'a>, paths: &[TypedPath], key: &Key<'a>, tuples: &[Tuple<'a>]) -> usize
     ensures at_most { result ≤ length tuples.now }
-    ensures alike { let key = selects.group_key run.now paths.now in
-        All (λ t. same_data (key first.now) (key t) ≡ true) (take result tuples.now) }
+    ensures alike { All (λ t. same_data key.now (selects.group_key run.now paths.now t) ≡ true)
+        (take result tuples.now) }
 {
     let mut count = 0;
     for tuple in tuples {
-        if !are_alike(run, paths, first, tuple) {
+        if !is_grouped_by(run, paths, &key.data, tuple) {
             return count;
         }
         count += 1;
@@ -145,7 +180,7 @@ pub(crate) fn rising<'t, 'a>(
         if !is_above(&before, &key) {
             return Ok(None);
         }
-        let count = alike(run, paths, first, others);
+        let count = alike(run, paths, &key, others);
         let (group, _) = rest.split_at(1 + count);
         cases.push(Case {
             tuple: first,

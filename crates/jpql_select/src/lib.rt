@@ -10,6 +10,7 @@
 #![tactic(auto)]
 
 mod case;
+mod compare;
 mod distinct;
 mod groups;
 mod key;

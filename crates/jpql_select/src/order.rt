@@ -5,8 +5,9 @@ ghost use Rattle.jpql_eval.specs.Seen.{seen};
 ghost use Rattle.jpql_plan.specs.Selection as selection;
 ghost use Rattle.jpql_select.specs.Sortings.{sorting_data};
 
+use crate::compare::order_of;
 use crate::row::{Row, Sorting};
-use jpql_eval::{Seen, order};
+use jpql_eval::Seen;
 use jpql_types::TypedKey;
 use std::alloc::AllocError;
 use std::cmp::Ordering;
@@ -16,9 +17,9 @@ fn by_key<'a>(is_descending: bool, left: &Seen<'a>, right: &Seen<'a>) -> Orderin
     ensures { result ≡ selection.by_key is_descending (seen left.now) (seen right.now) }
 {
     if is_descending {
-        order(right, left)
+        order_of(right, left)
     } else {
-        order(left, right)
+        order_of(left, right)
     }
 }
 

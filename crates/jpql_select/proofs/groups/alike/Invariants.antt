@@ -5,10 +5,10 @@ use Rattle.jpql_eval.specs.Data.{same_data}
 use Rattle.jpql_select.specs.Selects.{group_key}
 use Rattle.jpql_select.proofs.groups.alike.Given as goal
 
--- those before are all grouped by the same
+-- those before all have the key
 abbrev pub invariant-loop-tuple : goal.invariant-loop-tuple
 invariant-loop-tuple l =
     record {
       count : l.count ≡ l.tuple-index;
-      alike : All (λ (t : Tuple). same_data (group_key l.run l.paths l.first) (group_key l.run l.paths t) ≡ true) (take l.tuple-index l.tuples);
+      alike : All (λ (t : Tuple). same_data l.key (group_key l.run l.paths t) ≡ true) (take l.tuple-index l.tuples);
     }
