@@ -1,5 +1,5 @@
 //! The rows of a SELECT that are asked, kept.
-ghost use Rattle.std.specs.Prelude.{◌≡◌, IfOk, IfErr};
+ghost use Rattle.std.specs.Prelude.{◌≡◌, drop, IfOk, IfErr};
 ghost use Rattle.jpa_value.specs.declared.refusal.Cause.{Cause};
 ghost use Rattle.jpa_queries.specs.Queries as queries;
 ghost use Rattle.jpql_select.specs.Tables.{rows_in};
@@ -19,24 +19,37 @@ pub(crate) fn is_count(number: Option<i64>) -> bool
     }
 }
 
+/// Rows without the first so many.
+fn without<T: Drop>(count: usize, rows: Vec<T>) -> Vec<T>
+    ensures { result.items ≡ drop count rows.entry.items }
+{
+    let mut left = rows;
+    let count = count.min(left.len());
+    left.rotate_left(count);
+    left.truncate(left.len() - count);
+    left
+}
+
 /// Rows without the first ones.
-fn skipped<T>(first: Option<i64>, rows: &[T]) -> &[T]
-    ensures { result.now ≡ queries.skipped first rows.now }
+fn skipped<T: Drop>(first: Option<i64>, rows: Vec<T>) -> Vec<T>
+    ensures { result.items ≡ queries.skipped first rows.entry.items }
 {
     match first {
-        Some(first) if first >= 0 => rows.get(first as usize..).unwrap_or(&[]),
+        Some(first) if first > 0 => without(first as usize, rows),
         _ => rows,
     }
 }
 
 /// At most so many rows.
-fn limited<T>(max: Option<i64>, rows: &[T]) -> &[T]
-    ensures { result.now ≡ queries.limited max rows.now }
+fn limited<T: Drop>(max: Option<i64>, rows: Vec<T>) -> Vec<T>
+    ensures { result.items ≡ queries.limited max rows.entry.items }
 {
+    let mut left = rows;
     match max {
-        Some(max) if max >= 0 => rows.get(..max as usize).unwrap_or(rows),
-        _ => rows,
+        Some(max) if max >= 0 => left.truncate(max as usize),
+        _ => (),
     }
+    left
 }
 
 /// The rows of a table without the first ones, and at most so many (Jakarta Persistence 3.1,
@@ -45,10 +58,10 @@ pub(crate) fn cut(
     alloc: Global,
     first: Option<i64>,
     max: Option<i64>,
-    table: &Table<'_>,
+    table: Table<'_>,
 ) -> Result<Seq<Seq<Datum>>, Cause>
-    ensures ok { IfOk result (λ rows. rows ≡ queries.cut first max (rows_in table.now)) }
+    ensures ok { IfOk result (λ rows. rows ≡ queries.cut first max (rows_in table.entry)) }
     ensures err { IfErr result (λ cause. cause ≡ Cause.OutOfMemory) }
 {
-    rows_of(alloc, limited(max, skipped(first, table.as_slice())))
+    rows_of(alloc, limited(max, skipped(first, table)))
 }

@@ -67,7 +67,7 @@ fn rows_found(
         arguments.now first max (now work.now)) }
 {
     match run_select(alloc, metamodel, &work.view, arguments, select) {
-        Ok(table) => cut(alloc, first, max, &table),
+        Ok(table) => cut(alloc, first, max, table),
         Err(Failure::Overflow) => Err(Cause::Overflow),
         Err(Failure::Memory) => Err(Cause::OutOfMemory),
     }
@@ -109,17 +109,20 @@ fn single_row<B: Behaviour>(
     alloc: Global,
     unit: &ServedUnit<B>,
     work: &mut UnitOfWork,
-    rows: &[Seq<Datum>],
+    rows: Seq<Seq<Datum>>,
 ) -> Result<Seq<Item>, Cause>
     requires ready { IsReady unit.now.metamodel (now work.old) }
     ensures { let world = world_of_unit B.meaning unit.now in
-        Performs (queries.single_row world rows.now) result work.old work.new }
+        Performs (queries.single_row world rows) result work.old work.new }
 {
-    match rows {
-        [] => Err(Cause::NoResult),
-        [row] => row_of(alloc, unit, work, row.as_slice()),
-        [_, _, ..] => Err(Cause::NonUniqueResult),
+    let mut rows = rows.into_vec();
+    let Some(row) = rows.pop() else {
+        return Err(Cause::NoResult);
+    };
+    if !rows.is_empty() {
+        return Err(Cause::NonUniqueResult);
     }
+    row_of(alloc, unit, work, row)
 }
 
 /// The rows of a SELECT over the set that a manager sees (Jakarta Persistence 3.1, chapter 3.10.1),
@@ -150,7 +153,7 @@ pub fn query<B: Behaviour>(
         Performs (queries.query world flushes asked.now) result work.old work.new }
 {
     let rows = rows_asked(alloc, unit, work, flushes, asked)?;
-    rows_of(alloc, unit, work, rows.as_slice())
+    rows_of(alloc, unit, work, rows)
 }
 
 /// The one row of a SELECT, as `query` finds them and cuts them off. `NoResult` where there is
@@ -171,5 +174,5 @@ pub fn query_single<B: Behaviour>(
         Performs (queries.query_single world flushes asked.now) result work.old work.new }
 {
     let rows = rows_asked(alloc, unit, work, flushes, asked)?;
-    single_row(alloc, unit, work, rows.as_slice())
+    single_row(alloc, unit, work, rows)
 }

@@ -12,7 +12,7 @@ use jpa_behaviour::{Behaviour, ServedUnit};
 use jpa_context::UnitOfWork;
 use jpa_fetch::reach;
 use jpa_protocol::Item;
-use jpa_value::{Cause, Seq, TryCopy};
+use jpa_value::{Cause, Seq};
 use jpql_eval::Datum;
 use std::alloc::Global;
 
@@ -23,18 +23,18 @@ fn item_of<B: Behaviour>(
     alloc: Global,
     unit: &ServedUnit<B>,
     work: &mut UnitOfWork,
-    datum: &Datum,
+    datum: Datum,
 ) -> Result<Item, Cause>
     requires ready { IsReady unit.now.metamodel (now work.old) }
     ensures meets { let world = world_of_unit B.meaning unit.now in
-        Meets result (now work.new) (queries.item_of world datum.now (now work.old)) }
+        Meets result (now work.new) (queries.item_of world datum (now work.old)) }
     ensures ready { OnOk result (IsReady unit.now.metamodel (now work.new)) }
     ensures since { since work.new ≡ since work.old }
 {
     match datum {
-        Datum::Plain(value) => Ok(Item::Value(value.try_copy()?)),
+        Datum::Plain(value) => Ok(Item::Value(value)),
         Datum::Entity(id) => {
-            let place = reach(alloc, unit, work, id)?;
+            let place = reach(alloc, unit, work, &id)?;
             // An object's number, one more than its place, is at most the count.
             let _count = work.objects.len();
             Ok(Item::Object(place as u64 + 1))
@@ -42,42 +42,44 @@ fn item_of<B: Behaviour>(
     }
 }
 
-/// The items of a row, in its order. Refused as `item_of` is, at the first that is refused.
+/// The items of a row, in its order; what the row has is moved. Refused as `item_of` is, at the
+/// first that is refused.
 pub(crate) fn row_of<B: Behaviour>(
     alloc: Global,
     unit: &ServedUnit<B>,
     work: &mut UnitOfWork,
-    row: &[Datum],
+    row: Seq<Datum>,
 ) -> Result<Seq<Item>, Cause>
     requires ready { IsReady unit.now.metamodel (now work.old) }
     ensures meets { let world = world_of_unit B.meaning unit.now in
-        Meets result (now work.new) (queries.row_of world row.now (now work.old)) }
+        Meets result (now work.new) (queries.row_of world row (now work.old)) }
     ensures ready { OnOk result (IsReady unit.now.metamodel (now work.new)) }
     ensures since { since work.new ≡ since work.old }
 {
-    let mut items = Seq::new(alloc);
-    for datum in row {
+    let mut items = Vec::with_capacity(alloc, row.len())?;
+    for datum in row.into_vec() {
         let item = item_of(alloc, unit, work, datum)?;
         items.push(item)?;
     }
-    Ok(items)
+    Ok(Seq::of(items))
 }
 
-/// The rows, in their order. Refused as `row_of` is, at the first that is refused.
+/// The rows, in their order; each is let go once its items are there, so that the next finds its
+/// memory. Refused as `row_of` is, at the first that is refused.
 pub(crate) fn rows_of<B: Behaviour>(
     alloc: Global,
     unit: &ServedUnit<B>,
     work: &mut UnitOfWork,
-    rows: &[Seq<Datum>],
+    rows: Seq<Seq<Datum>>,
 ) -> Result<Seq<Seq<Item>>, Cause>
     requires ready { IsReady unit.now.metamodel (now work.old) }
     ensures { let world = world_of_unit B.meaning unit.now in
-        Performs (collect (queries.row_of world) rows.now) result work.old work.new }
+        Performs (collect (queries.row_of world) rows) result work.old work.new }
 {
-    let mut found = Seq::new(alloc);
-    for row in rows {
-        let items = row_of(alloc, unit, work, row.as_slice())?;
+    let mut found = Vec::with_capacity(alloc, rows.len())?;
+    for row in rows.into_vec() {
+        let items = row_of(alloc, unit, work, row)?;
         found.push(items)?;
     }
-    Ok(found)
+    Ok(Seq::of(found))
 }

@@ -32,7 +32,7 @@ pub(crate) fn answered(
         (λ cause. (cause ≡ Cause.OutOfMemory) ⊎ (cause ≡ Cause.Overflow)) }
 {
     match select(alloc, metamodel, set, parameters, statement) {
-        Ok(table) => rows_of(alloc, table.as_slice()),
+        Ok(table) => rows_of(alloc, table),
         Err(Failure::Overflow) => Err(Cause::Overflow),
         Err(Failure::Memory) => Err(Cause::OutOfMemory),
     }

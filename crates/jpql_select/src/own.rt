@@ -2,7 +2,9 @@
 ghost use Rattle.std.specs.Prelude.{◌≡◌, IfOk, IfErr, map};
 ghost use Rattle.jpa_value.specs.declared.refusal.Cause.{Cause};
 ghost use Rattle.jpql_eval.specs.Seen.{seen};
+ghost use Rattle.jpql_select.specs.Tables.{rows_in};
 
+use crate::table::Table;
 use jpa_value::{Cause, Seq, TryCopy, Value};
 use jpql_eval::{Datum, Seen};
 use std::alloc::Global;
@@ -22,26 +24,28 @@ fn datum_of(item: &Seen<'_>) -> Result<Datum, Cause>
     })
 }
 
-/// A row of its own. Fails for want of memory alone, with `OutOfMemory`.
-fn row_of(alloc: Global, items: &[Seen<'_>]) -> Result<Seq<Datum>, Cause>
-    ensures ok { IfOk result (λ row. row ≡ map seen items.now) }
+/// A row of its own. The borrowed one is let go, so that the next finds its memory. Fails for want
+/// of memory alone, with `OutOfMemory`.
+fn row_of(alloc: Global, items: Vec<Seen<'_>>) -> Result<Seq<Datum>, Cause>
+    ensures ok { IfOk result (λ row. row ≡ map seen items.entry.items) }
     ensures err { IfErr result (λ cause. cause ≡ Cause.OutOfMemory) }
 {
     let mut row = Vec::with_capacity(alloc, items.len())?;
-    for item in items {
+    for item in &items {
         row.push(datum_of(item)?)?;
     }
     Ok(Seq::of(row))
 }
 
-/// Rows of their own. Fails for want of memory alone, with `OutOfMemory`.
-pub fn rows_of(alloc: Global, table: &[Vec<Seen<'_>>]) -> Result<Seq<Seq<Datum>>, Cause>
-    ensures ok { IfOk result (λ rows. rows ≡ map (λ row. map seen row.items) table.now) }
+/// Rows of their own. Each borrowed row is let go once its own is made. Fails for want of memory
+/// alone, with `OutOfMemory`.
+pub fn rows_of(alloc: Global, table: Table<'_>) -> Result<Seq<Seq<Datum>>, Cause>
+    ensures ok { IfOk result (λ rows. rows ≡ rows_in table.entry) }
     ensures err { IfErr result (λ cause. cause ≡ Cause.OutOfMemory) }
 {
     let mut rows = Vec::with_capacity(alloc, table.len())?;
     for row in table {
-        rows.push(row_of(alloc, row.as_slice())?)?;
+        rows.push(row_of(alloc, row)?)?;
     }
     Ok(Seq::of(rows))
 }

@@ -1,4 +1,4 @@
-use Rattle.std.proofs.Common.{◌≡◌, drop}
+use Rattle.std.proofs.Common.{◌≡◌, drop, length}
 use Rattle.jpa_behaviour.specs.Served.{world_of_unit}
 use Rattle.jpa_context.specs.Undo.{now, since}
 use Rattle.jpa_fetch.specs.Grown.{IsReady}
@@ -12,7 +12,7 @@ abbrev pub invariant-loop-datum : goal.invariant-loop-datum
 invariant-loop-datum g l =
     let world = world_of_unit g.B.Behaviour.meaning l.unit in
     record {
-      rest : behind l.items (collect (item_of world) (drop l.datum-index l.row) (now l.work)) ≡ collect (item_of world) l.row (now l.fn.work);
+      rest : behind l.items.items (collect (item_of world) (drop (length l.yielded) l.fn.row) (now l.work)) ≡ collect (item_of world) l.fn.row (now l.fn.work);
       ready : IsReady l.unit.metamodel (now l.work);
       since : since l.work ≡ since l.fn.work;
     }

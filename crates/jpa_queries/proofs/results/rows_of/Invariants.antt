@@ -1,4 +1,4 @@
-use Rattle.std.proofs.Common.{◌≡◌, drop}
+use Rattle.std.proofs.Common.{◌≡◌, drop, length}
 use Rattle.jpa_behaviour.specs.Served.{world_of_unit}
 use Rattle.jpa_context.specs.Undo.{now, since}
 use Rattle.jpa_fetch.specs.Grown.{IsReady}
@@ -12,7 +12,7 @@ abbrev pub invariant-loop-row : goal.invariant-loop-row
 invariant-loop-row g l =
     let world = world_of_unit g.B.Behaviour.meaning l.unit in
     record {
-      rest : behind l.found (collect (row_of world) (drop l.row-index l.rows) (now l.work)) ≡ collect (row_of world) l.rows (now l.fn.work);
+      rest : behind l.found.items (collect (row_of world) (drop (length l.yielded) l.fn.rows) (now l.work)) ≡ collect (row_of world) l.fn.rows (now l.fn.work);
       ready : IsReady l.unit.metamodel (now l.work);
       since : since l.work ≡ since l.fn.work;
     }
