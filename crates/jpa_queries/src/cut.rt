@@ -21,7 +21,7 @@ pub(crate) fn is_count(number: Option<i64>) -> bool
 
 /// Rows without the first so many.
 fn without<T: Drop>(count: usize, rows: Vec<T>) -> Vec<T>
-    ensures { result.items ≡ drop count rows.entry.items }
+    ensures { result.items ≡ drop count rows.items }
 {
     let mut left = rows;
     let count = count.min(left.len());
@@ -32,7 +32,7 @@ fn without<T: Drop>(count: usize, rows: Vec<T>) -> Vec<T>
 
 /// Rows without the first ones.
 fn skipped<T: Drop>(first: Option<i64>, rows: Vec<T>) -> Vec<T>
-    ensures { result.items ≡ queries.skipped first rows.entry.items }
+    ensures { result.items ≡ queries.skipped first rows.items }
 {
     match first {
         Some(first) if first > 0 => without(first as usize, rows),
@@ -42,7 +42,7 @@ fn skipped<T: Drop>(first: Option<i64>, rows: Vec<T>) -> Vec<T>
 
 /// At most so many rows.
 fn limited<T: Drop>(max: Option<i64>, rows: Vec<T>) -> Vec<T>
-    ensures { result.items ≡ queries.limited max rows.entry.items }
+    ensures { result.items ≡ queries.limited max rows.items }
 {
     let mut left = rows;
     match max {
