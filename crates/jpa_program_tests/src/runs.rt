@@ -11,7 +11,7 @@ use jpa_lines::RunFault;
 use jpa_program::{first_unit, open, run};
 use jpa_provider::Provider;
 use jpa_rowspace::RowSpace;
-use jpa_value::Seq;
+use jpa_value::{Cause, Seq};
 use sqlite::{Alter, Connection, MemStore};
 use std::alloc::{AllocError, Global};
 use std::io::{Read, Write};
@@ -21,6 +21,8 @@ use std::test::Fail;
 mod counts;
 mod hostile;
 mod refused;
+mod stages;
+mod stopped;
 
 // ---- a person is persisted and found
 
@@ -53,17 +55,30 @@ const FIRST_CELLS: [&str; 4] = [
 
 // ---- runs
 
-/// A provider of persons with their orders over a store in memory.
-fn opened(alloc: Global) -> Result<Provider<RowSpace<MemStore>, ProgramFunctions>, Fail> {
+/// A provider of persons with their orders over a store.
+fn opened_over<S: Alter + Drop>(
+    alloc: Global,
+    conn: Connection<S>,
+) -> Result<Provider<RowSpace<S>, ProgramFunctions>, (Cause, Connection<S>)>
+    requires { IsOrderedIfFound S.Store conn }
+{
+    let metamodel = match first_unit(alloc) {
+        Ok(metamodel) => metamodel,
+        Err(cause) => return Err((cause, conn)),
+    };
     let unit = ServedUnit {
-        metamodel: first_unit(alloc)?,
+        metamodel,
         registry: Registry::new(alloc),
     };
-    let conn = Connection::open_in_memory(alloc)?;
     let history = History {
         classes: Seq::new(alloc),
     };
-    match open(alloc, conn, unit, &history) {
+    open(alloc, conn, unit, &history)
+}
+
+/// A provider of persons with their orders over a store in memory.
+fn opened(alloc: Global) -> Result<Provider<RowSpace<MemStore>, ProgramFunctions>, Fail> {
+    match opened_over(alloc, Connection::open_in_memory(alloc)?) {
         Ok(provider) => Ok(provider),
         Err((cause, _)) => Err(Fail::from(cause)),
     }

@@ -23,7 +23,7 @@ fn written_again(alloc: Global, reply: &Reply) -> Result<Vec<u8>, Cause> {
 }
 
 /// Whether nothing but want of memory is told.
-fn is_refused_growth(reply: &Reply) -> bool {
+pub(super) fn is_refused_growth(reply: &Reply) -> bool {
     reply.events.is_empty() && matches!(reply.answer, Err(Refusal::Because(Cause::OutOfMemory)))
 }
 
