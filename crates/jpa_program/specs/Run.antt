@@ -1,12 +1,16 @@
 -- What the store of a provider over cells is, and what it holds.
-use Rattle.std.specs.Prelude.{◌+◌}
+use Rattle.std.specs.Prelude.{◌≡◌, ◌+◌}
 use Rattle.std.proofs.Common.{subst}
 use Rattle.sqlite_trees.specs.declared.store.Store.{Ghosts}
 use Rattle.jpa_behaviour.specs.Registered.{Meaning}
+use Rattle.jpa_behaviour.specs.Served.{world_of_unit}
+use Rattle.jpa_behaviour.specs.declared.served_unit.ServedUnit.{ServedUnit}
 use Rattle.jpa_rows.specs.declared.source.RowSource.{Ghosts as SourceGhosts}
+use Rattle.jpa_rows.specs.Cells.{CanBeHeld}
 use Rattle.jpa_cells_meaning.specs.Store.{up_to_greatest, IsClean}
 use Rattle.jpa_rowspace.specs.Enduring.{EnduresRows, rows_then, rows_wider}
 use Rattle.jpa_rowspace.specs.Space.{Space, HoldsRows}
+use Rattle.jpa_machine.specs.Machine.{opened}
 use Rattle.jpa_provider.specs.Provided.{Provided, world_in}
 use Rattle.jpa_program.specs.Opening.{HoldsCells}
 
@@ -33,3 +37,12 @@ module _ {S L C : Type 0} (g : Ghosts S) (meaning : Meaning L C) where
   abbrev pub HoldsCommitted : Provided (Space S) L C → Type 0
   HoldsCommitted p = HoldsCells g (world_in meaning p)
       (p.rows).store.conn (p.machine).committed (p.machine).stored_numbers
+
+  -- It serves the unit, and holds what its store's cells stand for and nothing else: no object
+  -- lives, and no manager was made.
+  pub record ServesUnit {B : Type 0} (unit : ServedUnit B L C) (p : Provided (Space S) L C) : Type 0 where
+    pub model : p.model ≡ unit.metamodel
+    pub registry : p.registry ≡ unit.registry
+    pub machine : p.machine ≡ opened (p.machine).committed (p.machine).stored_numbers
+    pub held : CanBeHeld (world_of_unit meaning unit) (p.machine).committed (p.machine).stored_numbers
+    pub cells : HoldsCommitted p

@@ -1,19 +1,13 @@
 //! The opening of a provider.
-ghost use Rattle.std.specs.Prelude.{◌≡◌, ◌≢◌, ◌⊎◌, true, false, length, Ok, Err, IsErr, IfOk, IfErr};
+ghost use Rattle.std.specs.Prelude.{◌≡◌, ◌≢◌, ◌⊎◌, true, false, Err, IsErr, IfOk, IfErr};
 ghost use Rattle.jpa_value.specs.declared.refusal.Cause.{Cause};
 ghost use Rattle.jpa_value.specs.declared.refusal.MappingFault.{MappingFault};
 ghost use Rattle.jpa_behaviour.specs.Served.{world_of_unit};
-ghost use Rattle.jpa_rows.specs.Cells.{CanBeHeld};
-ghost use Rattle.jpa_rows.specs.Tables.{schema_of};
-ghost use Rattle.jpa_object_rows.specs.Sets.{rows_of};
-ghost use Rattle.jpa_cells_meaning.specs.Store.{IsClean, IsOpen, IsOrderedIfFound, Keeps, Opens, HoldsTable, HasFault};
-ghost use Rattle.jpa_rowspace.specs.Space.{HoldsRows, IsStoreCause};
+ghost use Rattle.jpa_cells_meaning.specs.Store.{IsOrderedIfFound};
 ghost use Rattle.jpa_functions.specs.Known as known;
-ghost use Rattle.jpa_machine.specs.Machine.{opened};
 ghost use Rattle.jpa_migration.specs.Migration.{defaults_pass};
-ghost use Rattle.jpa_store_reader.specs.Opened.{AllowsDue};
-ghost use Rattle.jpa_program.specs.Opening.{OpensCounting, Opened, KeepsOrMakes, EnduresMaking, EnduresOpening, HoldsCells, IsOpenCause};
-ghost use Rattle.jpa_program.specs.Run.{HoldsCommitted};
+ghost use Rattle.jpa_program.specs.Opening.{AreOver, HasCommitted, OpensDatabase, KeepsOrMakes, KeepsOrOpens, RefusesRows, RefusesOpening};
+ghost use Rattle.jpa_program.specs.Run.{ServesUnit};
 
 use jpa_behaviour::{Behaviour, ServedUnit};
 use jpa_cells::CellStore;
@@ -36,15 +30,8 @@ fn rows_over<S: Alter + Drop>(
     metamodel: &Metamodel,
 ) -> Result<RowSpace<S>, (Cause, Connection<S>)>
     requires ordered { IsOrderedIfFound S.Store conn }
-    ensures schema { IfOk result (λ space. space.schema ≡ schema_of metamodel.now) }
-    ensures opens { IfOk result (λ space. Opens S.Store conn space.store) }
-    ensures crash { IfOk result (λ space. EnduresMaking S.Store conn space.store.conn) }
-    ensures refused { IfErr result (λ e. IsStoreCause e.0) }
-    ensures takes { IfErr result (λ e. e.0 ≡ Cause.StoreFault → conn.in_transaction ≡ false
-        → HoldsTable S.Store conn → ⊥) }
-    ensures kept { IfErr result (λ e. Keeps S.Store conn e.1) }
-    ensures crash_err { IfErr result (λ e. EnduresMaking S.Store conn e.1) }
-    ensures again { IfErr result (λ e. IsOrderedIfFound S.Store e.1) }
+    ensures made { IfOk result (AreOver S.Store metamodel.now conn) }
+    ensures refused { IfErr result (RefusesRows S.Store conn) }
 {
     let schema = match Schema::of(alloc, metamodel) {
         Ok(schema) => schema,
@@ -96,39 +83,18 @@ pub fn open_rows<S: Alter + Drop, B: Behaviour>(
     history: &History,
 ) -> Result<(RowSpace<S>, Committed), (Cause, Connection<S>)>
     requires ordered { IsOrderedIfFound S.Store conn }
-    ensures schema { IfOk result (λ o. o.0.schema ≡ schema_of unit.now.metamodel) }
-    ensures held { IfOk result (λ o. CanBeHeld (world_of_unit B.meaning unit.now) o.1.set
-        o.1.numbers) }
-    ensures holds { IfOk result (λ o. IsClean S.Store o.0.store.conn →
-        HoldsRows S.Store (schema_of unit.now.metamodel) o.0.store.conn
-        (rows_of (world_of_unit B.meaning unit.now) o.1.set o.1.numbers)) }
-    ensures stand { IfOk result (λ o. HoldsCells S.Store (world_of_unit B.meaning unit.now)
-        o.0.store.conn o.1.set o.1.numbers) }
-    ensures live { IfOk result (λ o. IsClean S.Store o.0.store.conn →
-        IsOpen S.Store o.0.store.conn) }
-    ensures opens { IfOk result (λ o. Opened S.Store (world_of_unit B.meaning unit.now)
-        history.now conn o.0.store.conn) }
-    ensures crash { IfOk result (λ o. EnduresOpening S.Store (world_of_unit B.meaning unit.now)
-        history.now conn o.0.store.conn) }
-    ensures counted { IfOk result (λ o. OpensCounting S.Store (world_of_unit B.meaning unit.now)
-        history.now conn o.0.store (length (schema_of unit.now.metamodel).tables)) }
+    ensures committed { IfOk result (λ o. HasCommitted S.Store
+        (world_of_unit B.meaning unit.now) o.0 o.1) }
+    ensures opened { IfOk result (λ o. OpensDatabase S.Store
+        (world_of_unit B.meaning unit.now) history.now conn o.0.store) }
     ensures unknown { known.names_are_known unit.now.registry unit.now.metamodel ≡ false
         → result ≡ Err (Cause.Mapping MappingFault.Function, conn) }
     ensures thrown { known.names_are_known unit.now.registry unit.now.metamodel ≡ true
         → defaults_pass (world_of_unit B.meaning unit.now) history.now ≡ false → (result
         ≡ Err (Cause.Mapping MappingFault.Function, conn))
         ⊎ (result ≡ Err (Cause.OutOfMemory, conn)) }
-    ensures refused { IfErr result (λ e. known.names_are_known unit.now.registry unit.now.metamodel
-        ≡ true → defaults_pass (world_of_unit B.meaning unit.now) history.now ≡ true →
-        IsOpenCause S.Store (world_of_unit B.meaning unit.now) history.now e.1 e.0) }
-    ensures cause { IfErr result (λ e. e.0 ≡ Cause.StoreFault → IsClean S.Store e.1 →
-        conn.in_transaction ≡ false → HoldsTable S.Store conn →
-        AllowsDue S.Store (world_of_unit B.meaning unit.now) history.now conn →
-        HasFault S.Store conn e.1) }
-    ensures kept { IfErr result (λ e. KeepsOrMakes S.Store conn e.1) }
-    ensures crash_err { IfErr result (λ e. EnduresOpening S.Store
-        (world_of_unit B.meaning unit.now) history.now conn e.1) }
-    ensures again { IfErr result (λ e. IsOrderedIfFound S.Store e.1) }
+    ensures refused { IfErr result (RefusesOpening S.Store B.meaning unit.now history.now
+        (λ _. KeepsOrMakes S.Store conn) conn) }
 {
     if let Err(cause) = check_functions(unit, history) {
         return Err((cause, conn));
@@ -163,41 +129,17 @@ pub fn open<S: Alter + Drop, B: Behaviour>(
     history: &History,
 ) -> Result<Provider<RowSpace<S>, B>, (Cause, Connection<S>)>
     requires ordered { IsOrderedIfFound S.Store conn }
-    ensures model { IfOk result (λ provider. provider.model ≡ unit.metamodel) }
-    ensures registry { IfOk result (λ provider. provider.registry ≡ unit.registry) }
-    ensures machine { IfOk result (λ provider. provider.machine
-        ≡ opened (provider.machine).committed (provider.machine).stored_numbers) }
-    ensures held { IfOk result (λ provider. CanBeHeld (world_of_unit B.meaning unit)
-        (provider.machine).committed (provider.machine).stored_numbers) }
-    ensures cells { IfOk result (HoldsCommitted S.Store B.meaning) }
-    ensures live { IfOk result (λ provider. IsClean S.Store (provider.rows).store.conn →
-        IsOpen S.Store (provider.rows).store.conn) }
-    ensures opens { IfOk result (λ provider. Opened S.Store (world_of_unit B.meaning unit)
-        history.now conn (provider.rows).store.conn) }
-    ensures crash { IfOk result (λ provider. EnduresOpening S.Store (world_of_unit B.meaning unit)
-        history.now conn (provider.rows).store.conn) }
-    ensures counted { IfOk result (λ provider. OpensCounting S.Store
-        (world_of_unit B.meaning unit) history.now conn (provider.rows).store
-        (length (schema_of unit.metamodel).tables)) }
+    ensures provider { IfOk result (ServesUnit S.Store B.meaning unit) }
+    ensures opened { IfOk result (λ provider. OpensDatabase S.Store
+        (world_of_unit B.meaning unit) history.now conn (provider.rows).store) }
     ensures unknown { known.names_are_known unit.registry unit.metamodel ≡ false
         → result ≡ Err (Cause.Mapping MappingFault.Function, conn) }
     ensures thrown { known.names_are_known unit.registry unit.metamodel ≡ true
         → defaults_pass (world_of_unit B.meaning unit) history.now ≡ false → (result
         ≡ Err (Cause.Mapping MappingFault.Function, conn))
         ⊎ (result ≡ Err (Cause.OutOfMemory, conn)) }
-    ensures refused { IfErr result (λ e. known.names_are_known unit.registry unit.metamodel
-        ≡ true → defaults_pass (world_of_unit B.meaning unit) history.now ≡ true →
-        IsOpenCause S.Store (world_of_unit B.meaning unit) history.now e.1 e.0) }
-    ensures cause { IfErr result (λ e. e.0 ≡ Cause.StoreFault → IsClean S.Store e.1 →
-        conn.in_transaction ≡ false → HoldsTable S.Store conn →
-        AllowsDue S.Store (world_of_unit B.meaning unit) history.now conn →
-        HasFault S.Store conn e.1) }
-    ensures kept { IfErr result (λ e. KeepsOrMakes S.Store conn e.1
-        ⊎ ((e.0 ≡ Cause.OutOfMemory)
-        × Opened S.Store (world_of_unit B.meaning unit) history.now conn e.1)) }
-    ensures crash_err { IfErr result (λ e. EnduresOpening S.Store (world_of_unit B.meaning unit)
-        history.now conn e.1) }
-    ensures again { IfErr result (λ e. IsOrderedIfFound S.Store e.1) }
+    ensures refused { IfErr result (RefusesOpening S.Store B.meaning unit history.now
+        (KeepsOrOpens S.Store (world_of_unit B.meaning unit) history.now conn) conn) }
 {
     let (space, committed) = match open_rows(alloc, conn, &unit, history) {
         Ok(opened) => opened,

@@ -1,19 +1,13 @@
 //! A whole store, judged.
-ghost use Rattle.std.specs.Prelude.{◌≡◌, ◌⊎◌, ◌+◌, ℕ, [], List, length, Err, None, IfOk, IfErr, OnOk, OnErr};
+ghost use Rattle.std.specs.Prelude.{◌≡◌, ◌⊎◌, ℕ, [], List, Err, None, IfOk, IfErr, OnOk};
 ghost use Rattle.jpa_value.specs.declared.refusal.Cause.{Cause};
 ghost use Rattle.jpa_behaviour.specs.Registered.{world_of};
-ghost use Rattle.jpa_rows.specs.Cells.{CanBeHeld, StandFor};
 ghost use Rattle.jpa_rows.specs.Tables.{schema_of};
-ghost use Rattle.jpa_object_rows.specs.Sets.{rows_of};
-ghost use Rattle.jpa_cells_meaning.specs.Store.{up_to_greatest, faults_after, IsClean, IsOpen, tables_in, Keeps, Becomes, Endures, HasFault};
-ghost use Rattle.jpa_migration.specs.Migration.{opened_tables};
+ghost use Rattle.jpa_cells_meaning.specs.Store.{faults_after, IsClean, HasFault};
 ghost use Rattle.jpa_rowspace.specs.Stored.{AreRowsOf};
-ghost use Rattle.jpa_rowspace.specs.Space.{HoldsRows, IsStoreCause};
 ghost use Rattle.jpa_store_reader.specs.Judged.{AreHeld};
 ghost use Rattle.jpa_store_reader.specs.Reads.{IsTold, KeepsTables};
-ghost use Rattle.jpa_store_reader.specs.Opened.{IsMigrated, AllowsDue, CountsDue};
-ghost use Rattle.jpa_store_reader.specs.Opening.{ReadsStore, RefusesStore};
-ghost use Rattle.jpa_store_reader.specs.Damage.{cells_in, AreDamagedAt};
+ghost use Rattle.jpa_store_reader.specs.Opening.{ReadsStore, OpensStore, RefusesStore, LeavesStore};
 
 use crate::entries::are_rows_of;
 use crate::judge::{Committed, Judged, judge};
@@ -135,50 +129,12 @@ pub fn open_store<S: Alter, B: Behaviour>(
     space: &mut RowSpace<S>,
 ) -> Result<Committed, Cause>
     requires schema { space.old.schema ≡ schema_of metamodel.now }
-    ensures can_be_held { IfOk result (λ c. CanBeHeld
-        (world_of B.meaning metamodel.now registry.now) c.set c.numbers) }
-    ensures holds { IsClean S.Store space.new.store.conn →
-        IfOk result (λ c. CanBeHeld (world_of B.meaning metamodel.now registry.now) c.set c.numbers
-        × HoldsRows S.Store (schema_of metamodel.now) space.new.store.conn
-        (rows_of (world_of B.meaning metamodel.now registry.now) c.set c.numbers)) }
-    ensures stand { IsClean S.Store space.new.store.conn → IsOpen S.Store space.new.store.conn →
-        IfOk result (λ c. StandFor (world_of B.meaning metamodel.now registry.now)
-        (cells_in (world_of B.meaning metamodel.now registry.now)
-        (tables_in S.Store space.new.store.conn)) c.set c.numbers) }
-    ensures opens { OnOk result (Becomes S.Store space.old.store.conn space.new.store.conn
-        (opened_tables (world_of B.meaning metamodel.now registry.now) history.now)) }
-    ensures refused { IfErr result (λ cause. IsStoreCause cause
-        ⊎ ((t : ℕ) × (bytes : List ℕ) × (cause ≡ Cause.Damaged t bytes)
-        × (IsClean S.Store space.new.store.conn →
-        AreDamagedAt (world_of B.meaning metamodel.now registry.now)
-        (opened_tables (world_of B.meaning metamodel.now registry.now) history.now
-        (tables_in S.Store space.new.store.conn)) t bytes))) }
-    ensures live { IsClean S.Store space.new.store.conn → (t : ℕ) (bytes : List ℕ) → result
-        ≡ Err (Cause.Damaged t bytes) → IsOpen S.Store space.old.store.conn
-        × IsOpen S.Store space.new.store.conn }
-    ensures kept { OnErr result (Keeps S.Store space.old.store.conn space.new.store.conn) }
-    ensures counted { OnOk result (space.new.store.table_selects
-        ≡ up_to_greatest (space.old.store.table_selects + length
-        (schema_of metamodel.now).tables)) }
-    ensures written { OnOk result (CountsDue S.Store
+    ensures opened { IfOk result (OpensStore S.Store
         (world_of B.meaning metamodel.now registry.now) history.now space.old space.new) }
-    ensures told { space.new.store.faults ≡ faults_after result space.old.store.faults }
-    ensures cause { IsClean S.Store space.new.store.conn →
-        AllowsDue S.Store (world_of B.meaning metamodel.now registry.now) history.now
-        space.old.store.conn → result ≡ Err Cause.StoreFault →
-        HasFault S.Store space.old.store.conn space.new.store.conn }
-    ensures others { space.new ≡ record space.old {
-      store = record space.old.store {
-        conn = space.new.store.conn;
-        table_selects = space.new.store.table_selects;
-        writes = space.new.store.writes;
-        faults = space.new.store.faults;
-      };
-    } }
-    ensures crash { Endures S.Store space.old.store.conn space.new.store.conn
-        (λ tables. IsOpen S.Store space.old.store.conn
-        × IsMigrated (world_of B.meaning metamodel.now registry.now) history.now
-        (tables_in S.Store space.old.store.conn) tables) }
+    ensures refused { IfErr result (RefusesStore S.Store
+        (world_of B.meaning metamodel.now registry.now) history.now space.old space.new) }
+    ensures leaves { LeavesStore S.Store (world_of B.meaning metamodel.now registry.now)
+        history.now space.old space.new result }
 {
     let (committed, changes) = read_store(alloc, metamodel, registry, history, space)?;
     let _writes = space.store.writes();

@@ -13,8 +13,8 @@ use Rattle.jpa_store_reader.proofs.store.open_store.Goals as goal
 one_error : {A E : Type 0} (r : Result A E) (x y : E) → r ≡ Err x → r ≡ Err y → x ≡ y
 one_error r x y e f = cc
 
-pub returns-in_err-apply-clause-cause : goal.returns-in_err-apply-clause-cause
-returns-in_err-apply-clause-cause g c clean allows is =
+pub returns-in_err-apply-clause-leaves : goal.returns-in_err-apply-clause-leaves
+returns-in_err-apply-clause-leaves g c =
     let world = world_of g.B.Behaviour.meaning c.args.metamodel.now c.args.registry.now in
     let h = c.args.history.now in
     let first = c.args.space.now in
@@ -31,52 +31,20 @@ returns-in_err-apply-clause-cause g c clean allows is =
       survives = subst (λ (s : Stored g.row.S.Denot). Endures g.S.Store s.conn new.conn (λ tables. IsOpen g.S.Store s.conn × (tables ≡ tables_after changes (tables_in g.S.Store s.conn)))) store_is c.apply.ensures.applies.crash;
     } in
     let told = err_from_is_err_and c.from_residual-in_err-apply.result c.from_residual-in_err-apply.ensures.1 in
-    let fault = c.in_err-apply.was ∙ ap Err (sym told.2 ∙ one_error c.from_residual-in_err-apply.result told.0 Cause.StoreFault told.1 is) in
-    fault_first g.S.Store world h first mid new keeps read.live changes w c.in_err-apply.field-0.0 (λ none. sym c.in_err-apply.was ∙ (c.apply.ensures.nothing none).0)
-    (λ clean allows. subst (λ (s : Stored g.row.S.Denot). HasFault g.S.Store s.conn new.conn) store_is
-    (c.apply.ensures.applies.cause clean (subst (λ (s : Stored g.row.S.Denot). Allows g.S.Store s.conn changes) (sym store_is) allows) fault)) clean allows
-
-pub returns-in_err-apply-clause-crash : goal.returns-in_err-apply-clause-crash
-returns-in_err-apply-clause-crash g c =
-    let world = world_of g.B.Behaviour.meaning c.args.metamodel.now c.args.registry.now in
-    let h = c.args.history.now in
-    let first = c.args.space.now in
-    let mid = c.read_store.new.space in
-    let new = c.apply.new.self in
-    let changes = c.as_slice.result.now in
-    let keeps = c.in_ok-committed.ensures.keeps in
-    let read = c.in_ok-committed.ensures.read in
-    let store_is : c.space.inside.store ≡ mid.store = ap (λ (s : Space g.row.S.Denot). s.store) c.space.view_is in
-    let w : IsWritten g.S.Store world h first mid new keeps read.live changes =
     record {
-      makes = λ clean. subst (MakesOpened world h (tables_in g.S.Store first.store.conn)) (sym c.as_slice.ensures) (read.changes clean);
-      nothing = λ none. (c.apply.ensures.nothing none).1 ∙ store_is;
-      survives = subst (λ (s : Stored g.row.S.Denot). Endures g.S.Store s.conn new.conn (λ tables. IsOpen g.S.Store s.conn × (tables ≡ tables_after changes (tables_in g.S.Store s.conn)))) store_is c.apply.ensures.applies.crash;
-    } in
-    migrates g.S.Store world h first mid new keeps read.live changes w
+      kept = search rules;
+      told = search rules;
+      cause = λ clean allows is.
+          let fault = c.in_err-apply.was ∙ ap Err (sym told.2 ∙ one_error c.from_residual-in_err-apply.result told.0 Cause.StoreFault told.1 is) in
+          fault_first g.S.Store world h first mid new keeps read.live changes w c.in_err-apply.field-0.0 (λ none. sym c.in_err-apply.was ∙ (c.apply.ensures.nothing none).0)
+          (λ clean allows. subst (λ (s : Stored g.row.S.Denot). HasFault g.S.Store s.conn new.conn) store_is
+          (c.apply.ensures.applies.cause clean (subst (λ (s : Stored g.row.S.Denot). Allows g.S.Store s.conn changes) (sym store_is) allows) fault)) clean allows;
+      others = search rules;
+      crash = migrates g.S.Store world h first mid new keeps read.live changes w;
+    }
 
-pub returns-clause-holds : goal.returns-clause-holds
-returns-clause-holds g c clean =
-    let world = world_of g.B.Behaviour.meaning c.args.metamodel.now c.args.registry.now in
-    let h = c.args.history.now in
-    let first = c.args.space.now in
-    let mid = c.read_store.new.space in
-    let new = c.apply.new.self in
-    let changes = c.as_slice.result.now in
-    let keeps = c.in_ok-committed.ensures.keeps in
-    let read = c.in_ok-committed.ensures.read in
-    let store_is : c.space.inside.store ≡ mid.store = ap (λ (s : Space g.row.S.Denot). s.store) c.space.view_is in
-    let w : IsWritten g.S.Store world h first mid new keeps read.live changes =
-    record {
-      makes = λ clean. subst (MakesOpened world h (tables_in g.S.Store first.store.conn)) (sym c.as_slice.ensures) (read.changes clean);
-      nothing = λ none. (c.apply.ensures.nothing none).1 ∙ store_is;
-      survives = subst (λ (s : Stored g.row.S.Denot). Endures g.S.Store s.conn new.conn (λ tables. IsOpen g.S.Store s.conn × (tables ≡ tables_after changes (tables_in g.S.Store s.conn)))) store_is c.apply.ensures.applies.crash;
-    } in
-    let became = becomes g.S.Store world h first mid new keeps read.live changes w (λ some. subst (λ (s : Stored g.row.S.Denot). Becomes g.S.Store s.conn new.conn (tables_after changes)) store_is (c.in_ok-apply.ensures.applies.applied some)) in
-    (read.can_be_held, holds_rows g.S.Store world h first mid new keeps read.live changes w became c.in_ok-committed.committed read.committed clean)
-
-pub returns-clause-stand : goal.returns-clause-stand
-returns-clause-stand g c clean _ =
+pub returns-clause-opened : goal.returns-clause-opened
+returns-clause-opened g c =
     let world = world_of g.B.Behaviour.meaning c.args.metamodel.now c.args.registry.now in
     let h = c.args.history.now in
     let first = c.args.space.now in
@@ -93,51 +61,20 @@ returns-clause-stand g c clean _ =
       survives = subst (λ (s : Stored g.row.S.Denot). Endures g.S.Store s.conn new.conn (λ tables. IsOpen g.S.Store s.conn × (tables ≡ tables_after changes (tables_in g.S.Store s.conn)))) store_is c.apply.ensures.applies.crash;
     } in
     let became = becomes g.S.Store world h first mid new keeps read.live changes w (λ some. subst (λ (s : Stored g.row.S.Denot). Becomes g.S.Store s.conn new.conn (tables_after changes)) store_is (c.in_ok-apply.ensures.applies.applied some)) in
-    stands g.S.Store world h first mid new keeps read.live changes w became c.in_ok-committed.committed read.committed clean
-
-pub returns-clause-opens : goal.returns-clause-opens
-returns-clause-opens g c =
-    let world = world_of g.B.Behaviour.meaning c.args.metamodel.now c.args.registry.now in
-    let h = c.args.history.now in
-    let first = c.args.space.now in
-    let mid = c.read_store.new.space in
-    let new = c.apply.new.self in
-    let changes = c.as_slice.result.now in
-    let keeps = c.in_ok-committed.ensures.keeps in
-    let read = c.in_ok-committed.ensures.read in
-    let store_is : c.space.inside.store ≡ mid.store = ap (λ (s : Space g.row.S.Denot). s.store) c.space.view_is in
-    let w : IsWritten g.S.Store world h first mid new keeps read.live changes =
-    record {
-      makes = λ clean. subst (MakesOpened world h (tables_in g.S.Store first.store.conn)) (sym c.as_slice.ensures) (read.changes clean);
-      nothing = λ none. (c.apply.ensures.nothing none).1 ∙ store_is;
-      survives = subst (λ (s : Stored g.row.S.Denot). Endures g.S.Store s.conn new.conn (λ tables. IsOpen g.S.Store s.conn × (tables ≡ tables_after changes (tables_in g.S.Store s.conn)))) store_is c.apply.ensures.applies.crash;
-    } in
-    becomes g.S.Store world h first mid new keeps read.live changes w (λ some. subst (λ (s : Stored g.row.S.Denot). Becomes g.S.Store s.conn new.conn (tables_after changes)) store_is (c.in_ok-apply.ensures.applies.applied some))
-
-pub returns-clause-written : goal.returns-clause-written
-returns-clause-written g c =
-    let world = world_of g.B.Behaviour.meaning c.args.metamodel.now c.args.registry.now in
-    let h = c.args.history.now in
-    let first = c.args.space.now in
-    let mid = c.read_store.new.space in
-    let new = c.apply.new.self in
-    let changes = c.as_slice.result.now in
-    let keeps = c.in_ok-committed.ensures.keeps in
-    let read = c.in_ok-committed.ensures.read in
-    let store_is : c.space.inside.store ≡ mid.store = ap (λ (s : Space g.row.S.Denot). s.store) c.space.view_is in
-    let w : IsWritten g.S.Store world h first mid new keeps read.live changes =
-    record {
-      makes = λ clean. subst (MakesOpened world h (tables_in g.S.Store first.store.conn)) (sym c.as_slice.ensures) (read.changes clean);
-      nothing = λ none. (c.apply.ensures.nothing none).1 ∙ store_is;
-      survives = subst (λ (s : Stored g.row.S.Denot). Endures g.S.Store s.conn new.conn (λ tables. IsOpen g.S.Store s.conn × (tables ≡ tables_after changes (tables_in g.S.Store s.conn)))) store_is c.apply.ensures.applies.crash;
-    } in
     let inside : c.space.inside.store.writes < 2 ^ 64 = search rules in
     let small : mid.store.writes < 2 ^ 64 = subst (λ (s : Stored g.row.S.Denot). s.writes < 2 ^ 64) store_is inside in
-    counts_due g.S.Store world h first mid new keeps read.live changes w small
-    (λ some. subst (λ (s : Stored g.row.S.Denot). new.writes ≡ up_to_greatest (s.writes + sum_by statements_of changes)) store_is (c.in_ok-apply.ensures.counted some).0) (λ one. c.as_slice.ensures ∙ read.first one) _ refl
+    record {
+      can_be_held = read.can_be_held;
+      holds = λ clean. (read.can_be_held, holds_rows g.S.Store world h first mid new keeps read.live changes w became c.in_ok-committed.committed read.committed clean);
+      stand = λ clean _. stands g.S.Store world h first mid new keeps read.live changes w became c.in_ok-committed.committed read.committed clean;
+      opens = became;
+      counted = search rules;
+      written = counts_due g.S.Store world h first mid new keeps read.live changes w small
+          (λ some. subst (λ (s : Stored g.row.S.Denot). new.writes ≡ up_to_greatest (s.writes + sum_by statements_of changes)) store_is (c.in_ok-apply.ensures.counted some).0) (λ one. c.as_slice.ensures ∙ read.first one) _ refl;
+    }
 
-pub returns-clause-crash : goal.returns-clause-crash
-returns-clause-crash g c =
+pub returns-clause-leaves : goal.returns-clause-leaves
+returns-clause-leaves g c =
     let world = world_of g.B.Behaviour.meaning c.args.metamodel.now c.args.registry.now in
     let h = c.args.history.now in
     let first = c.args.space.now in
@@ -153,4 +90,10 @@ returns-clause-crash g c =
       nothing = λ none. (c.apply.ensures.nothing none).1 ∙ store_is;
       survives = subst (λ (s : Stored g.row.S.Denot). Endures g.S.Store s.conn new.conn (λ tables. IsOpen g.S.Store s.conn × (tables ≡ tables_after changes (tables_in g.S.Store s.conn)))) store_is c.apply.ensures.applies.crash;
     } in
-    migrates g.S.Store world h first mid new keeps read.live changes w
+    record {
+      kept = search rules;
+      told = search rules;
+      cause = search rules;
+      others = search rules;
+      crash = migrates g.S.Store world h first mid new keeps read.live changes w;
+    }
