@@ -8,7 +8,7 @@ ghost use Rattle.jpa_functions.specs.Functions as spec;
 
 use crate::make::{Converter, Pair};
 use hex::FromHexError;
-use jpa_value::{Bytes, Cause, Text, TryCopy, Value, order_values};
+use jpa_value::{ByteString, Cause, Text, TryCopy, Value, order_values};
 use std::alloc::Global;
 use std::cmp::Ordering;
 
@@ -68,7 +68,7 @@ fn digits_of(alloc: Global, value: &Value) -> Result<Option<Value>, Cause>
     match value {
         Value::Bytes(bytes) => {
             let digits = hex::encode(alloc, bytes.as_slice())?;
-            Ok(Some(Value::Text(Text::from_string(digits))))
+            Ok(Some(Value::Text(Text::from_string(digits)?)))
         }
         _ => Ok(None),
     }
@@ -81,7 +81,7 @@ fn if_written_so(alloc: Global, digits: &str, bytes: Vec<u8>) -> Result<Option<V
 {
     let written = hex::encode(alloc, bytes.as_slice())?;
     if written.as_str() == digits {
-        Ok(Some(Value::Bytes(Bytes::of(bytes))))
+        Ok(Some(Value::Bytes(ByteString::of(bytes)?)))
     } else {
         Ok(None)
     }

@@ -102,7 +102,7 @@ fn require(alloc: Global, image: &Image, attribute: &Text) -> Result<Heard, Caus
     match value_of(image, attribute.as_str()) {
         None | Some(Value::Null) => {
             let name = attribute.as_str();
-            Ok(Heard::Throw(Text::from_string(format!(in alloc; "require {name}")?)))
+            Ok(Heard::Throw(Text::from_string(format!(in alloc; "require {name}")?)?))
         }
         Some(_) => Ok(Heard::Assign(Seq::new(alloc))),
     }

@@ -6,7 +6,7 @@ ghost use Rattle.jpa_json.specs.Values as values;
 use crate::members::{only, str_at};
 use crate::unread::Unread;
 use hex::FromHexError;
-use jpa_value::{Bytes, Text, Value};
+use jpa_value::{ByteString, Text, Value};
 use serde_json::Value as Json;
 use std::alloc::Global;
 
@@ -14,7 +14,7 @@ fn bytes_said(alloc: Global, digits: &str) -> Result<Value, Unread>
     ensures { Gives same result (values.bytes_said digits.now) }
 {
     match hex::decode(alloc, digits) {
-        Ok(bytes) => Ok(Value::Bytes(Bytes::of(bytes))),
+        Ok(bytes) => Ok(Value::Bytes(ByteString::of(bytes)?)),
         Err(FromHexError::OutOfMemory) => Err(Unread::OutOfMemory),
         Err(_) => Err(Unread::Form),
     }

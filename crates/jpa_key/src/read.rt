@@ -10,7 +10,7 @@ ghost use Rattle.jpa_key.specs.Keys.{Spells, SpellsFront, SpellsPair};
 ghost use Rattle.jpa_key.specs.Reading as reading;
 
 use crate::tag::{BYTES, INT, TEXT};
-use jpa_value::{Bytes, Cause, Key, Kind, Seq, Text, Value};
+use jpa_value::{ByteString, Cause, Key, Kind, Seq, Text, Value};
 use std::alloc::Global;
 use std::cmp::Ordering;
 
@@ -40,7 +40,7 @@ fn read_int(bytes: &[u8]) -> Option<(Value, usize)>
 }
 
 /// Bytes up to the two bytes 0 that end them, with each 0 and 255 read as 0.
-fn read_escaped(alloc: Global, bytes: &[u8]) -> Result<Option<(Bytes, usize)>, Cause>
+fn read_escaped(alloc: Global, bytes: &[u8]) -> Result<Option<(Seq<u8>, usize)>, Cause>
     ensures ok { IfOk result (λ found. found ≡ reading.unescaped false bytes.now) }
     ensures within { IfOk result (λ found. IfSome found (λ read. read.1 ≤ length bytes.now)) }
     ensures err { IfErr result (λ cause. cause ≡ Cause.OutOfMemory) }
@@ -55,7 +55,7 @@ fn read_escaped(alloc: Global, bytes: &[u8]) -> Result<Option<(Bytes, usize)>, C
                 out.push(byte)?;
             }
         } else if byte == 0 {
-            return Ok(Some((Bytes::of(out), i + 1)));
+            return Ok(Some((Seq::of(out), i + 1)));
         } else if byte == 255 {
             out.push(0)?;
             after_zero = false;
@@ -67,7 +67,7 @@ fn read_escaped(alloc: Global, bytes: &[u8]) -> Result<Option<(Bytes, usize)>, C
 }
 
 /// What stands between a tag and the two bytes 0, and how many bytes that takes in all.
-fn read_tagged(alloc: Global, tag: u8, bytes: &[u8]) -> Result<Option<(Bytes, usize)>, Cause>
+fn read_tagged(alloc: Global, tag: u8, bytes: &[u8]) -> Result<Option<(Seq<u8>, usize)>, Cause>
     ensures ok { IfOk result (λ found. found ≡ reading.tagged tag bytes.now) }
     ensures within { IfOk result (λ found. IfSome found (λ read. read.1 ≤ length bytes.now)) }
     ensures err { IfErr result (λ cause. cause ≡ Cause.OutOfMemory) }
@@ -82,12 +82,13 @@ fn read_tagged(alloc: Global, tag: u8, bytes: &[u8]) -> Result<Option<(Bytes, us
 }
 
 /// Bytes as a text, where they are UTF-8.
-fn as_text(bytes: Bytes) -> Option<Text>
-    ensures { result ≡ reading.text_of bytes }
+fn as_text(bytes: Seq<u8>) -> Result<Option<Text>, Cause>
+    ensures ok { IfOk result (λ text. text ≡ reading.text_of bytes) }
+    ensures err { IfErr result (λ cause. cause ≡ Cause.OutOfMemory) }
 {
     match String::from_utf8(bytes.into_vec()) {
-        Ok(text) => Some(Text::from_string(text)),
-        Err(_) => None,
+        Ok(text) => Ok(Some(Text::from_string(text)?)),
+        Err(_) => Ok(None),
     }
 }
 
@@ -101,14 +102,17 @@ fn read_part(alloc: Global, kind: Kind, bytes: &[u8]) -> Result<Option<(Value, u
         Kind::Int => Ok(read_int(bytes)),
         Kind::Text => match read_tagged(alloc, TEXT, bytes)? {
             None => Ok(None),
-            Some((contents, count)) => match as_text(contents) {
+            Some((contents, count)) => match as_text(contents)? {
                 None => Ok(None),
                 Some(text) => Ok(Some((Value::Text(text), count))),
             },
         },
         Kind::Bytes => match read_tagged(alloc, BYTES, bytes)? {
             None => Ok(None),
-            Some((contents, count)) => Ok(Some((Value::Bytes(contents), count))),
+            Some((contents, count)) => {
+                let bytes = ByteString::of(contents.into_vec())?;
+                Ok(Some((Value::Bytes(bytes), count)))
+            }
         },
     }
 }

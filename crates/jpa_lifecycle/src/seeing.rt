@@ -23,7 +23,7 @@ fn part_name(alloc: Global, root: &Root, part: &Part) -> Result<Text, Cause>
     let mut name = String::from_str(alloc, id.as_str())?;
     name.push_str(".")?;
     name.push_str(part.name.as_str())?;
-    Ok(Text::from_string(name))
+    Ok(Text::from_string(name)?)
 }
 
 /// Adds a copy of a value under its name.

@@ -9,7 +9,7 @@ ghost use Rattle.jpa_lines.specs.CallOf.{integer_at, hex_of, marked_of, given_of
 
 use jpa_json::{Described, Unread, json_of, member, only, or_refuse, str_at, text_at};
 use jpa_protocol::{Call, FlushMode, Given, LockMode, Parameter};
-use jpa_value::{Bytes, Cause, MOST_LINE_BYTES, Seq, Text, Value};
+use jpa_value::{ByteString, Cause, MOST_LINE_BYTES, Seq, Text, Value};
 use serde_json::{Map, Value as Json};
 use std::alloc::Global;
 
@@ -515,11 +515,11 @@ fn marked_of(alloc: Global, json: &Json) -> Result<Given, Unread>
 }
 
 #[tactic(auto, unfolding(crate::specs::CallOf::hex_of))]
-fn hex_of(alloc: Global, digits: &str) -> Result<Bytes, Unread>
+fn hex_of(alloc: Global, digits: &str) -> Result<ByteString, Unread>
     ensures { Gives same result (hex_of digits.now) }
 {
     match hex::decode(alloc, digits) {
-        Ok(bytes) => Ok(Bytes::of(bytes)),
+        Ok(bytes) => Ok(ByteString::of(bytes)?),
         Err(hex::FromHexError::OutOfMemory) => Err(Unread::OutOfMemory),
         Err(_) => Err(Unread::Form),
     }

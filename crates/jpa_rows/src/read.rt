@@ -20,7 +20,7 @@ use crate::tag::{BYTES, INT, REFERENCE, TEXT};
 use crate::values::is_short;
 use crate::whole::is_rising;
 use jpa_key::decode_key;
-use jpa_value::{Bytes, Cause, Key, Kind, MOST_BYTES, Seq, Text, Value};
+use jpa_value::{ByteString, Bytes, Cause, Key, Kind, MOST_BYTES, Seq, Text, Value};
 use std::alloc::Global;
 
 fn are_short(key: &[Value]) -> bool
@@ -130,7 +130,7 @@ fn bytes_of(alloc: Global, bytes: &[u8]) -> Result<Option<Value>, Cause>
     if bytes.len() > MOST_BYTES {
         return Ok(None);
     }
-    Ok(Some(Value::Bytes(Bytes::of(Vec::from_slice(alloc, bytes)?))))
+    Ok(Some(Value::Bytes(ByteString::of(Vec::from_slice(alloc, bytes)?)?)))
 }
 
 fn bytes_in(alloc: Global, bytes: &[u8]) -> Result<Option<Value>, Cause>

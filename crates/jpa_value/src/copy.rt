@@ -2,13 +2,13 @@
 ghost use Rattle.std.specs.Prelude.{◌≡◌, IfOk, IfErr};
 ghost use Rattle.jpa_value.specs.declared.refusal.Cause.{Cause};
 
-use crate::list::{Bytes, Seq, Text};
+use crate::list::{ByteString, Bytes, Seq, Text};
 use crate::refusal::Cause;
 use crate::value::{Identity, Value};
 
 /// A type whose values can be copied, where there is memory.
 pub trait TryCopy: Drop {
-    /// An equal value; `OutOfMemory` where a growth was refused.
+    /// An equal value; `OutOfMemory` where a growth was refused. Texts and byte strings are shared.
     fn try_copy(&self) -> Result<Self, Cause>
         ensures equal { IfOk result (λ copy. copy ≡ self.now) }
         ensures err { IfErr result (λ cause. cause ≡ Cause.OutOfMemory) };
@@ -16,7 +16,13 @@ pub trait TryCopy: Drop {
 
 impl TryCopy for Text {
     fn try_copy(&self) -> Result<Text, Cause> {
-        Ok(Text::of(self.allocator(), self.as_str())?)
+        Ok(self.share()?)
+    }
+}
+
+impl TryCopy for ByteString {
+    fn try_copy(&self) -> Result<ByteString, Cause> {
+        Ok(self.share()?)
     }
 }
 

@@ -1,7 +1,7 @@
 //! Values, keys, identities and refusals: what every layer of the provider speaks of.
 //!
-//! Contracts see `Text` and `Bytes` as lists of bytes, `Seq` as the list of its items and `Boxed`
-//! as what it holds; the other types are plain data. The definitions that contracts cite stand in
+//! Contracts see `Text`, `ByteString` and `Bytes` as lists of bytes, `Seq` as the list of its items
+//! and `Boxed` as what it holds; the other types are plain data. The definitions that contracts cite stand in
 //! `specs/`: values and their order in `Value`, the texts of refusals in `Refusal`, the names of
 //! events in `Event`. The crate stands on `hex`.
 #![tactic(auto)]
@@ -23,7 +23,7 @@ pub use limits::{
     MOST_BYTES, MOST_LINE_BYTES, MOST_OBJECTS, MOST_OPEN_MANAGERS, MOST_OPEN_PARENTHESES,
     MOST_QUERY_BYTES, MOST_QUERY_VARIABLES,
 };
-pub use list::{Bytes, Seq, Text};
+pub use list::{ByteString, Bytes, Seq, Text};
 pub use order::{
     compare, equal3, is_same_identity, order_identities, order_keys, order_laws, order_values,
 };

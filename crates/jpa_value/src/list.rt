@@ -1,8 +1,10 @@
 //! Lists, texts and byte strings that contracts see as lists.
 //!
-//! Each is made from what the standard library has, and gives it back, without taking memory.
+//! A text and a byte string are values: a copy shares them with what it is copied from, so that a
+//! value on its way from a call to the store is copied where it is spelled alone.
 use std::alloc::{AllocError, Global};
 use std::marker::Model;
+use std::rc::{RcSlice, RcStr};
 
 /// A list, seen by contracts as the list of its items.
 #[derive(Debug, Drop)]
@@ -21,22 +23,37 @@ impl<T> Model for Seq<T> {
     ghost view = { λ s. s.items.items };
 }
 
-/// A text in UTF-8, seen by contracts as its bytes.
+/// A text in UTF-8, seen by contracts as its bytes. It goes with its last owner.
 #[derive(Debug, Drop)]
 pub struct Text {
-    text: String,
+    text: RcStr,
 }
 
 impl Model for Text {
     ghost use Rattle.std.specs.Prelude.{List, ℕ};
-    ghost use Rattle.std.specs.String.{string_bytes};
+    ghost use Rattle.std.specs.Rc.{rc_str_bytes};
 
     ghost Value = { List ℕ };
 
-    ghost view = { λ t. string_bytes t.text };
+    ghost view = { λ t. rc_str_bytes t.text };
 }
 
-/// A byte string, seen by contracts as its bytes.
+/// A byte string, seen by contracts as its bytes. It goes with its last owner.
+#[derive(Debug, Drop)]
+pub struct ByteString {
+    bytes: RcSlice<u8>,
+}
+
+impl Model for ByteString {
+    ghost use Rattle.std.specs.Prelude.{List, ℕ};
+    ghost use Rattle.std.specs.Rc.{rc_slice_items};
+
+    ghost Value = { List ℕ };
+
+    ghost view = { λ b. rc_slice_items b.bytes };
+}
+
+/// Bytes of one owner, as keys and values are spelled, seen by contracts as a list.
 #[derive(Debug, Drop)]
 pub struct Bytes {
     bytes: Vec<u8>,
@@ -138,24 +155,26 @@ impl Text {
     pub fn of(alloc: Global, text: &str) -> Result<Text, AllocError>
         ensures { IfOk result (λ t. t ≡ text.now) }
     {
+        Text::from_string(String::from_str(alloc, text)?)
+    }
+
+    /// This text, which isn't copied; fails for want of memory alone.
+    pub fn from_string(text: String) -> Result<Text, AllocError>
+        ensures { IfOk result (λ t. t ≡ string_bytes text) }
+    {
         Ok(Text {
-            text: String::from_str(alloc, text)?,
+            text: RcStr::from_string(text)?,
         })
     }
 
-    /// This text. Takes no memory.
-    pub fn from_string(text: String) -> Text
-        ensures { result ≡ string_bytes text }
+    /// The same text, with one owner more: it is not copied. Fails where there are as many owners
+    /// as can be counted.
+    pub fn share(&self) -> Result<Text, AllocError>
+        ensures { IfOk result (λ t. t ≡ self.now) }
     {
-        Text { text }
-    }
-
-    /// The text as a string. Takes no memory.
-    pub fn into_string(self) -> String
-        ensures { string_bytes result ≡ self }
-    {
-        let Text { text } = self;
-        text
+        Ok(Text {
+            text: self.text.clone()?,
+        })
     }
 
     /// The text.
@@ -165,16 +184,41 @@ impl Text {
         self.text.as_str()
     }
 
-    /// The allocator that it grows by.
-    pub fn allocator(&self) -> Global {
-        *self.text.allocator()
-    }
-
     /// Its bytes.
     pub fn as_bytes(&self) -> &[u8]
         ensures { result.now ≡ self.now }
     {
         self.as_str().as_bytes()
+    }
+}
+
+impl ByteString {
+    ghost use Rattle.std.specs.Prelude.{◌≡◌, IfOk};
+
+    /// These bytes, which aren't copied; fails for want of memory alone.
+    pub fn of(bytes: Vec<u8>) -> Result<ByteString, AllocError>
+        ensures { IfOk result (λ b. b ≡ bytes.items) }
+    {
+        Ok(ByteString {
+            bytes: RcSlice::from_vec(bytes)?,
+        })
+    }
+
+    /// The same bytes, with one owner more: they are not copied. Fails where there are as many
+    /// owners as can be counted.
+    pub fn share(&self) -> Result<ByteString, AllocError>
+        ensures { IfOk result (λ b. b ≡ self.now) }
+    {
+        Ok(ByteString {
+            bytes: self.bytes.clone()?,
+        })
+    }
+
+    /// Its bytes.
+    pub fn as_slice(&self) -> &[u8]
+        ensures { result.now ≡ self.now }
+    {
+        self.bytes.as_slice()
     }
 }
 

@@ -216,7 +216,7 @@ pub fn refusal_text(alloc: Global, refusal: &Refusal) -> Result<Text, Cause>
 fn with_detail(alloc: Global, name: &str, detail: &str) -> Result<Text, AllocError>
     ensures { IfOk result (λ text. text ≡ refusals.with_detail name.now (Some detail.now)) }
 {
-    Ok(Text::from_string(format!(in alloc; "{name}({detail})")?))
+    Ok(Text::from_string(format!(in alloc; "{name}({detail})")?)?)
 }
 
 // Where a damaged row stands: its table, and its bytes in hexadecimal digits.
@@ -224,5 +224,5 @@ fn place_text(alloc: Global, table: u64, row: &[u8]) -> Result<Text, AllocError>
     ensures { IfOk result (λ text. text ≡ refusals.place_text table row.now) }
 {
     let digits = hex::encode(alloc, row)?;
-    Ok(Text::from_string(format!(in alloc; "{table}:{digits}")?))
+    Ok(Text::from_string(format!(in alloc; "{table}:{digits}")?)?)
 }

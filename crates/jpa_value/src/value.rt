@@ -3,7 +3,7 @@ ghost use Rattle.std.specs.Prelude.{◌≡◌};
 ghost use Rattle.jpa_value.specs.Value as values;
 
 use crate::limits::MOST_BYTES;
-use crate::list::{Bytes, Seq, Text};
+use crate::list::{ByteString, Seq, Text};
 
 /// What an attribute, a key part or a parameter holds (chapter 2.2, in this profile: whole numbers,
 /// texts and bytes). A text or byte value of an entity has at most 65,535 bytes; `fits` tells.
@@ -16,7 +16,7 @@ pub enum Value {
     /// A text in UTF-8.
     Text(Text),
     /// A byte string.
-    Bytes(Bytes),
+    Bytes(ByteString),
 }
 
 /// What kind of value an attribute or a key part takes.

@@ -37,7 +37,7 @@ fn concat<'a>(alloc: Global, all: &[Seen<'a>]) -> Result<Seen<'a>, AllocError>
             Some(text) => joined.push_str(text.as_str())?,
         }
     }
-    Ok(Seen::Made(Text::from_string(joined)))
+    Ok(Seen::Made(Text::from_string(joined)?))
 }
 
 fn substring_of<'a>(alloc: Global, text: &Seen<'a>, from: &Seen<'a>) -> Result<Seen<'a>, AllocError>

@@ -5,6 +5,7 @@ ghost use Rattle.jpql_eval.specs.SeenOrder.{seen_cmp, same_seen, seen_total};
 ghost use Rattle.jpql_eval.specs.Calls as calls;
 ghost use Rattle.jpql_eval.specs.Data as data_;
 ghost use Rattle.jpql_eval.specs.Seen.{seen};
+ghost use Rattle.jpql_eval.specs.Truths.{is_yes};
 
 use crate::datum::Truth;
 use crate::seen::Seen;
@@ -14,9 +15,21 @@ use jpql_tree::Comparison;
 use std::cmp::Ordering;
 
 /// The place of two in one total order: nulls first, then integers, texts, byte strings and
-/// entities.
+/// entities. Of two integers, which most are, it is told in place.
+#[inline]
 #[tactic(auto, using(crate::proofs::Orders::then_equal))]
 pub fn order<'a>(left: &Seen<'a>, right: &Seen<'a>) -> Ordering
+    ensures { result ≡ data_.datum_cmp (seen left.now) (seen right.now) }
+{
+    match (left, right) {
+        (Seen::Int(one), Seen::Int(other)) => one.cmp(other),
+        (left, right) => order_any(left, right),
+    }
+}
+
+/// The place of two of any kinds.
+#[tactic(auto, using(crate::proofs::Orders::then_equal))]
+fn order_any<'a>(left: &Seen<'a>, right: &Seen<'a>) -> Ordering
     ensures { result ≡ data_.datum_cmp (seen left.now) (seen right.now) }
 {
     match (left, right) {
@@ -50,6 +63,7 @@ fn order_text<'a>(text: &Text, other: &Seen<'a>) -> Ordering
 
 /// Whether two are one: entities by their identity, and null as null, which groups and DISTINCT go
 /// by.
+#[inline]
 #[tactic(auto, using(crate::proofs::Orders::same_by_order))]
 pub fn is_same<'a>(left: &Seen<'a>, right: &Seen<'a>) -> bool
     ensures { result ≡ data_.same_datum (seen left.now) (seen right.now) }
@@ -81,6 +95,21 @@ pub fn compared<'a>(comparison: Comparison, left: &Seen<'a>, right: &Seen<'a>) -
     }
     let order = order(left, right);
     truth_of(holds(comparison, order.is_eq(), order))
+}
+
+/// Whether a comparison is true. Of two integers it is told in place.
+#[inline]
+#[tactic(auto, using(crate::proofs::Orders::same_by_order))]
+pub fn is_true<'a>(comparison: Comparison, left: &Seen<'a>, right: &Seen<'a>) -> bool
+    ensures { result ≡ is_yes (data_.compared comparison (seen left.now) (seen right.now)) }
+{
+    match (left, right) {
+        (Seen::Int(m), Seen::Int(n)) => {
+            let order = m.cmp(n);
+            holds(comparison, order.is_eq(), order)
+        }
+        _ => matches!(compared(comparison, left, right), Truth::Yes),
+    }
 }
 
 /// BETWEEN: at least the one, and at most the other.

@@ -18,7 +18,7 @@ mod truths;
 
 pub use aggregates::aggregated;
 pub use calls::{applied, like};
-pub use compare::{between, compared, is_same, order};
+pub use compare::{between, compared, is_same, is_true, order};
 pub use datum::{Datum, Truth};
 pub use failure::Failure;
 pub use numbers::{absolute, arithmetic, modulo, signed};

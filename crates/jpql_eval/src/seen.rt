@@ -7,7 +7,7 @@ ghost use Rattle.jpql_eval.specs.Data as data_;
 ghost use Rattle.jpql_eval.specs.Seen.{seen};
 
 use crate::datum::Datum;
-use jpa_value::{Bytes, Identity, Text, Value};
+use jpa_value::{ByteString, Identity, Text, Value};
 use std::alloc::{AllocError, Global};
 
 /// What an expression gives: borrowed from an object, the query or its parameters, or a text that
@@ -17,7 +17,7 @@ pub enum Seen<'a> {
     Null,
     Int(i64),
     Text(&'a Text),
-    Bytes(&'a Bytes),
+    Bytes(&'a ByteString),
     Entity(&'a Identity),
     Made(Text),
 }

@@ -67,7 +67,7 @@ pub(crate) fn substring(
 {
     let all = characters(alloc, text)?;
     let part = written(alloc, &all, &Places { from, count })?;
-    Ok(Text::from_string(part))
+    Ok(Text::from_string(part)?)
 }
 
 /// The greater of a number and 1.

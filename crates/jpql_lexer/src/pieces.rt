@@ -101,7 +101,7 @@ fn quoted(alloc: Global, text: &str) -> Result<(Text, &str), ReadError>
         };
         found.push_str(plain)?;
         let Some(more) = after_second(after) else {
-            return Ok((Text::from_string(found), after));
+            return Ok((Text::from_string(found)?, after));
         };
         found.push_str("'")?;
         rest = more;

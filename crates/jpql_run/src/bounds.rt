@@ -2,10 +2,6 @@
 //! WHERE can overflow, tuples that don't pass one are left out before all of it is asked.
 ghost use Rattle.std.specs.Prelude.{◌≡◌, IfSome};
 ghost use Rattle.std.specs.List.{filter};
-ghost use Rattle.std.specs.Ordering.{is_eq};
-ghost use Rattle.jpql_eval.specs.Data as data_;
-ghost use Rattle.jpql_eval.specs.Seen.{seen};
-ghost use Rattle.jpql_eval.specs.Truths.{is_yes};
 ghost use Rattle.jpql_run.specs.Bounds as bounds;
 ghost use Rattle.jpql_run.specs.Bounds.{IsBoundOf, KeepsOf, Narrows, NarrowsBy};
 
@@ -15,10 +11,9 @@ use crate::paths::path;
 use crate::run::Run;
 use crate::tuple::Tuple;
 use jpa_value::Boxed;
-use jpql_eval::{Seen, Truth, compared};
+use jpql_eval::{Seen, is_true};
 use jpql_tree::Comparison;
 use jpql_types::{TypedCondition, TypedPath, TypedValue};
-use std::cmp::Ordering;
 
 /// A comparison of what a path leads to with a value that is the same for all tuples.
 #[derive(Drop)]
@@ -55,31 +50,6 @@ fn bound_of<'a>(
             None => None,
         },
         _ => None,
-    }
-}
-
-/// Whether a comparison holds of what is ordered so.
-fn holds(comparison: Comparison, order: Ordering) -> bool
-    ensures { result ≡ data_.holds comparison (is_eq order) order }
-{
-    match comparison {
-        Comparison::Equal => order.is_eq(),
-        Comparison::Different => order.is_ne(),
-        Comparison::Less => order.is_lt(),
-        Comparison::AtMost => order.is_le(),
-        Comparison::Greater => order.is_gt(),
-        Comparison::AtLeast => order.is_ge(),
-    }
-}
-
-/// Whether a comparison is true. Of numbers, which most are, it is told in place.
-#[tactic(auto, using(jpql_eval::proofs::Orders::same_by_order))]
-fn is_true<'a>(comparison: Comparison, left: &Seen<'a>, right: &Seen<'a>) -> bool
-    ensures { result ≡ is_yes (data_.compared comparison (seen left.now) (seen right.now)) }
-{
-    match (left, right) {
-        (Seen::Int(left), Seen::Int(right)) => holds(comparison, left.cmp(right)),
-        _ => matches!(compared(comparison, left, right), Truth::Yes),
     }
 }
 

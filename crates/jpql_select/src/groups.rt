@@ -13,9 +13,8 @@ ghost use Rattle.jpql_select.specs.Groups.{groups_in, add_at, begins_with, is_ri
 ghost use Rattle.jpql_select.specs.Selects as selects;
 
 use crate::case::Case;
-use crate::compare::are_one;
 use crate::key::Key;
-use jpql_eval::Seen;
+use jpql_eval::{Seen, is_same};
 use jpql_run::{Run, Tuple, path};
 use jpql_types::TypedPath;
 use std::alloc::{AllocError, Global};
@@ -72,7 +71,7 @@ fn are_alike<'a>(run: &Run<'a>, paths: &[TypedPath], one: &Tuple<'a>, other: &Tu
         (selects.group_key run.now paths.now other.now) }
 {
     for by in paths {
-        if !are_one(&path(run, one, by), &path(run, other, by)) {
+        if !is_same(&path(run, one, by), &path(run, other, by)) {
             return false;
         }
     }
@@ -104,7 +103,7 @@ fn leads_to<'a>(run: &Run<'a>, by: &TypedPath, datum: &Seen<'a>, tuple: &Tuple<'
     ensures { result
         ≡ same_datum (seen datum.now) (runs.path_datum run.now tuple.now by.now) }
 {
-    are_one(datum, &path(run, tuple, by))
+    is_same(datum, &path(run, tuple, by))
 }
 
 /// Whether a tuple is grouped by this key.

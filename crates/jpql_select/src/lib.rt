@@ -10,7 +10,6 @@
 #![tactic(auto)]
 
 mod case;
-mod compare;
 mod distinct;
 mod groups;
 mod key;

@@ -5,9 +5,8 @@ ghost use Rattle.jpql_eval.specs.Seen.{seen};
 ghost use Rattle.jpql_plan.specs.Selection as selection;
 ghost use Rattle.jpql_select.specs.Sortings.{sorting_data};
 
-use crate::compare::order_of;
 use crate::row::{Row, Sorting};
-use jpql_eval::Seen;
+use jpql_eval::{Seen, order};
 use jpql_types::TypedKey;
 use std::alloc::AllocError;
 use std::cmp::Ordering;
@@ -17,9 +16,9 @@ fn by_key<'a>(is_descending: bool, left: &Seen<'a>, right: &Seen<'a>) -> Orderin
     ensures { result ≡ selection.by_key is_descending (seen left.now) (seen right.now) }
 {
     if is_descending {
-        order_of(right, left)
+        order(right, left)
     } else {
-        order_of(left, right)
+        order(left, right)
     }
 }
 
