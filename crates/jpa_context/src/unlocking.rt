@@ -5,14 +5,14 @@ ghost use Rattle.jpa_context.specs.declared.Entry.{Entry};
 
 use crate::{Entry, Lock};
 use jpa_undo::UndoList;
-use jpa_value::Seq;
+use jpa_value::Key;
 use std::alloc::Global;
 
 /// An entry that holds the place of another while that changes. Takes no memory.
 fn no_entry(alloc: Global) -> Entry {
     Entry {
         object: 0,
-        key: Seq::new(alloc),
+        key: Key::new(alloc),
         lock: Lock::Unlocked,
         base: None,
     }

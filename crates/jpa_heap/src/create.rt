@@ -7,7 +7,7 @@ ghost use Rattle.jpa_heap.specs.Objects as objects;
 
 use crate::{Collection, Held, Life, Link, LiveObject};
 use jpa_model::{Attribute, Metamodel, Part, Relation};
-use jpa_value::{Cause, Identity, Seq, TryCopy, Value};
+use jpa_value::{Cause, Identity, Key, Seq, Value};
 use std::alloc::Global;
 
 /// A null for each part of a key.
@@ -99,6 +99,6 @@ pub fn identity_of(metamodel: &Metamodel, object: &LiveObject) -> Result<Option<
     }
     Ok(Some(Identity {
         table: metamodel.root_of(object.class).table,
-        key: object.key.try_copy()?,
+        key: Key::of(object.key.allocator(), object.key.as_slice())?,
     }))
 }

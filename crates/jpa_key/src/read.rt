@@ -123,7 +123,7 @@ fn read_key(alloc: Global, kinds: &[Kind], bytes: &[u8]) -> Result<Option<(Key, 
     ensures within { IfOk result (λ found. IfSome found (λ read. read.1 ≤ length bytes.now)) }
     ensures err { IfErr result (λ cause. cause ≡ Cause.OutOfMemory) }
 {
-    let mut key = Seq::new(alloc);
+    let mut key = Key::new(alloc);
     let mut at = 0;
     for &kind in kinds {
         match read_part(alloc, kind, &bytes[at..])? {

@@ -9,7 +9,7 @@ ghost use Rattle.jpa_mapper.specs.Pairs.{pair_target};
 
 use jpa_model::Metamodel;
 use jpa_rows::{Row, RowId};
-use jpa_value::{Cause, Identity, Key, Seq, TryCopy, Value, order_keys, order_values};
+use jpa_value::{Cause, Identity, Key, Seq, Value, order_keys, order_values};
 use std::alloc::Global;
 use std::cmp::Ordering;
 
@@ -72,7 +72,7 @@ fn pair_target(
     if id.table != join || !begins_with(parts, owner) {
         return Ok(None);
     }
-    let key = copied(alloc, &parts[owner.len()..])?;
+    let key = Key::of(alloc, &parts[owner.len()..])?;
     Ok(Some(Identity { table, key }))
 }
 
@@ -90,16 +90,4 @@ pub(crate) fn begins_with(key: &[Value], front: &[Value]) -> bool
         }
     }
     true
-}
-
-/// A key of these parts.
-fn copied(alloc: Global, parts: &[Value]) -> Result<Key, Cause>
-    ensures ok { IfOk result (λ key. key ≡ parts.now) }
-    ensures err { IfErr result (λ cause. cause ≡ Cause.OutOfMemory) }
-{
-    let mut key = Seq::new(alloc);
-    for part in parts {
-        key.push(part.try_copy()?)?;
-    }
-    Ok(key)
 }

@@ -13,7 +13,7 @@ use jpa_heap::Handed;
 use jpa_model::Part;
 use jpa_protocol::{Call, Given, Parameter};
 use jpa_rows::{is_short, value_is_representable};
-use jpa_value::{Cause, Key, Seq, TryCopy, Value, fits};
+use jpa_value::{Cause, Key, TryCopy, Value, fits};
 use std::alloc::Global;
 
 /// The place of what goes by a number, from 1, among so many.
@@ -106,7 +106,7 @@ pub(crate) fn whole_key(
     if parts.len() != given.len() {
         return Ok(None);
     }
-    let mut key = Seq::new(alloc);
+    let mut key = Key::new(alloc);
     for (place, part) in parts.iter().enumerate() {
         match part_given(part, &given[place])? {
             Some(value) => key.push(value)?,

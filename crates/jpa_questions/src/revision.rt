@@ -9,7 +9,7 @@ ghost use Rattle.jpa_questions.specs.Revisions as spec;
 use jpa_key::encode_key;
 use jpa_model::Metamodel;
 use jpa_rows::{RowId, RowReader};
-use jpa_value::{Cause, Identity, Seq, Value};
+use jpa_value::{Cause, Identity, Key, Value};
 use std::alloc::Global;
 
 /// The id of the row of the revision.
@@ -17,7 +17,7 @@ fn revision_id(alloc: Global) -> Result<RowId, Cause>
     ensures ok { IfOk result (λ id. id ≡ number_id 0) }
     ensures err { IfErr result (λ cause. cause ≡ Cause.OutOfMemory) }
 {
-    let mut key = Seq::new(alloc);
+    let mut key = Key::new(alloc);
     key.push(Value::Int(0))?;
     Ok(Identity { table: 0, key })
 }

@@ -14,7 +14,7 @@ ghost use Rattle.jpa_object_rows.specs.Sets as sets;
 use crate::numbers::natural_in;
 use jpa_model::{Metamodel, Origin};
 use jpa_rows::{Field, Row, RowId, origin_of};
-use jpa_value::{Cause, Identity, Seq, Value, order_identities};
+use jpa_value::{Cause, Identity, Key, Seq, Value, order_identities};
 use std::alloc::Global;
 use std::cmp::Ordering;
 
@@ -59,7 +59,7 @@ fn number_id(alloc: Global, table: u64) -> Result<RowId, Cause>
     ensures ok { IfOk result (λ id. id ≡ objects.number_id table) }
     ensures err { IfErr result (λ cause. cause ≡ Cause.OutOfMemory) }
 {
-    let mut key = Seq::new(alloc);
+    let mut key = Key::new(alloc);
     key.push(Value::Int(table as i64))?;
     Ok(Identity { table: 0, key })
 }

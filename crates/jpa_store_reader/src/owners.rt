@@ -11,7 +11,7 @@ use jpa_mapper::is_kept_in;
 use jpa_model::{Entity, Metamodel, Root};
 use jpa_rows::{Row, RowId};
 use jpa_stored::StoredSet;
-use jpa_value::{Cause, Identity, Key, Seq, TryCopy, Value};
+use jpa_value::{Cause, Identity, Key, Value};
 use std::alloc::Global;
 
 fn declares(entity: &Entity, table: u64) -> bool
@@ -47,26 +47,15 @@ pub(crate) fn is_join(metamodel: &Metamodel, table: u64) -> bool
     }
 }
 
-fn copy_of(alloc: Global, parts: &[Value]) -> Result<Key, Cause>
-    ensures ok { IfOk result (λ copy. copy ≡ parts.now) }
-    ensures err { IfErr result (λ cause. cause ≡ Cause.OutOfMemory) }
-{
-    let mut copy = Seq::new(alloc);
-    for part in parts {
-        copy.push(part.try_copy()?)?;
-    }
-    Ok(copy)
-}
-
 /// The first parts of a key.
 fn first_parts(alloc: Global, key: &[Value], count: usize) -> Result<Key, Cause>
     ensures ok { IfOk result (λ parts. parts ≡ take count key.now) }
     ensures err { IfErr result (λ cause. cause ≡ Cause.OutOfMemory) }
 {
     if count < key.len() {
-        copy_of(alloc, &key[..count])
+        Key::of(alloc, &key[..count])
     } else {
-        copy_of(alloc, key)
+        Key::of(alloc, key)
     }
 }
 

@@ -1,6 +1,6 @@
 //! Pairs of keys, by which the rows of join tables are named.
 use jpa_key::{decode_front, decode_pair, encode_pair};
-use jpa_value::{Cause, Key, Kind, Seq, Text, Value, order_keys};
+use jpa_value::{Cause, Key, Kind, Text, Value, order_keys};
 use std::alloc::Global;
 use std::cmp::Ordering;
 use std::test::Fail;
@@ -9,7 +9,7 @@ use std::test::Fail;
 const PAIR: &[u8] = b"\x02a\x00\x00\x01\x80\x00\x00\x00\x00\x00\x00\x01";
 
 fn key(alloc: Global, part: Value) -> Result<Key, Cause> {
-    let mut key = Seq::new(alloc);
+    let mut key = Key::new(alloc);
     key.push(part)?;
     Ok(key)
 }

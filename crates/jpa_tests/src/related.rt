@@ -4,7 +4,7 @@
 use jpa_mapping::read_mapping;
 use jpa_model::Metamodel;
 use jpa_stored::{Stored, StoredSet, members};
-use jpa_value::{Cause, Identity, Seq, Value, is_same_identity};
+use jpa_value::{Cause, Identity, Key, Seq, Value, is_same_identity};
 use std::alloc::Global;
 use std::process::Abort;
 use std::test::Fail;
@@ -17,7 +17,7 @@ const UNIT: &[u8] = b"{\"revision\":1,\"entities\":[
 
 /// An identity whose key is one integer.
 fn identity(alloc: Global, table: u64, number: i64) -> Result<Identity, Cause> {
-    let mut key = Seq::new(alloc);
+    let mut key = Key::new(alloc);
     key.push(Value::Int(number))?;
     Ok(Identity { table, key })
 }

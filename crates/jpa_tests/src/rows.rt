@@ -115,7 +115,7 @@ fn shop(alloc: Global) -> Result<Schema, Cause>
 fn key(alloc: Global, number: i64) -> Result<Key, Cause>
     ensures { IfOk result (λ key. key ≡ samples.key number) }
 {
-    let mut key = Seq::new(alloc);
+    let mut key = Key::new(alloc);
     key.push(Value::Int(number))?;
     Ok(key)
 }

@@ -1,5 +1,6 @@
 pub mod Event
 pub mod Limits
+pub mod Key
 pub mod Value
 pub mod Refusal
 pub mod formers

@@ -3,7 +3,8 @@ ghost use Rattle.std.specs.Prelude.{◌≡◌};
 ghost use Rattle.jpa_value.specs.Value as values;
 
 use crate::limits::MOST_BYTES;
-use crate::list::{ByteString, Seq, Text};
+use crate::key::Key;
+use crate::list::{ByteString, Text};
 
 /// What an attribute, a key part or a parameter holds (chapter 2.2, in this profile: whole numbers,
 /// texts and bytes). A text or byte value of an entity has at most 65,535 bytes; `fits` tells.
@@ -27,11 +28,8 @@ pub enum Kind {
     Bytes,
 }
 
-/// A primary key: its parts in the order of their declaration, 1 to 4 of them (chapter 2.4).
-pub type Key = Seq<Value>;
-
 /// What names a stored object: the table of the root of its hierarchy and its key (chapter 2.4).
-#[derive(Debug, Drop)]
+#[derive(Drop)]
 pub struct Identity {
     /// The table's number.
     pub table: u64,

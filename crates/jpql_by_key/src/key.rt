@@ -5,7 +5,7 @@ ghost use Rattle.jpql_by_key.specs.ByKey as by_key;
 
 use crate::own::is_own_select;
 use jpa_model::{Member, Metamodel, Side};
-use jpa_value::{Boxed, Identity, Seq, TryCopy, Value};
+use jpa_value::{Boxed, Identity, Key, TryCopy, Value};
 use jpql_eval::Datum;
 use jpql_run::copied;
 use jpql_tree::Comparison;
@@ -167,7 +167,7 @@ fn keyed_table(metamodel: &Metamodel, class: usize) -> Option<u64>
 fn identity_with(alloc: Global, table: u64, part: Value) -> Result<Identity, AllocError>
     ensures { IfOk result (λ id. id ≡ by_key.identity_with table part) }
 {
-    let mut key = Seq::new(alloc);
+    let mut key = Key::new(alloc);
     key.push(part)?;
     Ok(Identity { table, key })
 }
