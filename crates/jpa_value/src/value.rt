@@ -2,8 +2,8 @@
 ghost use Rattle.std.specs.Prelude.{◌≡◌};
 ghost use Rattle.jpa_value.specs.Value as values;
 
-use crate::limits::MOST_BYTES;
 use crate::key::Key;
+use crate::limits::MOST_BYTES;
 use crate::list::{ByteString, Text};
 
 /// What an attribute, a key part or a parameter holds (chapter 2.2, in this profile: whole numbers,
