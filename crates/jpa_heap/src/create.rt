@@ -7,15 +7,15 @@ ghost use Rattle.jpa_heap.specs.Objects as objects;
 
 use crate::{Collection, Held, Life, Link, LiveObject};
 use jpa_model::{Attribute, Metamodel, Part, Relation};
-use jpa_value::{Cause, Identity, Key, Seq, Value};
+use jpa_value::{Cause, Identity, Key, Seq, TryCopy, Value};
 use std::alloc::Global;
 
 /// A null for each part of a key.
-fn unset_key(alloc: Global, parts: &[Part]) -> Result<Seq<Value>, Cause>
+fn unset_key(alloc: Global, parts: &[Part]) -> Result<Key, Cause>
     ensures ok { IfOk result (λ key. key ≡ map (λ part. Value.Null) parts.now) }
     ensures err { IfErr result (λ cause. cause ≡ Cause.OutOfMemory) }
 {
-    let mut key = Seq::new(alloc);
+    let mut key = Key::new(alloc);
     for _part in parts {
         key.push(Value::Null)?;
     }
@@ -99,6 +99,6 @@ pub fn identity_of(metamodel: &Metamodel, object: &LiveObject) -> Result<Option<
     }
     Ok(Some(Identity {
         table: metamodel.root_of(object.class).table,
-        key: Key::of(object.key.allocator(), object.key.as_slice())?,
+        key: object.key.try_copy()?,
     }))
 }

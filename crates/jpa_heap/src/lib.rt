@@ -11,7 +11,7 @@ mod create;
 mod setting;
 
 pub use create::{identity_of, is_whole, new_object};
-use jpa_value::{Identity, Seq, Value};
+use jpa_value::{Identity, Key, Seq, Value};
 pub use setting::assign;
 
 /// A to-one relation of a live object (Jakarta Persistence 3.1, chapter 2.9).
@@ -54,7 +54,7 @@ pub enum Life {
 #[derive(Drop)]
 pub struct LiveObject {
     pub class: usize,
-    pub key: Seq<Value>,
+    pub key: Key,
     pub version: Option<i64>,
     pub values: Seq<Value>,
     pub relations: Seq<Held>,

@@ -102,7 +102,7 @@ fn set_part(
         return Err(Cause::IllegalArgument(Argument::Key));
     }
     let mut set = object.try_copy()?;
-    set.key.set(part, plain(handed));
+    set.key.set(part, plain(handed))?;
     Ok(set)
 }
 

@@ -14,7 +14,7 @@ use jpa_behaviour::{Behaviour, Registry};
 use jpa_model::Metamodel;
 use jpa_rows::{Row, RowId, identity_is_representable, object_is_representable};
 use jpa_stored::Stored;
-use jpa_value::{Cause, Identity, Seq, TryCopy, Value};
+use jpa_value::{Cause, Identity, Key, Seq, TryCopy, Value};
 use std::alloc::Global;
 
 /// The rows of an object: first its main row, under its identity, then a row of the join table for
@@ -53,7 +53,7 @@ pub fn number_row(alloc: Global, table: u32, next: u64) -> Result<(RowId, Row), 
     ensures ok { IfOk result (λ row. row ≡ (objects.number_id table, objects.number_row next)) }
     ensures err { IfErr result (λ cause. cause ≡ Cause.OutOfMemory) }
 {
-    let mut key = Seq::new(alloc);
+    let mut key = Key::new(alloc);
     key.push(Value::Int(i64::from(table)))?;
     let row = number_in_first(alloc, next)?;
     Ok((RowId { table: 0, key }, row))

@@ -27,7 +27,7 @@ use jpa_context::{EntityState, Entry, Lock, UnitOfWork};
 use jpa_heap::{Life, LiveObject, is_whole};
 use jpa_lifecycle::callback;
 use jpa_model::Metamodel;
-use jpa_value::{Cause, LifecycleEvent, PersistenceFault, Seq, TryCopy, Value};
+use jpa_value::{Cause, Key, LifecycleEvent, PersistenceFault, TryCopy, Value};
 use std::alloc::Global;
 
 /// The greatest next number; it is never given.
@@ -52,7 +52,7 @@ fn with_number(alloc: Global, object: &LiveObject, number: u64) -> Result<LiveOb
     ensures err { IfErr result (λ cause. cause ≡ Cause.OutOfMemory) }
 {
     let mut keyed = object.try_copy()?;
-    let mut key = Seq::new(alloc);
+    let mut key = Key::new(alloc);
     key.push(Value::Int(number as i64))?;
     keyed.key = key;
     Ok(keyed)

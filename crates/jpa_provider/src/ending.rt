@@ -21,14 +21,14 @@ use jpa_heap::{Life, LiveObject};
 use jpa_marking::other_laws;
 use jpa_protocol::{Answer, Reply};
 use jpa_undo::UndoList;
-use jpa_value::{Cause, Seq, State};
+use jpa_value::{Cause, Key, Seq, State};
 use std::alloc::Global;
 
 /// An object that holds the place of another while that changes.
 fn no_object(alloc: Global) -> LiveObject {
     LiveObject {
         class: 0,
-        key: Seq::new(alloc),
+        key: Key::new(alloc),
         version: None,
         values: Seq::new(alloc),
         relations: Seq::new(alloc),

@@ -8,7 +8,7 @@ ghost use Rattle.jpa_rows.specs.Rows as rows;
 use crate::row::{Content, Row};
 use crate::tag::{BYTES, REFERENCE, TEXT};
 use jpa_key::encode_key;
-use jpa_value::{Bytes, Cause, Seq, Value};
+use jpa_value::{Bytes, Cause, Key, Seq, Value};
 use std::alloc::Global;
 
 /// A tag, and bytes after it.
@@ -27,7 +27,7 @@ fn spell_int(alloc: Global, number: i64) -> Result<Bytes, Cause>
     ensures ok { IfOk result (λ bytes. bytes ≡ 1 ∷ int_bytes number) }
     ensures err { IfErr result (λ cause. cause ≡ Cause.OutOfMemory) }
 {
-    let mut key = Seq::new(alloc);
+    let mut key = Key::new(alloc);
     key.push(Value::Int(number))?;
     Ok(encode_key(alloc, &key)?)
 }

@@ -46,7 +46,8 @@ fn are_parts(kinds: &[Kind], key: &[Value]) -> bool
 pub fn is_key(kinds: &[Kind], key: &Key) -> bool
     ensures { result ≡ rows.is_key kinds.now key.now }
 {
-    kinds.len() == key.len() && are_parts(kinds, key.as_slice())
+    let parts = key.as_slice();
+    kinds.len() == parts.len() && are_parts(kinds, parts)
 }
 
 fn may_hold(holds: &Holds, content: &Content) -> bool

@@ -1,5 +1,5 @@
 //! Primary keys.
-ghost use Rattle.std.specs.Prelude.{◌≡◌, ◌++◌, ◌∷◌, [], IfOk, IfErr, OnOk, OnErr};
+ghost use Rattle.std.specs.Prelude.{◌≡◌, ◌<◌, ◌++◌, ◌∷◌, [], length, slice_set, IfOk, IfErr, OnOk, OnErr};
 ghost use Rattle.jpa_value.specs.Key.{parts_in};
 ghost use Rattle.jpa_value.specs.declared.refusal.Cause.{Cause};
 
@@ -113,6 +113,20 @@ impl Key {
         } else {
             self.parts = followed(self.alloc, self.as_slice(), part)?;
         }
+        Ok(())
+    }
+
+    /// Another part at a place, counted from 0. `OutOfMemory` where a growth was refused: then the
+    /// key stays as it was.
+    pub fn set(&mut self, at: usize, part: Value) -> Result<(), Cause>
+        requires { at < length self.old }
+        ensures ok { OnOk result (self.new ≡ slice_set self.old at part) }
+        ensures err { IfErr result (λ cause. cause ≡ Cause.OutOfMemory) }
+        ensures unchanged { OnErr result (self.new ≡ self.old) }
+    {
+        let mut parts = listed(self.alloc, self.as_slice())?;
+        parts.set(at, part);
+        *self = Key::of(self.alloc, parts.as_slice())?;
         Ok(())
     }
 }
