@@ -46,8 +46,7 @@ fn are_parts(kinds: &[Kind], key: &[Value]) -> bool
 pub fn is_key(kinds: &[Kind], key: &Key) -> bool
     ensures { result ≡ rows.is_key kinds.now key.now }
 {
-    let parts = key.as_slice();
-    kinds.len() == parts.len() && are_parts(kinds, parts)
+    kinds.len() == key.len() && are_parts(kinds, key.as_slice())
 }
 
 fn may_hold(holds: &Holds, content: &Content) -> bool

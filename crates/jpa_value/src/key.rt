@@ -102,6 +102,13 @@ impl Key {
         }
     }
 
+    /// How many parts there are.
+    pub fn len(&self) -> usize
+        ensures { result ≡ length self.now }
+    {
+        self.as_slice().len()
+    }
+
     /// One more part, at the end. For want of memory the key stays as it was.
     #[tactic(auto, unfolding(crate::specs::Key::parts_in))]
     pub fn push(&mut self, part: Value) -> Result<(), AllocError>
