@@ -12,7 +12,7 @@ use jpa_cascade::{Node, Operation, state_of, waves};
 use jpa_context::{EntityState, UnitOfWork, place_laws};
 use jpa_heap::{Life, LiveObject};
 use jpa_model::Metamodel;
-use jpa_value::{Cause, Seq};
+use jpa_value::{Cause, Key, Seq};
 use std::alloc::Global;
 
 /// What stands in the place of an object that is looked at. Takes no memory.
@@ -21,7 +21,7 @@ fn no_object(alloc: Global) -> LiveObject
 {
     LiveObject {
         class: 0,
-        key: Seq::new(alloc),
+        key: Key::new(alloc),
         version: None,
         values: Seq::new(alloc),
         relations: Seq::new(alloc),
