@@ -20,10 +20,17 @@ enum Parts {
 }
 
 /// A primary key: its parts in the order of their declaration, 1 to 4 of them (chapter 2.4).
-#[derive(Drop)]
 pub struct Key {
     parts: Parts,
     alloc: Global,
+}
+
+// (written out, so that a key is let go by one call, and not by a way for each form of it)
+impl Drop for Key {
+    fn drop(self) {
+        let Key { parts, alloc: _ } = self;
+        drop(parts);
+    }
 }
 
 impl Model for Key {
