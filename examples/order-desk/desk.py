@@ -175,7 +175,10 @@ def _add_day(parser: argparse.ArgumentParser) -> None:
 
 
 def _day(word: str) -> str:
-    return datetime.date.fromisoformat(word).isoformat()
+    try:
+        return datetime.date.fromisoformat(word).isoformat()
+    except ValueError:
+        raise argparse.ArgumentTypeError(f"{word!r} is no day: write it as 2026-11-29") from None
 
 
 def _positive(word: str) -> int:

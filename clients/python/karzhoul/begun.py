@@ -8,6 +8,7 @@ from typing import TYPE_CHECKING, Optional, Type
 from .interrupts import begin_of_block, end_of_block
 from .managers import EntityManager
 from .refusals import Busy, OptimisticLock, Refused, Rollback
+from .transactions import is_of_callback
 
 if TYPE_CHECKING:
     from .factory import EntityManagerFactory
@@ -49,4 +50,4 @@ class Begun(AbstractContextManager["EntityManager"]):
 def is_too_late(refused: Refused) -> bool:
     """Whether a refusal says that another manager came first, so that work may be done again."""
     found = refused.cause if isinstance(refused, Rollback) else refused
-    return isinstance(found, (OptimisticLock, Busy))
+    return isinstance(found, (OptimisticLock, Busy)) and not is_of_callback(refused)

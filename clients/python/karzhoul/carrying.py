@@ -20,7 +20,7 @@ from .loading import HEARD, HEARD_OF_CHANGES, Loader
 from .plans import Plan, Terms, checked
 from .progress import Progress
 from .records import Key, Shape, bare, shapes_of
-from .refusals import KarzhoulError, ProgramEnded, Refused
+from .refusals import KarzhoulError, Misused, ProgramEnded, Refused
 from .sources import RowFault, Source
 from .spelling import FORMAT, Begun, Ended, cells_of, columns_of, line_of_item, row_of_cells
 
@@ -96,7 +96,7 @@ def _mapping_of(said: argparse.Namespace) -> Optional[Dict[str, Any]]:
 def _known(name: Optional[str], shapes: Mapping[str, Shape]) -> None:
     if name is not None and name not in shapes:
         near = meant(name, shapes) or f"; there are {', '.join(shapes)}"
-        raise ValueError(f"there is no entity {name!r}{near}")
+        raise Misused(f"there is no entity {name!r}{near}")
 
 
 # ---- dump
@@ -107,7 +107,7 @@ def run_dump(said: argparse.Namespace, opened: Opener) -> int:
     if not Path(said.db).is_file():
         raise FileNotFoundError(f"there is no file {said.db}")
     if said.linked and said.query is None:
-        raise ValueError("--linked goes with --query")
+        raise Misused("--linked goes with --query")
     mapping = _mapping_of(said)
     if mapping is None:
         return WRONG
@@ -194,6 +194,8 @@ def _output(name: Optional[str]) -> Iterator[TextIO]:
         yield sys.stdout
         return
     path = Path(name)
+    if not path.parent.is_dir():
+        raise FileNotFoundError(f"there is no folder {path.parent}")
     part = path if path.exists() and not path.is_file() else path.with_name(f"{path.name}.part")
     try:
         with part.open("w", encoding="utf-8", newline="\n") as out:

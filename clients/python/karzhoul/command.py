@@ -17,10 +17,9 @@ from . import beginnings, carrying, factory, migration, selecting, show, stubs
 from .finding import find_program
 from .linter import lint
 from .opening import why_unopened
-from .refusals import Damaged, KarzhoulError
+from .refusals import Damaged, KarzhoulError, Misused
 from .refusals import Mapping as MappingRefused
 from .schema import mapping_schema
-from .unit import entities_of
 
 WRONG, MISSAID, REFUSED, FAILED, INTERRUPTED = 1, 2, 3, 4, 130
 Parsers = Sequence[argparse.ArgumentParser]
@@ -47,8 +46,9 @@ def main(words: Optional[List[str]] = None) -> int:
         os.dup2(os.open(os.devnull, os.O_WRONLY), sys.stdout.fileno())
         return FAILED
     except (KarzhoulError, OSError, ValueError) as fault:
-        print(f"karzhoul: {fault}", file=sys.stderr)
-        return FAILED
+        more = f"\n  {fault.explain()}" if isinstance(fault, Damaged) else ""
+        print(f"karzhoul: {fault}{more}", file=sys.stderr)
+        return MISSAID if isinstance(fault, Misused) else FAILED
 
 
 def _parser() -> argparse.ArgumentParser:
@@ -78,7 +78,7 @@ def _parser() -> argparse.ArgumentParser:
     _add_check(commands, [common, named])
     _add_stubs(commands, [named])
     _add_show(commands, [common, over, stored])
-    selecting.add_command(commands, [common, named, stored])
+    selecting.add_command(commands, [common])
     _add_migrate(commands, [common, over, stored])
     _add_shell(commands, [common, over])
     carrying.add_commands(commands, [common, over], stored, _opened_over)
@@ -114,12 +114,6 @@ def _add_stubs(commands: Any, takes: Parsers) -> None:
 def _add_show(commands: Any, takes: Parsers) -> None:
     shown = commands.add_parser("show", parents=takes, help="show what is stored, as tables")
     shown.add_argument("--html", metavar="FILE", help="write one page to this file")
-    keys = "a key to look for where it isn't generated: 7, 1..100, or [1,\"a\"]"
-    shown.add_argument("--key", action="append", default=[], metavar="ENTITY=KEY", help=keys)
-    shown.add_argument(
-        "--most", type=int, default=show.MOST_KEYS,
-        help="how many generated keys to look for (%(default)s)",
-    )
     shown.set_defaults(run=run_show)
 
 
@@ -260,6 +254,8 @@ def run_migrate(said: argparse.Namespace) -> int:
             return REFUSED
         if said.copy is not None and found.is_due:
             return _migrated(mapping, db, said)
+        if said.copy is not None:
+            print(f"{said.copy} was not made, since nothing is to be brought over")
         return (
             _tried(mapping, db, said) if said.dry_run and (said.with_program or said.program) else 0
         )
@@ -324,7 +320,7 @@ def run_show(said: argparse.Namespace) -> int:
     _there(said.db)
     with _opened(said) as app:
         try:
-            shown = show.tables(app, show.keys_of(said.key, entities_of(app.mapping)), said.most)
+            shown = show.tables(app)
         except KeyboardInterrupt:
             app.program.kill()  # Else the end would wait for the call's answer.
             raise

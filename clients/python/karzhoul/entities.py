@@ -37,6 +37,11 @@ class Entity:
     # The attribute that is the key, and the members that are its parts.
     _karzhoul_key: ClassVar[Tuple[str, Sequence[str]]]
 
+    def __init_subclass__(cls) -> None:
+        # It would make objects of the class above, to which its `__init__` isn't applied.
+        if hasattr(cls, "_karzhoul_factory") and "_karzhoul_factory" not in cls.__dict__:
+            raise TypeError(f"{cls.__name__}: the class of an entity takes no subclass of your own")
+
     def __new__(cls: Type[E], /, **values: Any) -> E:
         made: E = cls._karzhoul_factory.ask_lines([cls._karzhoul_line], cls.__name__)[0]
         return made
@@ -69,7 +74,7 @@ def _named(entity: Entity, key: Optional[Sequence[Any]]) -> str:
     value = None if key is None else key[0] if parts == [name] else tuple(key)
     return (
         f"<{type(entity).__name__} "
-        f"{f'#{entity._karzhoul_number}' if key is None else f'{name}={value!r}'}>"
+        f"{f'#{abs(entity._karzhoul_number)}' if key is None else f'{name}={value!r}'}>"
     )
 
 
@@ -77,7 +82,7 @@ class EmbeddedId:
     """The embedded id of an object, as it is at the moment: its parts are attributes, and
     `tuple(id)` are their values. It is equal to that tuple, and has its hash."""
 
-    __slots__ = ("_parts", "_entity", "_name")
+    __slots__ = ("_karzhoul_parts", "_karzhoul_entity", "_karzhoul_name")
 
     def __init__(self, parts: Mapping[str, str], entity: Entity, name: str) -> None:
         """With the type of each part."""
@@ -85,26 +90,26 @@ class EmbeddedId:
             object.__setattr__(self, slot, value)
 
     def __getattr__(self, part: str) -> Any:
-        return self._entity._karzhoul_factory.get(self._entity, self._member(part))
+        entity = self._karzhoul_entity
+        return entity._karzhoul_factory.get(entity, self._karzhoul_member(part))
 
     def __setattr__(self, part: str, value: Any) -> None:
-        self._entity._karzhoul_factory.set(self._entity, self._member(part), value)
+        entity = self._karzhoul_entity
+        entity._karzhoul_factory.set(entity, self._karzhoul_member(part), value)
 
-    def _member(self, part: str) -> str:
+    def _karzhoul_member(self, part: str) -> str:
         """The name of a part as a member of the object."""
-        if part in self.__slots__ or part not in self._parts:
+        if part in self.__slots__ or part not in self._karzhoul_parts:
             raise AttributeError(f"an embedded id has no part {part!r}")
-        return f"{self._name}.{part}"
+        return f"{self._karzhoul_name}.{part}"
 
     def __reduce__(self) -> Tuple[Any, ...]:
-        return EmbeddedId, (self._parts, self._entity, self._name)
+        return EmbeddedId, (self._karzhoul_parts, self._karzhoul_entity, self._karzhoul_name)
 
     def __iter__(self) -> Iterator[Any]:
-        return iter(
-            self._entity._karzhoul_factory.get_members(
-                self._entity, [self._member(part) for part in self._parts]
-            )
-        )
+        entity, parts = self._karzhoul_entity, self._karzhoul_parts
+        members = [self._karzhoul_member(part) for part in parts]
+        return iter(entity._karzhoul_factory.get_members(entity, members))
 
     def __eq__(self, other: object) -> bool:
         if isinstance(other, (EmbeddedId, tuple)):
@@ -116,34 +121,38 @@ class EmbeddedId:
 
     def __repr__(self) -> str:
         return (
-            f"<{self._name} "
-            f"{' '.join(f'{part}={value!r}' for part, value in zip(self._parts, self))}>"
+            f"<{self._karzhoul_name} "
+            f"{' '.join(f'{part}={value!r}' for part, value in zip(self._karzhoul_parts, self))}>"
         )
 
-    def _assign(self, given: Union[Mapping[str, Any], Iterable[Any]]) -> None:
+    def _karzhoul_assign(self, given: Union[Mapping[str, Any], Iterable[Any]]) -> None:
         """Sets all parts together, or none."""
-        factory, values = self._entity._karzhoul_factory, self._each(given)
+        entity, values = self._karzhoul_entity, self._karzhoul_each(given)
+        factory = entity._karzhoul_factory
         lines = {
-            part: factory.set_line(self._entity, self._member(part), value)
+            part: factory.set_line(entity, self._karzhoul_member(part), value)
             for part, value in values
         }
         for part, value in values:
-            if not _fits(self._parts[part], value):
+            if not _fits(self._karzhoul_parts[part], value):
                 factory.ask_lines([lines[part]])  # It is refused, and so no other one is sent.
         factory.tell(*lines.values())
 
-    def _each(self, given: Union[Mapping[str, Any], Iterable[Any]]) -> List[Tuple[str, Any]]:
+    def _karzhoul_each(
+        self, given: Union[Mapping[str, Any], Iterable[Any]]
+    ) -> List[Tuple[str, Any]]:
         """Each part with its value; a `ValueError` where one is missing or too much."""
+        parts = self._karzhoul_parts
         if isinstance(given, Mapping):
-            fits, values = set(given) == set(self._parts), list(given.values())
+            fits, values = set(given) == set(parts), list(given.values())
             names: Sequence[str] = list(given)
         else:
             is_many = isinstance(given, Iterable) and not isinstance(given, (str, bytes, bytearray))
-            names, values = self._parts, list(given) if is_many else [given]
+            names, values = parts, list(given) if is_many else [given]
             fits = is_many and len(values) == len(names)
         if not fits:
             raise ValueError(
-                f"the embedded id {self._name} takes {', '.join(self._parts)}, and not {given!r}"
+                f"the embedded id {self._karzhoul_name} takes {', '.join(parts)}, and not {given!r}"
             )
         return list(zip(names, values))
 
@@ -187,7 +196,7 @@ class Collection(MutableSequence[E]):
             )  # Another turn has come where more than this was sent.
         return self._read
 
-    def _assign(self, given: Iterable[E]) -> None:
+    def _karzhoul_assign(self, given: Iterable[E]) -> None:
         # `object.members += [..]` has added them when it assigns.
         if (
             isinstance(given, Collection)
@@ -209,6 +218,14 @@ class Collection(MutableSequence[E]):
         if not self._entity._karzhoul_factory.take_out(self._entity, self._name, member):
             raise ValueError(f"{member!r} is not in {self!r}")
 
+    def copy(self) -> List[E]:
+        """A list of the members."""
+        return list(self._members())
+
+    def sort(self, *, key: Any = None, reverse: bool = False) -> None:
+        """Puts the members in order."""
+        self._change(partial(list.sort, key=key, reverse=reverse))
+
     def clear(self) -> None:
         """Takes all members out."""
         self._change(list.clear)
@@ -217,7 +234,7 @@ class Collection(MutableSequence[E]):
         """Has the members of the list that a change makes of them, and answers what it answers."""
         members = list(self._members())
         answer = change(members, *given)
-        self._assign(members)
+        self._karzhoul_assign(members)
         return answer
 
     def pop(self, at: int = -1) -> E:
@@ -302,7 +319,7 @@ class Attribute(property):
             if view is None:
                 it._karzhoul_factory.tell(self.line(it, value))
             else:
-                view(it, name)._assign(value)
+                view(it, name)._karzhoul_assign(value)
 
         super().__init__(read, assign)
 

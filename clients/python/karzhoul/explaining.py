@@ -11,8 +11,9 @@ from .arguments import meant
 from .culprits import Culprits
 from .jpql_check import BYTES, INT, TEXT, Kind, check
 from .line_check import faults_of_line
+from .meanings import meaning
 from .refusals import BadLine, KarzhoulError
-from .unit import MemberKind, entities_of
+from .unit import EntityDescription, MemberKind, entities_of
 
 if TYPE_CHECKING:
     from .factory import EntityManagerFactory
@@ -28,7 +29,7 @@ def explained(refused: Refused, factory: Optional[EntityManagerFactory]) -> str:
     told = list(islice(_told(refused, factory), _MOST + 1))
     if len(told) > _MOST:
         told[_MOST:] = ["and so on"]
-    return "\n".join(told) or " ".join((type(refused).__doc__ or "").split())
+    return "\n".join(told) or meaning(refused)
 
 
 def _told(refused: Refused, factory: Optional[EntityManagerFactory]) -> Iterator[str]:
@@ -54,20 +55,49 @@ def _of_argument(
     detail: Optional[str], said: Mapping[str, Any], factory: EntityManagerFactory
 ) -> Iterator[str]:
     """What is wrong with what a line hands in."""
-    name = str(said.get("entity" if detail == "entity" else "name"))
+    entity, name = str(said.get("entity")), str(said.get("name"))
     if detail == "entity":
-        yield f"there is no entity {name!r}{meant(name, factory._classes)}"
+        yield f"there is no entity {entity!r}{meant(entity, factory._classes)}"
+    if detail == "key" and entity in factory._classes:
+        yield from _of_key(entities_of(factory.mapping)[entity], said.get("key"), factory)
     kind = factory._kinds[said.get("object", 0)]
     if kind is None:
         return
     members = {it.name: it for it in entities_of(factory.mapping)[kind.__name__].members}
-    if detail == "name":
+    if detail in ("key", "version"):
+        yield f"{kind.__name__}.{name} can't be set: the object is not new any more"
+    elif detail == "name" and name in members:
+        is_collection = members[name].kind is MemberKind.COLLECTION
+        way = "is a collection: add and takeOut change it" if is_collection else "is no collection"
+        yield f"{kind.__name__}.{name} {way}"
+    elif detail == "name":
         near = meant(name, members) or f"; it has {', '.join(members)}"
         yield f"{kind.__name__} has no member {name!r} of that sort{near}"
     elif detail == "type" and name in members and members[name].kind is not MemberKind.COLLECTION:
         wanted = members[name].type
         word = _KINDS.get(wanted, f"a {wanted}")
         yield f"{kind.__name__}.{name} is {word}, and not {_given(said.get('value'), factory)}"
+
+
+def _of_key(
+    entity: EntityDescription, given: Any, factory: EntityManagerFactory
+) -> Iterator[str]:
+    """What keeps values from being a key of an entity."""
+    parts = entity.key
+    if not isinstance(given, list) or len(given) != len(parts):
+        count = f"{len(given)} values were" if isinstance(given, list) else "none was"
+        yield f"the key of {entity.name} is {', '.join(part.name for part in parts)}: {count} given"
+        return
+    for part, value in zip(parts, given):
+        if not _is_of(part.type, value):
+            wanted = _KINDS[part.type]
+            yield f"{entity.name}.{part.name} is {wanted}, and not {_given(value, factory)}"
+
+
+def _is_of(wanted: str, value: Any) -> bool:
+    if isinstance(value, dict):
+        return wanted == "bytes" and "hex" in value
+    return isinstance(value, {"int": int, "text": str}.get(wanted, bytes))
 
 
 def _given(value: Any, factory: EntityManagerFactory) -> str:

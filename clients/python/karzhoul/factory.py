@@ -5,12 +5,14 @@ from __future__ import annotations
 import json
 import os
 import re
+import sys
 import tempfile
 import threading
 from collections import deque
 from contextlib import AbstractContextManager, closing, contextmanager, nullcontext, suppress
 from pathlib import Path
 from time import perf_counter
+from types import FrameType
 from typing import (
     Any, Callable, Deque, Dict, FrozenSet, Iterable, Iterator, List, Mapping, Optional, Sequence,
     Tuple, Type, TypeVar, Union, overload,
@@ -43,6 +45,9 @@ _FRONT = _BETWEEN[3:]
 _NULL, _NULL_END = [b'{"events":[],"ok":null}'], b',"ok":null}'
 _LOADED = b'["PostLoad",'
 _MANAGER = re.compile(rb'"em":([0-9]+)')
+_REPLIES = Program.replies.__code__
+# Where the code is that reads replies.
+_READERS = {os.path.dirname(__file__), os.path.dirname(json.__file__)}
 _set_number = Entity.__dict__["_karzhoul_number"].__set__
 
 
@@ -73,6 +78,15 @@ def _numbers(replies: List[bytes]) -> Optional[List[int]]:
     if len(pieces) != len(replies) or not b"".join(pieces).isdigit() or text.find(b":0") >= 0:
         return None
     return list(map(int, pieces))
+
+
+def _is_of_reply(fault: Exception) -> bool:
+    """Whether a fault was raised by the reading of a reply, and not by a handler of a signal."""
+    trace = fault.__traceback__
+    while trace is not None and trace.tb_next is not None:
+        trace = trace.tb_next
+    place = os.path.dirname(trace.tb_frame.f_code.co_filename) if trace is not None else ""
+    return place in _READERS
 
 
 def open(
@@ -203,6 +217,7 @@ class EntityManagerFactory(AbstractContextManager["EntityManagerFactory"]):
         was done. No other thread may be in a call.
         """
         with self._lock:
+            self._refuse_within()
             program, mapping, given, *rest = self.program.words
             if "--db" not in rest:
                 raise StoreInMemory(
@@ -215,6 +230,7 @@ class EntityManagerFactory(AbstractContextManager["EntityManagerFactory"]):
                 if entity is not None:
                     object.__setattr__(entity, "_karzhoul_number", -abs(entity._karzhoul_number))
             self._objects, self._calls, self._marked = {}, None, {}
+            self._turn += 1  # So that no collection shows what it read before.
             self._kinds = Classes(self._classes, marks_of(self.mapping))
             self._tally.unmarked = self._kinds.unmarked
             self._untold.clear()
@@ -293,7 +309,8 @@ class EntityManagerFactory(AbstractContextManager["EntityManagerFactory"]):
         """Hands the events of these kinds, or without any all events, to a callback, in the order
         told, when their call is done. A callback may call, and what it raises is raised by the
         call that told the event."""
-        self._callbacks.append((callback, frozenset(events or LifecycleEvent)))
+        kinds = frozenset(map(LifecycleEvent, events or LifecycleEvent))
+        self._callbacks.append((callback, kinds))
 
     # ---- objects
 
@@ -431,7 +448,7 @@ class EntityManagerFactory(AbstractContextManager["EntityManagerFactory"]):
         taken for no call is a `bad_line`. Where they aren't answered within so many seconds, the
         program is ended: `GivenUp`."""
         with self._lock:
-            if self._calls:
+            while self._calls:  # A callback that is told of what was kept may have added to it.
                 self._settle(timeout)
             calls = self._calls = _Calls(lines, entity, bad_line, False)
             return self._answers(calls, timeout)
@@ -439,10 +456,10 @@ class EntityManagerFactory(AbstractContextManager["EntityManagerFactory"]):
     def tell(self, line: bytes, *more: bytes) -> None:
         """Does the calls of lines, which answer null; within a pipeline they are kept."""
         with self._lock:
-            calls, is_kept = self._calls, self._pipeline._is_owned()  # type: ignore[attr-defined]
+            is_kept = self._pipeline._is_owned()  # type: ignore[attr-defined]
             if is_kept and self.program.fault:
-                raise self.program.fault
-            if calls is not None:
+                raise self.program.fault.with_traceback(None)
+            while (calls := self._calls) is not None:
                 if is_kept and calls.are_kept and calls.parts is None:
                     if more:
                         calls.lines += (line, *more)  # type: ignore[operator]
@@ -461,6 +478,8 @@ class EntityManagerFactory(AbstractContextManager["EntityManagerFactory"]):
 
     def send_line(self, line: str) -> Any:
         """Sends any line as it is, and gives its answer; one that is no call is a `BadLine`."""
+        if "\n" in line:  # It would be several, each with a reply of its own.
+            raise ValueError("a line has no line feed in it, nor at its end")
         return self.ask_lines([line.encode()], bad_line=BadLine)[0]
 
     @contextmanager
@@ -490,6 +509,7 @@ class EntityManagerFactory(AbstractContextManager["EntityManagerFactory"]):
         calls = self._calls
         if calls is None:
             return
+        self._refuse_within()
         try:
             self._answers(calls, timeout)
         except KarzhoulError:
@@ -499,6 +519,15 @@ class EntityManagerFactory(AbstractContextManager["EntityManagerFactory"]):
                 raise
             # Else it is a refusal that nobody waits for; an end of the program is told by the next
             # call too.
+
+    def _refuse_within(self) -> None:
+        """Refuses a call within another one of its thread that waits for its replies, as of a
+        handler of a signal, or of what the collector calls: it would take them."""
+        frame: Optional[FrameType] = sys._getframe(1)
+        while frame is not None:
+            if frame.f_code is _REPLIES and frame.f_locals["self"] is self.program:
+                raise RuntimeError("reentrant call: another one of this thread waits for its reply")
+            frame = frame.f_back
 
     def _answers(self, calls: _Calls, timeout: Optional[float] = None) -> List[Any]:
         """The answers to calls, which are over with it. Their events are told first, and then the
@@ -521,8 +550,9 @@ class EntityManagerFactory(AbstractContextManager["EntityManagerFactory"]):
                 self._answer(line, reply, kind, calls.bad_line)
                 for line, reply in zip(calls.lines, replies)
             ]
-        except (AttributeError, LookupError, TypeError, ValueError):
-            self._calls = None  # What is no reply is none the next time either.
+        except (AttributeError, LookupError, TypeError, ValueError) as fault:
+            if _is_of_reply(fault):
+                self._calls = None  # What is no reply is none the next time either.
             raise
         if calls.untold is None:
             told = [
@@ -676,5 +706,6 @@ class EntityManagerFactory(AbstractContextManager["EntityManagerFactory"]):
                 try:
                     callback(event)
                 except Exception as fault:
+                    vars(fault)["_karzhoul_is_told"] = True
                     raised.append(fault)
         return raised

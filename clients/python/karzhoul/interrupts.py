@@ -42,6 +42,11 @@ def end_of_block(function: F) -> F:
     return function
 
 
+def is_guarded(block: object) -> bool:
+    """Whether a block is guarded."""
+    return block in _guarded
+
+
 def guard(block: object) -> None:
     """Guards a block that begins, in the main thread alone, since no other one is interrupted."""
     if threading.current_thread() is threading.main_thread():

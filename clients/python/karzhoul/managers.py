@@ -13,7 +13,7 @@ from .fetching import fetched
 from .interrupts import begin_of_block, carried_out, end_of_block, guard, unguard
 from .lines import FlushModeType, LockModeType, line_of, spelled, text_spelled
 from .queries import Queries
-from .refusals import KarzhoulError, ProgramEnded, Refused, Restarted
+from .refusals import KarzhoulError, NoSuchManager, ProgramEnded, Refused, Restarted
 from .transactions import Attempt, EntityTransaction, attempts
 
 if TYPE_CHECKING:
@@ -54,8 +54,8 @@ class EntityManager(Queries, AbstractContextManager["EntityManager"]):
         finally:
             try:
                 carried_out(self.close)
-            except (ProgramEnded, Restarted):
-                pass  # A manager ends with its program.
+            except (NoSuchManager, ProgramEnded, Restarted):
+                pass  # It was closed in the block, or has ended with its program.
             except KarzhoulError:
                 if kind is None:
                     raise

@@ -1,8 +1,9 @@
 """What an opening with a mapping would change in a store of another revision, told from the store's
 cells before anything is written.
 
-It knows the cells that such a mapping drops, moves and fills. Whether the rows are otherwise those
-that the mapping writes, only the program knows: `command.run_migrate` asks it over a copy.
+It knows the cells that such a mapping drops, moves and fills, and which cells its rows have then.
+Whether the rows are otherwise those that the mapping writes, only the program knows:
+`command.run_migrate` asks it over a copy.
 """
 
 from __future__ import annotations
@@ -17,6 +18,7 @@ from typing import Any, Dict, Iterator, List, Mapping, Optional, Tuple
 from urllib.parse import quote
 
 from .converters import Plain, column_value, is_converter, value_of
+from .damage import Column, columns_of, damage
 
 Cells = Dict[int, bytes]
 
@@ -79,6 +81,7 @@ class EntityChanges:
     are, how many are written again, and for each change how many of them it concerns."""
 
     name: str
+    columns: Mapping[int, Column]
     filled: List[Filled]
     moved: List[Moved]
     dropped: List[Dropped]
@@ -152,7 +155,7 @@ def _hierarchies(mapping: Mapping[str, Any]) -> List[_Hierarchy]:
         moved = [_moved(attribute) for attribute in attributes if "was" in attribute]
         dropped = list(map(Dropped, chain[0].get("dropped", ())))
         hierarchy = found.setdefault(chain[0]["table"], _Hierarchy(chain[0]["table"], {}, {}))
-        changes = EntityChanges(name, filled, moved, dropped)
+        changes = EntityChanges(name, columns_of(chain), filled, moved, dropped)
         hierarchy.entities[cell_of(entity.get("discriminator", name))] = changes
         hierarchy.taken.update({each.column: each.name for each in filled})
         hierarchy.taken.update({each.column: each.name for each in moved})
@@ -213,8 +216,8 @@ def outlook(mapping: Mapping[str, Any], store: Path) -> Outlook:
     with opened_to_read(store) as connection:
         cells = _Cells(connection)
         found = _revisions(mapping, cells)
-        if found.is_due:
-            _migrated(found, mapping, cells)
+        if not found.refused:
+            _judged(found, mapping, cells)
     return found
 
 
@@ -257,24 +260,30 @@ def _revisions(mapping: Mapping[str, Any], store: _Cells) -> Outlook:
     return found
 
 
-def _migrated(found: Outlook, mapping: Mapping[str, Any], store: _Cells) -> None:
-    """Adds what becomes of the rows, and the two statements that write the revision's row."""
-    found.statements = 2
+def _judged(found: Outlook, mapping: Mapping[str, Any], store: _Cells) -> None:
+    """Adds what is seen of the rows: those that keep it from opening and, of a migration, what
+    becomes of the others, with the two statements that write the revision's row."""
     hierarchies = _hierarchies(mapping)
-    by_name = {each.name: each for some in hierarchies for each in some.entities.values()}
-    found.entities = [by_name[entity["name"]] for entity in mapping["entities"]]
+    if found.is_due:
+        found.statements = 2
+        by_name = {each.name: each for some in hierarchies for each in some.entities.values()}
+        found.entities = [by_name[entity["name"]] for entity in mapping["entities"]]
     for hierarchy in sorted(hierarchies, key=lambda each: each.table):
         for row, cells in store.rows(hierarchy.table):
             entity = hierarchy.entities.get(cells.get(0, b""))
-            why = _damage(hierarchy, cells, entity)
-            if why is None and entity is not None:
-                found.statements += entity.count(cells)
-            elif not found.refused:
+            why = _damage(hierarchy, cells, entity, found.is_due)
+            if why is not None and not found.refused:
                 found.refused.append(f"row {row.hex()} of table {hierarchy.table} {why}")
+            elif why is None and entity is not None and found.is_due:
+                found.statements += entity.count(cells)
 
 
-def _damage(hierarchy: _Hierarchy, cells: Cells, entity: Optional[EntityChanges]) -> Optional[str]:
+def _damage(
+    hierarchy: _Hierarchy, cells: Cells, entity: Optional[EntityChanges], is_due: bool
+) -> Optional[str]:
     taken = next((column for column in sorted(cells) if column in hierarchy.taken), None)
-    if taken is not None:
+    if is_due and taken is not None:
         return f"has a cell in column {taken} already, which {hierarchy.taken[taken]!r} is to have"
-    return "is a row of no entity of the mapping" if entity is None else None
+    if entity is None:
+        return "is a row of no entity of the mapping"
+    return damage(entity.name, entity.columns, entity.after(cells) if is_due else cells)

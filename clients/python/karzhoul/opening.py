@@ -31,7 +31,9 @@ def why_unopened(db: Path) -> str:
         return "it can't be made" + _of_room(db.parent)
     if not db.is_file():
         return "it is no file, but a device or the like"
-    return _of_lock(db) or _of_content(db) or f"it can't be told why{_of_room(db.parent)}"
+    if found := _of_lock(db) or _of_content(db):
+        return found
+    return "it is empty" if db.stat().st_size == 0 else f"it can't be told why{_of_room(db.parent)}"
 
 
 def _of_room(folder: Path) -> str:

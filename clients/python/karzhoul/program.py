@@ -114,6 +114,7 @@ class Program:
 
     def __init__(self, words: Sequence[Words]) -> None:
         self.words, self._errors = words, tempfile.TemporaryFile()
+        self._here = _here
         # In a group of its own, so that Ctrl-C at a terminal interrupts a call and doesn't end the
         # program.
         try:
@@ -141,8 +142,12 @@ class Program:
         `ProgramEnded`, or the refusal that it ended with. A program that doesn't answer within
         so many seconds is ended, and so is one that is interrupted (by a `KeyboardInterrupt`) in
         an exchange that was interrupted before: both are a `GivenUp`."""
+        if self._here is not _here:
+            self.fault = ProgramEnded(None, "it is of the process that this one was forked from")
+        if not self._end.alive:  # As at the interpreter's exit; its files' numbers may be reused.
+            self.fault = self.fault or ProgramEnded(None)
         if self.fault:
-            raise self.fault
+            raise self.fault.with_traceback(None)  # It would grow with each call.
         was_interrupted = exchange.parts is not None
         deadline = None if timeout is None else time.monotonic() + timeout
         try:
@@ -256,6 +261,8 @@ class Program:
         )
 
 
+# What stands for this process: another one in each forked process.
+_here = object()
 # Those that run. No weak set, since its callbacks are of Python.
 _watches: Set[_Process] = set()
 
@@ -284,7 +291,9 @@ def _watch_of(process: _Process) -> _Process:
 
 
 def _let_go() -> None:
-    """In a forked process: it keeps no program running that its parent started."""
+    """In a forked process: it keeps no program running that its parent started, and asks none."""
+    global _here
+    _here = object()
     for watch in list(_watches):
         assert watch.stdin is not None
         watch.stdin.close()

@@ -9,7 +9,7 @@ from .arguments import check_query, item_class, parameter_name
 from .concern import Concern
 from .lines import line_of, spelled, text_spelled
 from .refusals import NoResult, Refused
-from .rewriting import ByKey, by_key, counting, with_lists
+from .rewriting import ByKey, by_key, counting, is_list, with_lists
 from .rows import Names, Page, Row, Rows, as_row, as_rows
 
 if TYPE_CHECKING:
@@ -270,7 +270,8 @@ def _given(params: Params, named: Mapping[str, Any]) -> Dict[str, Any]:
         if isinstance(value, Mapping):
             raise TypeError(f"parameters are handed in by params={{..}}, and not by {name}={{..}}")
         given[name] = value
-    return given
+    # As it is now, whatever becomes of a list while its query is asked for in parts.
+    return {name: list(value) if is_list(value) else value for name, value in given.items()}
 
 
 def _require_class(row: Any, wanted: Type[Any]) -> None:

@@ -4,7 +4,7 @@ the client's own faults."""
 from __future__ import annotations
 
 import re
-from typing import TYPE_CHECKING, ClassVar, Dict, Optional, Tuple, Type
+from typing import TYPE_CHECKING, Any, ClassVar, Dict, Optional, Tuple, Type
 
 if TYPE_CHECKING:
     from .concern import Concern
@@ -14,6 +14,10 @@ if TYPE_CHECKING:
 
 class KarzhoulError(Exception):
     """The base of all exceptions of this package."""
+
+
+class Misused(ValueError):
+    """The words of a command can't be taken; nothing was done."""
 
 
 class ProgramNotFound(KarzhoulError):
@@ -92,6 +96,12 @@ class Refused(KarzhoulError):
         self.detail, self.events, self.line = detail, events, line
         self.later: Tuple[Refused, ...] = ()
 
+    def __reduce__(self) -> Tuple[Any, ...]:
+        # A copy, as for another process, has no objects, and no factory that could explain it.
+        of_this_process = ("_factory", "_concern")
+        told = {name: it for name, it in vars(self).items() if name not in of_this_process}
+        return _copied, (type(self), self.detail, {**told, "events": ()})
+
     def __init_subclass__(cls, number: Optional[int] = None) -> None:
         if number is not None:
             cls.number = number
@@ -107,6 +117,12 @@ class Refused(KarzhoulError):
         from .explaining import explained
 
         return explained(self, self._factory)
+
+
+def _copied(kind: Type[Refused], detail: Optional[str], told: Dict[str, Any]) -> Refused:
+    made = kind(detail)
+    vars(made).update(told)
+    return made
 
 
 class OutOfMemory(Refused, number=1):

@@ -209,7 +209,8 @@ class Page(Rows):
         self.has_next = len(rows) > size
 
     def __reduce__(self) -> Tuple[Any, ...]:
-        return list, (list(self),)
+        told = (self.number, self.size, self.total, self.has_next)
+        return _page_of, (list(self), self._names, *told)
 
     def _note(self) -> str:
         return f"page {self.number}" + (f" of {self.pages}" if self.pages is not None else "")
@@ -223,6 +224,15 @@ class Page(Rows):
     def pages(self) -> Optional[int]:
         """How many pages there are in all, where the total is known."""
         return None if self.total is None else -(-self.total // self.size)
+
+
+def _page_of(
+    rows: List[Any], names: Names, number: int, size: int, total: Optional[int], has_next: bool
+) -> Page:
+    page = Page((), names, number, size, total)
+    page += rows
+    page.has_next = has_next
+    return page
 
 
 def as_row(row: Any, names: Names) -> Any:

@@ -22,7 +22,7 @@ from .jpql_check import BYTES, INT, TEXT, Kind, check
 from .linter import lint
 from .opening import why_unopened
 from .records import bare
-from .refusals import KarzhoulError, ProgramEnded, Refused, StoreFault, refusal_of
+from .refusals import KarzhoulError, Misused, ProgramEnded, Refused, StoreFault, refusal_of
 from .refusals import Mapping as MappingRefused
 from .rows import Names
 from .show import grid, value_text
@@ -38,11 +38,17 @@ code="7" for a text of digits, scan={"hex":"0aff"} for bytes"""
 
 
 def add_command(commands: Any, takes: List[argparse.ArgumentParser]) -> None:
-    """Adds the command, which takes a mapping and a database, to those of `karzhoul`."""
+    """Adds the command to those of `karzhoul`."""
     asked = commands.add_parser(
-        "query", parents=takes, help="print what a SELECT finds", description=_QUERY
+        "query", parents=takes, help="print what a SELECT finds", description=_QUERY,
+        usage="karzhoul query [options] [MAPPING] DB SELECT",
     )
-    asked.add_argument("text", help="the SELECT, in quotes")
+    asked.add_argument(
+        "words", nargs="+", metavar="MAPPING DB SELECT", type=str,
+        help="the mapping file (else that of --mapping), the database file, and the SELECT, in "
+        "quotes",
+    )
+    asked.add_argument("--mapping", help="the mapping file (else mapping.json)")
     asked.add_argument("--param", action="append", default=[], metavar="NAME=VALUE", help=_PARAM)
     form = asked.add_mutually_exclusive_group()
     form.add_argument("--json", action="store_true", help="each row as a line of JSON")
@@ -56,6 +62,7 @@ def add_command(commands: Any, takes: List[argparse.ArgumentParser]) -> None:
 
 def run_query(said: argparse.Namespace) -> int:
     """Prints the rows that a SELECT finds; a query that is refused is told with its mistakes."""
+    _take_words(said)
     data = Path(said.mapping).read_bytes()
     findings = lint(data).findings
     for finding in findings:
@@ -78,6 +85,19 @@ def run_query(said: argparse.Namespace) -> int:
         print("\n  ".join([f"karzhoul: {refused}", *told]), file=sys.stderr)
         return REFUSED
     return 0
+
+
+def _take_words(said: argparse.Namespace) -> None:
+    """Names what the words of the command are."""
+    words = list(said.words)
+    if len(words) == 3 and said.mapping is None:
+        said.mapping = words.pop(0)
+    if len(words) != 2:
+        raise Misused("a query takes a mapping file, a database file and a SELECT in quotes")
+    said.mapping = said.mapping or "mapping.json"
+    said.db, said.text = words
+    if not os.path.exists(said.mapping):
+        raise FileNotFoundError(f"there is no mapping {said.mapping}: --mapping names another one")
 
 
 def _write(said: argparse.Namespace, query: _Query) -> None:
@@ -236,7 +256,7 @@ def _as_file(mapping: str, data: bytes) -> Iterator[str]:
 def _param(word: str) -> Tuple[str, Any]:
     name, mark, text = word.partition("=")
     if not mark or not name:
-        raise ValueError(f"{word!r} is no parameter: write NAME=VALUE")
+        raise Misused(f"{word!r} is no parameter: write NAME=VALUE")
     return name.lstrip(":?"), _value(text)
 
 

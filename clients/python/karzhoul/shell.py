@@ -15,7 +15,9 @@ from .concern import Concern
 from .entities import Entity, Event
 from .factory import EntityManagerFactory
 from .lines import CALLS, FlushModeType, LifecycleEvent, LockModeType, spelled, text_spelled
-from .refusals import KarzhoulError, ProgramEnded, Refused, Rollback, TransactionRequired
+from .refusals import (
+    KarzhoulError, NoSuchObject, ProgramEnded, Refused, Rollback, TransactionRequired,
+)
 from .show import value_text
 from .unit import MemberKind, entities_of
 
@@ -150,11 +152,17 @@ class Shell:
                 else f"{HELP}\n{', '.join(CALLS)}"
             )
         elif words[0] == "manager" and len(words) == 2 and words[1].isdigit():
-            self._manager = int(words[1])
+            self._go_on_as(int(words[1]))
         elif words[0] in ("quit", "exit"):
             self._ends = True
         else:
             raise Misread(f"{words[0]!r} is no call: 'help' lists them")
+
+    def _go_on_as(self, manager: int) -> None:
+        """Takes another open manager; a closed one, or none, is refused."""
+        with suppress(NoSuchObject):
+            self._app.ask("contains", em=str(manager), object="1")
+        self._manager = manager
 
     @property
     def _concern(self) -> Concern:

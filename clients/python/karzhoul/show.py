@@ -4,22 +4,17 @@ never by the store's cells."""
 from __future__ import annotations
 
 import html
-import itertools
 import json
 from dataclasses import dataclass
-from typing import Any, Dict, Iterable, List, Mapping, Optional, Sequence, Tuple
+from typing import Any, Dict, List, Sequence, Tuple
 
 from .diagram import diagram
 from .entities import Entity
 from .factory import EntityManagerFactory
-from .managers import EntityManager
-from .refusals import NotServed, Refused
 from .unit import EntityDescription, entities_of
 
-Keys = Mapping[str, Sequence[Any]]
 Identity = Tuple[str, Tuple[Any, ...]]
 
-MOST_KEYS = 100_000
 _WIDEST = 40
 _SLICE = 1_000
 
@@ -37,70 +32,36 @@ class Link:
 
 @dataclass
 class Table:
-    """The stored objects of an entity. `note` says how they were found, and what else may be."""
+    """The stored objects of an entity, those of its subclasses apart."""
 
     entity: EntityDescription
     columns: List[str]
     rows: List[List[Any]]
-    note: str
 
     def identity(self, row: Sequence[Any]) -> Identity:
         """The identity of the object in a row, whose key comes first."""
         return self.entity.name, tuple(row[: len(self.entity.key)])
 
 
-def tables(app: EntityManagerFactory, keys: Keys, most: int = MOST_KEYS) -> List[Table]:
-    """The stored objects of each entity, in the mapping's order: those that a query finds, or,
-    where the program serves no queries, those of generated keys, of which at most so many are
-    looked for, and those of the keys that are given."""
-    reader = _Reader(app, keys, most)
+def tables(app: EntityManagerFactory) -> List[Table]:
+    """The stored objects of each entity, in the mapping's order."""
+    reader = _Reader(app)
     return [reader.table(entity) for entity in reader.entities.values()]
 
 
 class _Reader:
-    def __init__(self, app: EntityManagerFactory, keys: Keys, most: int) -> None:
-        self._app, self._keys, self._most = app, keys, most
+    def __init__(self, app: EntityManagerFactory) -> None:
+        self._app = app
         self.entities = entities_of(app.mapping)
         self._em = app.create_entity_manager()
 
     def table(self, entity: EntityDescription) -> Table:
-        objects, note = self._objects(entity)
+        text = f"SELECT e FROM {entity.name} e WHERE TYPE(e) = {entity.name}"
+        objects = self._em.query(text, self._app.entity(entity.name))
         columns = [member.name for member in entity.members]
         values = [self._column(objects, name) for name in columns]
         rows = sorted(map(list, zip(*values)), key=lambda row: _order(row[: len(entity.key)]))
-        return Table(entity, columns, rows, note)
-
-    def _objects(self, entity: EntityDescription) -> Tuple[List[Entity], str]:
-        name = entity.name
-        try:
-            found = self._em.query(
-                f"SELECT e FROM {name} e WHERE TYPE(e) = {name}", self._app.entity(name)
-            )
-            return found, "all that are stored"
-        except NotServed:
-            pass
-        given = list(self._keys.get(name, ()))
-        if not entity.is_generated:
-            note = (
-                "those of the keys that were given"
-                if given
-                else "no keys were given (--key), and the program serves no queries yet"
-            )
-            return self._found(entity, given), note
-        following = next_number(self._em, self._app, entity)
-        last = min(following - 1, self._most)
-        some = f"those of the keys from 1 to {last:,}, of the {following - 1:,} that were given out"
-        return (
-            self._found(entity, itertools.chain(range(1, last + 1), given)),
-            "all that are stored" if last == following - 1 else some,
-        )
-
-    def _found(self, entity: EntityDescription, keys: Iterable[Any]) -> List[Entity]:
-        found: List[Optional[Entity]] = []
-        remaining = iter(keys)
-        for part in iter(lambda: list(itertools.islice(remaining, _SLICE)), []):
-            found += self._em.find_many(self._app.entity(entity.name), part)
-        return [each for each in dict.fromkeys(found) if each is not None]
+        return Table(entity, columns, rows)
 
     def _column(self, objects: List[Entity], name: str) -> List[Any]:
         values: List[Any] = []
@@ -117,20 +78,6 @@ class _Reader:
                 return Link(("object", (value._karzhoul_number,)))
             return Link((known.name, tuple(self._app.get(value, part.name) for part in known.key)))
         return value
-
-
-def next_number(em: EntityManager, app: EntityManagerFactory, entity: EntityDescription) -> int:
-    """The number that the next object of a generated key gets: it is given one in a transaction
-    that is rolled back, so that nothing is stored. All stored objects have lower ones."""
-    transaction = em.transaction().begin()
-    try:
-        probe = app.new(entity.name)
-        em.persist(probe)
-        return int(app.get(probe, entity.key[0].name))
-    except Refused:
-        return 1
-    finally:
-        transaction.rollback()
 
 
 def _order(key: Sequence[Any]) -> List[Tuple[str, Any]]:
@@ -161,7 +108,7 @@ def text_page(shown: Sequence[Table]) -> str:
 def _text_table(table: Table) -> str:
     lines = grid(table.columns, table.rows) if table.rows else []
     count = f"{len(table.rows)} object" + ("" if len(table.rows) == 1 else "s")
-    return "\n".join([f"{table.entity.name}: {count} ({table.note})", *lines, ""])
+    return "\n".join([f"{table.entity.name}: {count} (all that are stored)", *lines, ""])
 
 
 def grid(titles: Sequence[str], rows: Sequence[Sequence[Any]]) -> List[str]:
@@ -246,7 +193,7 @@ def _html_table(table: Table, anchors: Dict[Identity, str]) -> str:
     )
     head = (
         f'<h2 id="{table.entity.name}">{table.entity.name} <span class="note">{len(table.rows)}: '
-        f'{html.escape(table.note)}</span></h2>'
+        f'all that are stored</span></h2>'
     )
     return (
         f'{head}\n<div class="scroll"><table>\n<thead><tr>{heads}</tr></thead>\n<tbody>\n{rows}\n'
@@ -264,33 +211,3 @@ def _html_item(value: Any, anchors: Dict[Identity, str]) -> str:
     said = html.escape(value_text(value))
     anchor = anchors.get(value.identity) if isinstance(value, Link) else None
     return f'<a href="#{anchor}">{said}</a>' if anchor else said
-
-
-def keys_of(
-    given: Sequence[str], entities: Mapping[str, EntityDescription]
-) -> Dict[str, List[Any]]:
-    """The keys that are given as `Entity=7`, `Entity=1..100` or, of several parts,
-    `Entity=[1,"a",{"hex":"0aff"}]`; a text of its own may go without quotes. A `ValueError`
-    where one is none."""
-    keys: Dict[str, List[Any]] = {}
-    for said in given:
-        name, mark, text = said.partition("=")
-        if not mark or name not in entities:
-            raise ValueError(f"{said!r} is no key: write ENTITY=KEY, with an entity of the mapping")
-        keys.setdefault(name, []).extend(_keys(entities[name], text))
-    return keys
-
-
-def _keys(entity: EntityDescription, text: str) -> List[Any]:
-    first, mark, last = text.partition("..")
-    if mark and len(entity.key) == 1 and entity.key[0].type == "int":
-        return list(range(int(first), int(last) + 1))
-    try:
-        said = json.loads(text)
-    except ValueError:
-        said = text
-    return [tuple(map(_part, said if isinstance(said, list) else [said]))]
-
-
-def _part(said: Any) -> Any:
-    return bytes.fromhex(said["hex"]) if isinstance(said, dict) and set(said) == {"hex"} else said

@@ -57,6 +57,8 @@ def text_of(data: bytes) -> str:
 
 def read(text: str) -> Value:
     """The value that a text says; `NoJson` where it says none."""
+    if text.startswith("\ufeff"):
+        raise NoJson("a byte order mark stands in front, which JSON has none of", 0)
     reader = _Reader(text)
     value = reader.value()
     reader.space()

@@ -7,7 +7,7 @@ from types import TracebackType
 from typing import TYPE_CHECKING, Iterator, Optional, Type
 
 from .concern import Concern
-from .interrupts import begin_of_block, carried_out, end_of_block, guard, unguard
+from .interrupts import begin_of_block, carried_out, end_of_block, guard, is_guarded, unguard
 from .lines import line_of
 from .refusals import IllegalState, KarzhoulError, OptimisticLock, ProgramEnded, Restarted, Rollback
 
@@ -41,16 +41,24 @@ class EntityTransaction:
     def commit(self) -> None:
         """Stores the manager's new and changed objects, all or none. After a `Rollback` it is
         rolled back."""
+        self._manager.factory.tell_kept()
         try:
             self._ask("commit")
-        except Rollback as refused:
-            refused._concern = self._manager._concern
-            self._end()
+        except Exception as fault:
+            if isinstance(fault, Rollback):
+                fault._concern = self._manager._concern
+            if isinstance(fault, Rollback) or is_of_callback(fault):
+                self._end()
             raise
         self._end()
 
     def rollback(self) -> None:
         """Gives up what isn't committed; the manager's objects are detached as they are."""
+        try:
+            self._manager.factory.tell_kept()  # Whose refusals aren't those of the rollback.
+        except ProgramEnded:
+            self._end()
+            raise
         try:
             self._ask("rollback")
         except (IllegalState, ProgramEnded, Restarted):  # It is over already.
@@ -71,13 +79,15 @@ class EntityTransaction:
 
     @begin_of_block
     def __enter__(self) -> EntityTransaction:
+        was_guarded = is_guarded(self)
         try:
             guard(self)
             return self.begin()
         except BaseException as fault:
             if not isinstance(fault, KarzhoulError):  # Neither the block is run, nor its end.
                 carried_out(self._roll_back)
-            unguard(self)
+            if not was_guarded:  # Else it is within its own block, which goes on.
+                unguard(self)
             raise
 
     @end_of_block
@@ -101,6 +111,11 @@ class EntityTransaction:
                 self.rollback()
 
 
+def is_of_callback(fault: Optional[BaseException]) -> bool:
+    """Whether a callback raised a fault, whose call was done before."""
+    return fault is not None and "_karzhoul_is_told" in vars(fault)
+
+
 class Attempt:
     """One attempt of `EntityManager.attempts`, whose `with` block is a transaction. Where the block
     is left by a `Rollback` since another manager's commit came first, it is to be made again."""
@@ -108,6 +123,8 @@ class Attempt:
     def __init__(self, transaction: EntityTransaction, is_last: bool) -> None:
         self._transaction, self._is_last = transaction, is_last
         self.is_done = False
+        # The refusal of its commit, after which it is to be made again.
+        self.refused: Optional[Rollback] = None
 
     @begin_of_block
     def __enter__(self) -> EntityTransaction:
@@ -125,19 +142,26 @@ class Attempt:
         except Rollback as refused:
             if not self._is_too_late(refused):
                 raise
+            self.refused = refused
             return True
         self.is_done = fault is None
         return self._is_too_late(fault)
 
     def _is_too_late(self, fault: Optional[BaseException]) -> bool:
         is_stale = isinstance(fault, Rollback) and isinstance(fault.cause, OptimisticLock)
-        return is_stale and not self._is_last
+        return is_stale and not is_of_callback(fault) and not self._is_last
 
 
 def attempts(transaction: EntityTransaction, most: int) -> Iterator[Attempt]:
     """At most so many attempts at a transaction, until one is done."""
     for number in range(1, most + 1):
         attempt = Attempt(transaction, is_last=number == most)
-        yield attempt
+        try:
+            yield attempt
+        except GeneratorExit:
+            # The block was left by a `return` or a `break`, and nothing of it is stored.
+            if attempt.refused is not None:
+                raise attempt.refused from None
+            raise
         if attempt.is_done:
             return

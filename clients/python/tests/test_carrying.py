@@ -95,7 +95,7 @@ class Dumps(Carrying):
         self.assertEqual(len(linked.splitlines()), 2 + 3 + 2 + 5 + 9)
         status, _, err = self.ran("dump", self.db, "--query", "SELECT o.id FROM Order o")
         self.assertEqual((status, "select a variable" in err), (4, True))
-        self.assertEqual(self.ran("dump", self.db, "--linked")[0], 4)
+        self.assertEqual(self.ran("dump", self.db, "--linked")[0], 2)
         status, _, err = self.ran("dump", self.db, "--query", "SELECT o FROM Ordr o")
         self.assertEqual(status, 4)
         self.assertIn("the query is refused: IllegalArgument(typing)\n  1:15: Ordr: ", err)
@@ -181,7 +181,7 @@ class Csv(Carrying):
         why = self.refused(self.db, "customer,like\n1,x\n", "--csv", "Order")[0]
         self.assertEqual(why, "file:2: like is to be a list of keys, as [1, 2], and is 'x'")
         self.assertFalse(self.db.exists())
-        self.assertEqual(self.ran("load", self.db, "x", "--csv", "Nobody")[0], 4)
+        self.assertEqual(self.ran("load", self.db, "x", "--csv", "Nobody")[0], 2)
 
 
 @needs_program

@@ -429,6 +429,7 @@ class Marks(unittest.TestCase):
             with self.assertRaises(karzhoul.Mapping) as raised:
                 karzhoul.open(path, program=PROGRAM)
             self.assertEqual(raised.exception.detail, "json")
+            self.assertIn("1:1: $: a byte order mark stands in front", raised.exception.faults[0])
 
 
 class Lost(unittest.TestCase):

@@ -91,9 +91,7 @@ class WithStore(FolderTest):
 class Show(WithStore):
     def test_tables(self) -> None:
         before = Path(self.db).read_bytes()
-        status, out, err = self.over(
-            "show", self.db, "--key", "Order=1..10", "--key", 'Place=[1,"a",{"hex":"0a"}]'
-        )
+        status, out, err = self.over("show", self.db)
         self.assertEqual((status, err), (0, ""))
         wanted = [
             "Person: 4 objects (all that are stored)",
@@ -104,18 +102,17 @@ class Show(WithStore):
             " 3 |       0 | <b>&\\n",
             f" 4 |       0 | {'é' * 39}…",
             "",
-            "Place: 1 object (those of the keys that were given)",
+            "Place: 1 object (all that are stored)",
             "at.row | at.shelf | at.tag | label | scan  | mood",
             "-------+----------+--------+-------+-------+-----",
             "     1 | a        | x'0a'  | x     | x'ff' | null",
             "",
-            "Order: 1 object (those of the keys that were given)",
+            "Order: 1 object (all that are stored)",
             "number | amount",
             "-------+-------",
             "     7 |     -3",
         ]
-        if "no queries yet" in self.over("show", self.db)[1]:
-            self.assertEqual(out.splitlines(), wanted)
+        self.assertEqual(out.splitlines(), wanted)
         self.assertEqual(Path(self.db).read_bytes(), before)
 
     def test_all_generated_keys_are_found_also_after_gaps(self) -> None:
@@ -127,19 +124,12 @@ class Show(WithStore):
                     em.persist(app.new("Person"))
                 transaction.commit() if is_kept else transaction.rollback()
         with karzhoul.open(self.mapping, self.db, program=PROGRAM) as app:
-            persons = show.tables(app, {})[0]
+            persons = show.tables(app)[0]
             self.assertEqual([row[0] for row in persons.rows], [1, 2, 3, 4, *range(25, 45)])
-            self.assertEqual(persons.note, "all that are stored")
-            some = show.tables(app, {"Person": [30]}, most=3)[0]
-            if some.note != "all that are stored":
-                self.assertEqual([row[0] for row in some.rows], [1, 2, 3, 30])
-                self.assertEqual(
-                    some.note, "those of the keys from 1 to 3, of the 45 that were given out"
-                )
 
     def test_the_page(self) -> None:
         page = str(self.place / "page.html")
-        status, out, _ = self.over("show", self.db, "--html", page, "--key", "Order=7")
+        status, out, _ = self.over("show", self.db, "--html", page)
         self.assertEqual((status, out.split(":")[0]), (0, page))
         text = Path(page).read_text(encoding="utf-8")
         parsed = Page(text)
@@ -197,8 +187,6 @@ class Show(WithStore):
 
     def test_what_can_not_be_shown(self) -> None:
         self.assertEqual(self.over("show", str(self.place / "none.db"))[0], 4)
-        status, _, err = self.over("show", self.db, "--key", "Nobody=1")
-        self.assertEqual((status, "is no key" in err), (4, True))
         Path(self.mapping).write_text("{}", encoding="utf-8")
         status, _, err = self.over("show", self.db)
         self.assertEqual((status, "Mapping(shape)" in err), (4, True))
@@ -235,7 +223,7 @@ class Queried(unittest.TestCase):
             ),
             persons,
         ) as app:
-            shown = show.tables(app, {})
+            shown = show.tables(app)
         text = show.text_page(shown)
         self.assertIn(" 1 |       0 | Ada  | [Order 10]", text)
         self.assertIn("    10 |      5 | Person 1", text)
@@ -265,19 +253,6 @@ class Diagram(unittest.TestCase):
         self.assertEqual(len(list(drawn.iter("{http://www.w3.org/2000/svg}rect"))), 23)
         self.assertEqual(len(list(drawn.iter("{http://www.w3.org/2000/svg}title"))), 20)
         ElementTree.fromstring(diagram([]))
-
-
-class Keys(unittest.TestCase):
-    def test_keys_as_they_are_typed(self) -> None:
-        entities = entities_of(PERSONS)
-        given = ["Order=1..3", "Order=-7", 'Place=[1,"a",{"hex":"0aff"}]', "Person=x"]
-        self.assertEqual(
-            show.keys_of(given, entities),
-            {"Order": [1, 2, 3, (-7,)], "Place": [(1, "a", b"\x0a\xff")], "Person": [("x",)]},
-        )
-        for wrong in ("Order", "Nobody=1", "Order=a..b"):
-            with self.assertRaises(ValueError):
-                show.keys_of([wrong], entities)
 
 
 class CheckAlone(FolderTest):

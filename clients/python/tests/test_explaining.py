@@ -87,6 +87,38 @@ class Explained(ProgramTest):
         told = self.explains(self.app.set, self.Order(), "amount", self.Person())
         self.assertEqual(told, "Order.amount is a whole number, and not a Person")
 
+    def test_members_of_another_sort(self) -> None:
+        told = self.explains(self.app.ask, "set", object="1", name='"name"', value="7")
+        self.assertEqual(told, "No object has this number.")
+        number = self.Place()._karzhoul_number
+        told = self.explains(self.app.ask, "add", object=str(number), name='"label"', member="1")
+        self.assertEqual(told, "Place.label is no collection")
+
+    def test_keys(self) -> None:
+        for key, told in (
+            ("1", "Person.id is a whole number, and not '1'"),
+            ((1, 2), "the key of Person is id: 2 values were given"),
+        ):
+            self.assertEqual(self.explains(self.em.find, "Person", key), told)
+        told = self.explains(self.em.find, "Place", (1, 2, b""))
+        self.assertEqual(told, "Place.at.shelf is a text, and not 2")
+        person = self.committed(name="Ada")
+        told = self.explains(self.app.set, person, "id", 7)
+        self.assertEqual(told, "Person.id can't be set: the object is not new any more")
+
+    def test_states(self) -> None:
+        told = self.explains(self.em.transaction().commit)
+        self.assertIn("is not open: begin one first", told)
+        with self.em.transaction():
+            told = self.explains(self.em.transaction().begin)
+            self.assertIn("is open already", told)
+        told = self.explains(self.em.query, "DELETE FROM Person p")
+        self.assertIn("done by execute_update", told)
+        self.assertIn("another mapping's", karzhoul.Damaged("1:07").explain())
+        self.assertIn("rows together", karzhoul.Damaged("0:").explain())
+        self.assertIn("another revision", karzhoul.Damaged("0:018000000000000000").explain())
+        self.assertIn("65,535", karzhoul.Limit(line='{"call":"set"}').explain())
+
     @unittest.skipUnless(hasattr(Exception, "add_note"), "a Python that tells no notes")
     def test_a_traceback_tells_that_more_is_known(self) -> None:
         for _ in range(2):
@@ -315,7 +347,7 @@ class Flushed(unittest.TestCase):
         with self.app.pipeline():
             em = self.app.create_entity_manager()
             self.app.set(self.Person(), "name", "Ada")
-            meaning = " ".join(str(karzhoul.Persistence.__doc__).split())
+            meaning = "A required member is null."
             self.assertEqual(raised.exception.explain(), meaning)
         self.app.close()
         self.assertEqual(raised.exception.explain(), meaning)

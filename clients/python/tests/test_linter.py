@@ -273,6 +273,11 @@ class Places(unittest.TestCase):
         (finding,) = lint(b'{"revision":1,\n  "entities":[}').findings
         self.assertEqual((finding.line, finding.column), (2, 15))
         self.assertEqual(str(finding), "2:15: $: a value is missing [Mapping(json)]")
+        attribute = '{"name":"n","type":"int","column":1,"nam":2}'
+        entity = '{"name":"A","table":1,"key":[{"name":"i","type":"int"}],"attributes":'
+        entity += f"[{attribute}]}}"
+        (finding,) = lint(f'{{"revision":1,"entities":[{entity}]}}'.encode()).findings
+        self.assertIn("an attribute has no member 'nam'", str(finding))
 
 
 # ---- against the program

@@ -66,6 +66,7 @@ class WithStore(FolderTest):
         return status, out.splitlines(), err
 
 
+ONE_AND_ONE = "the store is of revision 1, and the mapping of revision 1"
 PERSON_STORE = [
     "the store is of revision 1, and the mapping of revision 2",
     "Person: 1 row, 1 written again",
@@ -174,8 +175,10 @@ class Told(WithStore):
         ]
         self.assertEqual(self.told("--dry-run"), (0, nothing, ""))
         self.assertFalse(outlook(mapping, self.db).is_due)
-        self.assertEqual(self.told("--copy", str(self.place / "copy.db")), (0, nothing, ""))
-        self.assertFalse((self.place / "copy.db").exists())
+        copy = self.place / "copy.db"
+        nothing.append(f"{copy} was not made, since nothing is to be brought over")
+        self.assertEqual(self.told("--copy", str(copy)), (0, nothing, ""))
+        self.assertFalse(copy.exists())
 
     def test_a_mapping_of_revision_1(self) -> None:
         self.laid("migrate-person-store")
@@ -185,6 +188,37 @@ class Told(WithStore):
             "an opening would write nothing",
         ]
         self.assertEqual(self.told("--dry-run"), (0, nothing, ""))
+
+
+    def test_a_mapping_that_is_not_the_store_s(self) -> None:
+        self.laid("migrate-person-store")
+        row, ada = "row 018000000000000001 of table 1", "Person.name"
+        for changes, why in (
+            ({"name": "Human"}, "is a row of no entity of the mapping"),
+            ({"attributes": []}, "has a cell in column 2, which no member of Person has"),
+            (
+                {"attributes": [{"name": "name", "type": "int", "column": 2}]},
+                f"has a text in column 2, and {ada} is a whole number",
+            ),
+            (
+                {
+                    "attributes": [
+                        {"name": "name", "type": "text", "column": 2},
+                        {"name": "nick", "type": "text", "column": 3, "required": True},
+                    ]
+                },
+                "has nothing in column 3, and Person.nick is needed",
+            ),
+            (
+                {"version": {"name": "version", "column": 5}},
+                "has a cell in column 1, which no member of Person has",
+            ),
+        ):
+            mapping = json.loads(json.dumps(PERSONS))
+            mapping["entities"][0].update(changes)
+            self.mapping.write_text(json.dumps(mapping), encoding="utf-8")
+            told = f"an opening would be refused: {row} {why}"
+            self.assertEqual(self.told("--dry-run")[:2], (3, [ONE_AND_ONE, told]), changes)
 
 
 class Refused(WithStore):

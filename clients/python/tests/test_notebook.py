@@ -28,7 +28,7 @@ CELLS = [
 Person = app.entity("Person")
 manager = app.create_entity_manager()
 with manager.transaction():
-    manager.persist_all([Person(name=f"p{{n}}") for n in range(100)])
+    manager.persist_all([Person(name=f"p{{n}}") for n in range(200)])
 transaction = manager.transaction().begin()
 manager.persist(Person(name="not committed"))''',
     '''late(0.3)
@@ -153,7 +153,7 @@ class Interrupted(unittest.TestCase):
             env={**os.environ, "PYTHONDONTWRITEBYTECODE": "1"},
         )
         self.assertEqual(ran.stderr, "")
-        self.assertEqual(ran.stdout.split("\n"), ["interrupted", "[101]", "interrupted", "101", ""])
+        self.assertEqual(ran.stdout.split("\n"), ["interrupted", "[201]", "interrupted", "201", ""])
 
 
 if __name__ == "__main__":

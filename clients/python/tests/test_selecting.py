@@ -135,7 +135,7 @@ class Ways(unittest.TestCase):
         self.prints([NAMED, "--param", ':name="Ada"', "--json"], "1")
         self.prints([SCANS, "--param", '?1={"hex":"ff"}', "--csv"], "scan,label", "ff,x")
         status, _, err = self.played(CASES, NAMED, "--param", "name")
-        self.assertEqual((status, err), (4, "karzhoul: 'name' is no parameter: write NAME=VALUE\n"))
+        self.assertEqual((status, err), (2, "karzhoul: 'name' is no parameter: write NAME=VALUE\n"))
 
     def test_what_is_refused(self) -> None:
         self.fails(
@@ -163,7 +163,7 @@ class Ways(unittest.TestCase):
 
     def test_what_goes_wrong(self) -> None:
         for told, status, wanted in (
-            ("jpa: StoreFault", 3, "karzhoul: StoreFault: {db} can't be opened: it can't be told"),
+            ("jpa: StoreFault", 3, "karzhoul: StoreFault: {db} can't be opened: it is empty"),
             ("jpa: Mapping(model)", 2, "karzhoul: Mapping(model)"),
             ("jpa: Damaged(1:07)", 3, "karzhoul: Damaged(1:07)"),
             ("error: no", 2, "karzhoul: the program ended with status 2: error: no"),
@@ -172,6 +172,22 @@ class Ways(unittest.TestCase):
             found = self.played(cases, PLACES)
             self.assertNotEqual(found[0], 0)
             self.assertTrue(found[2].startswith(wanted.format(db=self.db)), found[2])
+
+    def test_how_its_words_are_taken(self) -> None:
+        mapping, db = str(self.mapping), str(self.db)
+        self.db.touch()
+        path = self.place / "queries.json"
+        path.write_text(json.dumps(CASES), encoding="utf-8")
+        head = ["query", "--program", str(self.stub)]
+        for words, wanted in (
+            ([mapping, db, ALL], 0), (["--mapping", mapping, db, ALL], 0),
+            ([db, ALL, "--mapping", mapping], 0), ([db], 2), ([mapping, db, ALL, "more"], 2),
+            (["--mapping", mapping, mapping, db, ALL], 2), ([db, ALL], 4),
+        ):
+            out, err = io.StringIO(), io.StringIO()
+            with mock.patch.dict(os.environ, KARZHOUL_QUERIES=str(path)):
+                with contextlib.redirect_stdout(out), contextlib.redirect_stderr(err):
+                    self.assertEqual(main([*head, *words]), wanted, words)
 
     def test_files(self) -> None:
         found = self.ran(self.stub, PLACES)

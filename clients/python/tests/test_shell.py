@@ -68,6 +68,11 @@ class Statements(unittest.TestCase):
             "1 row",
         ])
 
+    def test_another_manager_is_one_that_is_open(self) -> None:
+        told = self.says("manager 99", "begin", "createEntityManager", "manager 2", "commit")
+        wanted = ["refused: NoSuchManager", "  No open manager has this number."]
+        self.assertEqual(told, [*wanted, "done", "3", "done"])
+
     def test_an_object_is_shown_with_all_its_members(self) -> None:
         shown = ["#5 Person 1", "  id       1", "  version  0", "  name     Ada"]
         shown += ["  orders   [#6 Order 1, #7 Order 2]", "  last     null"]

@@ -118,7 +118,7 @@ class Shape:
     def _object(self, name: str, path: Path, value: Value) -> None:
         form = FORMS[name]
         if not isinstance(value.data, dict):
-            self._tell(path, value, f"a {form.what} is an object")
+            self._tell(path, value, f"{_one(form.what)} is an object")
             return
         checks = {member.rstrip("?"): check for member, check in form.members.items()}
         for member, item in value.data.items():
@@ -128,7 +128,7 @@ class Shape:
                 self._tell(
                     (*path, member),
                     item,
-                    f"a {form.what} has no member {member!r}; it may have {', '.join(checks)}",
+                    f"{_one(form.what)} has no member {member!r}; it may have {', '.join(checks)}",
                 )
         for member in form.members:
             if not member.endswith("?") and member not in value.data:
@@ -152,3 +152,7 @@ class Shape:
 
     def _tell(self, path: Path, value: Value, message: str) -> None:
         self._teller.tell(Fault.SHAPE, path, value, message)
+
+
+def _one(what: str) -> str:
+    return f"{'an' if what[0] in 'aeiou' else 'a'} {what}"
