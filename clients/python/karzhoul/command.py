@@ -33,7 +33,12 @@ def main(words: Optional[List[str]] = None) -> int:
     if not (sys.argv[1:] if words is None else words):
         parser.print_help(sys.stderr)
         return MISSAID
-    said = parser.parse_args(words)
+    said, left = parser.parse_known_args(words)
+    # Words of a query that stand behind an option.
+    if left and (not hasattr(said, "words") or any(word.startswith("-") for word in left)):
+        parser.error(f"unrecognized arguments: {' '.join(left)}")
+    if left:
+        said.words += left
     try:
         status = int(said.run(said))
         sys.stdout.flush()

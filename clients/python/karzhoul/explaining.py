@@ -85,7 +85,8 @@ def _of_key(
     """What keeps values from being a key of an entity."""
     parts = entity.key
     if not isinstance(given, list) or len(given) != len(parts):
-        count = f"{len(given)} values were" if isinstance(given, list) else "none was"
+        many = len(given) if isinstance(given, list) else 0
+        count = "1 value was" if many == 1 else f"{many or 'no'} values were"
         yield f"the key of {entity.name} is {', '.join(part.name for part in parts)}: {count} given"
         return
     for part, value in zip(parts, given):

@@ -10,6 +10,7 @@ import tempfile
 import threading
 from collections import deque
 from contextlib import AbstractContextManager, closing, contextmanager, nullcontext, suppress
+from copy import copy
 from pathlib import Path
 from time import perf_counter
 from types import FrameType
@@ -48,6 +49,7 @@ _MANAGER = re.compile(rb'"em":([0-9]+)')
 _REPLIES = Program.replies.__code__
 # Where the code is that reads replies.
 _READERS = {os.path.dirname(__file__), os.path.dirname(json.__file__)}
+_EVENTS = {kind.value: kind for kind in LifecycleEvent}
 _set_number = Entity.__dict__["_karzhoul_number"].__set__
 
 
@@ -201,12 +203,17 @@ class EntityManagerFactory(AbstractContextManager["EntityManagerFactory"]):
 
     def close(self) -> None:
         """Ends the program; what isn't committed is gone. Again it does nothing. A call that was
-        interrupted may take ten seconds more."""
-        with self._lock, closing(self.program):
-            try:
-                self._settle(10)
-            finally:
-                self._calls = None
+        interrupted may take ten seconds more. Within another call of its thread, as of a handler of
+        a signal, it ends the program at once, and that call is `ProgramEnded`."""
+        with self._lock:
+            if self._is_within():  # The call that waits is told of the end.
+                self.program.stop()
+                return
+            with closing(self.program):
+                try:
+                    self._settle(10)
+                finally:
+                    self._calls = None
 
     def restart(self) -> None:
         """Opens the program again over its file, as after a `GivenUp`, a `ProgramEnded`, or where a
@@ -458,7 +465,7 @@ class EntityManagerFactory(AbstractContextManager["EntityManagerFactory"]):
         with self._lock:
             is_kept = self._pipeline._is_owned()  # type: ignore[attr-defined]
             if is_kept and self.program.fault:
-                raise self.program.fault.with_traceback(None)
+                raise copy(self.program.fault)
             while (calls := self._calls) is not None:
                 if is_kept and calls.are_kept and calls.parts is None:
                     if more:
@@ -501,7 +508,8 @@ class EntityManagerFactory(AbstractContextManager["EntityManagerFactory"]):
     def tell_kept(self) -> None:
         """Sends what was kept in a pipeline, and raises its first refusal."""
         with self._lock:
-            self._settle()
+            while self._calls:  # As in `ask_lines`.
+                self._settle()
 
     def _settle(self, timeout: Optional[float] = None) -> None:
         """Does what is left: calls that were kept, whose refusals are raised, or those that were
@@ -523,11 +531,17 @@ class EntityManagerFactory(AbstractContextManager["EntityManagerFactory"]):
     def _refuse_within(self) -> None:
         """Refuses a call within another one of its thread that waits for its replies, as of a
         handler of a signal, or of what the collector calls: it would take them."""
+        if self._is_within():
+            raise RuntimeError("reentrant call: another one of this thread waits for its reply")
+
+    def _is_within(self) -> bool:
+        """Whether a call of this thread waits for its replies."""
         frame: Optional[FrameType] = sys._getframe(1)
         while frame is not None:
             if frame.f_code is _REPLIES and frame.f_locals["self"] is self.program:
-                raise RuntimeError("reentrant call: another one of this thread waits for its reply")
+                return True
             frame = frame.f_back
+        return False
 
     def _answers(self, calls: _Calls, timeout: Optional[float] = None) -> List[Any]:
         """The answers to calls, which are over with it. Their events are told first, and then the
@@ -620,7 +634,7 @@ class EntityManagerFactory(AbstractContextManager["EntityManagerFactory"]):
 
     def _event(self, name: str, number: int, *ran: str) -> Event:
         of: Union[Entity, int] = number if self._kinds[number] is None else self._object(number)
-        return Event(LifecycleEvent(name), of, self._kinds.without_marks(ran))
+        return Event(_EVENTS[name], of, self._kinds.without_marks(ran))
 
     def _found(self, answer: Any, kind: Optional[Type[Entity]], line: bytes) -> Any:
         """What an answer says: values, bytes, and objects, which are of this class where theirs

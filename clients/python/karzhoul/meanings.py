@@ -21,7 +21,7 @@ _MEANINGS: Dict[Type[Refused], Dict[str, str]] = {
         "name": "The object has no member of this name that the call takes: a collection is "
         "changed by add and takeOut, and what is none is set.",
         "type": "The value is of another type than the member, or the object is none of the "
-        "relation's target.",
+        "relation's target. Of a merge: what is stored under its key is of another class.",
         "key": "What was handed in is no whole key of the entity, or a key was set of an object "
         "that is not new any more.",
         "version": "The version of an object that is not new any more can't be set.",

@@ -33,7 +33,8 @@ def why_unopened(db: Path) -> str:
         return "it is no file, but a device or the like"
     if found := _of_lock(db) or _of_content(db):
         return found
-    return "it is empty" if db.stat().st_size == 0 else f"it can't be told why{_of_room(db.parent)}"
+    why = "it is empty" if db.stat().st_size == 0 else "it can't be told why"
+    return why + _of_room(db.parent)
 
 
 def _of_room(folder: Path) -> str:

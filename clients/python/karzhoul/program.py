@@ -11,6 +11,7 @@ import tempfile
 import time
 import weakref
 from contextlib import suppress
+from copy import copy
 from subprocess import DEVNULL, PIPE, Popen, TimeoutExpired
 from typing import IO, Iterator, List, NoReturn, Optional, Sequence, Set, Union
 
@@ -147,7 +148,7 @@ class Program:
         if not self._end.alive:  # As at the interpreter's exit; its files' numbers may be reused.
             self.fault = self.fault or ProgramEnded(None)
         if self.fault:
-            raise self.fault.with_traceback(None)  # It would grow with each call.
+            raise copy(self.fault)  # Whose traceback is its own, and no one's before.
         was_interrupted = exchange.parts is not None
         deadline = None if timeout is None else time.monotonic() + timeout
         try:
@@ -238,6 +239,10 @@ class Program:
         ended."""
         self.fault = self.fault or ProgramEnded(None)
         self._end()
+
+    def stop(self) -> None:
+        """Ends the program under a call that waits for its replies, which is told so."""
+        self._process.kill()
 
     def kill(self) -> None:
         """Ends the program at once, with what it runs itself, as where it is being built."""

@@ -92,7 +92,7 @@ def _take_words(said: argparse.Namespace) -> None:
     words = list(said.words)
     if len(words) == 3 and said.mapping is None:
         said.mapping = words.pop(0)
-    if len(words) != 2:
+    if len(words) != 2 or Path(words[1]).is_file():
         raise Misused("a query takes a mapping file, a database file and a SELECT in quotes")
     said.mapping = said.mapping or "mapping.json"
     said.db, said.text = words

@@ -151,7 +151,7 @@ class Shell:
                 if words[1:] and words[1] in CALLS
                 else f"{HELP}\n{', '.join(CALLS)}"
             )
-        elif words[0] == "manager" and len(words) == 2 and words[1].isdigit():
+        elif words[0] == "manager" and len(words) == 2 and words[1].isdecimal():
             self._go_on_as(int(words[1]))
         elif words[0] in ("quit", "exit"):
             self._ends = True

@@ -193,7 +193,7 @@ def _html_table(table: Table, anchors: Dict[Identity, str]) -> str:
     )
     head = (
         f'<h2 id="{table.entity.name}">{table.entity.name} <span class="note">{len(table.rows)}: '
-        f'all that are stored</span></h2>'
+        'all that are stored</span></h2>'
     )
     return (
         f'{head}\n<div class="scroll"><table>\n<thead><tr>{heads}</tr></thead>\n<tbody>\n{rows}\n'

@@ -45,9 +45,10 @@ class EntityTransaction:
         try:
             self._ask("commit")
         except Exception as fault:
-            if isinstance(fault, Rollback):
+            is_told = is_of_callback(fault)  # Then the commit was done.
+            if isinstance(fault, Rollback) and not is_told:
                 fault._concern = self._manager._concern
-            if isinstance(fault, Rollback) or is_of_callback(fault):
+            if isinstance(fault, Rollback) or is_told:
                 self._end()
             raise
         self._end()
@@ -105,10 +106,12 @@ class EntityTransaction:
         """Rolls it back where it is open, and raises no refusal of that: it is over already, or the
         program is, or something else was raised, as of the calls of a pipeline around it."""
         if self.is_active:
-            with suppress(KarzhoulError):
-                self._manager.factory.tell_kept()
-            with suppress(KarzhoulError):
-                self.rollback()
+            try:
+                with suppress(KarzhoulError):
+                    self._manager.factory.tell_kept()
+            finally:  # Also where a callback raises what is no refusal.
+                with suppress(KarzhoulError):
+                    self.rollback()
 
 
 def is_of_callback(fault: Optional[BaseException]) -> bool:

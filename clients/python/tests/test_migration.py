@@ -189,7 +189,6 @@ class Told(WithStore):
         ]
         self.assertEqual(self.told("--dry-run"), (0, nothing, ""))
 
-
     def test_a_mapping_that_is_not_the_store_s(self) -> None:
         self.laid("migrate-person-store")
         row, ada = "row 018000000000000001 of table 1", "Person.name"

@@ -182,7 +182,9 @@ class Ways(unittest.TestCase):
         for words, wanted in (
             ([mapping, db, ALL], 0), (["--mapping", mapping, db, ALL], 0),
             ([db, ALL, "--mapping", mapping], 0), ([db], 2), ([mapping, db, ALL, "more"], 2),
-            (["--mapping", mapping, mapping, db, ALL], 2), ([db, ALL], 4),
+            (["--mapping", mapping, mapping, db, ALL], 2), ([db, ALL], 4), ([mapping, db], 2),
+            ([db, "--mapping", mapping, ALL], 0), ([mapping, db, "--json", ALL], 0),
+            ([mapping, db, "--json", ALL, "more"], 2),
         ):
             out, err = io.StringIO(), io.StringIO()
             with mock.patch.dict(os.environ, KARZHOUL_QUERIES=str(path)):

@@ -1,5 +1,5 @@
-"""What a session keeps whole: calls that come within others, callbacks that call, forks, copies, and
-what is left of objects and refusals where a session has ended."""
+"""What a session keeps whole: calls that come within others, callbacks that call, forks, copies,
+and what is left of objects and refusals where a session has ended."""
 
 from __future__ import annotations
 
@@ -14,12 +14,21 @@ import tempfile
 import traceback
 import unittest
 from pathlib import Path
-from typing import Any, List
+from typing import Any, Callable, List
 
 import karzhoul
 from karzhoul import Event, LifecycleEvent
 
-from .support import HERE, ORDERS, PERSONS, PROGRAM, ManagerTest, ProgramTest, needs_program
+from .support import HERE, ORDERS, PERSONS, PROGRAM, ManagerTest, ProgramTest, needs_program, played
+
+
+def lines_of_end(work: Callable[[], object]) -> List[str]:
+    """The lines of code in the traceback of the program's end, which work meets."""
+    try:
+        work()
+    except karzhoul.ProgramEnded as ended:
+        return [str(frame.line) for frame in traceback.extract_tb(ended.__traceback__)]
+    raise AssertionError("the program didn't end")
 
 
 @needs_program
@@ -79,6 +88,34 @@ class Callbacks(ProgramTest):
 @needs_program
 class Transactions(ManagerTest):
     mapping = ORDERS
+
+    def test_a_callback_that_raises_before_the_commit(self) -> None:
+        Person = self.app.entity("Person")
+
+        def more(event: Event) -> None:
+            if event.object.name == "b":
+                raise LookupError("b")
+            self.em.persist(Person(name="b"))
+
+        self.app.listen(more, LifecycleEvent.PRE_PERSIST)
+        transaction = self.em.transaction()
+        with self.assertRaises(LookupError), self.app.pipeline():
+            transaction.begin()
+            self.em.persist(Person(name="a"))
+            transaction.commit()
+        self.assertTrue(transaction.is_active)
+        transaction.rollback()
+        with self.assertRaises(LookupError), self.app.pipeline(), self.em.transaction() as again:
+            self.em.persist(Person(name="b"))
+        self.assertFalse(again.is_active)
+
+    def test_the_traceback_of_an_end_names_the_call(self) -> None:
+        def work() -> None:
+            with self.app.begin() as em:
+                self.app.program.stop()
+                em.query("SELECT p FROM Person p")
+
+        self.assertIn('em.query("SELECT p FROM Person p")', lines_of_end(work))
 
     def test_an_attempt_that_is_left_by_a_return_tells_its_refusal(self) -> None:
         Person = self.app.entity("Person")
@@ -156,6 +193,27 @@ class Within(ProgramTest):
         self.assertIn("reentrant call", raised[0])
         self.assertEqual(person.name, "Ada")
 
+    def test_a_handler_of_a_signal_may_close(self) -> None:
+        before = signal.signal(signal.SIGALRM, lambda *_: self.app.close())
+        self.addCleanup(signal.signal, signal.SIGALRM, before)
+        with self.em.transaction():
+            self.em.persist_all([self.Person(name=f"p{n}") for n in range(300)])
+        signal.setitimer(signal.ITIMER_REAL, 0.1)
+        text = "SELECT COUNT(p) FROM Person p, Person q, Person r WHERE p.id < q.id AND q.id < r.id"
+        with self.assertRaises(karzhoul.ProgramEnded):
+            self.em.query_single(text)
+
+    def test_an_event_of_another_kind_is_no_reply(self) -> None:
+        script = '> {"call":"createEntityManager"}\n< {"events":[],"ok":1}\n'
+        script += '> {"call":"begin","em":1}\n< {"events":[["PostFoo",1]],"ok":null}\n'
+        script += '> {"call":"begin","em":1}\n< {"events":[],"ok":null}\n'
+        with played(script, PERSONS) as app:
+            em = app.create_entity_manager()
+            app.listen(lambda event: None)
+            with self.assertRaises(LookupError):
+                em.transaction().begin()
+            em.transaction().begin()
+
     def test_a_line_is_one_line(self) -> None:
         with self.assertRaises(ValueError):
             self.app.send_line('{"call":"createEntityManager"}\n')
@@ -211,10 +269,8 @@ class Ended(ProgramTest):
 
     def test_the_traceback_of_an_end_does_not_grow(self) -> None:
         self.app.close()
-        for _ in range(50):
-            with self.assertRaises(karzhoul.ProgramEnded) as raised:
-                self.app.new("Person")
-        self.assertLess(len(traceback.extract_tb(raised.exception.__traceback__)), 20)
+        counts = {len(lines_of_end(lambda: self.app.new("Person"))) for _ in range(50)}
+        self.assertEqual(len(counts), 1)
 
     def test_a_call_at_the_interpreter_s_exit(self) -> None:
         script = f"""
