@@ -43,9 +43,17 @@ def _read(
             of_class.setdefault(type(each), []).append(place)
     for places in of_class.values():
         held = [each for place in places if (each := objects[place]) is not None]
-        for place, value in zip(places, factory.get_many(held, name)):
+        for place, value in zip(places, _values(factory, held, name)):
             values[place] = value
     return values
+
+
+def _values(factory: EntityManagerFactory, held: Sequence[Entity], name: str) -> Sequence[Any]:
+    """The values of a member of objects of one class; an embedded id is the tuple of its parts."""
+    key, parts = held[0]._karzhoul_key
+    if name != key or list(parts) == [name]:
+        return factory.get_many(held, name)
+    return list(zip(*(factory.get_many(held, part) for part in parts)))
 
 
 def _listed(value: Any) -> List[Any]:

@@ -181,6 +181,7 @@ class EmbeddedIds(ProgramTest):
     def test_fetch_of_a_part(self) -> None:
         places = [self.Place(at=(row, "a", b"")) for row in (1, 2)]
         self.assertEqual(self.em.fetch(places, "at.row"), [1, 2])
+        self.assertEqual(self.em.fetch(places, "at"), [tuple(place.at) for place in places])
         mixed = [self.Person(name="Ada"), self.Place(label="x")]
         with self.assertRaises(karzhoul.IllegalArgument):
             self.em.fetch(mixed, "label")
