@@ -36,7 +36,7 @@ class Carrying(FolderTest):
     def written(self, name: str, text: str) -> str:
         """Writes a file of the folder."""
         path = self.place / name
-        path.write_text(text, encoding="utf-8", newline="")
+        path.write_bytes(text.encode())
         return str(path)
 
     def ran(self, command: str, *words: Any) -> Tuple[int, str, str]:
