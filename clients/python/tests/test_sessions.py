@@ -14,12 +14,23 @@ import tempfile
 import traceback
 import unittest
 from pathlib import Path
-from typing import Any, Callable, List
+from typing import Any, Callable, List, Type
+from unittest import mock
 
 import karzhoul
 from karzhoul import Event, LifecycleEvent
 
 from .support import HERE, ORDERS, PERSONS, PROGRAM, ManagerTest, ProgramTest, needs_program, played
+
+
+class Late:
+    """Raises an exception out of this file, as a handler of a signal does."""
+
+    def __init__(self, kind: Type[Exception]) -> None:
+        self.kind = kind
+
+    def __call__(self, *_: object) -> None:
+        raise self.kind("late")
 
 
 def lines_of_end(work: Callable[[], object]) -> List[str]:
@@ -192,6 +203,20 @@ class Within(ProgramTest):
         self.assertEqual(len(raised), 1)
         self.assertIn("reentrant call", raised[0])
         self.assertEqual(person.name, "Ada")
+
+    def test_a_handler_that_raises_loses_no_event(self) -> None:
+        """Whatever it raises, and be it while replies are read."""
+        told: List[Event] = []
+        self.app.listen(told.append, LifecycleEvent.POST_PERSIST)
+        self.em.transaction().begin()
+        ada = self.Person(name="Ada")
+        self.em.persist(ada)
+        for kind in (TimeoutError, ValueError, LookupError):
+            with mock.patch.object(self.app, "_answer", mock.Mock(side_effect=Late(kind))):
+                with self.assertRaises(kind):
+                    self.em.flush()
+            self.assertTrue(self.em.contains(ada))
+        self.assertEqual([event.object for event in told], [ada])
 
     def test_a_handler_of_a_signal_may_close(self) -> None:
         before = signal.signal(signal.SIGALRM, lambda *_: self.app.close())
