@@ -209,14 +209,15 @@ class Within(ProgramTest):
         told: List[Event] = []
         self.app.listen(told.append, LifecycleEvent.POST_PERSIST)
         self.em.transaction().begin()
-        ada = self.Person(name="Ada")
-        self.em.persist(ada)
         for kind in (TimeoutError, ValueError, LookupError):
+            ada = self.Person(name="Ada")
+            self.em.persist(ada)
             with mock.patch.object(self.app, "_answer", mock.Mock(side_effect=Late(kind))):
                 with self.assertRaises(kind):
                     self.em.flush()
             self.assertTrue(self.em.contains(ada))
-        self.assertEqual([event.object for event in told], [ada])
+            self.assertEqual([event.object for event in told], [ada], kind)
+            told.clear()
 
     def test_a_handler_of_a_signal_may_close(self) -> None:
         before = signal.signal(signal.SIGALRM, lambda *_: self.app.close())
@@ -257,8 +258,7 @@ class Within(ProgramTest):
         text = "SELECT p.id FROM Person p WHERE p.id IN :ids"
         for row in self.em.iterate(text, 1, ids=wanted):
             found.append(row)
-            wanted.append(7)
-            wanted.pop(0)
+            wanted.clear()
         self.assertEqual(found, [person.id for person in persons])
 
     @unittest.skipUnless(hasattr(os, "fork"), "a system without forks")
