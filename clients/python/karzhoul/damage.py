@@ -21,7 +21,7 @@ class Column:
     is_needed: bool = False
 
 
-def columns_of(chain: Sequence[Mapping[str, Any]]) -> Dict[int, Column]:
+def row_columns(chain: Sequence[Mapping[str, Any]]) -> Dict[int, Column]:
     """The columns of an entity's rows, of a well-formed mapping: those of its chain of classes, the
     root first."""
     found = {0: Column("its class", _TAGS["text"], True)}

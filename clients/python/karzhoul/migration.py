@@ -18,7 +18,7 @@ from typing import Any, Dict, Iterator, List, Mapping, Optional, Tuple
 from urllib.parse import quote
 
 from .converters import Plain, column_value, is_converter, value_of
-from .damage import Column, columns_of, damage
+from .damage import Column, damage, row_columns
 
 Cells = Dict[int, bytes]
 
@@ -155,7 +155,7 @@ def _hierarchies(mapping: Mapping[str, Any]) -> List[_Hierarchy]:
         moved = [_moved(attribute) for attribute in attributes if "was" in attribute]
         dropped = list(map(Dropped, chain[0].get("dropped", ())))
         hierarchy = found.setdefault(chain[0]["table"], _Hierarchy(chain[0]["table"], {}, {}))
-        changes = EntityChanges(name, columns_of(chain), filled, moved, dropped)
+        changes = EntityChanges(name, row_columns(chain), filled, moved, dropped)
         hierarchy.entities[cell_of(entity.get("discriminator", name))] = changes
         hierarchy.taken.update({each.column: each.name for each in filled})
         hierarchy.taken.update({each.column: each.name for each in moved})
