@@ -16,8 +16,9 @@ use Rattle.jpa_protocol.specs.declared.call.Parameter.{Parameter}
 use Rattle.jpa_value.specs.declared.event.LifecycleEvent.{LifecycleEvent}
 use Rattle.jpa_protocol.specs.declared.reply.Answer.{Answer}
 use Rattle.jpa_protocol.specs.declared.reply.Item.{Item}
+use Rattle.jpa_protocol.specs.declared.reply.Reached.{Reached}
 use Rattle.jpa_json.specs.JsonOf.{text_data}
-use Rattle.jpa_lines.specs.CallOf.{meaning, text_call, call_of, create_of, new_of, set_of, get_of, by_member_of, em_of, em_and_object_of, lock_of, set_flush_mode_of, by_key_of, query_members_of, execute_update_of, given_of, marked_of, hex_of}
+use Rattle.jpa_lines.specs.CallOf.{meaning, text_call, call_of, create_of, new_of, set_of, get_of, by_member_of, em_of, em_and_object_of, lock_of, set_flush_mode_of, by_key_of, query_members_of, execute_update_of, values_of, restart_of, index_of, given_of, marked_of, hex_of}
 use Rattle.jpa_lines.specs.ReplyText.{reply_text}
 use Rattle.jpa_lines.specs.Run.{lines_of}
 
@@ -194,6 +195,32 @@ executes : meaning (codes "{\"call\":\"executeUpdate\",\"em\":1,\"text\":\"DELET
 unfolding is_utf8 chars meaning text_call text_data call_of execute_update_of given_of serde_json_on_literals
 executes = refl
 
+shows : meaning (codes "{\"call\":\"values\",\"objects\":[2,1,2]}") ≡ Ok (Call.Values (pos 2 ∷ pos 1 ∷ pos 2 ∷ []))
+unfolding is_utf8 chars meaning text_call text_data call_of values_of serde_json_on_literals
+shows = refl
+
+-- objects are named by their numbers
+shows_no_value : meaning (codes "{\"call\":\"values\",\"objects\":[{\"object\":2}]}") ≡ Err Cause.BadLine
+unfolding is_utf8 chars meaning text_call text_data call_of values_of serde_json_on_literals
+shows_no_value = refl
+
+waits : meaning (codes "{\"call\":\"pending\",\"em\":1}") ≡ Ok (Call.Pending (pos 1))
+unfolding is_utf8 chars meaning text_call text_data call_of em_of serde_json_on_literals
+waits = refl
+
+restarts : meaning (codes "{\"call\":\"restart\"}") ≡ Ok Call.Restart
+unfolding is_utf8 chars meaning text_call text_data call_of restart_of serde_json_on_literals
+restarts = refl
+
+indexes : meaning (codes "{\"call\":\"index\",\"entity\":\"Title\",\"name\":\"name\"}") ≡ Ok (Call.Index (codes "Title") (codes "name"))
+unfolding is_utf8 chars meaning text_call text_data call_of index_of serde_json_on_literals
+indexes = refl
+
+-- a restart is of no manager
+restarts_none : meaning (codes "{\"call\":\"restart\",\"em\":1}") ≡ Err Cause.BadLine
+unfolding is_utf8 chars meaning text_call text_data call_of restart_of serde_json_on_literals
+restarts_none = refl
+
 -- a bulk statement has no cut
 executes_uncut : meaning (codes "{\"call\":\"executeUpdate\",\"em\":1,\"text\":\"DELETE FROM Person\",\"max\":3}") ≡ Err Cause.BadLine
 unfolding is_utf8 chars meaning text_call text_data call_of execute_update_of serde_json_on_literals
@@ -299,3 +326,11 @@ found_pair = refl
 found_none : reply_text (record { events = []; answer = Ok (Answer.Rows []) }) ≡ codes "{\"events\":[],\"ok\":[]}\n"
 unfolding digits serde_json_on_literals
 found_none = refl
+
+shown : reply_text (record { events = []; answer = Ok (Answer.Shown (record { entity = codes "Company"; relations = Reached.Nothing ∷ Reached.Object 3 ∷ Reached.Key (Value.Int (pos 5) ∷ []) ∷ Reached.Unread ∷ Reached.Objects (4 ∷ []) ∷ []; values = Value.Int (pos 7) ∷ Value.Int (pos 0) ∷ Value.Text (codes "Ada") ∷ Value.Bytes (10 ∷ 255 ∷ []) ∷ [] } ∷ [])) }) ≡ codes "{\"events\":[],\"ok\":[{\"entity\":\"Company\",\"relations\":[null,{\"object\":3},{\"key\":[5]},{\"unread\":true},[{\"object\":4}]],\"values\":[7,0,\"Ada\",{\"hex\":\"0aff\"}]}]}\n"
+unfolding digits encode_with serde_json_on_literals
+shown = refl
+
+due : reply_text (record { events = []; answer = Ok (Answer.Due (record { event = LifecycleEvent.PrePersist; object = 4 } ∷ record { event = LifecycleEvent.PreUpdate; object = 1 } ∷ [])) }) ≡ codes "{\"events\":[],\"ok\":[[\"PrePersist\",4],[\"PreUpdate\",1]]}\n"
+unfolding digits serde_json_on_literals
+due = refl

@@ -11,10 +11,10 @@ use Rattle.serde_json.specs.Written.{items_outline, compact_text}
 use Rattle.serde_json.proofs.Texts.{print-outline}
 use Rattle.jpa_lines.specs.Outcome.{data_tokens, Adds}
 
-added : {E : Type 0} (u : Unit {0}) (old new : Written) (t : Token) → Writes {E = E} (Ok u) old new t → Adds old new (t ∷ [])
+pub added : {E : Type 0} (u : Unit {0}) (old new : Written) (t : Token) → Writes {E = E} (Ok u) old new t → Adds old new (t ∷ [])
 added u old new t w = (w.room.0, w.ok)
 
-adds_both : (a b c : Written) (xs ys : List Token) → Adds a b xs → Adds b c ys → Adds a c (xs ++ ys)
+pub adds_both : (a b c : Written) (xs ys : List Token) → Adds a b xs → Adds b c ys → Adds a c (xs ++ ys)
 adds_both a b c xs ys h k = (k.0 ∙ h.0, k.1 ∙ ap (λ ts. ts ++ ys) h.1 ∙ append_assoc a.tokens xs ys)
 
 -- a list that has begun with these

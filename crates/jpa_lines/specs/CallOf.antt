@@ -13,7 +13,8 @@ use Rattle.jpa_protocol.specs.declared.call.Call.TheVariants.{CreateEntityManage
 use Rattle.jpa_protocol.specs.declared.call.Call.TheVariants.{TakeOut, Begin, Persist, Remove, Refresh, Detach}
 use Rattle.jpa_protocol.specs.declared.call.Call.TheVariants.{Contains, Clear, Close, Flush, Commit, Rollback}
 use Rattle.jpa_protocol.specs.declared.call.Call.TheVariants.{SetRollbackOnly, Merge, Lock, SetFlushMode, Find}
-use Rattle.jpa_protocol.specs.declared.call.Call.TheVariants.{GetReference, Query, QuerySingle, ExecuteUpdate}
+use Rattle.jpa_protocol.specs.declared.call.Call.TheVariants.{GetReference, Query, QuerySingle, ExecuteUpdate, Values}
+use Rattle.jpa_protocol.specs.declared.call.Call.TheVariants.{Pending, Restart, Index}
 use Rattle.jpa_protocol.specs.declared.call.Given.{Given}
 use Rattle.jpa_protocol.specs.declared.call.Given.TheVariants as given
 use Rattle.jpa_protocol.specs.declared.call.FlushMode.{FlushMode}
@@ -248,6 +249,30 @@ execute_update_of d = do
   values ← parameters_at d
   Some (ExecuteUpdate em text values)
 
+-- ---- calls that are this provider's own
+
+-- the call values
+unfoldable pub values_of : Data → Option Call
+values_of d = do
+  all ← guard (count_of d == 2)
+  member ← get (codes "objects") d
+  objects ← list_of integer_of member
+  Some (Values objects)
+
+-- the call restart
+unfoldable pub restart_of : Data → Option Call
+restart_of d = do
+  all ← guard (count_of d == 1)
+  Some Restart
+
+-- the call index
+unfoldable pub index_of : Data → Option Call
+index_of d = do
+  all ← guard (count_of d == 3)
+  entity ← text_at (codes "entity") d
+  name ← text_at (codes "name") d
+  Some (Index entity name)
+
 -- ---- the words
 
 -- the word that names a call
@@ -279,6 +304,10 @@ word_of name =
     else if bytes_eq name (codes "query") then Some word.Query
     else if bytes_eq name (codes "querySingle") then Some word.QuerySingle
     else if bytes_eq name (codes "executeUpdate") then Some word.ExecuteUpdate
+    else if bytes_eq name (codes "values") then Some word.Values
+    else if bytes_eq name (codes "pending") then Some word.Pending
+    else if bytes_eq name (codes "restart") then Some word.Restart
+    else if bytes_eq name (codes "index") then Some word.Index
     else None
 
 -- the call of this word with the members of d
@@ -309,6 +338,10 @@ worded_call word.GetReference d = by_key_of GetReference d
 worded_call word.Query d = of_query_members Query d
 worded_call word.QuerySingle d = of_query_members QuerySingle d
 worded_call word.ExecuteUpdate d = execute_update_of d
+worded_call word.Values d = values_of d
+worded_call word.Pending d = of_em Pending d
+worded_call word.Restart d = restart_of d
+worded_call word.Index d = index_of d
 
 -- the call that JSON means, by its word and its members
 unfoldable pub call_of : Data → Option Call

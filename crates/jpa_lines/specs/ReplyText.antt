@@ -1,5 +1,5 @@
 -- What a reply is as JSON, and its bytes.
-use Rattle.std.specs.Prelude.{ℕ, List, [], ◌∷◌, ◌++◌, map, codes, Option, Some, None, Result, Ok, Err}
+use Rattle.std.specs.Prelude.{ℕ, true, List, [], ◌∷◌, ◌++◌, map, codes, Option, Some, None, Result, Ok, Err}
 use Rattle.hex.specs.Hex.{encode_lower}
 use Rattle.jpa_value.specs.declared.refusal.Refusal.{Refusal}
 use Rattle.jpa_value.specs.declared.value.Value.{Value}
@@ -8,9 +8,13 @@ use Rattle.jpa_value.specs.Refusal.{refusal_name, refusal_number, refusal_detail
 use Rattle.jpa_protocol.specs.declared.event.Told.{Told}
 use Rattle.jpa_protocol.specs.declared.reply.Answer.{Answer}
 use Rattle.jpa_protocol.specs.declared.reply.Answer.TheVariants as answer
+use Rattle.jpa_protocol.specs.declared.reply.Due.{Due}
 use Rattle.jpa_protocol.specs.declared.reply.Item.{Item}
 use Rattle.jpa_protocol.specs.declared.reply.Item.TheVariants as row
+use Rattle.jpa_protocol.specs.declared.reply.Reached.{Reached}
+use Rattle.jpa_protocol.specs.declared.reply.Reached.TheVariants as reached
 use Rattle.jpa_protocol.specs.declared.reply.Reply.{Reply}
+use Rattle.jpa_protocol.specs.declared.reply.Shown.{Shown}
 use Rattle.jpa_value.specs.Event.{event_name}
 use Rattle.serde_json.specs.Data.{Data, null, boolean, number, string, array, object, unsigned, no_items, item, Members}
 use Rattle.serde_json.specs.Data.{member, no_members}
@@ -40,6 +44,28 @@ row_data [] = array no_items
 row_data (x ∷ []) = item_data x
 row_data (x ∷ y ∷ xs) = array (items_of (map item_data (x ∷ y ∷ xs)))
 
+-- values, in their order
+abbrev pub values_data : List Value → Data
+values_data vs = array (items_of (map value_data vs))
+
+-- what a relation holds: null, an object, a key, a list, or that it wasn't read
+abbrev pub reached_data : Reached → Data
+reached_data reached.Nothing = null
+reached_data (reached.Object n) = object_data n
+reached_data (reached.Key vs) = object (member (codes "key") (values_data vs) no_members)
+reached_data (reached.Objects ns) = array (items_of (map object_data ns))
+reached_data reached.Unread = object (member (codes "unread") (boolean true) no_members)
+
+-- what an object holds
+abbrev pub shown_data : Shown → Data
+shown_data x = object (member (codes "entity") (string x.entity)
+    (member (codes "relations") (array (items_of (map reached_data x.relations)))
+    (member (codes "values") (values_data x.values) no_members)))
+
+-- a callback that would run: the event and the object
+abbrev pub due_data : Due → Data
+due_data d = array (item (string (event_name d.event)) (item (number (unsigned d.object)) no_items))
+
 -- an answer
 abbrev pub answer_data : Answer → Data
 answer_data answer.Null = null
@@ -50,6 +76,8 @@ answer_data (answer.Object n) = object_data n
 answer_data (answer.Objects ns) = array (items_of (map object_data ns))
 answer_data (answer.Row xs) = row_data xs
 answer_data (answer.Rows rows) = array (items_of (map row_data rows))
+answer_data (answer.Shown xs) = array (items_of (map shown_data xs))
+answer_data (answer.Due ds) = array (items_of (map due_data ds))
 
 -- the event, the object, and the listeners and callbacks that ran
 abbrev pub event_data : Told → Data

@@ -5,7 +5,7 @@ ghost use Rattle.jpa_protocol.specs.declared.call.Call.{Call};
 ghost use Rattle.jpa_value.specs.declared.refusal.Cause.TheVariants.{OutOfMemory};
 ghost use Rattle.jpa_json.specs.Members.{integer_of};
 ghost use Rattle.jpa_json.specs.Outcome.{Gives, same};
-ghost use Rattle.jpa_lines.specs.CallOf.{integer_at, hex_of, marked_of, given_of, em_of, create_of, new_of, set_of, get_of, by_member_of, em_and_object_of, of_em_and_object, lock_mode_of, lock_of, flush_mode_of, set_flush_mode_of, by_key_of, parameters, parameters_at, optional_integer_at, count_at, query_members_of, of_query_members, execute_update_of, word_of, worded_call, call_of, text_call, meaning};
+ghost use Rattle.jpa_lines.specs.CallOf.{integer_at, hex_of, marked_of, given_of, em_of, create_of, new_of, set_of, get_of, by_member_of, em_and_object_of, of_em_and_object, lock_mode_of, lock_of, flush_mode_of, set_flush_mode_of, by_key_of, parameters, parameters_at, optional_integer_at, count_at, query_members_of, of_query_members, execute_update_of, values_of, restart_of, index_of, word_of, worded_call, call_of, text_call, meaning};
 
 use jpa_json::{Described, Unread, json_of, member, only, or_refuse, str_at, text_at};
 use jpa_protocol::{Call, FlushMode, Given, LockMode, Parameter};
@@ -45,6 +45,10 @@ enum Word {
     Query,
     QuerySingle,
     ExecuteUpdate,
+    Values,
+    Pending,
+    Restart,
+    Index,
 }
 
 /// The call that a line means. A line that is longer than `MOST_LINE_BYTES` is refused as `Limit`,
@@ -108,6 +112,10 @@ fn word_of(name: &str) -> Result<Word, Unread>
         "query" => Ok(Word::Query),
         "querySingle" => Ok(Word::QuerySingle),
         "executeUpdate" => Ok(Word::ExecuteUpdate),
+        "values" => Ok(Word::Values),
+        "pending" => Ok(Word::Pending),
+        "restart" => Ok(Word::Restart),
+        "index" => Ok(Word::Index),
         _ => Err(Unread::Form),
     }
 }
@@ -142,6 +150,10 @@ fn worded_call(alloc: Global, word: Word, json: &Json) -> Result<Call, Unread>
         Word::Query => query_of(alloc, json),
         Word::QuerySingle => query_single_of(alloc, json),
         Word::ExecuteUpdate => execute_update_of(alloc, json),
+        Word::Values => values_of(alloc, json),
+        Word::Pending => Ok(Call::Pending { em: em_of(json)? }),
+        Word::Restart => restart_of(json),
+        Word::Index => index_of(alloc, json),
     }
 }
 
@@ -426,6 +438,33 @@ fn execute_update_of(alloc: Global, json: &Json) -> Result<Call, Unread>
         text,
         parameters,
     })
+}
+
+#[tactic(auto, unfolding(crate::specs::CallOf::values_of))]
+fn values_of(alloc: Global, json: &Json) -> Result<Call, Unread>
+    ensures { Gives same result (values_of (view json.now)) }
+{
+    only(json, 2)?;
+    let objects = <Seq<i64> as Described<Calls>>::read(alloc, member(json, "objects")?)?;
+    Ok(Call::Values { objects })
+}
+
+#[tactic(auto, unfolding(crate::specs::CallOf::restart_of))]
+fn restart_of(json: &Json) -> Result<Call, Unread>
+    ensures { Gives same result (restart_of (view json.now)) }
+{
+    only(json, 1)?;
+    Ok(Call::Restart)
+}
+
+#[tactic(auto, unfolding(crate::specs::CallOf::index_of))]
+fn index_of(alloc: Global, json: &Json) -> Result<Call, Unread>
+    ensures { Gives same result (index_of (view json.now)) }
+{
+    only(json, 3)?;
+    let entity = text_at(alloc, json, "entity")?;
+    let name = text_at(alloc, json, "name")?;
+    Ok(Call::Index { entity, name })
 }
 
 /// How often the member stands there, which is once or not at all: for `only`, where a member may

@@ -2,12 +2,13 @@
 ghost use Rattle.std.specs.Prelude.{◌≡◌, map, Some, None, IfOk, IfErr};
 ghost use Rattle.jpa_value.specs.declared.refusal.Cause.TheVariants.{OutOfMemory};
 ghost use Rattle.jpa_value.specs.declared.value.Value.TheVariants as values;
+ghost use Rattle.jpa_protocol.specs.declared.reply.Reached.TheVariants as reached;
 ghost use Rattle.serde_json.specs.Data.{array};
 ghost use Rattle.serde_json.specs.View.{items_of};
 ghost use Rattle.jpa_lines.specs.Outcome.{Tells, named_data};
-ghost use Rattle.jpa_lines.specs.ReplyText.{value_data, object_data, item_data, row_data, answer_data, event_data, events_data, refusal_data, accepted_data, refused_data, reply_data, reply_text};
+ghost use Rattle.jpa_lines.specs.ReplyText.{value_data, object_data, item_data, row_data, answer_data, values_data, reached_data, shown_data, due_data, event_data, events_data, refusal_data, accepted_data, refused_data, reply_data, reply_text};
 
-use jpa_protocol::{Answer, Item, Reply, Told};
+use jpa_protocol::{Answer, Due, Item, Reached, Reply, Shown, Told};
 use jpa_value::{Cause, Refusal, Seq, Value};
 use json::Writer;
 use std::alloc::Global;
@@ -146,7 +147,109 @@ fn tell_answer(alloc: Global, out: &mut Writer, answer: &Answer) -> Result<(), C
         Answer::Objects(numbers) => tell_objects(out, numbers.as_slice()),
         Answer::Row(items) => tell_row(alloc, out, items.as_slice()),
         Answer::Rows(rows) => tell_rows(alloc, out, rows.as_slice()),
+        Answer::Shown(objects) => tell_all_shown(alloc, out, objects.as_slice()),
+        Answer::Due(events) => tell_dues(out, events.as_slice()),
     }
+}
+
+fn tell_all_shown(alloc: Global, out: &mut Writer, objects: &[Shown]) -> Result<(), Cause>
+    ensures { Tells result out.old out.new (array (items_of (map shown_data objects.now))) }
+{
+    out.begin_array()?;
+    for shown in objects {
+        tell_shown(alloc, out, shown)?;
+    }
+    out.end_array()?;
+    Ok(())
+}
+
+fn tell_shown(alloc: Global, out: &mut Writer, shown: &Shown) -> Result<(), Cause>
+    ensures { Tells result out.old out.new (shown_data shown.now) }
+{
+    out.begin_object()?;
+    out.key("entity")?;
+    out.string(shown.entity.as_str())?;
+    out.key("relations")?;
+    tell_relations(alloc, out, shown.relations.as_slice())?;
+    out.key("values")?;
+    tell_values(alloc, out, shown.values.as_slice())?;
+    out.end_object()?;
+    Ok(())
+}
+
+fn tell_relations(alloc: Global, out: &mut Writer, relations: &[Reached]) -> Result<(), Cause>
+    ensures { Tells result out.old out.new (array (items_of (map reached_data relations.now))) }
+{
+    out.begin_array()?;
+    for reached in relations {
+        tell_reached(alloc, out, reached)?;
+    }
+    out.end_array()?;
+    Ok(())
+}
+
+fn tell_reached(alloc: Global, out: &mut Writer, reached: &Reached) -> Result<(), Cause>
+    ensures { Tells result out.old out.new (reached_data reached.now) }
+{
+    match reached {
+        Reached::Nothing => Ok(out.null()?),
+        Reached::Object(n) => tell_object(out, *n),
+        Reached::Key(key) => tell_key(alloc, out, key.as_slice()),
+        Reached::Objects(numbers) => tell_objects(out, numbers.as_slice()),
+        Reached::Unread => tell_unread(out),
+    }
+}
+
+fn tell_key(alloc: Global, out: &mut Writer, parts: &[Value]) -> Result<(), Cause>
+    ensures { Tells result out.old out.new (reached_data (reached.Key parts.now)) }
+{
+    out.begin_object()?;
+    out.key("key")?;
+    tell_values(alloc, out, parts)?;
+    out.end_object()?;
+    Ok(())
+}
+
+fn tell_unread(out: &mut Writer) -> Result<(), Cause>
+    ensures { Tells result out.old out.new (reached_data reached.Unread) }
+{
+    out.begin_object()?;
+    out.key("unread")?;
+    out.boolean(true)?;
+    out.end_object()?;
+    Ok(())
+}
+
+fn tell_values(alloc: Global, out: &mut Writer, values: &[Value]) -> Result<(), Cause>
+    ensures { Tells result out.old out.new (values_data values.now) }
+{
+    out.begin_array()?;
+    for value in values {
+        tell_value(alloc, out, value)?;
+    }
+    out.end_array()?;
+    Ok(())
+}
+
+fn tell_dues(out: &mut Writer, events: &[Due]) -> Result<(), Cause>
+    ensures { Tells result out.old out.new (array (items_of (map due_data events.now))) }
+{
+    out.begin_array()?;
+    for due in events {
+        tell_due(out, *due)?;
+    }
+    out.end_array()?;
+    Ok(())
+}
+
+fn tell_due(out: &mut Writer, due: Due) -> Result<(), Cause>
+    ensures { Tells result out.old out.new (due_data due) }
+{
+    out.begin_array()?;
+    out.string(due.event.name())?;
+    out.u64(due.object)?;
+    out.end_array()?;
+    Ok(())
 }
 
 fn tell_objects(out: &mut Writer, numbers: &[u64]) -> Result<(), Cause>

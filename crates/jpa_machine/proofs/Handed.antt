@@ -109,6 +109,8 @@ there_holds K (Answer.Object n) w k = k
 there_holds K (Answer.Objects ns) w k = k
 there_holds K (Answer.Row items) w k = k
 there_holds K (Answer.Rows rows) w k = k
+there_holds K (Answer.Shown xs) w k = k
+there_holds K (Answer.Due ds) w k = k
 
 -- with what the steps keep
 module _ {world : World} {P : Work → Type 0} (steps : Steps world P) where

@@ -1,7 +1,7 @@
 -- Each step of the machine is a move of the committed set and of open transactions, so that the law of isolation holds of every run.
 use Rattle.std.proofs.Common.{◌≡◌, ◌≢◌, ◌<◌, inl, inr, ℕ, zero, suc, Bool, true, false, List, [], ◌∷◌, ◌++◌, length, map, refl, ap, sym, subst, ◌∙◌}
-use Rattle.std.specs.Prelude.{◌&&◌, not, Option, Some, None, slice_index_or, slice_set}
-use Rattle.std.proofs.lemmas.Bool.{and_parts, false≢true}
+use Rattle.std.specs.Prelude.{◌&&◌, ◌||◌, not, Option, Some, None, slice_index_or, slice_set}
+use Rattle.std.proofs.lemmas.Bool.{and_parts, false≢true, true≢false}
 use Rattle.std.proofs.Math.Seq.{map-set_same}
 use Rattle.jpa_behaviour.specs.Behaviour.{World, IsRegular}
 use Rattle.jpa_stored.specs.Sets.{StoredSet}
@@ -13,22 +13,22 @@ use Rattle.jpa_flush.specs.Flush.{flush}
 use Rattle.jpa_protocol.specs.declared.call.Call.{Call}
 use Rattle.jpa_protocol.specs.declared.reply.Reply.{Reply}
 use Rattle.jpa_open.specs.Differences.{all_agree, differing, merged}
-use Rattle.jpa_open.specs.Moves.{Snapshot, Move, Creates, Begins, Works, Ends, Commits, Rests, transaction_at, begun_in, begun_of, seen_in, after}
+use Rattle.jpa_open.specs.Moves.{Snapshot, Move, Creates, Begins, Works, Ends, Commits, Restarts, Rests, transaction_at, begun_in, begun_of, seen_in}
 use Rattle.jpa_machine.specs.Going.{HoldsAfter}
 use Rattle.jpa_machine.proofs.Changed.{HasSet}
 use Rattle.jpa_machine.proofs.Instances.{at_work}
 use Rattle.jpa_machine.specs.Machine as machine
-use Rattle.jpa_machine.specs.Machine.{Machine, Manager, Transaction, no_manager, manager_at, has_transaction, begun_set, work_of, marked_in, view}
+use Rattle.jpa_machine.specs.Machine.{Machine, Manager, Transaction, no_manager, manager_at, has_transaction, any_begun, begun_set, work_of, marked_in, view}
 use Rattle.jpa_value.specs.declared.refusal.Refusal.{Refusal}
 use Rattle.jpa_protocol.specs.declared.reply.Answer.{Answer}
 use Rattle.jpa_context.specs.Work.{unlocked}
-use Rattle.std.specs.List.{filter}
+use Rattle.std.specs.List.{filter, list_any}
 use Rattle.jpa_machine.specs.Calls.{accepted, refused, because, marked_if}
 use Rattle.jpa_machine.specs.Transactions.{is_current, locked_ids, commit_work, begun}
-use Rattle.jpa_machine.specs.Routes.{Route, OfManager, ToQuery, ToUpdate, InTransaction, OfObject, ToCreate, ToMake, ToBegin, ToCommit, ToRollBack, ToMark, ToAsk, ToClear, ToSetMode, ToClose, route, commits, holder_in, get_call, set_call, add_call, take_out_call}
+use Rattle.jpa_machine.specs.Routes.{Route, OfManager, ToQuery, ToUpdate, InTransaction, OfObject, ToCreate, ToMake, ToBegin, ToCommit, ToRollBack, ToMark, ToAsk, ToClear, ToSetMode, ToClose, ToRead, ToRestart, route, commits, holder_in, get_call, set_call, add_call, take_out_call}
 use Rattle.jpa_machine.specs.Invariant.{IsMachine, hands_representable}
 use Rattle.jpa_machine.specs.Step.{Step, IsGivenUp}
-use Rattle.jpa_machine.specs.Isolated.{snapshot_of, snapshot_in, scene_of, named_in, is_ok, IsMoveAlong, IsMove, AreMoves, RunsHeld}
+use Rattle.jpa_machine.specs.Isolated.{snapshot_of, snapshot_in, scene_of, named_in, is_ok, IsMoveAlong, IsSomeMove}
 use Rattle.jpa_machine.proofs.AtWork.{IsOpen, IsAtWork, others_of, taken}
 use Rattle.jpa_machine.proofs.Handed.{get_call_goes, add_call_goes, take_out_call_goes, set_call_holds, commit_work_holds}
 use Rattle.jpa_machine.proofs.SameView.{same_view}
@@ -76,8 +76,23 @@ there : (t : Option Transaction) → machine.is_begun t ≡ true → (s : Snapsh
 there None e = absurd (false≢true e)
 there (Some t) e = (record { begun = t.begun; view = t.view }, refl)
 
+closed_none : (t : Option Transaction) → machine.is_begun t ≡ false → snapshot_of t ≡ None
+closed_none None e = refl
+closed_none (Some t) e = absurd (true≢false e)
+
+or_parts : (a b : Bool) → (a || b) ≡ false → (a ≡ false) × (b ≡ false)
+or_parts true b e = absurd (true≢false e)
+or_parts false b e = (refl, e)
+
 none_there : (t : Option Transaction) → t ≡ None → snapshot_of t ≡ None
 none_there t e = ap snapshot_of e
+
+-- where no manager has one open, none has
+none_open : (xs : List Manager) → list_any has_transaction xs ≡ false → (m : ℕ) → snapshot_in (slice_index_or xs m no_manager) ≡ None
+none_open [] e zero = refl
+none_open [] e (suc m) = refl
+none_open (x ∷ xs) e zero = closed_none x.transaction (or_parts (has_transaction x) (list_any has_transaction xs) e).0
+none_open (x ∷ xs) e (suc m) = none_open xs (or_parts (has_transaction x) (list_any has_transaction xs) e).1 m
 
 -- a manager replaced by one with the same sets
 still_scene : (M N : Machine) (m : ℕ) (x : Manager) → N.committed ≡ M.committed → N.managers ≡ slice_set M.managers m x → snapshot_in x ≡ snapshot_in (manager_at M m) → scene_of N ≡ scene_of M
@@ -108,6 +123,8 @@ Known world M (ToAsk em question) m w = Unit {0}
 Known world M (ToClear em) m w = Unit {0}
 Known world M (ToSetMode em mode) m w = Unit {0}
 Known world M (ToClose em) m w = Unit {0}
+Known world M (ToRead question) m w = Unit {0}
+Known world M ToRestart m w = Unit {0}
 
 -- a commit's
 done_there : (o : Outcome (Unit {0})) → HoldsAfter (λ u v. o ≡ Done tt v) o
@@ -159,6 +176,10 @@ module _ {world : World} (M : Machine) (orderly : IsOrderly world.model) (regula
   knows (Call.Contains em object) rep = tt
   knows (Call.Clear em) rep = tt
   knows (Call.SetFlushMode em mode) rep = tt
+  knows (Call.Values objects) rep = tt
+  knows (Call.Pending em) rep = tt
+  knows Call.Restart rep = tt
+  knows (Call.Index entity name) rep = tt
   knows (Call.Query em text parameters first max) rep = λ m o. holds_anyway _
   knows (Call.QuerySingle em text parameters first max) rep = λ m o. holds_anyway _
   knows (Call.ExecuteUpdate em text parameters) rep = λ m e o. holds_anyway _
@@ -193,6 +214,8 @@ known_object world M (ToAsk em question) m w e k = absurd (false≢true e)
 known_object world M (ToClear em) m w e k = absurd (false≢true e)
 known_object world M (ToSetMode em mode) m w e k = absurd (false≢true e)
 known_object world M (ToClose em) m w e k = absurd (false≢true e)
+known_object world M (ToRead question) m w e k = absurd (false≢true e)
+known_object world M ToRestart m w e k = absurd (false≢true e)
 
 known_commit : (world : World) (M : Machine) (r : Route) (m : ℕ) (w : Work) → commits r ≡ true → Known world M r m w → IsCommit world M m w
 known_commit world M (ToCommit em) m w e k = k
@@ -210,6 +233,8 @@ known_commit world M (ToAsk em question) m w e k = absurd (false≢true e)
 known_commit world M (ToClear em) m w e k = absurd (false≢true e)
 known_commit world M (ToSetMode em mode) m w e k = absurd (false≢true e)
 known_commit world M (ToClose em) m w e k = absurd (false≢true e)
+known_commit world M (ToRead question) m w e k = absurd (false≢true e)
+known_commit world M ToRestart m w e k = absurd (false≢true e)
 
 module _ (world : World) (M : Machine) (r : Route) where
   abbrev MovesTo : Reply × Machine → Type 0
@@ -323,12 +348,22 @@ module _ (world : World) (M : Machine) (r : Route) where
         clears = λ other m o. rests (accepted [] Answer.Null M).0 (machine.cleared M m) (still_scene M (machine.cleared M m) m (record (manager_at M m) { context = [] }) refl refl refl) (not_commit true other.no_commit);
         sets_mode = λ other m o mode. rests (accepted [] Answer.Null M).0 (machine.with_mode M m mode) (still_scene M (machine.with_mode M m mode) m (record (manager_at M m) { mode = mode }) refl refl refl) (not_commit true other.no_commit);
         closes = λ other m o none. rests (accepted [] Answer.Null M).0 (machine.closed M m) (still_scene M (machine.closed M m) m (record (manager_at M m) { is_open = false; context = [] }) refl refl refl) (not_commit true other.no_commit);
+        restarts = λ other none. (
+          Restarts,
+          record {
+            allowed = λ m. transaction_in M m ∙ none_open M.managers none m;
+            makes = refl;
+            acknowledged = sym (not_commit true other.no_commit);
+            flushed = tt;
+            apart = λ m n. tt;
+          },
+        );
         rolls = λ apart m o n. ends_one (accepted [] Answer.Null M).0 m n (not_commit true apart);
         stores = λ writes apart m w o n has k. stores_one writes m w n has (known_commit world M r m w writes k);
         undoes = λ writes apart m events why o n. ends_one (refused events why M).0 m n (refused_none (commits r));
       }
 
--- ---- runs
+-- ---- of a step
 
 gave_up : (reply : Reply) → IsGivenUp reply → is_ok reply.answer ≡ false
 gave_up reply (inl e) = ap (λ (x : Reply). is_ok x.answer) e
@@ -336,22 +371,10 @@ gave_up reply (inr e) = ap (λ (x : Reply). is_ok x.answer) e
 
 -- each step is a move
 pub step_moves : {world : World} (M : Machine) → IsOrderly world.model → IsRegular world → IsMachine world M → (call : Call) → hands_representable call ≡ true → (reply : Reply) (N : Machine) → Step world M call reply N →
-    (move : Move) × IsMove world M call reply N move
+    IsSomeMove world M call reply N
 step_moves {world} M orderly regular h call rep reply N (inl done) =
     let r = route call in
     subst (MovesTo world M r) done (on_route r (ways world M r) (knows M orderly regular h call rep))
 step_moves {world} M orderly regular h call rep reply N (inr g) =
     let r = route call in
     rests world M r reply N (ap scene_of g.2) (ap (λ b. commits r && b) (gave_up reply g.1) ∙ refused_none (commits r))
-
--- a run, at each call of which holds what holds between calls
-pub run_moves : {world : World} (M : Machine) → IsOrderly world.model → IsRegular world → (calls : List Call) (replies : List Reply) (last : Machine) → RunsHeld world M calls replies last →
-    (moves : List Move) × AreMoves world M calls replies moves last × (scene_of last ≡ after (scene_of M) moves)
-run_moves M orderly regular [] [] last e = ([], e, ap scene_of e)
-run_moves M orderly regular [] (reply ∷ replies) last h = absurd h
-run_moves M orderly regular (call ∷ calls) [] last h = absurd h
-run_moves M orderly regular (call ∷ calls) (reply ∷ replies) last h =
-    let mid = h.0 in
-    let one = step_moves M orderly regular h.1 call h.2 reply mid h.3 in
-    let rest = run_moves mid orderly regular calls replies last h.4 in
-    (one.0 ∷ rest.0, (mid, h.3, one.1, rest.1), rest.2 ∙ ap (λ s. after s rest.0) (one.1).makes)

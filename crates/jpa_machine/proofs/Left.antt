@@ -69,6 +69,7 @@ module _ (M : Machine) where
         clears = λ other m o apart h. absurd (false≢true h);
         sets_mode = λ other m o mode apart h. absurd (false≢true h);
         closes = λ other m o none apart h. absurd (false≢true h);
+        restarts = λ other none apart h. absurd (false≢true h);
         rolls = λ none m o n apart h. absurd (false≢true h);
         stores = λ writes none m w o n has k apart h. absurd (false≢true h);
         undoes = λ writes none m events why o n apart h. absurd (true≢false (sym writes ∙ apart));
@@ -108,6 +109,7 @@ module _ (M : Machine) where
         clears = λ other m o. neither other;
         sets_mode = λ other m o mode. neither other;
         closes = λ other m o none. neither other;
+        restarts = λ other none. neither other;
         rolls = λ apart m o n h. rolled m;
         stores = λ writes apart m w o n has k. not_refused r writes apart;
         undoes = λ writes apart m events why o n h. rolled m;
@@ -139,6 +141,7 @@ module _ (M : Machine) where
         clears = λ other m o. stay;
         sets_mode = λ other m o mode. stay;
         closes = λ other m o none. stay;
+        restarts = λ other none. stay;
         rolls = λ apart m o n. stay;
         stores = λ writes apart m w o n has k. (k.at).raised;
         undoes = λ writes apart m events why o n. stay;
@@ -159,6 +162,7 @@ module _ (M : Machine) where
         clears = λ other m o e. stay;
         sets_mode = λ other m o mode e. stay;
         closes = λ other m o none e. stay;
+        restarts = λ other none e. stay;
         rolls = λ apart m o n e. stay;
         stores = λ writes apart m w o n has k e. absurd (false≢true e);
         undoes = λ writes apart m events why o n e. stay;

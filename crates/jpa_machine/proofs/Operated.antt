@@ -91,6 +91,10 @@ module _ (world : World) (M : Machine) (P K : ℕ → Work → Type 0) (steps : 
   does_by orderly h start flushes (Call.Clear em) rep made = tt
   does_by orderly h start flushes (Call.Close em) rep made = tt
   does_by orderly h start flushes (Call.SetFlushMode em mode) rep made = tt
+  does_by orderly h start flushes (Call.Values objects) rep made = tt
+  does_by orderly h start flushes (Call.Pending em) rep made = tt
+  does_by orderly h start flushes Call.Restart rep made = tt
+  does_by orderly h start flushes (Call.Index entity name) rep made = tt
   does_by orderly h start flushes (Call.Query em text parameters first max) rep made = λ m o.
       of_open m o (query_call text parameters first max (flushes_first M m) world (work_of M m)) (query_call_goes (steps m) (flushes m) text parameters first max (flushes_first M m) (work_of M m) (start m))
   does_by orderly h start flushes (Call.QuerySingle em text parameters first max) rep made = λ m o.

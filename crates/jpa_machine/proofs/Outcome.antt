@@ -16,7 +16,7 @@ use Rattle.jpa_machine.specs.Routes.{Route, route}
 use Rattle.jpa_machine.specs.Step.{outcome, machine_after, Step}
 use Rattle.jpa_machine.specs.Invariant.{IsMachine, hands_representable}
 use Rattle.jpa_machine.proofs.AtWork.{returned}
-use Rattle.jpa_machine.proofs.Settled.{created_holds, begun_holds, marked_holds, mode_holds}
+use Rattle.jpa_machine.proofs.Settled.{restarted_holds, created_holds, begun_holds, marked_holds, mode_holds}
 use Rattle.jpa_machine.proofs.Created.{object_made}
 use Rattle.jpa_machine.proofs.Ended.{cleared_holds, closed_holds, committed_holds, rolled_back_holds}
 use Rattle.jpa_machine.proofs.Ways.{Ways, does_something, on_route, on_step}
@@ -37,6 +37,7 @@ ways {world} {M} r h =
       clears = λ other m o. cleared_holds m o.within o.is_open h;
       sets_mode = λ other m o mode. mode_holds m mode o.within h;
       closes = λ other m o none. closed_holds m o.within o.is_open none h;
+      restarts = λ other none. restarted_holds h;
       rolls = λ apart m o n. rolled_back_holds m o.within o.is_open h;
       stores = λ writes apart m w o n has k. committed_holds o.within o.is_open h k.at;
       undoes = λ writes apart m events why o n. rolled_back_holds m o.within o.is_open h;
@@ -61,6 +62,7 @@ refused_ways {world} {M} r h =
       clears = λ other m o e. cleared_holds m o.within o.is_open h;
       sets_mode = λ other m o mode e. mode_holds m mode o.within h;
       closes = λ other m o none e. closed_holds m o.within o.is_open none h;
+      restarts = λ other none e. restarted_holds h;
       rolls = λ apart m o n e. rolled_back_holds m o.within o.is_open h;
       stores = λ writes apart m w o n has k e. absurd (false≢true e);
       undoes = λ writes apart m events why o n e. rolled_back_holds m o.within o.is_open h;

@@ -12,7 +12,7 @@ use Rattle.jpa_protocol.specs.declared.call.FlushMode.{FlushMode}
 use Rattle.jpa_heap.specs.declared.LiveObject.{LiveObject}
 use Rattle.jpa_heap.specs.Objects.{object_at}
 use Rattle.jpa_context.specs.declared.Entry.{Entry}
-use Rattle.jpa_machine.specs.Machine.{Machine, Manager, Transaction, opened, manager_at, no_manager, new_manager, marked, marked_in, with_mode}
+use Rattle.jpa_machine.specs.Machine.{Machine, Manager, Transaction, opened, restarted, manager_at, no_manager, new_manager, marked, marked_in, with_mode}
 use Rattle.jpa_machine.specs.Transactions.{begun}
 use Rattle.jpa_machine.specs.Consistent.{IsLive, IsEntry, are_one}
 use Rattle.jpa_machine.specs.Invariant.{IsMachine, IsManager, IsTransaction, is_idle, context_of}
@@ -31,6 +31,21 @@ opened_holds {world} {set} {numbers} h =
       committed = h;
       numbered = h.numbered;
       stored = numbers_same numbers;
+      objects_few = omega arith;
+      managers_few = omega arith;
+    }
+
+-- ---- all managers and objects gone
+
+pub restarted_holds : {world : World} {M : Machine} → IsMachine world M → IsMachine world (restarted M)
+restarted_holds {world} {M} h =
+    record {
+      objects = All-nil (IsLive world.model []);
+      managers = λ m l. absurd (omega (arith, l));
+      placed = λ n l. absurd (omega (arith, l));
+      committed = h.committed;
+      numbered = h.numbered;
+      stored = h.stored;
       objects_few = omega arith;
       managers_few = omega arith;
     }

@@ -38,6 +38,7 @@ ways world M r =
       clears = λ other m o h. record { committed = refl; numbers = refl };
       sets_mode = λ other m o mode h. record { committed = refl; numbers = refl };
       closes = λ other m o none h. record { committed = refl; numbers = refl };
+      restarts = λ other none h. record { committed = refl; numbers = refl };
       marking = λ other m h. record { committed = refl; numbers = refl };
       rolls = λ apart m o n h. record { committed = refl; numbers = refl };
       stores = λ writes apart m w o n has k. neither r writes;

@@ -17,10 +17,10 @@ use Rattle.jpa_protocol.specs.declared.call.FlushMode.{FlushMode}
 use Rattle.jpa_protocol.specs.declared.event.Told.{Told}
 use Rattle.jpa_protocol.specs.declared.reply.Answer.{Answer}
 use Rattle.jpa_protocol.specs.declared.reply.Reply.{Reply}
-use Rattle.jpa_machine.specs.Machine.{Machine, Manager, Transaction, manager_at, new_manager, is_begun, has_transaction, begun_set, work_of, kept, marked, flushes_first, rolled_back, with_mode, cleared, closed, committed_after}
+use Rattle.jpa_machine.specs.Machine.{Machine, Manager, Transaction, manager_at, new_manager, is_begun, has_transaction, begun_set, work_of, kept, marked, flushes_first, rolled_back, with_mode, cleared, closed, committed_after, any_begun, restarted}
 use Rattle.jpa_machine.specs.Calls.{accepted, refused, because, ended, marks, marks_if_callback, marked_if, give_or}
 use Rattle.jpa_machine.specs.Transactions.{begin, begin_in, begun, commit, commit_in, commit_if, commit_of, commit_work, rollback, rollback_in, set_rollback_only, only_rollback_in}
-use Rattle.jpa_machine.specs.Routes.{Route, OfManager, ToQuery, ToUpdate, InTransaction, OfObject, ToCreate, ToMake, ToBegin, ToCommit, ToRollBack, ToMark, ToAsk, ToClear, ToSetMode, ToClose, answered, by_route, if_open, if_begun, transaction_required, by_manager, close, made_new, holder, holder_in, commits, rolls_back}
+use Rattle.jpa_machine.specs.Routes.{Route, OfManager, ToQuery, ToUpdate, InTransaction, OfObject, ToCreate, ToMake, ToBegin, ToCommit, ToRollBack, ToMark, ToAsk, ToClear, ToSetMode, ToClose, ToRead, ToRestart, answered, by_route, if_open, if_begun, transaction_required, by_manager, close, made_new, holder, holder_in, commits, rolls_back}
 use Rattle.jpa_machine.specs.Step.{Step, outcome}
 use Rattle.jpa_machine.specs.Isolated.{named_in}
 use Rattle.jpa_machine.specs.Going.{HoldsAfter}
@@ -50,6 +50,8 @@ is_of_object (ToAsk em question) = false
 is_of_object (ToClear em) = false
 is_of_object (ToSetMode em mode) = false
 is_of_object (ToClose em) = false
+is_of_object (ToRead question) = false
+is_of_object ToRestart = false
 
 abbrev pub Named : Machine → Route → ℕ → Type 0
 Named M r m = named_in M r ≡ Some m
@@ -71,6 +73,7 @@ pub record Ways (world : World) (M : Machine) (r : Route) (P : Reply × Machine 
   pub clears : IsOther r → (m : ℕ) → IsOpen M m → P (accepted [] Answer.Null (cleared M m))
   pub sets_mode : IsOther r → (m : ℕ) → IsOpen M m → (mode : FlushMode) → P (accepted [] Answer.Null (with_mode M m mode))
   pub closes : IsOther r → (m : ℕ) → IsOpen M m → has_transaction (manager_at M m) ≡ false → P (accepted [] Answer.Null (closed M m))
+  pub restarts : IsOther r → any_begun M ≡ false → P (accepted [] Answer.Null (restarted M))
   pub rolls : commits r ≡ false → (m : ℕ) → IsOpen M m → Named M r m → P (accepted [] Answer.Null (rolled_back M m))
   pub stores : commits r ≡ true → rolls_back r ≡ false → (m : ℕ) (w : Work) → IsOpen M m → Named M r m → has_transaction (manager_at M m) ≡ true → K m w → P (accepted w.events Answer.Null (committed_after M m w))
   pub undoes : commits r ≡ true → rolls_back r ≡ false → (m : ℕ) (events : List Told) (why : Refusal) → IsOpen M m → Named M r m → P (refused events why (rolled_back M m))
@@ -92,6 +95,8 @@ Does world M K (ToAsk em question) = Unit {0}
 Does world M K (ToClear em) = Unit {0}
 Does world M K (ToSetMode em mode) = Unit {0}
 Does world M K (ToClose em) = Unit {0}
+Does world M K (ToRead question) = Unit {0}
+Does world M K ToRestart = Unit {0}
 
 -- nothing need be known
 pub holds_anyway : {A : Type 0} (o : Outcome A) → HoldsAfter (λ a w. Unit {0}) o
@@ -114,6 +119,8 @@ does_something world M (ToAsk em question) = tt
 does_something world M (ToClear em) = tt
 does_something world M (ToSetMode em mode) = tt
 does_something world M (ToClose em) = tt
+does_something world M (ToRead question) = tt
+does_something world M ToRestart = tt
 
 module _ {world : World} {M : Machine} {r : Route} {P : Reply × Machine → Type 0} {K : ℕ → Work → Type 0} (h : Ways world M r P K) where
   ends : IsOther r → (rule : Cause → Bool) (m : ℕ) → Names M r m → (o : Outcome Answer) → HoldsAfter (λ a w. K m w) o → P (ended rule M m o)
@@ -219,6 +226,10 @@ on_route {world} {M} (ToClear em) h k = by_name h (λ m. accepted [] Answer.Null
 on_route {world} {M} (ToSetMode em mode) h k = by_name h (λ m. accepted [] Answer.Null (with_mode M m mode)) (λ m o. h.sets_mode (record { no_commit = refl; no_rollback = refl }) m o mode) em
 on_route {world} {M} (ToClose em) h k = by_name h (close M) (λ m o. by_close h (record { no_commit = refl; no_rollback = refl }) m o) em
 on_route {world} {M} (ToMark em) h k = by_name h (set_rollback_only M) (λ m o. by_mark h (record { no_commit = refl; no_rollback = refl }) m (manager_at M m).transaction) em
+on_route {world} {M} (ToRead question) h k = by_answer h (record { no_commit = refl; no_rollback = refl }) (question world M)
+on_route {world} {M} {P} ToRestart h k =
+    cond_both (any_begun M) (because M (Cause.IllegalState State.Active)) (accepted [] Answer.Null (restarted M)) P
+    (λ begun. h.same (Cause.IllegalState State.Active)) (λ none. h.restarts (record { no_commit = refl; no_rollback = refl }) none)
 
 -- ---- of a step
 

@@ -88,6 +88,10 @@ hands_representable (Call.Lock em object mode) = true
 hands_representable (Call.Clear em) = true
 hands_representable (Call.Close em) = true
 hands_representable (Call.SetFlushMode em mode) = true
+hands_representable (Call.Values objects) = true
+hands_representable (Call.Pending em) = true
+hands_representable Call.Restart = true
+hands_representable (Call.Index entity name) = true
 hands_representable (Call.Query em text parameters first max) =
     list_all (λ (p : Parameter). given_representable p.value) parameters
 hands_representable (Call.ExecuteUpdate em text parameters) =

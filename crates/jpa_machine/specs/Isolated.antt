@@ -1,5 +1,5 @@
 -- What the law of isolation sees of a machine, and which move each step is.
-use Rattle.std.specs.Prelude.{◌≡◌, ◌≢◌, ℕ, Bool, true, false, ◌&&◌, List, [], ◌∷◌, length, map, Option, Some, None}
+use Rattle.std.specs.Prelude.{◌≡◌, ◌≢◌, ℕ, Bool, true, false, ◌&&◌, length, map, Option, Some, None}
 use Rattle.std.specs.Prelude.{Result, Ok, Err}
 use Rattle.jpa_value.specs.declared.refusal.Refusal.{Refusal}
 use Rattle.jpa_behaviour.specs.Behaviour.{World}
@@ -10,15 +10,13 @@ use Rattle.jpa_flush.specs.Flush.{flush}
 use Rattle.jpa_protocol.specs.declared.call.Call.{Call}
 use Rattle.jpa_protocol.specs.declared.reply.Answer.{Answer}
 use Rattle.jpa_protocol.specs.declared.reply.Reply.{Reply}
-use Rattle.jpa_open.specs.Moves.{Scene, Snapshot, Move, Creates, Begins, Works, Ends, Commits, Rests, IsAllowed}
-use Rattle.jpa_open.specs.Moves.{moved, after, is_apart, IsIsolated}
+use Rattle.jpa_open.specs.Moves.{Scene, Snapshot, Move, Creates, Begins, Works, Ends, Commits, Restarts, Rests, IsAllowed}
+use Rattle.jpa_open.specs.Moves.{moved, is_apart}
 use Rattle.jpa_machine.specs.Machine.{Machine, Manager, Transaction, work_of}
 use Rattle.jpa_machine.specs.Transactions.{locked_ids}
 use Rattle.jpa_machine.specs.Routes.{Route, OfManager, ToQuery, ToUpdate, InTransaction, OfObject, ToCreate, ToMake}
-use Rattle.jpa_machine.specs.Routes.{ToBegin, ToCommit, ToRollBack, ToMark, ToAsk, ToClear, ToSetMode, ToClose, route}
+use Rattle.jpa_machine.specs.Routes.{ToBegin, ToCommit, ToRollBack, ToMark, ToAsk, ToClear, ToSetMode, ToClose, ToRead, ToRestart, route}
 use Rattle.jpa_machine.specs.Routes.{commits}
-use Rattle.jpa_machine.specs.Step.{Step}
-use Rattle.jpa_machine.specs.Invariant.{IsMachine, hands_representable}
 
 -- ---- of a machine
 
@@ -54,6 +52,8 @@ named_in M (ToAsk em question) = place_of (length M.managers) em
 named_in M (ToClear em) = place_of (length M.managers) em
 named_in M (ToSetMode em mode) = place_of (length M.managers) em
 named_in M (ToClose em) = place_of (length M.managers) em
+named_in M (ToRead question) = None
+named_in M ToRestart = None
 
 -- whether a call was accepted
 abbrev pub is_ok : Result Answer Refusal → Bool
@@ -69,6 +69,7 @@ is_commit_move (Begins m) = false
 is_commit_move (Works m set) = false
 is_commit_move (Ends m) = false
 is_commit_move (Commits m set reads) = true
+is_commit_move Restarts = false
 is_commit_move Rests = false
 
 -- what a commit takes is what its flush made, and what was locked READ then
@@ -79,6 +80,7 @@ IsFlushed world M Creates = Unit {0}
 IsFlushed world M (Begins m) = Unit {0}
 IsFlushed world M (Works m set) = Unit {0}
 IsFlushed world M (Ends m) = Unit {0}
+IsFlushed world M Restarts = Unit {0}
 IsFlushed world M Rests = Unit {0}
 
 -- a step is a move that is allowed: a commit exactly where the call is one that is accepted, and
@@ -95,28 +97,7 @@ pub record IsMoveAlong (world : World) (M : Machine) (r : Route) (reply : Reply)
 abbrev pub IsMove : World → Machine → Call → Reply → Machine → Move → Type 0
 IsMove world M call reply N move = IsMoveAlong world M (route call) reply N move
 
--- each step of a run is such a move
-abbrev pub AreMoves : World → Machine → List Call → List Reply → List Move → Machine → Type 0
-AreMoves world M [] [] [] last = last ≡ M
-AreMoves world M (call ∷ calls) (reply ∷ replies) (move ∷ moves) last =
-    (mid : Machine) × Step world M call reply mid × IsMove world M call reply mid move
-    × AreMoves world mid calls replies moves last
-AreMoves world M [] [] (move ∷ moves) last = ⊥
-AreMoves world M [] (reply ∷ replies) moves last = ⊥
-AreMoves world M (call ∷ calls) [] moves last = ⊥
-AreMoves world M (call ∷ calls) (reply ∷ replies) [] last = ⊥
-
--- a run at each call of which holds what holds between calls, and whose calls hand in values of the
--- program
-abbrev pub RunsHeld : World → Machine → List Call → List Reply → Machine → Type 0
-RunsHeld world M [] [] last = last ≡ M
-RunsHeld world M (call ∷ calls) (reply ∷ replies) last = (mid : Machine) × IsMachine world M
-    × (hands_representable call ≡ true) × Step world M call reply mid × RunsHeld world mid calls replies last
-RunsHeld world M [] (reply ∷ replies) last = ⊥
-RunsHeld world M (call ∷ calls) [] last = ⊥
-
--- such a run is isolated: it is a list of moves, of which the law of isolation holds
-abbrev pub IsIsolatedRun : World → Machine → List Call → List Reply → Machine → Type 0
-IsIsolatedRun world M calls replies last =
-    (moves : List Move) × AreMoves world M calls replies moves last × (scene_of last ≡ after (scene_of M) moves)
-    × IsIsolated (scene_of M)
+-- a step is some move that is allowed: a commit exactly where the call is a commit that was
+-- accepted, so none where it gave up
+abbrev pub IsSomeMove : World → Machine → Call → Reply → Machine → Type 0
+IsSomeMove world M call reply N = (move : Move) × IsMove world M call reply N move

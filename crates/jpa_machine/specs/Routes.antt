@@ -26,11 +26,14 @@ use Rattle.jpa_protocol.specs.declared.call.FlushMode.{FlushMode}
 use Rattle.jpa_protocol.specs.declared.reply.Answer.{Answer}
 use Rattle.jpa_protocol.specs.declared.reply.Reply.{Reply}
 use Rattle.jpa_machine.specs.Machine.{Machine, new_manager, manager_at, has_transaction, work_of, with_mode}
-use Rattle.jpa_machine.specs.Machine.{flushes_first, cleared, closed}
+use Rattle.jpa_machine.specs.Machine.{flushes_first, cleared, closed, any_begun, restarted}
 use Rattle.jpa_machine.specs.Calls.{accepted, because, marks, marks_if_callback, ended, told_as, nothing, truth}
 use Rattle.jpa_machine.specs.Calls.{object_told, object_or_null, got, object_numbered, handed, is_short_given}
 use Rattle.jpa_machine.specs.Calls.{class_named, key_given}
 use Rattle.jpa_machine.specs.Querying.{query_call, query_single_call, update_call}
+use Rattle.jpa_machine.specs.Showing.{values_told}
+use Rattle.jpa_machine.specs.Pending.{pending}
+use Rattle.jpa_machine.specs.Indexing.{index_on}
 use Rattle.jpa_machine.specs.Transactions.{begin, commit, rollback, set_rollback_only}
 
 -- ---- managers
@@ -205,12 +208,17 @@ abbrev pub close : Machine → ℕ → Reply × Machine
 close M m = if has_transaction (manager_at M m) then because M (Cause.IllegalState State.Active)
     else accepted [] Answer.Null (closed M m)
 
+-- the call restart, which is refused while any transaction is open
+abbrev pub restart : Machine → Reply × Machine
+restart M = if any_begun M then because M (Cause.IllegalState State.Active)
+    else accepted [] Answer.Null (restarted M)
+
 -- ---- routes
 
 -- how a call is served. It is an operation of a manager, or one before which its objects may be
 -- flushed, or one that also asks whether its transaction is open. It may need an open transaction,
 -- and be judged before by what it hands in. It is an operation on an object, of whoever holds it;
--- or it is no operation
+-- or it is no operation. What names no manager to the machine may read it, or let all of it go
 pub data Route : Type 0 where
   OfManager : ℤ → (World → Op Answer) → Route
   ToQuery : ℤ → (Bool → World → Op Answer) → Route
@@ -227,6 +235,8 @@ pub data Route : Type 0 where
   ToClear : ℤ → Route
   ToSetMode : ℤ → FlushMode → Route
   ToClose : ℤ → Route
+  ToRead : (World → Machine → Result Answer Cause) → Route
+  ToRestart : Route
 
 -- the reply to a call by its route, and the machine after it
 abbrev pub by_route : World → Machine → Route → Reply × Machine
@@ -250,6 +260,8 @@ by_route world M (ToAsk em question) = by_manager M em (λ m. answered M (questi
 by_route world M (ToClear em) = by_manager M em (λ m. accepted [] Answer.Null (cleared M m))
 by_route world M (ToSetMode em mode) = by_manager M em (λ m. accepted [] Answer.Null (with_mode M m mode))
 by_route world M (ToClose em) = by_manager M em (close M)
+by_route world M (ToRead question) = answered M (question world M)
+by_route world M ToRestart = restart M
 
 -- the route of a call
 abbrev pub route : Call → Route
@@ -279,6 +291,10 @@ route (Call.Query em text parameters first max) = ToQuery em (query_call text pa
 route (Call.QuerySingle em text parameters first max) = ToQuery em (query_single_call text parameters first max)
 route (Call.ExecuteUpdate em text parameters) = ToUpdate em (update_call text parameters)
 route (Call.Close em) = ToClose em
+route (Call.Values objects) = ToRead (values_told objects)
+route (Call.Pending em) = ToRead (pending em)
+route Call.Restart = ToRestart
+route (Call.Index entity name) = ToRead (index_on entity name)
 
 -- ---- what is told of a call by its route
 
@@ -299,6 +315,8 @@ commits (ToAsk em question) = false
 commits (ToClear em) = false
 commits (ToSetMode em mode) = false
 commits (ToClose em) = false
+commits (ToRead question) = false
+commits ToRestart = false
 
 -- whether a route is that of rollback
 abbrev pub rolls_back : Route → Bool
@@ -317,6 +335,8 @@ rolls_back (ToAsk em question) = false
 rolls_back (ToClear em) = false
 rolls_back (ToSetMode em mode) = false
 rolls_back (ToClose em) = false
+rolls_back (ToRead question) = false
+rolls_back ToRestart = false
 
 -- those that take no memory and read no store
 abbrev pub is_free : Route → Bool
@@ -327,6 +347,7 @@ is_free (ToAsk em question) = true
 is_free (ToClear em) = true
 is_free (ToSetMode em mode) = true
 is_free (ToClose em) = true
+is_free ToRestart = true
 is_free (OfManager em op) = false
 is_free (ToQuery em op) = false
 is_free (ToUpdate em op) = false
@@ -335,6 +356,7 @@ is_free (OfObject number op) = false
 is_free ToCreate = false
 is_free (ToMake name) = false
 is_free (ToCommit em) = false
+is_free (ToRead question) = false
 
 -- whether a call is commit
 abbrev pub is_commit : Call → Bool

@@ -3,21 +3,22 @@
 //! manager, and that the operations keep it.
 #![tactic(auto)]
 
-ghost use Rattle.std.specs.Prelude.{List};
+ghost use Rattle.std.specs.Prelude.{◌≡◌, true};
 ghost use Rattle.jpa_behaviour.specs.Behaviour.{World, IsRegular};
 ghost use Rattle.jpa_fetch.specs.Orderly.{IsOrderly};
 ghost use Rattle.jpa_protocol.specs.declared.call.Call.{Call};
 ghost use Rattle.jpa_protocol.specs.declared.reply.Reply.{Reply};
 ghost use Rattle.jpa_machine.specs.Machine.{Machine};
-ghost use Rattle.jpa_machine.specs.Isolated.{IsIsolatedRun, RunsHeld};
+ghost use Rattle.jpa_machine.specs.Invariant.{IsMachine, hands_representable};
+ghost use Rattle.jpa_machine.specs.Step.{Step};
+ghost use Rattle.jpa_machine.specs.Isolated.{IsSomeMove};
 
-/// The law of isolation (chapters 3.4.2 and 7.5), for contracts to cite; it does nothing. Every run
-/// of the machine is one of moves, of which `isolation_law` of `jpa_open` holds: acknowledged
-/// commits make what is committed, in their order; the first committer wins; and calls of others
-/// leave what a transaction sees.
-pub fn isolation_law()
-    ensures isolated { (world : World) (M : Machine) (calls : List Call) (replies : List Reply)
-        (last : Machine)
-        → IsOrderly world.model → IsRegular world → RunsHeld world M calls replies last
-        → IsIsolatedRun world M calls replies last }
+/// Each step is a move of which `isolation_law` of `jpa_open` speaks, for contracts to cite; it
+/// does nothing. The move is allowed; it is a commit exactly where the call is a commit that was
+/// accepted; and it is one of the manager that the call names, or of none (chapters 3.4.2 and 7.5).
+pub fn move_law()
+    ensures moves { (world : World) (M : Machine) (call : Call) (reply : Reply) (N : Machine)
+        → IsOrderly world.model → IsRegular world → IsMachine world M
+        → hands_representable call ≡ true → Step world M call reply N
+        → IsSomeMove world M call reply N }
 {}

@@ -2,3 +2,4 @@ pub mod Opened
 pub mod Mapped
 pub mod Machines
 pub mod Standing
+pub mod Isolated

@@ -1,3 +1,4 @@
 pub mod Opening
 pub mod Persons
 pub mod Run
+pub mod Isolation

@@ -3,6 +3,7 @@ ghost use Rattle.std.specs.Prelude.{◌≡◌, OnOk, IfErr};
 ghost use Rattle.jpa_lines.specs.Run.{Served, Broken, AnswersRead};
 ghost use Rattle.jpa_provider.specs.Provided.{Steps, world_in};
 ghost use Rattle.jpa_machine.specs.Step.{Step};
+ghost use Rattle.jpa_program.specs.Isolation.{IsolatesRuns};
 ghost use Rattle.jpa_program.specs.Run.{HoldsCommitted, rows_over};
 
 use jpa_behaviour::Behaviour;
@@ -25,6 +26,11 @@ use std::io::{Read, Write};
 /// Each call between them keeps the promise of a call: only a commit that is accepted changes what
 /// is committed, and writes just what differs; a crash at any moment leaves what was committed
 /// before a call or after it; a fault of the store is told where there is one.
+///
+/// What is committed at the end is what was committed at first, with what the accepted commits
+/// changed, in the order of their replies; no other line changes it, nor a call that gave up. Each
+/// of these commits found what it changed, and what it held locked to be read, committed as it was
+/// when its transaction began. What others did meanwhile a transaction didn't see.
 ///
 /// However it ends, the cells of the store are those of the objects that were committed last, and
 /// of the next numbers that were stored with them: no others, and all of them.
@@ -51,6 +57,7 @@ pub fn run<S: Alter, B: Behaviour, R: Read, W: Write>(
     ensures calls_read { IfErr result (λ fault. AnswersRead (Steps B.meaning (rows_over S.Store))
         provider.old provider.new fault (R.remaining reader.old) (R.remaining reader.new)
         (W.contents writer.old) (W.contents writer.new)) }
+    ensures isolated { IsolatesRuns B.meaning (rows_over S.Store) provider.old }
     ensures model { provider.new.model ≡ provider.old.model }
     ensures registry { provider.new.registry ≡ provider.old.registry }
     ensures cells { HoldsCommitted S.Store B.meaning provider.new }

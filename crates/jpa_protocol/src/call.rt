@@ -179,4 +179,19 @@ pub enum Call {
         text: Text,
         parameters: Seq<Parameter>,
     },
+    /// Asks what these objects hold, and reads nothing of the store for it.
+    Values {
+        objects: Seq<i64>,
+    },
+    /// Asks which callbacks a flush would run before it writes, if it came now (chapter 3.5.2).
+    Pending {
+        em: i64,
+    },
+    /// Lets all managers and objects go, while no transaction is open; their numbers begin anew.
+    Restart,
+    /// Says that an attribute or a part of a key of an entity, by its name, will be looked up.
+    Index {
+        entity: Text,
+        name: Text,
+    },
 }

@@ -15,4 +15,4 @@ mod reply;
 pub use call::{Call, FlushMode, Given, LockMode, Parameter};
 pub use event::Told;
 pub use provider::PersistenceProvider;
-pub use reply::{Answer, Item, Reply};
+pub use reply::{Answer, Due, Item, Reached, Reply, Shown};

@@ -21,3 +21,4 @@ pub mod Told
 pub mod Walks
 pub mod Freed
 pub mod Ended
+pub mod Own

@@ -12,6 +12,7 @@ use Rattle.jpa_protocol.specs.declared.call.Call.{Call}
 use Rattle.jpa_protocol.specs.declared.reply.Reply.{Reply}
 use Rattle.jpa_machine.specs.Machine.{Machine, opened, IsStoredAs}
 use Rattle.jpa_machine.specs.Step.{Step, IsGivenUp, outcome}
+use Rattle.jpa_machine.specs.Isolated.{IsSomeMove}
 use Rattle.jpa_machine.specs.Left.{LivesAsBefore, HoldsSameValues}
 use Rattle.jpa_machine.specs.Routes.{is_commit, is_rollback}
 use Rattle.jpa_machine.specs.Faults.{faults_after_reply}
@@ -83,13 +84,14 @@ pub record ChangesAtMost (M : Machine) (call : Call) (reply : Reply) (N : Machin
   pub rising : each_fits nat_le M.numbers N.numbers ≡ true
 
 -- from the first to the second the unit and what is registered stay, and the reply to the call is that
--- of a step of the machine, which changes no more than a call may; what stands between calls stands then,
--- and the store does what a call does to it
+-- of a step of the machine, which changes no more than a call may, and is a move of which the law of
+-- isolation speaks; what stands between calls stands then, and the store does what a call does to it
 pub record Steps {R L C : Type 0} (meaning : Meaning L C) (store : Ghosts R) (old : Provided R L C) (call : Call)
     (reply : Reply) (new : Provided R L C) : Type 0 where
   pub model : new.model ≡ old.model
   pub registry : new.registry ≡ old.registry
   pub step : Step (world_in meaning old) old.machine call reply new.machine
   pub changes : ChangesAtMost old.machine call reply new.machine
+  pub moves : IsSomeMove (world_in meaning old) old.machine call reply new.machine
   pub stands : Stands meaning store.clean store.holds new
   pub stores : StoresCall (world_in meaning old) store old.machine call reply new.machine old.rows new.rows

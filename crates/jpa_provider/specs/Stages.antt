@@ -17,6 +17,8 @@ use Rattle.jpa_context.specs.declared.work.UnitOfWork.{UnitOfWork}
 use Rattle.jpa_context.specs.Marks.{none_marked}
 use Rattle.jpa_context.specs.Steps.{Op}
 use Rattle.jpa_context.specs.Undo.{now, since, IsKept}
+use Rattle.jpa_cascade.specs.There.{HoldsWithin}
+use Rattle.jpa_heap.specs.declared.LiveObject.{LiveObject}
 use Rattle.jpa_fetch.specs.Grown.{IsReady}
 use Rattle.jpa_fetch.specs.Orderly.{IsOrderly}
 use Rattle.jpa_flush.specs.declared.chosen.Looked.{Looked}
@@ -145,3 +147,10 @@ pub record IsCleared (m : ℕ) (s t : Session) : Type 0 where
       (record (manager_in s.managers.items m) { context = record { now = []; since = []; marks = none_marked } })
   pub view : t.work.view ≡ s.work.view
   pub places : t.open_places.items ≡ s.open_places.items
+
+-- ---- what is shown of objects
+
+-- an object of an entity, whose relations hold objects of a heap of so many alone
+pub record CanBeShown (m : PersistenceUnit) (count : ℕ) (x : LiveObject) : Type 0 where
+  pub class : x.class < length m.entities
+  pub within : All (HoldsWithin count) x.relations

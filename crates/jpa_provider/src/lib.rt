@@ -15,13 +15,17 @@ mod ending;
 mod finding;
 mod flushing;
 mod handing;
+mod indexing;
 mod moding;
 mod opening;
 mod operating;
+mod pending;
 mod provider;
 mod querying;
 mod replies;
+mod restarting;
 mod session;
+mod showing;
 mod working;
 
 pub use provider::Provider;

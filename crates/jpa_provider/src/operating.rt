@@ -42,7 +42,7 @@ fn value_answered(value: Value) -> Answer
 
 /// The numbers of the objects at these places, in a heap of so many. Fails for want of memory
 /// alone, with `OutOfMemory`.
-fn numbers_of(alloc: Global, _count: usize, places: &[usize]) -> Result<Seq<u64>, Cause>
+pub(crate) fn numbers_of(alloc: Global, _count: usize, places: &[usize]) -> Result<Seq<u64>, Cause>
     requires within { All (λ place. place < _count) places.now }
     ensures ok { IfOk result (λ numbers. numbers ≡ map suc places.now) }
     ensures err { IfErr result (λ cause. cause ≡ Cause.OutOfMemory) }

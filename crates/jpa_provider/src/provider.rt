@@ -15,6 +15,7 @@ ghost use Rattle.jpa_stored.specs.Sets.{StoredSet};
 ghost use Rattle.jpa_open.specs.Opened.{unwritten};
 ghost use Rattle.jpa_machine.specs.Faults.{tells_fault};
 ghost use Rattle.jpa_machine.specs.Invariant.{IsMachine};
+ghost use Rattle.jpa_machine.specs.Isolated.{IsSomeMove};
 ghost use Rattle.jpa_machine.specs.Machine.{opened};
 ghost use Rattle.jpa_machine.specs.Routes.{is_commit};
 ghost use Rattle.jpa_provider.specs.Provided.{world_in, ChangesAtMost, IsOpened, Stands};
@@ -27,10 +28,14 @@ use crate::ending::{clear_call, close_call, rollback_call, set_rollback_only_cal
 use crate::finding::find_call;
 use crate::flushing::flush_call;
 use crate::handing::hands_representable;
+use crate::indexing::index_call;
 use crate::moding::set_flush_mode_call;
 use crate::opening::{begin_call, create_call, new_call};
+use crate::pending::pending_call;
 use crate::querying::{query_call, update_call};
+use crate::restarting::restart_call;
 use crate::session::Session;
+use crate::showing::values_call;
 use crate::working::{held, in_transaction, worked};
 use jpa_behaviour::{Behaviour, ServedUnit};
 use jpa_context::{PersistenceContext, UnitOfWork};
@@ -256,6 +261,12 @@ fn served<R: RowSource, B: Behaviour>(
             parameters,
         } => update_call(alloc, unit, session, em, text, parameters),
         Call::Close { em } => close_call(alloc, unit, session, em),
+        Call::Values { objects } => values_call(alloc, unit, session, objects.as_slice()),
+        Call::Pending { em } => pending_call(alloc, unit, session, em),
+        Call::Restart => restart_call(alloc, unit, session),
+        Call::Index { entity, name } => {
+            index_call(alloc, unit, session, entity.as_str(), name.as_str())
+        }
     }
 }
 
@@ -272,6 +283,8 @@ fn serve<R: RowSource, B: Behaviour>(
         session.new rows.new }
     ensures step { Serves (world_of_unit B.meaning unit.now) session.old call result session.new }
     ensures changes { ChangesAtMost (machine_of session.old) call result (machine_of session.new) }
+    ensures moves { IsSomeMove (world_of_unit B.meaning unit.now) (machine_of session.old) call
+        result (machine_of session.new) }
     ensures stores { StoresServing (world_of_unit B.meaning unit.now) R.RowSource session.old call
         result session.new rows.old rows.new }
 {

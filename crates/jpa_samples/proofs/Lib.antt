@@ -9,3 +9,4 @@ pub mod Subclasses
 pub mod SubclassesHold
 pub mod Related
 pub mod Orphans
+pub mod OwnCalls

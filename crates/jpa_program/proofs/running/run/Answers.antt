@@ -4,6 +4,8 @@ use Rattle.jpa_rows.specs.declared.schema.Schema.{Schema}
 use Rattle.jpa_object_rows.specs.Sets.{rows_of}
 use Rattle.jpa_rowspace.specs.Space.{HoldsRows}
 use Rattle.jpa_provider.specs.Provided.{world_in}
+use Rattle.jpa_program.specs.Run.{rows_over}
+use Rattle.jpa_program.proofs.Isolated.{isolates}
 use Rattle.jpa_program.proofs.Machines.{ended_ok, ended_err, ended_read, of_first}
 use Rattle.jpa_program.proofs.Standing.{rows_held}
 use Rattle.jpa_program.proofs.running.run.Goals as goal
@@ -16,6 +18,9 @@ returns-clause-err g c = ended_err _ _ c.args.provider.now c.run-ran.new.provide
 
 pub returns-clause-read : goal.returns-clause-read
 returns-clause-read g c = ended_read _ _ c.args.provider.now c.run-ran.new.provider _ _ _ _ c.run-ran.result c.run-ran.ensures.read
+
+pub returns-clause-isolated : goal.returns-clause-isolated
+returns-clause-isolated g c = isolates g.B.Behaviour.meaning (rows_over g.S.Store) c.args.provider.now
 
 pub returns-clause-model : goal.returns-clause-model
 returns-clause-model g c = (of_first _ _ c.args.provider.now c.run-ran.new.provider _ _ _ c.run-ran.result c.run-ran.ensures.ok c.run-ran.ensures.err).model

@@ -4,6 +4,7 @@ use Rattle.std.proofs.lemmas.Bool.{true≢false}
 use Rattle.jpa_behaviour.specs.Served.{world_of_unit}
 use Rattle.jpa_machine.specs.Routes.{is_commit}
 use Rattle.jpa_machine.specs.Updating.{is_bulk}
+use Rattle.jpa_machine.proofs.Isolated.{step_moves}
 use Rattle.jpa_machine.proofs.Left.{step_left, step_undone, step_rises}
 use Rattle.jpa_machine.proofs.Outcome.{plain_made}
 use Rattle.jpa_machine.proofs.Still.{step_still}
@@ -30,6 +31,11 @@ returns-clause-changes g c =
       rising = step_rises M call reply N serving.orderly serving.regular serving.inherited c.hands_representable.ensures
           (either_way (is_bulk call) (λ bulk. c.served.ensures.made bulk) (λ other. ok_from reply.answer (plain_made world M call (ap not other)))) serving.machine step;
     }
+
+pub returns-clause-moves : goal.returns-clause-moves
+returns-clause-moves g c =
+    let s = c.requires.serving in
+    step_moves (machine_of c.args.session.now) s.orderly s.regular s.machine c.args.call c.hands_representable.ensures c.served.result (machine_of c.served.new.session) c.served.ensures.step
 
 pub returns-clause-stores : goal.returns-clause-stores
 returns-clause-stores g c =
