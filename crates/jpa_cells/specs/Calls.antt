@@ -74,10 +74,16 @@ module _ {S : Type 0} (g : Ghosts S) where
 
   -- ---- what an opening answers
 
-  -- the table was there or it was made, and a crash leaves what was before or the empty tables
+  -- a crash leaves what it left before, or the empty tables, and these in an empty database alone
+  abbrev pub EnduresMaking : Held S → Held S → Type 0
+  EnduresMaking old new =
+      Endures g old new (λ tables. ((state g old).now.schema ≡ no_schema) × (tables ≡ (λ t. [])))
+
+  -- the table was there or it was made, and a crash leaves what was before or, in an empty
+  -- database, the empty tables
   pub record IsOpened (old : Held S) (store : Stored S) : Type 0 where
     pub opens : Opens g old store
-    pub crash : Endures g old store.conn (λ tables. tables ≡ (λ t. []))
+    pub crash : EnduresMaking old store.conn
 
   -- What a refused opening hands back: the content is as it was, the connection is in a transaction only where it was,
   -- and it can be opened again. Memory was wanted only where the table was to be made.
@@ -88,7 +94,7 @@ module _ {S : Type 0} (g : Ghosts S) where
     pub kept_content : KeepsContent (state g old) (state g refused.1)
     pub idle : (refused.1).in_transaction ≡ old.in_transaction
     pub again : IsOrderedIfFound g refused.1
-    pub crash : Endures g old refused.1 (λ tables. tables ≡ (λ t. []))
+    pub crash : EnduresMaking old refused.1
 
   -- ---- what a call leaves of a store
 

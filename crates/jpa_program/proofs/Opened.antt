@@ -10,7 +10,7 @@ use Rattle.sqlite.specs.Held.{Held, state}
 use Rattle.sqlite.specs.Schema.{Schema}
 use Rattle.sqlite.proofs.StateLemmas.{survives_then}
 use Rattle.jpa_cells_meaning.specs.Content.{Leaves}
-use Rattle.jpa_cells_meaning.specs.Schema.{cell_schema}
+use Rattle.jpa_cells_meaning.specs.Schema.{cell_schema, no_schema}
 use Rattle.jpa_cells_meaning.specs.Store.{Stored, up_to_greatest, new_store, IsClean, IsOpen, Keeps, Becomes, Opens, Endures, HoldsTable, HasFault, tables_in}
 use Rattle.jpa_cells_meaning.specs.Tables.{Tables}
 use Rattle.jpa_rowspace.specs.Space.{Space, IsStoreCause}
@@ -18,7 +18,8 @@ use Rattle.jpa_rowspace.proofs.Holding.{clean_before}
 use Rattle.jpa_migration.specs.Migration.{opened_tables}
 use Rattle.jpa_store_reader.specs.Damage.{AreDamagedAt}
 use Rattle.jpa_store_reader.specs.Opened.{IsMigrated, AllowsDue, CountsDue}
-use Rattle.jpa_program.specs.Opening.{no_rows, having_opened, IsFoundIn, OpensWriting, KeepsOrMakes, EnduresMaking, Opened, EnduresOpening, OpensCounting, IsOpenCause}
+use Rattle.jpa_cells.specs.Calls.{EnduresMaking}
+use Rattle.jpa_program.specs.Opening.{no_rows, having_opened, IsFoundIn, OpensWriting, KeepsOrMakes, Opened, EnduresOpening, OpensCounting, IsOpenCause}
 
 module _ {S : Type 0} (g : Ghosts S) where
   -- ---- what an opening made
@@ -63,7 +64,7 @@ module _ {S : Type 0} (g : Ghosts S) where
 
       pub endures_then : EnduresMaking g old store.conn → EnduresOpening g world h old new
       endures_then made =
-          let empty : Tables → Type 0 = λ tables. tables ≡ no_rows in
+          let empty : Tables → Type 0 = λ tables. ((state g old).now.schema ≡ no_schema) × (tables ≡ no_rows) in
           let Left : Tables → Type 0 = λ tables. empty tables ⊎ ((found : Tables) × IsFoundIn g old found × IsMigrated world h found tables) in
           survives_then (state g old) (state g store.conn) (state g new) (Leaves empty) (Leaves (Migrates store.conn)) (Leaves Left) (λ _ db l. (l.0, l.1, inl l.2, l.3))
           (λ clean db l. (l.0, l.1, inr (tables_in g store.conn, found_in old store opens (clean_store clean) (l.2).0, (l.2).1), l.3)) made survives

@@ -14,6 +14,7 @@ use Rattle.jpa_stored.specs.Sets.{StoredSet}
 use Rattle.jpa_rows.specs.Cells.{CanBeHeld, StandFor}
 use Rattle.jpa_rows.specs.Tables.{schema_of}
 use Rattle.jpa_object_rows.specs.Sets.{rows_of}
+use Rattle.jpa_cells.specs.Calls.{EnduresMaking}
 use Rattle.jpa_cells_meaning.specs.Schema.{no_schema}
 use Rattle.jpa_cells_meaning.specs.Tables.{Tables, statements_of}
 use Rattle.jpa_cells_meaning.specs.Store.{Stored, up_to_greatest, new_store, IsClean, IsOpen, IsOrderedIfFound}
@@ -52,10 +53,6 @@ module _ {S : Type 0} (g : Ghosts S) where
   KeepsOrMakes old new = Keeps g old new
       ⊎ (((state g old).now.schema ≡ no_schema) × (IsClean g new → IsOpen g new → tables_in g new ≡ no_rows))
 
-  -- a crash leaves what it left before, or the empty table
-  abbrev pub EnduresMaking : Held S → Held S → Type 0
-  EnduresMaking old new = Endures g old new (λ tables. tables ≡ no_rows)
-
   -- ---- the rows over the cells of a database, which are not read yet
 
   -- they are those of the unit's tables; the table of cells was there or it was made, and a crash
@@ -63,7 +60,7 @@ module _ {S : Type 0} (g : Ghosts S) where
   pub record AreOver (m : PersistenceUnit) (old : Held S) (space : Space S) : Type 0 where
     pub schema : space.schema ≡ schema_of m
     pub opens : Opens g old space.store
-    pub crash : EnduresMaking old space.store.conn
+    pub crash : EnduresMaking g old space.store.conn
 
   -- Or there are none, for want of memory or by a fault, and a table of cells that was found is no
   -- fault: the tables are as they were, and the connection can be opened again.
@@ -71,7 +68,7 @@ module _ {S : Type 0} (g : Ghosts S) where
     pub refused : IsStoreCause handed.0
     pub takes : handed.0 ≡ Cause.StoreFault → old.in_transaction ≡ false → HoldsTable g old → ⊥
     pub kept : Keeps g old handed.1
-    pub crash_err : EnduresMaking old handed.1
+    pub crash_err : EnduresMaking g old handed.1
     pub again : IsOrderedIfFound g handed.1
 
   -- ---- what they are read as
@@ -98,11 +95,11 @@ module _ {S : Type 0} (g : Ghosts S) where
         ⊎ (((state g old).now.schema ≡ no_schema)
         × (IsClean g new → IsOpen g new → tables_in g new ≡ opened_tables world h no_rows))
 
-    -- a crash leaves what it left before, the empty table, or the whole migration of what was
-    -- found, where one was due
+    -- a crash leaves what it left before, the empty table where the database was empty, or the whole
+    -- migration of what was found, where one was due
     abbrev pub EnduresOpening : Held S → Held S → Type 0
     EnduresOpening old new =
-        Endures g old new (λ tables. (tables ≡ no_rows)
+        Endures g old new (λ tables. (((state g old).now.schema ≡ no_schema) × (tables ≡ no_rows))
         ⊎ ((found : Tables) × IsFoundIn old found × IsMigrated world h found tables))
 
     -- what is written are the changes that were due, and with revision 1 none

@@ -4,6 +4,7 @@ use Rattle.std.proofs.Common.{refl, sym, subst, ◌∙◌, inl, inr}
 use Rattle.sqlite_trees.specs.declared.store.Store.{Ghosts}
 use Rattle.sqlite.specs.Held.{Held, state}
 use Rattle.jpa_value.specs.declared.refusal.Cause.{Cause}
+use Rattle.jpa_cells.specs.Calls.{EnduresMaking}
 use Rattle.jpa_cells_meaning.specs.Schema.{no_schema}
 use Rattle.jpa_cells_meaning.specs.Tables.{Tables}
 use Rattle.jpa_cells_meaning.specs.Store.{Endures, Keeps, Opens, Stored, new_store}
@@ -31,11 +32,13 @@ module _ {S : Type 0} (g : Ghosts S) where
 
   -- nothing was done
   pub leaves_self : (schema : Schema) (conn : Held S) → LeavesRows g schema conn conn
-  leaves_self schema conn = record { kept = λ rows holds. holds; crash = endures_self g conn (λ (tables : Tables). tables ≡ (λ t. [])) }
+  leaves_self schema conn = record { kept = λ rows holds. holds; crash = endures_self g conn (λ (tables : Tables). ⊥) }
 
-  -- a refused opening
-  pub leaves_kept : (schema : Schema) (old new : Held S) → Keeps g old new → Endures g old new (λ (tables : Tables). tables ≡ (λ t. [])) → LeavesRows g schema old new
-  leaves_kept schema old new keeps endures = record { kept = keeps_rows g schema old new (λ (tables : Tables). tables ≡ (λ t. [])) keeps endures; crash = endures }
+  -- a refused opening of what is no empty database: no table was made
+  pub leaves_kept : (schema : Schema) (old new : Held S) → ((state g old).now.schema ≡ no_schema → ⊥) → Keeps g old new → EnduresMaking g old new → LeavesRows g schema old new
+  leaves_kept schema old new some keeps endures =
+      let none : Endures g old new (λ (tables : Tables). ⊥) = endures_weaker g old new (λ (tables : Tables). ((state g old).now.schema ≡ no_schema) × (tables ≡ (λ t. []))) (λ (tables : Tables). ⊥) (λ clean tables made. some made.0) endures in
+      record { kept = keeps_rows g schema old new (λ (tables : Tables). ⊥) keeps none; crash = none }
 
   -- what looks at a space leave of its connection
   pub leaves_looked : (schema : Schema) (conn : Held S) (s t : Space S) → s.schema ≡ schema → (s.store).conn ≡ conn → t.schema ≡ s.schema
@@ -46,8 +49,8 @@ module _ {S : Type 0} (g : Ghosts S) where
         let there : HoldsRows g schema (s.store).conn rows = subst (λ (k : Held S). HoldsRows g schema k rows) (sym is_conn) holds in
         let here : HoldsRows g s.schema (s.store).conn rows = subst (λ (k : Schema). HoldsRows g k (s.store).conn rows) (sym is_schema) there in
         subst (λ (k : Schema). HoldsRows g k (t.store).conn rows) (same ∙ is_schema) (kept rows here);
-    crash = subst (λ (k : Held S). Endures g k (t.store).conn (λ (tables : Tables). tables ≡ (λ t. []))) is_conn
-        (endures_weaker g (s.store).conn (t.store).conn (λ (tables : Tables). (rows : Rows) × AreStored s.schema tables rows × ⊥) (λ (tables : Tables). tables ≡ (λ t. [])) (λ clean tables held. absurd held.2) crash);
+    crash = subst (λ (k : Held S). Endures g k (t.store).conn (λ (tables : Tables). ⊥)) is_conn
+        (endures_weaker g (s.store).conn (t.store).conn (λ (tables : Tables). (rows : Rows) × AreStored s.schema tables rows × ⊥) (λ (tables : Tables). ⊥) (λ clean tables held. held.2) crash);
   }
 
   -- rows of a connection are rows of the space over it

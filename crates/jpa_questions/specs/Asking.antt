@@ -1,12 +1,11 @@
 -- What a question leaves of a store, and when its revision is refused.
-use Rattle.std.specs.Prelude.{◌≡◌, ◌⊎◌, ℕ, List, [], Result, Ok, Err}
+use Rattle.std.specs.Prelude.{◌≡◌, ◌⊎◌, ℕ, List, Result, Ok, Err}
 use Rattle.sqlite_trees.specs.declared.store.Store.{Ghosts as StoreGhosts}
 use Rattle.sqlite.specs.Held.{Held}
 use Rattle.jpa_value.specs.declared.refusal.Cause.{Cause}
 use Rattle.jpa_behaviour.specs.Behaviour.{World}
 use Rattle.jpa_stored.specs.Sets.{StoredSet}
 use Rattle.jpa_cells_meaning.specs.Store.{Endures}
-use Rattle.jpa_cells_meaning.specs.Tables.{Tables}
 use Rattle.jpa_object_rows.specs.Sets.{rows_of}
 use Rattle.jpa_rows.specs.declared.reader.RowReader.{Ghosts}
 use Rattle.jpa_rows.specs.declared.schema.Schema.{Schema}
@@ -36,8 +35,8 @@ module _ {S : Type 0} (g : StoreGhosts S) where
     pub held : CanBeHeld world set numbers
     pub rows : HoldsRows g (schema_of world.model) conn (rows_of world set numbers)
 
-  -- the database has the rows that it had, and a crash leaves what it left before, or at most an
-  -- empty table in an empty database
+  -- the database has the rows that it had, and a crash leaves what it left before: nothing was
+  -- committed
   pub record LeavesRows (schema : Schema) (old new : Held S) : Type 0 where
     pub kept : (rows : Rows) → HoldsRows g schema old rows → HoldsRows g schema new rows
-    pub crash : Endures g old new (λ (tables : Tables). tables ≡ (λ t. []))
+    pub crash : Endures g old new (λ _. ⊥)
