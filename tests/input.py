@@ -269,7 +269,7 @@ def words(program: str, store: str, _: int) -> None:
         [program, *given], input=b"", capture_output=True, timeout=SECONDS
     )
     for given, start in [
-        (("--version",), b"jpa 0.1.0\n"),
+        (("--version",), b"jpa 0.2.0\n"),
         (("--help",), b"Answers entity manager calls on standard input"),
     ]:
         ended = ask(*given)

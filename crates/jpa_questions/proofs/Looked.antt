@@ -9,7 +9,10 @@ use Rattle.jpa_rows.specs.declared.reader.RowReader.{Ghosts}
 use Rattle.jpa_rows.specs.Faults.{faults_after}
 use Rattle.jpa_rows.specs.Rows.{Rows}
 use Rattle.jpa_store_reader.specs.OfSet.{AreOf}
-use Rattle.jpa_row_queries.specs.Seen.{SeesSet}
+use Rattle.jpa_model.specs.declared.unit.PersistenceUnit.{PersistenceUnit}
+use Rattle.jpa_object_rows.specs.Raw.{AreRowsOf}
+use Rattle.jpa_rows.specs.Tables.{schema_of}
+use Rattle.jpa_row_queries.specs.Seen.{SeesRows, SeesSet}
 use Rattle.jpa_rows.specs.Looks.{LooksAtOneRow, LooksOnly}
 use Rattle.jpa_rows.proofs.Looks.{done, looks_then, looks_told}
 use Rattle.jpa_questions.specs.Asking.{LooksAtTwoRows}
@@ -38,4 +41,14 @@ sees_then store world changes old mid set numbers none kept sees = record {
   rising = sees.rising;
   held = kept sees.rows sees.held;
   of = subst (λ (ch : Changes). AreOf world (rows_under ch sees.rows) set numbers) (sym none) sees.of;
+}
+
+-- and so are the rows
+abbrev pub rows_seen_then : {S : Type 0} (store : Ghosts S) (m : PersistenceUnit) (changes : Changes) (old mid : S) → changes ≡ [] → ((rows : Rows) → store.holds old rows → store.holds mid rows)
+    → SeesRows store m [] old → SeesRows store m changes mid
+rows_seen_then store m changes old mid none kept sees = record {
+  rows = sees.rows;
+  rising = sees.rising;
+  held = kept sees.rows sees.held;
+  named = subst (λ (ch : Changes). AreRowsOf (schema_of m) (rows_under ch sees.rows)) (sym none) sees.named;
 }

@@ -1,5 +1,5 @@
 //! A question over a store of rows.
-ghost use Rattle.std.specs.Prelude.{◌≡◌, ℕ, [], List, Some};
+ghost use Rattle.std.specs.Prelude.{◌≡◌, ℕ, [], List, None, Some, IfOk};
 ghost use Rattle.jpa_behaviour.specs.Served.{world_of_unit};
 ghost use Rattle.jpa_value.specs.declared.value.Identity.{Identity};
 ghost use Rattle.jpa_rows.specs.Rows.{Rows};
@@ -8,7 +8,7 @@ ghost use Rattle.jpql_by_key.specs.ByKey.{key_of};
 ghost use Rattle.jpql_plan.specs.Selection.{selected};
 ghost use Rattle.jpa_row_queries.specs.Answered.{Answers, IsAskingCause, RefusesOnly};
 ghost use Rattle.jpa_rows.specs.Looks.{LooksOnly};
-ghost use Rattle.jpa_row_queries.specs.Seen.{SeesSet};
+ghost use Rattle.jpa_row_queries.specs.Seen.{AreJustOf, SeesRows, SeesSet};
 ghost use Rattle.jpa_questions.specs.Asking.{LooksAtTwoRows, RefusesRevision};
 ghost use Rattle.jpa_questions.specs.Revisions.{AreOfRevision};
 
@@ -27,7 +27,7 @@ use std::alloc::Global;
 /// Where the store is clean at the end, and its rows are those of a set that a store can hold,
 /// these are what the SELECT gives over that set: in its order, or the same `Overflow`. A store of
 /// another revision than the unit's is `Damaged`, told by the row of the revision, before any other
-/// row is read; rows of no such set may be `Damaged` too. `OutOfMemory` where a growth was refused,
+/// row is read; rows of no such set are `Damaged` too, where all are read. `OutOfMemory` where a growth was refused,
 /// and `StoreFault` as the store answers it.
 ///
 /// The row of the revision is looked at, and then one row for a SELECT that asks one object by its
@@ -42,6 +42,11 @@ pub fn ask<R: RowReader, B: Behaviour>(
         SeesSet R.RowReader (world_of_unit B.meaning unit.now) [] source.old set numbers →
         Answers result
         (selected unit.now.metamodel set question.now.arguments question.now.select) }
+    ensures whole { R.clean source.new →
+        key_of unit.now.metamodel question.now.arguments question.now.select ≡ None →
+        (sees : SeesRows R.RowReader unit.now.metamodel [] source.old) →
+        IfOk result (λ _. (set : StoredSet)
+        × AreJustOf (world_of_unit B.meaning unit.now) sees.rows set) }
     ensures revision { R.clean source.new → (rows : Rows) → R.holds source.old rows →
         (AreOfRevision unit.now.metamodel rows → ⊥) → RefusesRevision result }
     ensures err { RefusesOnly R.RowReader IsAskingCause result source.old source.new }

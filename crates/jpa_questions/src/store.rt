@@ -1,14 +1,17 @@
 //! A question over the cells of a database.
-ghost use Rattle.std.specs.Prelude.{◌≡◌, ◌↔◌, ℕ, List, IsTrue, IfOk, IfErr};
+ghost use Rattle.std.specs.Prelude.{◌≡◌, ◌↔◌, ℕ, List, IsTrue, None, IfOk, IfErr};
 ghost use Rattle.sqlite.specs.Held.{state};
 ghost use Rattle.jpa_behaviour.specs.Served.{world_of_unit};
 ghost use Rattle.jpa_rows.specs.Tables.{schema_of};
 ghost use Rattle.jpa_cells_meaning.specs.Schema.{no_schema};
 ghost use Rattle.jpa_cells_meaning.specs.Store.{IsClean, IsOrderedIfFound, new_store};
-ghost use Rattle.jpa_rowspace.specs.Space.{IsStoreCause};
+ghost use Rattle.jpa_rows.specs.Rows.{Rows};
+ghost use Rattle.jpa_rowspace.specs.Space.{HoldsRows, IsStoreCause};
 ghost use Rattle.jpa_stored.specs.Sets.{StoredSet};
 ghost use Rattle.jpql_plan.specs.Selection.{selected};
+ghost use Rattle.jpql_by_key.specs.ByKey.{key_of};
 ghost use Rattle.jpa_row_queries.specs.Answered.{Answers};
+ghost use Rattle.jpa_row_queries.specs.Seen.{AreJustOf};
 ghost use Rattle.jpa_questions.specs.Asking.{HoldsSet, LeavesRows};
 
 use crate::asking::ask;
@@ -65,9 +68,10 @@ fn rows_over<S: Alter + Drop>(
 }
 
 /// The rows that a question finds in the store of a connection, as `ask` finds them, and the
-/// connection, which has the rows that it had. A database that is empty, that holds anything else
-/// than cells, or whose connection is in a transaction, is refused with `StoreFault`; else it
-/// refuses as `ask` does.
+/// connection, which has the rows that it had; nothing is committed. Rows of the metamodel's tables
+/// that are of no set are `Damaged`, where all are read. A database that is empty, that holds
+/// anything else than cells, or whose connection is in a transaction, is refused with `StoreFault`;
+/// else it refuses as `ask` does.
 pub fn ask_store<S: Alter + Drop, B: Behaviour>(
     alloc: Global,
     conn: Connection<S>,
@@ -79,6 +83,11 @@ pub fn ask_store<S: Alter + Drop, B: Behaviour>(
         HoldsSet S.Store (world_of_unit B.meaning unit.now) conn set numbers →
         Answers result.0
         (selected unit.now.metamodel set question.now.arguments question.now.select) }
+    ensures whole { IsClean S.Store result.1 →
+        key_of unit.now.metamodel question.now.arguments question.now.select ≡ None →
+        (rows : Rows) → HoldsRows S.Store (schema_of unit.now.metamodel) conn rows →
+        IfOk result.0
+        (λ _. (set : StoredSet) × AreJustOf (world_of_unit B.meaning unit.now) rows set) }
     ensures kept { LeavesRows S.Store (schema_of unit.now.metamodel) conn result.1 }
     ensures again { IsOrderedIfFound S.Store result.1 }
 {

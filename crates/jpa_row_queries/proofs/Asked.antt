@@ -60,9 +60,12 @@ pub opened_as : (r : Result Opened Cause) (s t : StoredSet) → s ≡ t → IfOk
 opened_as (Ok o) s t is ok err = ap now ok ∙ is
 opened_as (Err e) s t is ok err = inl err
 
+pub opened_of : (P : StoredSet → Type 0) (r : Result Opened Cause) (s : StoredSet) → P s → IfOk r (λ o. o ≡ unwritten s) → IfOk r (λ o. P (now o))
+opened_of P (Ok o) s there ok = subst P (sym (ap now ok)) there
+opened_of P (Err e) s there ok = tt
+
 pub opened_looked : (m : PersistenceUnit) (r : Result Opened Cause) (s : StoredSet) → CanBeLookedUp m s → IfOk r (λ o. o ≡ unwritten s) → IfOk r (λ o. CanBeLookedUp m (now o))
-opened_looked m (Ok o) s there ok = subst (CanBeLookedUp m) (sym (ap now ok)) there
-opened_looked m (Err e) s there ok = tt
+opened_looked m = opened_of (CanBeLookedUp m)
 
 module _ (m : PersistenceUnit) (ps : List Datum) (q : TypedSelect) (set : StoredSet) where
   -- over this set the statement gives what it gives over the one that is seen

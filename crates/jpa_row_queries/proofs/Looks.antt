@@ -1,5 +1,5 @@
 -- Why a look fails, and what is made of its answer.
-use Rattle.std.specs.Prelude.{◌≡◌, ◌⊎◌, ℕ, Result, Ok, Err, IfErr, IsErrAnd, MatchResult}
+use Rattle.std.specs.Prelude.{◌≡◌, ◌⊎◌, ℕ, Result, Ok, Err, IfErr, IfOk, IsErrAnd, MatchResult}
 use Rattle.std.proofs.Common.{refl, sym, ap, subst, ◌∙◌, inl, inr}
 use Rattle.jpa_value.specs.declared.refusal.Cause.{Cause}
 use Rattle.jpa_value.specs.declared.refusal.Cause.TheVariants as cause
@@ -27,6 +27,18 @@ own_told {A = A} (Err e) (inr (inr overflow)) n = own_one A e Cause.Overflow ove
 pub if_err : {A : Type 0} {P Q : Cause → Type 0} (r : Result A Cause) → ((e : Cause) → P e → Q e) → IfErr r P → IfErr r Q
 if_err (Ok a) go h = tt
 if_err (Err e) go h = go e h
+
+pub if_ok : {A : Type 0} {P Q : A → Type 0} (r : Result A Cause) → ((a : A) → P a → Q a) → IfOk r P → IfOk r Q
+if_ok (Ok a) go h = go a h
+if_ok (Err e) go h = tt
+
+pub ok_any : {A : Type 0} {P : Type 0} (r : Result A Cause) → P → IfOk r (λ a. P)
+ok_any (Ok a) h = h
+ok_any (Err e) h = tt
+
+pub ok_passed : {A : Type 0} (P : A → Type 0) (r : Result A Cause) (e : Cause) → IsErrAnd r (λ x. x ≡ e) → IfOk r P
+ok_passed P (Ok a) e h = absurd h
+ok_passed P (Err x) e h = tt
 
 pub memory_own : (e : Cause) → e ≡ Cause.OutOfMemory → IsOwnCause e
 memory_own e h = inl h

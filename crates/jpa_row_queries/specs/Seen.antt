@@ -8,6 +8,8 @@ use Rattle.jpa_stored.specs.declared.stored.Stored.{Stored}
 use Rattle.jpa_stored.specs.Sets.{StoredSet, is_shaped}
 use Rattle.jpa_rows.specs.declared.reader.RowReader.{Ghosts}
 use Rattle.jpa_rows.specs.Rows.{Rows, AreRising}
+use Rattle.jpa_rows.specs.Tables.{schema_of}
+use Rattle.jpa_object_rows.specs.Raw.{AreRowsOf}
 use Rattle.jpa_object_rows.specs.Unambiguous.{joins_of}
 use Rattle.jpa_overlay.specs.Overlay.{Changes, rows_under}
 use Rattle.jpa_store_reader.specs.OfSet.{AreOf}
@@ -19,6 +21,17 @@ pub record SeesSet {S : Type 0} (store : Ghosts S) (world : World) (changes : Ch
   pub rising : AreRising rows
   pub held : store.holds source rows
   pub of : AreOf world (rows_under changes rows) set numbers
+
+-- the store's rows are under the changes rows of the metamodel's tables, of a set or of none
+pub record SeesRows {S : Type 0} (store : Ghosts S) (m : PersistenceUnit) (changes : Changes) (source : S) : Type 0 where
+  pub rows : Rows
+  pub rising : AreRising rows
+  pub held : store.holds source rows
+  pub named : AreRowsOf (schema_of m) (rows_under changes rows)
+
+-- the rows are just those of this set, with some next numbers
+abbrev pub AreJustOf : World → Rows → StoredSet → Type 0
+AreJustOf world rows set = (numbers : List ℕ) × AreOf world rows set numbers
 
 -- an object under the identity is one row: the table is a class's, and its relations have no join
 -- tables (chapter 2.10)

@@ -15,7 +15,7 @@ ghost use Rattle.std.specs.FinMap.{is_sorted};
 ghost use Rattle.jpa_value.specs.Value.{identity_cmp};
 ghost use Rattle.jpa_row_queries.specs.Unread.{IsDamage, IsReadingCause};
 ghost use Rattle.jpa_rows.specs.Looks.{LooksOnly};
-ghost use Rattle.jpa_row_queries.specs.Seen.{SeesSet};
+ghost use Rattle.jpa_row_queries.specs.Seen.{AreJustOf, SeesRows, SeesSet};
 
 use jpa_behaviour::{Behaviour, Registry};
 use jpa_mapper::discriminator_law;
@@ -115,6 +115,8 @@ fn set_of<B: Behaviour>(
         MatchResult result (λ found. found ≡ set) IsStoreCause }
     ensures rising { IfOk result (λ found. T (is_sorted identity_cmp found)) }
     ensures shaped { IfOk result (λ found. all_shaped metamodel.now found ≡ true) }
+    ensures held { IfOk result
+        (AreJustOf (world_of B.meaning metamodel.now registry.now) rows.now) }
     ensures err { IfErr result (λ cause. (cause ≡ Cause.OutOfMemory) ⊎ IsDamage cause) }
 {
     let Committed { set, .. } = judge_rows(alloc, metamodel, registry, rows)?;
@@ -124,9 +126,10 @@ fn set_of<B: Behaviour>(
 /// The set that is seen: the one whose rows the store holds under changes, read table by table and
 /// judged. What is answered has the shape of its classes in any case.
 ///
-/// Rows of no set that a store can hold are `Damaged`, told by the table and the bytes of the first
-/// that no object, pair, next number or revision has, or by `Damaged(0, [])`. `OutOfMemory` where a
-/// growth was refused, and `StoreFault` as the store answers it. Nothing is written.
+/// Rows of the metamodel's tables that are of no set that a store can hold are `Damaged`, told by
+/// the table and the bytes of the first that no object, pair, next number or revision has, or by
+/// `Damaged(0, [])`. `OutOfMemory` where a growth was refused, and `StoreFault` as the store answers
+/// it. Nothing is written.
 pub fn set_seen<R: RowReader, B: Behaviour>(
     alloc: Global,
     metamodel: &Metamodel,
@@ -138,6 +141,10 @@ pub fn set_seen<R: RowReader, B: Behaviour>(
         SeesSet R.RowReader (world_of B.meaning metamodel.now registry.now) overlay.now
         source.old set numbers →
         MatchResult result (λ found. found ≡ set) IsStoreCause }
+    ensures whole { R.clean source.new →
+        (sees : SeesRows R.RowReader metamodel.now overlay.now source.old) → IfOk result
+        (AreJustOf (world_of B.meaning metamodel.now registry.now)
+        (rows_under overlay.now sees.rows)) }
     ensures rising { IfOk result (λ found. T (is_sorted identity_cmp found)) }
     ensures shaped { IfOk result (λ found. all_shaped metamodel.now found ≡ true) }
     ensures err { R.clean source.new → (rows : Rows) → AreRising rows →

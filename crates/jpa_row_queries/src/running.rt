@@ -1,9 +1,10 @@
 //! SELECT statements over a store of rows.
-ghost use Rattle.std.specs.Prelude.{◌≡◌, ℕ, List, Some, IfOk, MatchResult};
+ghost use Rattle.std.specs.Prelude.{◌≡◌, ℕ, List, None, Some, IfOk, MatchResult};
 ghost use Rattle.jpa_behaviour.specs.Registered.{world_of};
 ghost use Rattle.jpa_value.specs.declared.value.Identity.{Identity};
 ghost use Rattle.jpa_open.specs.Opened.{now};
 ghost use Rattle.jpa_rows.specs.Faults.{IsStoreCause};
+ghost use Rattle.jpa_overlay.specs.Overlay.{rows_under};
 ghost use Rattle.jpa_stored.specs.Sets.{StoredSet};
 ghost use Rattle.jpql_by_key.specs.ByKey.{key_of};
 ghost use Rattle.jpql_plan.specs.Selection.{selected};
@@ -11,7 +12,7 @@ ghost use Rattle.jpql_run.specs.Keys.{CanBeLookedUp};
 ghost use Rattle.jpa_row_queries.specs.Answered.{Answers, IsAskingCause, RefusesOnly};
 ghost use Rattle.jpa_row_queries.specs.Unread.{IsReadingCause};
 ghost use Rattle.jpa_rows.specs.Looks.{LooksAtOneRow, LooksOnly};
-ghost use Rattle.jpa_row_queries.specs.Seen.{SeesSet};
+ghost use Rattle.jpa_row_queries.specs.Seen.{AreJustOf, SeesRows, SeesSet};
 
 use crate::answering::answered;
 use crate::seen::{alone_seen, whole_seen};
@@ -42,6 +43,12 @@ fn set_asked<R: RowReader, B: Behaviour>(
         source.old set numbers → MatchResult result
         (λ found. selected metamodel.now (now found) parameters.now statement.now
         ≡ selected metamodel.now set parameters.now statement.now) IsStoreCause }
+    ensures whole { R.clean source.new →
+        key_of metamodel.now parameters.now statement.now ≡ None →
+        (sees : SeesRows R.RowReader metamodel.now overlay.now source.old) →
+        IfOk result (λ _. (set : StoredSet)
+        × AreJustOf (world_of B.meaning metamodel.now registry.now)
+        (rows_under overlay.now sees.rows) set) }
     ensures looked_up { IfOk result (λ found. CanBeLookedUp metamodel.now (now found)) }
     ensures err { RefusesOnly R.RowReader IsReadingCause result source.old source.new }
     ensures looks { LooksOnly R.RowReader result source.old source.new }
@@ -62,7 +69,8 @@ fn set_asked<R: RowReader, B: Behaviour>(
 ///
 /// Where the store is clean at the end, and the rows that are seen are those of a set that a store
 /// can hold, these are what the statement gives over that set: in its order, or the same
-/// `Overflow`. Rows of no such set may be `Damaged`, told by a table and the bytes of a row.
+/// `Overflow`. Rows of the metamodel's tables that are of no such set are `Damaged`, told by a table
+/// and the bytes of a row, where all are read; one that is asked by its key may be.
 ///
 /// A statement that asks one object by its key (`key_of` of jpql_by_key) runs at most one select,
 /// of that object's row; another reads all tables of the metamodel. Nothing is written.
@@ -80,6 +88,12 @@ pub fn run<R: RowReader, B: Behaviour>(
         SeesSet R.RowReader (world_of B.meaning metamodel.now registry.now) overlay.now
         source.old set numbers →
         Answers result (selected metamodel.now set parameters.now statement.now) }
+    ensures whole { R.clean source.new →
+        key_of metamodel.now parameters.now statement.now ≡ None →
+        (sees : SeesRows R.RowReader metamodel.now overlay.now source.old) →
+        IfOk result (λ _. (set : StoredSet)
+        × AreJustOf (world_of B.meaning metamodel.now registry.now)
+        (rows_under overlay.now sees.rows) set) }
     ensures err { RefusesOnly R.RowReader IsAskingCause result source.old source.new }
     ensures looks { LooksOnly R.RowReader result source.old source.new }
     ensures economy { (id : Identity) →

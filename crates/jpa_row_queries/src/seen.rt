@@ -4,12 +4,13 @@ ghost use Rattle.jpa_behaviour.specs.Registered.{world_of};
 ghost use Rattle.jpa_open.specs.Opened.{now};
 ghost use Rattle.jpa_rows.specs.Faults.{IsStoreCause};
 ghost use Rattle.jpa_rows.specs.Rows.{Rows, AreRising};
+ghost use Rattle.jpa_overlay.specs.Overlay.{rows_under};
 ghost use Rattle.jpa_stored.specs.Sets.{StoredSet, stored_at};
 ghost use Rattle.jpql_by_key.specs.ByKey.{only};
 ghost use Rattle.jpql_run.specs.Keys.{CanBeLookedUp};
 ghost use Rattle.jpa_row_queries.specs.Unread.{IsReadingCause};
 ghost use Rattle.jpa_rows.specs.Looks.{LooksAtOneRow, LooksOnly};
-ghost use Rattle.jpa_row_queries.specs.Seen.{SeesSet, StandsAlone};
+ghost use Rattle.jpa_row_queries.specs.Seen.{AreJustOf, SeesRows, SeesSet, StandsAlone};
 
 use crate::alone::object_under;
 use crate::gathering::set_seen;
@@ -58,6 +59,10 @@ pub(crate) fn whole_seen<R: RowReader, B: Behaviour>(
         SeesSet R.RowReader (world_of B.meaning metamodel.now registry.now) overlay.now
         source.old set numbers →
         MatchResult result (λ found. now found ≡ set) IsStoreCause }
+    ensures whole { R.clean source.new →
+        (sees : SeesRows R.RowReader metamodel.now overlay.now source.old) →
+        IfOk result (λ found. AreJustOf (world_of B.meaning metamodel.now registry.now)
+        (rows_under overlay.now sees.rows) (now found)) }
     ensures looked_up { IfOk result (λ found. CanBeLookedUp metamodel.now (now found)) }
     ensures err { R.clean source.new → (rows : Rows) → AreRising rows →
         R.holds source.old rows → IfErr result IsReadingCause }

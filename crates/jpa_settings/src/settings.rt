@@ -41,7 +41,7 @@ fn with_files<'a>(alloc: Global) -> Result<Command<'a>, AllocError>
     let db = Arg::new(alloc, "db").long("db").value_name("FILE").help(
         "The store's file, made where there is none; without it the store is in memory",
     );
-    let plain = Command::new(alloc, "jpa").version("0.1.0").about(
+    let plain = Command::new(alloc, "jpa").version("0.2.0").about(
         "Answers entity manager calls on standard input, a JSON line each, on standard output",
     );
     let with_mapping = plain.arg(mapping)?;

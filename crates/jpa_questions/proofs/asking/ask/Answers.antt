@@ -1,12 +1,16 @@
 use Rattle.std.proofs.Common.{ap, sym, subst, ◌∙◌}
-use Rattle.std.specs.Prelude.{IfErr}
+use Rattle.std.specs.Prelude.{List, IfErr, IfOk}
+use Rattle.jpql_eval.specs.declared.datum.Datum.{Datum}
+use Rattle.jpa_overlay.specs.Overlay.{Changes, rows_under}
+use Rattle.jpa_stored.specs.Sets.{StoredSet}
+use Rattle.jpa_row_queries.specs.Seen.{AreJustOf}
 use Rattle.jpa_behaviour.specs.Served.{world_of_unit}
 use Rattle.jpql_by_key.specs.ByKey.{key_of}
 use Rattle.jpql_plan.specs.Selection.{selected}
 use Rattle.jpa_row_queries.specs.Answered.{Answers, IsAskingCause}
 use Rattle.jpa_questions.specs.Asking.{RefusesRevision}
-use Rattle.jpa_row_queries.proofs.Looks.{err_is, looks_passed}
-use Rattle.jpa_questions.proofs.Looked.{looks_both, rows_both, rows_first, sees_then}
+use Rattle.jpa_row_queries.proofs.Looks.{err_is, looks_passed, ok_passed}
+use Rattle.jpa_questions.proofs.Looked.{looks_both, rows_both, rows_first, rows_seen_then, sees_then}
 use Rattle.jpa_questions.proofs.Revised.{of_revision, refused_answer, refused_asking, refused_revision}
 use Rattle.jpa_questions.proofs.asking.ask.Goals as goal
 
@@ -53,3 +57,15 @@ returns-clause-looks g c = looks_both g.R.RowReader c.args.source.now c.check_re
 
 pub returns-clause-economy : goal.returns-clause-economy
 returns-clause-economy g c id is = rows_both g.R.RowReader c.args.source.now c.check_revision.new.source c.run.new.source c.check_revision.ensures.economy (c.run.ensures.economy id (ap (λ ps. key_of c.args.unit.now.metamodel ps c.args.question.now.select) c.as_slice.ensures ∙ is))
+
+pub returns-in_err-check_revision-clause-whole : goal.returns-in_err-check_revision-clause-whole
+returns-in_err-check_revision-clause-whole g c clean none sees =
+    let world = world_of_unit g.B.Behaviour.meaning c.args.unit.now in
+    ok_passed (λ (rows : List (List Datum)). (set : StoredSet) × AreJustOf world sees.rows set) c.from_residual.result c.in_err-check_revision.field-0.0 c.from_residual.ensures.1
+
+pub returns-clause-whole : goal.returns-clause-whole
+returns-clause-whole g c clean none sees =
+    let world = world_of_unit g.B.Behaviour.meaning c.args.unit.now in
+    let asked = ap (λ ps. key_of c.args.unit.now.metamodel ps c.args.question.now.select) c.as_slice.ensures ∙ none in
+    let rows = rows_seen_then g.R.RowReader c.args.unit.now.metamodel c.new-overlay.result c.args.source.now c.check_revision.new.source c.new-overlay.ensures c.check_revision.ensures.looks.kept sees in
+    subst (λ (ch : Changes). IfOk c.run.result (λ (rs : List (List Datum)). (set : StoredSet) × AreJustOf world (rows_under ch sees.rows) set)) c.new-overlay.ensures (c.run.ensures.whole clean asked rows)

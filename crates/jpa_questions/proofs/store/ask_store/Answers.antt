@@ -4,6 +4,9 @@ use Rattle.jpa_cells_meaning.specs.Store.{IsClean, Stored}
 use Rattle.jpa_object_rows.specs.Sets.{rows_of}
 use Rattle.jpa_rows.specs.Tables.{schema_of}
 use Rattle.jpa_rowspace.specs.Space.{Space}
+use Rattle.jpa_rows.specs.declared.schema.Schema.{Schema}
+use Rattle.jpa_rowspace.specs.Stored.{AreRowsOf}
+use Rattle.jpa_store_reader.proofs.Standing.{named_rows}
 use Rattle.jpa_questions.proofs.Kept.{holds_over}
 use Rattle.jpa_questions.proofs.store.ask_store.Goals as goal
 
@@ -20,4 +23,20 @@ returns-clause-answer g c clean set numbers holds =
       rising = (held.whole (c.ask-answer.ensures.looks.was_clean still)).rising;
       held = held;
       of = record { held = holds.held; same = refl };
+    })
+
+pub returns-clause-whole : goal.returns-clause-whole
+returns-clause-whole g c clean none rows holds =
+    let world = world_of_unit g.B.Behaviour.meaning c.args.unit.now in
+    let handed = c.into_connection.ensures.same ∙ ap (λ (r : Space g.row.S.Denot). (r.store).conn) c.space.view_is in
+    let is_conn = ap (λ (s : Stored g.row.S.Denot). s.conn) c.in-Ok.ensures.same in
+    let still = subst (IsClean g.S.Store) handed clean in
+    let held = holds_over g.S.Store (schema_of world.model) c.args.conn c.in-Ok.space rows c.in-Ok.ensures.schema is_conn holds in
+    let named : AreRowsOf (schema_of world.model) rows = subst (λ (k : Schema). AreRowsOf k rows) c.in-Ok.ensures.schema (held.whole (c.ask-answer.ensures.looks.was_clean still)) in
+    c.ask-answer.ensures.whole still none
+    (record {
+      rows = rows;
+      rising = named.rising;
+      held = held;
+      named = named_rows (schema_of world.model) rows named;
     })

@@ -27,3 +27,6 @@ returns-clause-rising g c = c.in_ok-set.ensures.held.held.rising
 
 pub returns-clause-shaped : goal.returns-clause-shaped
 returns-clause-shaped g c = c.in_ok-set.ensures.held.held.shaped
+
+pub returns-clause-held : goal.returns-clause-held
+returns-clause-held g c = let h = c.in_ok-set.ensures.held in (_, record { held = h.held; same = h.same })

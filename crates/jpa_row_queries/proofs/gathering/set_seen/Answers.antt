@@ -1,4 +1,5 @@
 use Rattle.std.proofs.Common.{◌≡◌, ◌∙◌, sym, subst}
+use Rattle.std.specs.Prelude.{IfOk}
 use Rattle.jpa_behaviour.specs.Registered.{world_of}
 use Rattle.jpa_store_reader.specs.OfSet.{AreOf}
 use Rattle.jpa_store_reader.proofs.OfSet.{of_unit}
@@ -8,7 +9,8 @@ use Rattle.jpa_rows.specs.Rows.{Rows}
 use Rattle.jpa_rows.specs.Faults.{IsStoreCause}
 use Rattle.jpa_stored.specs.Sets.{StoredSet}
 use Rattle.jpa_row_queries.specs.Unread.{IsReadingCause}
-use Rattle.jpa_row_queries.proofs.Looks.{damage_own, damage_reading, if_err, if_passed, looks_own, looks_passed, err_is, match_err, store_reading}
+use Rattle.jpa_row_queries.specs.Seen.{AreJustOf}
+use Rattle.jpa_row_queries.proofs.Looks.{damage_own, damage_reading, if_err, if_passed, looks_own, looks_passed, err_is, match_err, store_reading, ok_passed}
 use Rattle.jpa_row_queries.proofs.gathering.set_seen.Goals as goal
 
 pub returns-in_err-rows-clause-set : goal.returns-in_err-rows-clause-set
@@ -39,3 +41,14 @@ returns-clause-err g c clean rows rise holds = if_err c.set_of.result damage_rea
 pub returns-clause-looks : goal.returns-clause-looks
 returns-clause-looks g c =
     looks_own g.R.RowReader c.args.source.now c.all_rows.new.source c.in_ok-rows.rows c.all_rows.result c.set_of.result c.in_ok-rows.was c.all_rows.ensures.looks (if_err c.set_of.result damage_own c.set_of.ensures.err)
+
+pub returns-in_err-rows-clause-whole : goal.returns-in_err-rows-clause-whole
+returns-in_err-rows-clause-whole g c clean sees =
+    let world = world_of g.B.Behaviour.meaning c.args.metamodel.now c.args.registry.now in
+    ok_passed (AreJustOf world (rows_under c.args.overlay.now sees.rows)) c.from_residual.result c.in_err-rows.field-0.0 c.from_residual.ensures.1
+
+pub returns-clause-whole : goal.returns-clause-whole
+returns-clause-whole g c clean sees =
+    let world = world_of g.B.Behaviour.meaning c.args.metamodel.now c.args.registry.now in
+    let same = c.in_ok-rows.ensures.rows clean sees.rows sees.rising sees.held sees.named in
+    subst (λ (rs : Rows). IfOk c.set_of.result (AreJustOf world rs)) (c.as_slice.ensures ∙ same) c.set_of.ensures.held

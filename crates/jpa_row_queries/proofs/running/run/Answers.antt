@@ -2,7 +2,11 @@ use Rattle.std.proofs.Common.{subst, List}
 use Rattle.jpql_eval.specs.Answers.{Answer}
 use Rattle.jpql_eval.specs.declared.datum.Datum.{Datum}
 use Rattle.jpql_plan.specs.Selection.{selected}
-use Rattle.jpa_row_queries.proofs.Looks.{err_is, if_err, if_passed, looks_own, looks_passed}
+use Rattle.jpa_row_queries.proofs.Looks.{err_is, if_err, if_passed, looks_own, looks_passed, ok_any, ok_passed}
+use Rattle.jpa_behaviour.specs.Registered.{world_of}
+use Rattle.jpa_overlay.specs.Overlay.{rows_under}
+use Rattle.jpa_stored.specs.Sets.{StoredSet}
+use Rattle.jpa_row_queries.specs.Seen.{AreJustOf}
 use Rattle.jpa_row_queries.specs.Answered.{Answers, IsAskingCause}
 use Rattle.jpa_row_queries.proofs.Asked.{asking, err_answers, own_asking, reading_asking}
 use Rattle.jpa_row_queries.proofs.running.run.Goals as goal
@@ -31,3 +35,11 @@ returns-clause-err g c clean rows rise holds = if_err c.answered.result asking c
 pub returns-clause-looks : goal.returns-clause-looks
 returns-clause-looks g c =
     looks_own g.R.RowReader c.args.source.now c.set_asked.new.source c.in_ok-set.set c.set_asked.result c.answered.result c.in_ok-set.was c.set_asked.ensures.looks (if_err c.answered.result own_asking c.answered.ensures.err)
+
+pub returns-in_err-set-clause-whole : goal.returns-in_err-set-clause-whole
+returns-in_err-set-clause-whole g c clean none sees =
+    let world = world_of g.B.Behaviour.meaning c.args.metamodel.now c.args.registry.now in
+    ok_passed (λ (rows : List (List Datum)). (set : StoredSet) × AreJustOf world (rows_under c.args.overlay.now sees.rows) set) c.from_residual.result c.in_err-set.field-0.0 c.from_residual.ensures.1
+
+pub returns-clause-whole : goal.returns-clause-whole
+returns-clause-whole g c clean none sees = ok_any c.answered.result (c.in_ok-set.ensures.whole clean none sees)

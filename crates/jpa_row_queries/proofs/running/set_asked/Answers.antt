@@ -2,9 +2,14 @@ use Rattle.std.proofs.Common.{rules, refl, sym, ◌∙◌, inl}
 use Rattle.jpa_value.specs.declared.refusal.Cause.{Cause}
 use Rattle.jpa_row_laws.proofs.Facts.{some_none}
 use Rattle.jpa_rows.specs.Faults.{IsStoreCause}
+use Rattle.jpa_behaviour.specs.Registered.{world_of}
+use Rattle.jpa_open.specs.Opened.{Opened, now}
+use Rattle.jpa_overlay.specs.Overlay.{rows_under}
+use Rattle.jpa_stored.specs.Sets.{StoredSet}
+use Rattle.jpa_row_queries.specs.Seen.{AreJustOf}
 use Rattle.jpa_row_queries.specs.Unread.{IsReadingCause}
 use Rattle.jpa_rows.proofs.Looks.{looks_none, none_at_one}
-use Rattle.jpa_row_queries.proofs.Looks.{if_passed, match_err, memory_reading}
+use Rattle.jpa_row_queries.proofs.Looks.{if_ok, if_passed, match_err, memory_reading, ok_passed}
 use Rattle.jpa_row_queries.proofs.Asked.{GivesSame, asked_alone, asked_whole, held_looked_up, stands_alone}
 use Rattle.jpa_row_queries.proofs.running.set_asked.Goals as goal
 
@@ -42,3 +47,15 @@ returns-in-None-clause-asked g c clean set numbers sees =
 
 pub returns-in-None-clause-economy : goal.returns-in-None-clause-economy
 returns-in-None-clause-economy g c id key = absurd (some_none id (sym key ∙ sym c.in_ok-asked.ensures ∙ c.in-None.is))
+
+pub returns-in_err-asked-clause-whole : goal.returns-in_err-asked-clause-whole
+returns-in_err-asked-clause-whole g c clean none sees =
+    let world = world_of g.B.Behaviour.meaning c.args.metamodel.now c.args.registry.now in
+    ok_passed (λ (found : Opened). (set : StoredSet) × AreJustOf world (rows_under c.args.overlay.now sees.rows) set) c.from_residual.result Cause.OutOfMemory c.from_residual.ensures.1
+
+pub returns-in-Some-clause-whole : goal.returns-in-Some-clause-whole
+returns-in-Some-clause-whole g c clean none sees = absurd (some_none c.in-Some.id (sym c.in-Some.is ∙ c.in_ok-asked.ensures ∙ none))
+
+pub returns-in-None-clause-whole : goal.returns-in-None-clause-whole
+returns-in-None-clause-whole g c clean none sees =
+    if_ok c.whole_seen.result (λ found just. (now found, just)) (c.whole_seen.ensures.whole clean sees)

@@ -1,9 +1,12 @@
 use Rattle.std.proofs.Common.{◌≡◌}
 use Rattle.jpa_open.specs.Opened.{Opened, now}
 use Rattle.jpa_rows.specs.Faults.{IsStoreCause}
+use Rattle.jpa_overlay.specs.Overlay.{rows_under}
+use Rattle.jpa_behaviour.specs.Registered.{world_of}
 use Rattle.jpa_row_queries.specs.Unread.{IsReadingCause}
-use Rattle.jpa_row_queries.proofs.Looks.{err_is, if_err, if_passed, looks_own, looks_passed, match_err, memory_own, memory_reading}
-use Rattle.jpa_row_queries.proofs.Asked.{opened_as, opened_looked}
+use Rattle.jpa_row_queries.specs.Seen.{AreJustOf}
+use Rattle.jpa_row_queries.proofs.Looks.{err_is, if_err, if_passed, looks_own, looks_passed, match_err, memory_own, memory_reading, ok_passed}
+use Rattle.jpa_row_queries.proofs.Asked.{opened_as, opened_looked, opened_of}
 use Rattle.jpa_row_queries.proofs.seen.whole_seen.Goals as goal
 
 pub returns-in_err-set-clause-seen : goal.returns-in_err-set-clause-seen
@@ -32,3 +35,13 @@ returns-clause-err g c clean rows rise holds = if_err c.view_of.result memory_re
 pub returns-clause-looks : goal.returns-clause-looks
 returns-clause-looks g c =
     looks_own g.R.RowReader c.args.source.now c.set_seen.new.source c.in_ok-set.set c.set_seen.result c.view_of.result c.in_ok-set.was c.set_seen.ensures.looks (if_err c.view_of.result memory_own c.view_of.ensures.err)
+
+pub returns-in_err-set-clause-whole : goal.returns-in_err-set-clause-whole
+returns-in_err-set-clause-whole g c clean sees =
+    let world = world_of g.B.Behaviour.meaning c.args.metamodel.now c.args.registry.now in
+    ok_passed (λ (found : Opened). AreJustOf world (rows_under c.args.overlay.now sees.rows) (now found)) c.from_residual.result c.in_err-set.field-0.0 c.from_residual.ensures.1
+
+pub returns-clause-whole : goal.returns-clause-whole
+returns-clause-whole g c clean sees =
+    let world = world_of g.B.Behaviour.meaning c.args.metamodel.now c.args.registry.now in
+    opened_of (AreJustOf world (rows_under c.args.overlay.now sees.rows)) c.view_of.result c.in_ok-set.set (c.in_ok-set.ensures.whole clean sees) c.view_of.ensures.view
