@@ -27,6 +27,8 @@ class ContextPlots(ContextLinkPlots):
         em = self.long_one()
         if em is None:
             return self.opening()
+        if self.random.random() < 0.006:
+            return self.restarting()
         if self.is_short(em) and self.random.random() < 0.8:
             return self.loading(em)
         if self.random.random() < 0.12:
@@ -87,6 +89,10 @@ class ContextPlots(ContextLinkPlots):
     def opening(self) -> Plot:
         for _ in range(self.random.choice([1, 2, 2, 3])):
             yield "createEntityManager", {}
+
+    def reopening(self) -> Plot:
+        """What follows a restart: as at first, so that much is loaded again."""
+        return self.opening()
 
     def settled(self, em: int) -> Plot:
         """Calls after which the manager has no open transaction, and mostly holds what it held."""

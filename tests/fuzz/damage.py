@@ -71,8 +71,10 @@ def changed(chance: Random, unit: Unit, cells: list[Cell]) -> list[Cell]:
 
 
 def looked_at(state: State) -> list[bytes]:
-    """Calls that find each object and get its values, and then what it holds in its relations."""
+    """Calls that find each object and get its values, and then what it holds in its relations; and
+    that ask what all hold, before these are read and after."""
     calls, links = [{"call": "createEntityManager"}], []
+    shown = [{"call": "values", "objects": list(range(1, len(state.objects) + 1))}]
     for number, ((name, key), stored) in enumerate(state.objects.items(), 1):
         calls.append(
             {
@@ -85,5 +87,5 @@ def looked_at(state: State) -> list[bytes]:
             {"call": "get", "object": number, "name": relation}
             for relation in stored.entity.relations
         ]
-    calls += links
+    calls += shown + links + shown
     return [json.dumps(call).encode() + b"\n" for call in calls]

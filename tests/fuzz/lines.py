@@ -6,6 +6,7 @@ import json, os, random, re, sqlite3
 from typing import TYPE_CHECKING, Any, Callable
 
 from model.machine import Machine
+from fuzz.own_calls import OwnMakers
 from fuzz.plots import Plots
 from fuzz.query_plots import QueryCalls
 from model.reading import DEPTH, GREATEST, LEAST, LINE, UNSERVED, Number, lines_of
@@ -52,14 +53,23 @@ MODES = ["READ", "OPTIMISTIC", "WRITE", "OPTIMISTIC_FORCE_INCREMENT"]
 OTHERS = [
     "merge", "lock", "NONE", "PESSIMISTIC_READ", "WRITE", "add", "takeOut", "query",
     "executeUpdate", "setFlushMode", "x", "", "Begin", "begin ", "call", "flush", "close",
+    "values", "pending", "restart", "index",
+]
+LISTS = [
+    b"[]", b"[1.0]", b'["1"]', b"[null]", b"[true]", b"[[1]]", b"[1,]", b"[1 2]", b'{"0":1}', b"1",
+    b"[18446744073709551615]", b"[-9223372036854775809]", b"[9223372036854775808]", b"[-0]",
+    b"[1e0]", b'[{"object":1}]', b"[ 1 , 1 ]", b"[1", b"null", b'""', b"[-1]", b"[0]",
 ]
 
 
-class Calls(Plots, QueryCalls):
+class Calls(Plots, QueryCalls, OwnMakers):
     """Makes calls over a machine, mostly such as it accepts."""
 
     def __init__(self, random: Random, machine: Machine) -> None:
         self.random, self.machine, self.plot = random, machine, None
+        # The managers that plots know of, all of them until a restart; and the calls that are kept
+        # back, the next one last.
+        self.managers, self.kept = machine.managers, []
         # How many managers there are mostly; up to 16 may have a transaction open.
         self.crowd = random.choice([2, 3, 3, 6, 16])
         self.has_relations = any(entity.relations for entity in machine.unit.entities.values())
@@ -69,7 +79,7 @@ class Calls(Plots, QueryCalls):
 
     def line(self) -> tuple[bytes, bool]:
         """A line, and whether a plot wants it as it stands."""
-        word, members = self.call()
+        word, members = self.next_call()
         members = list({"call": word, **members}.items())
         if self.random.random() < 0.1:
             self.random.shuffle(members)
@@ -108,6 +118,7 @@ class Calls(Plots, QueryCalls):
         weights |= {
             "query": 16 if managers else 1, "querySingle": 4, "executeUpdate": 6 if begun else 0.5,
             "setFlushMode": 1,
+            "values": 4, "pending": 3 if begun else 0.5, "restart": 0.3, "index": 3,
         }
         weights = {word: weight for word, weight in weights.items() if word not in UNSERVED}
         return self.random.choices(list(weights), weights.values())[0]
@@ -502,11 +513,20 @@ def odd_hex(random: Random, line: bytes) -> bytes:
     return swapped(random, line, json.dumps({"hex": digits}, ensure_ascii=False).encode())
 
 
+def listed(random: Random, line: bytes) -> bytes:
+    """With another list, or none, in the place of one of the line."""
+    places = list(re.finditer(rb"\[[^][]*\]", line[:4096]))
+    if not places:
+        return numbered(random, line)
+    place = random.choice(places)
+    return line[:place.start()] + random.choice(LISTS) + line[place.end():]
+
+
 MUTATIONS = [
     cut, doubled, flipped, inserted, nested, numbered, worded, more_members, fewer_members, escaped,
-    odd_hex,
+    odd_hex, listed,
 ]
-WEIGHTS = [4, 1, 4, 4, 2, 4, 2, 3, 2, 2, 2]
+WEIGHTS = [4, 1, 4, 4, 2, 4, 2, 3, 2, 2, 2, 2]
 
 
 def mutated(random: Random, line: bytes) -> bytes:

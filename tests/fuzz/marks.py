@@ -101,7 +101,7 @@ class Marked(Machine):
 
     def manager_of(self, word: str, given: list[Any]) -> Manager | str | None:
         """The manager that a call names, or that holds the object which it names."""
-        if word in ("createEntityManager", "new"):
+        if word in ("createEntityManager", "new", "values", "restart", "index"):
             return None
         is_of_object = word in ("get", "set", "add", "takeOut")
         return self.objects[given[0] - 1].held if is_of_object else self.managers[given[0] - 1]

@@ -27,5 +27,8 @@ Cell = Tuple[int, bytes, int, bytes]
 # The events of a call so far, each with its object and what a listener notes.
 Events = List[List[Any]]
 
+# An event that a flush would tell, and the number of its object.
+Due = List[Any]
+
 # A mapping as JSON has it.
 Mapping = Dict[str, Any]

@@ -1,4 +1,5 @@
-"""What is live in the model: objects, and the managers that hold them."""
+"""What is live in the model: objects, and the managers that hold them; and all of it as it was
+before a call."""
 from __future__ import annotations
 
 from typing import TYPE_CHECKING, Iterator
@@ -8,6 +9,7 @@ from model.cells import members
 if TYPE_CHECKING:
     from model.cells import Stored
     from model.kinds import Identity, Key, Objects, Values
+    from model.machine import Machine
     from model.unit import Entity, Relation
 
 
@@ -128,3 +130,32 @@ class Manager:
             [], True, False, False, "AUTO",
         )
         self.first, self.seen = None, None
+
+
+class Before:
+    """What a call that is undone may have changed, as it was: no detached object, since what
+    changes one is not undone afterwards."""
+
+    def __init__(self, machine: Machine) -> None:
+        self.machine, self.numbers, self.objects = (
+            machine, dict(machine.numbers), list(machine.objects),
+        )
+        self.lives = [
+            (
+                live, dict(live.values), dict(live.links), live.held, live.is_removed, live.lock,
+                live.base, live.known,
+            )
+            for live in machine.objects
+            if live.held != "detached"
+        ]
+        self.managers = [(list(manager.context), manager.seen) for manager in machine.managers]
+
+    def restore(self) -> None:
+        self.machine.numbers, self.machine.objects = self.numbers, self.objects
+        for live, *before in self.lives:
+            (
+                live.values, live.links, live.held, live.is_removed, live.lock, live.base,
+                live.known,
+            ) = before
+        for manager, (manager.context, manager.seen) in zip(self.machine.managers, self.managers):
+            pass

@@ -12,8 +12,9 @@ import json
 from typing import TYPE_CHECKING, Any, Iterator
 
 from model.cells import State, Stored, agree, members, unsound
-from model.live import Live, Manager
+from model.live import Before, Live, Manager
 from model.merge import Merging
+from model.own import OwnCalls
 from model.queries import Queries
 from model.reading import GREATEST, Number, Refused, call_of
 from model.unit import KINDS, LENGTH, assigned, size
@@ -41,36 +42,7 @@ MARKED_BY_CALLBACK = {"get", "add", "takeOut"}
 
 # ---- the machine
 
-class Before:
-    """What a refused call may have changed, as it was: no detached object, since what changes one
-    is not refused afterwards."""
-
-    def __init__(self, machine: Machine) -> None:
-        self.machine, self.numbers, self.objects = (
-            machine, dict(machine.numbers), list(machine.objects),
-        )
-        self.lives = [
-            (
-                live, dict(live.values), dict(live.links), live.held, live.is_removed, live.lock,
-                live.base, live.known,
-            )
-            for live in machine.objects
-            if live.held != "detached"
-        ]
-        self.managers = [(list(manager.context), manager.seen) for manager in machine.managers]
-
-    def restore(self) -> None:
-        self.machine.numbers, self.machine.objects = self.numbers, self.objects
-        for live, *before in self.lives:
-            (
-                live.values, live.links, live.held, live.is_removed, live.lock, live.base,
-                live.known,
-            ) = before
-        for manager, (manager.context, manager.seen) in zip(self.machine.managers, self.managers):
-            pass
-
-
-class Machine(Merging, Queries):
+class Machine(Merging, Queries, OwnCalls):
     """The machine over a unit, from what was committed before."""
 
     def __init__(self, unit: Unit, state: State) -> None:
@@ -687,6 +659,8 @@ def told_events(events: Events) -> list[list[Part]]:
 def shown(value: Any) -> Any:
     if isinstance(value, list):
         return [shown(each) for each in value]
+    if isinstance(value, dict):
+        return {name: shown(each) for name, each in value.items()}
     if isinstance(value, (Live, Number)):
         return {"object": value.number}
     return {"hex": value.hex()} if isinstance(value, bytes) else value

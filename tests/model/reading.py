@@ -21,7 +21,8 @@ MEMBERS = {
     "merge": ["em", "object"], "lock": ["em", "object", "mode"], "setFlushMode": ["em", "mode"],
     "query": ["em", "text", "params", "first", "max"],
     "querySingle": ["em", "text", "params", "first", "max"],
-    "executeUpdate": ["em", "text", "params"],
+    "executeUpdate": ["em", "text", "params"], "values": ["objects"], "pending": ["em"],
+    "restart": [], "index": ["entity", "name"],
 }
 # The members that may be left out, with what stands for them.
 OPTIONAL = {"params": {}, "first": None, "max": None}
@@ -177,6 +178,10 @@ def given(data: Any) -> Number | Value:
 def member_of(word: str, name: str, data: Any) -> Any:
     if name in ("em", "object", "member", "first", "max"):
         if not is_integer(data):
+            raise ValueError(name)
+        return data
+    if name == "objects":
+        if not isinstance(data, list) or not all(map(is_integer, data)):
             raise ValueError(name)
         return data
     if name == "value":
