@@ -38,7 +38,7 @@ VERSIONS = {
     "crates/jpa_settings/src/settings.rt": r'\.version\("([^"]+)"\)',
     "clients/python/karzhoul/__init__.py": r'^__version__ = "([^"]+)"',
 }
-COUNTS = {26: "twenty-six", 27: "twenty-seven", 28: "twenty-eight", 29: "twenty-nine"}
+COUNTS = {29: "twenty-nine", 30: "thirty", 31: "thirty-one", 32: "thirty-two"}
 TOPS = "bench|clients|crates|dist|docs|examples|planted|tests|tools"
 LINK = re.compile(r"\[([^][]*)\]\(([^()\s]+)\)")
 CODE = re.compile(r"`([^`]+)`")
@@ -240,7 +240,8 @@ def check_calls(reference: str) -> None:
     for word in sorted(set(words) - set(found_in(r'^\| `\{"call":"(\w+)"', tables))):
         fault(reference, f"neither its table of calls nor that of docs/QUERIES.md has {word}")
     wanted = f"{COUNTS[len(words)]} calls"
-    counts = re.compile(rf"\b(?:twenty-\w+|{len(words)})(?: \w+)? calls\b", re.IGNORECASE)
+    counts = re.compile(rf"\b(?:twenty-\w+|thirty(?:-\w+)?|{len(words)})(?: \w+)? calls\b",
+                        re.IGNORECASE)
     for page in pages():
         text = "" if page.startswith("crates/") else " ".join(prose(read(page)).split())
         for count in counts.findall(text):
