@@ -24,16 +24,17 @@ class OwnMakers:
     shown_share, due_share, asked_share = 0.025, 0.6, 0.06
 
     def values(self) -> Members:
-        """Some objects, in any state, also twice and none, or all of the last ones."""
-        objects, roll = self.machine.objects, self.random.random()
+        """Some objects, of one state or of any, also twice and none, or all of the last ones."""
+        recent, roll = self.machine.objects[-30:], self.random.random()
         if roll < 0.05:
             return {"objects": []}
         if roll < 0.25:
-            return {"objects": [live.number for live in objects[-25:]]}
-        state = self.random.choice(["new", "detached", "removed", "managed"])
+            return {"objects": [live.number for live in recent]}
+        state = self.random.choice(sorted({state_of(live) for live in recent}) or ["new"])
         count = self.random.choice([1, 1, 2, 3, 5])
         numbers = [self.object(lambda live: state_of(live) == state) for _ in range(count)]
-        return {"objects": numbers * 2 if roll > 0.93 else numbers}
+        times = 1 if roll < 0.93 else 2 if roll < 0.995 else 700
+        return {"objects": numbers * times}
 
     def pending(self) -> Members:
         return {"em": self.em(0.9)}
@@ -122,6 +123,44 @@ class OwnMakers:
             yield word, {"em": em}
         else:
             yield word, {"em": em, "object": live.number}
+
+    def asked(self) -> Plot:
+        """What a flush would run is asked again and again, while an object is changed, others are
+        added to it and taken out, and removed; then it is flushed, or not."""
+        made = self.has_relations and (yield from self.owner_found(
+            lambda relation: relation.removes_orphans or relation.cascades("PERSIST")))
+        em = made[0] if made else (yield from self.at_work())
+        live = made[1] if made else em and self.some_held(em)
+        if not live:
+            return
+        yield from self.reading(live)
+        for _ in range(self.random.randint(2, 5)):
+            yield from self.moving(em, live)
+            yield "pending", {"em": em}
+            if self.random.random() < 0.2:
+                yield from self.looking(self.machine.objects[-2:])
+        roll = self.random.random()
+        yield self.random.choice(["flush", "commit", "commit"]), {"em": em}
+        yield self.random.choice(ENDING) if roll < 0.5 else "pending", {"em": em}
+
+    def moving(self, em: int, live: Live) -> Plot:
+        """Calls after which a flush has more to do with an object, or with what it leads to."""
+        relations = list(live.entity.relations.values())
+        word = self.random.choice(["add", "add", "take", "take", "set", "null", "remove", "detach"])
+        relation = self.random.choice(relations) if relations else None
+        near = live.read_of(relation) if relation else []
+        if word == "add" and relation:
+            other = yield from self.another(em, relation.target, 0.3)
+            if other:
+                yield from self.linking(live, relation, other, self.random.random() < 0.7)
+        elif word == "take" and near:
+            yield self.unlinked(live, relation)
+        elif word in ("remove", "detach") and near:
+            yield word, {"em": em, "object": self.random.choice(near).number}
+        elif word == "null":
+            yield "set", {"object": live.number, "name": self.some_attribute(live), "value": None}
+        else:
+            yield self.change(live)
 
     def restarting(self) -> Plot:
         """A restart, also of up to 16 managers with transactions, while some are open; and once

@@ -21,8 +21,8 @@ class Plots(LinkPlots):
     """The plots over a machine. Each is a generator of calls, as their words and members."""
 
     def some_plot(self) -> Plot:
-        if self.random.random() < 0.08:
-            return self.random.choice([self.restarting, self.shown])()
+        if self.random.random() < 0.11:
+            return self.random.choice([self.restarting, self.shown, self.asked])()
         if "query" not in UNSERVED and self.random.random() < 0.4:
             return self.queried()
         if self.has_relations and self.random.random() < 0.6:
