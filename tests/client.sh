@@ -17,4 +17,4 @@ if [ -z "$program" ]; then
 fi
 cd clients/python || exit 1
 export KARZHOUL_PROGRAM=$program PYTHONDONTWRITEBYTECODE=1
-timeout 1500 python3 -m unittest discover -s tests -t . 2>&1
+timeout 1500 python3 ../../tests/unit.py discover -s tests -t . 2>&1

@@ -1,7 +1,7 @@
 #!/usr/bin/env bash
 # Each edit that must be refused, of must-fail/ and of planted/, is held against the text that it
-# changes: what it replaces stands there once, so that it can be laid when its turn comes. Nothing
-# is proved.
+# changes: what it replaces stands there once, so that it can be laid when its turn comes. And the
+# turns of the planted ones are walked: each comes in a round. Nothing is proved.
 set -u
 cd "$(dirname "$0")/.." || exit 1
 . tests/shared.bash || exit 1
@@ -37,3 +37,6 @@ for path in sorted(path for folder in FOLDERS for path in glob.glob(f"{folder}/*
 print(f"{edits} edits, {wrong} of them can't be laid")
 sys.exit(1 if wrong or not edits else 0)
 END
+status=$?
+python3 tests/turns.py || status=1
+exit "$status"

@@ -1,11 +1,19 @@
 # What the scripts tests/*.sh share. Each sources it at the top of the repository.
 
+# Whether this is a run under CI, in which nothing may be skipped.
+is_ci() { [ "${CI-}" = true ] || [ "${KARZHOUL_CI-}" = 1 ]; }
+
 # Ends as skipped where a command isn't on this machine: needs COMMAND WHAT-WAS-NOT-DONE
 needs() {
     if ! command -v "$1" >/dev/null 2>&1; then
         echo "$1 is not on this machine, so $2"
         exit 77
     fi
+}
+
+# Tells what a script leaves out inside, so that ./test counts it: leaves_out NAME WHY
+leaves_out() {
+    echo "skipped: $1: $2"
 }
 
 # Sets `programs` to the paths of the program that the gate has built, as each of the two compilers
