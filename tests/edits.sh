@@ -10,7 +10,7 @@ python3 - <<'END'
 import glob, os, sys
 
 edits = wrong = 0
-FOLDERS = ("crates/*/must-fail", "planted/*", "planted/untried/*")
+FOLDERS = ("crates/*/must-fail", "planted/*", "planted/untried/*", "tests/counted/*")
 for path in sorted(path for folder in FOLDERS for path in glob.glob(f"{folder}/*.edit")):
     crate = path.split("/")[1] if path.startswith("crates/") else path.split("/")[-2]
     texts, name, old = {}, None, None

@@ -13,6 +13,8 @@ import unittest
 from pathlib import Path
 
 sys.dont_write_bytecode = True
+import counts
+
 TOP = Path(__file__).resolve().parents[1]
 REFUSED = "rt: must-fail jpa_heap/kept.edit: refused, as it must be"
 BAD = "rt: must-fail jpa_heap/planted_lost.edit: BAD EDIT: it did not reach the prover"
@@ -81,7 +83,7 @@ class Edits(Copy):
         self.check("4 passed, 2 failed", 1)
 
     def test_an_edit_of_another_form_fails(self) -> None:
-        self.rt("rt: crates/jpa_heap/must-fail/a b.txt: BAD EDIT: an edit stands right in must-fail/")
+        self.rt("rt: crates/jpa_heap/must-fail/a b.txt: BAD EDIT: an edit stands in must-fail/")
         self.check("4 passed, 1 failed", 1)
 
     def test_one_that_was_not_tried_is_named(self) -> None:
@@ -120,13 +122,13 @@ class Skips(Copy):
         self.quick("0 passed, 1 failed, 1 skipped", 1, CI="true")
 
     def test_what_needs_a_command_is_skipped(self) -> None:
-        self.put("tests/two.sh", 'cd "$(dirname "$0")/.."; . tests/shared.bash\nneeds nothing-such "x"')
+        self.put("tests/two.sh", f"cd {self.top}; . tests/shared.bash\nneeds nothing-such x")
         self.quick("1 passed, 0 failed, 1 skipped", 0)
         self.quick("1 passed, 1 failed, 1 skipped", 1, CI="true")
 
     def test_a_part_that_is_left_out_is_counted(self) -> None:
-        self.put("tests/two.sh", ". tests/shared.bash\nleaves_out tests.many.C.t 'for want of it'\n")
-        self.put("tests/two.sh", f"cd {self.top}; " + (self.top / "tests/two.sh").read_text())
+        told = "leaves_out tests.many.C.t 'for want of it'"
+        self.put("tests/two.sh", f"cd {self.top}; . tests/shared.bash\n{told}\n")
         self.quick("2 passed, 0 failed, 1 skipped", 0, "skipped: tests.many.C.t: for want of it")
         self.quick("2 passed, 1 failed, 1 skipped", 1, CI="true")
 
@@ -142,7 +144,7 @@ class Skips(Copy):
         self.put("tests/unit.py", (TOP / "tests/unit.py").read_text())
         self.put("tests/some.py", "import unittest\nclass A(unittest.TestCase):\n"
                  "    @unittest.skip('no: such')\n    def test_b(self) -> None: pass\n")
-        self.put("tests/two.sh", 'cd "$(dirname "$0")/.." && python3 tests/unit.py tests.some 2>&1\n')
+        self.put("tests/two.sh", f"cd {self.top} && python3 tests/unit.py tests.some 2>&1\n")
         self.quick("2 passed, 0 failed, 1 skipped", 0, "skipped: tests.some.A.test_b: no: such")
 
     def test_each_that_may_be_skipped_has_a_reason(self) -> None:
@@ -210,11 +212,39 @@ class Dist(Copy):
 
     def test_of_other_sources(self) -> None:
         self.put("tests/dist.sh", (TOP / "tests/dist.sh").read_text())
-        self.put("tools/dist", '#!/bin/sh\n[ "$*" = "check --fit" ] || [ "$*" = fits ] && exit 1\nexit 77\n')
+        self.put("tools/dist", '#!/bin/sh\ncase "$*" in *fit*) exit 1 ;; *) exit 77 ;; esac\n')
         self.assertEqual(self.ran("tests/dist.sh").returncode, 77)
         self.assertEqual(self.ran("tests/dist.sh", CI="true").returncode, 1)
         self.assertEqual(self.ran("tests/dist.sh", KARZHOUL_QUICK="1").returncode, 77)
         self.assertEqual(self.ran("tests/dist.sh", KARZHOUL_QUICK="1", CI="true").returncode, 1)
+
+
+class Counts(unittest.TestCase):
+    """What tests/counts.py tells of figures."""
+
+    def test_what_grows_by_half_is_told(self) -> None:
+        few, many = {"a": 100.0, "b": 100.0}, {"a": 150.0, "b": 151.0}
+        self.assertEqual(counts.grown(few, many, 1.5), ["b"])
+
+    def test_what_goes_through_all_is_told(self) -> None:
+        wrong = counts.see({"a": 10.0, "b": 10.0}, {"a": 160.0, "b": 160.0}, {"b"}, 1.5)
+        self.assertEqual(wrong, ["a grows with what is beside it"])
+
+    def test_a_count_that_sees_nothing_is_told(self) -> None:
+        wrong = counts.see({"a": 10.0, "b": 10.0}, {"a": 10.0, "b": 14.0}, {"b"}, 1.5)
+        self.assertEqual(wrong, ["b looks at everything, and was not told as grown"])
+
+    def test_the_middle_of_what_its_lines_take(self) -> None:
+        class Run(counts.Counted):
+            def __init__(self) -> None:
+                pass
+
+            def counts(self, lines: "list[str]") -> "list[int]":
+                # (the first turns make what later ones use)
+                return [1000, 1000, 900, 900, 5, 1, 7, 2, 6, 2]
+
+        work = counts.Work("a", lambda n: ["x", "y"], parts=2)
+        self.assertEqual(counts.counted(Run(), [work]), {"a": 4.0})
 
 
 if __name__ == "__main__":

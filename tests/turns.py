@@ -1,7 +1,7 @@
 #!/usr/bin/env python3
-"""tests/turns.py: walks the turns of tools/planted-turn, from the landing that is next on, and tells
-each planted edit that has none in a round, and each landing that takes more than it may. Nothing is
-laid and nothing is proved.
+"""tests/turns.py: walks the turns of tools/planted-turn, from the landing that is next on, and
+tells each planted edit that has none in a round, and each landing that takes more than it may.
+Nothing is laid and nothing is proved.
 
 A landing's lots begin in a window of the budget's width. So they may take as much as that and the
 dearest lot. It warns where a landing was made, which changed CHANGELOG.md, and planted/landing was
@@ -41,7 +41,7 @@ def walked(turns: Any, is_short: bool) -> list[str]:
     first = turns.landing()
     lots = turns.ring(is_short)
     round_ = turns.windows(lots, is_short)
-    wrong, tried, cost = [], set(), []
+    wrong, tried, cost = [], set[str](), []
     for number in range(first, first + max(LANDINGS, len(round_))):
         lots_now = round_[number % len(round_)]
         chosen = turns.turn(number, is_short)
@@ -63,8 +63,8 @@ def walked(turns: Any, is_short: bool) -> list[str]:
         if all(name in turns.crates_left_out(first + i, True) for i in range(3)):
             wrong.append(f"the edits of must-fail/ of {name} have no turn in three landings")
     print(
-        f"{len(planted)} planted edits in {len(lots)} lots: a round takes {len(round_)} landings of"
-        f" {sum(cost) / len(cost):.0f} s, {max(cost):.0f} at most, on {2 if is_short else 4} processors"
+        f"{len(planted)} planted edits in {len(lots)} lots, on {2 if is_short else 4} processors:"
+        f" {len(round_)} landings a round, of {sum(cost) / len(cost):.0f} s, {max(cost):.0f} at most"
     )
     return wrong
 

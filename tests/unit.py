@@ -1,6 +1,6 @@
 #!/usr/bin/env python3
-"""tests/unit.py WORDS..: unittest by its own words, over what the current folder has. Each test that
-is skipped is told at the end, in the words that ./test counts: 'skipped: NAME: WHY'.
+"""tests/unit.py WORDS..: unittest by its own words, over what the current folder has. Each test
+that is skipped is told at the end, in the words that ./test counts: 'skipped: NAME: WHY'.
 """
 from __future__ import annotations
 
