@@ -8,8 +8,9 @@ the run with that growth refused, then the program goes on with it granted, to t
 run that grows more than MOST times these are the first half of MOST, and then every so manyth. What
 ended the opening of an earlier run over the same mapping and the same cells, before a line was
 asked for, is not refused again. With sample:N for MOST, N growths by chance are refused, four in
-each of some runs; other programs have others. JOBS in the environment is how many runs are made at
-a time.
+each of some runs; with every:N each Nth growth of each run, those of an opening once for all runs
+that open alike; other programs have others. JOBS in the environment is how many runs are made at a
+time.
 
 A call that is refused for want of memory is made again, and must then be answered as in the run;
 where the program ends, it must say that memory is refused, or break off with status 4, the replies
@@ -176,10 +177,37 @@ def over(folders: list[str], look: Callable[[str, list[list[Cell]]], str]) -> in
     return failed
 
 
+def chance_of(program: str) -> random.Random:
+    """Chance that is the same for the same program."""
+    with open(program, "rb") as file:
+        return random.Random(hashlib.sha256(file.read()).digest())
+
+
+def each_of(program: str, refuse: str, step: int, folders: list[str]) -> int:
+    """Refuses each so manyth growth of each run, from one by chance on, and those of an opening once
+    for all runs that open alike; 1 where one differs."""
+    chance, found = chance_of(program), []
+    opened: set[tuple[bytes | None, ...]] = set()
+    for folder in filter(is_plain, folders):
+        opening = read(folder, "mapping.json"), read(folder, "cells-before.txt")
+        stood = stands(folder)
+        try:
+            none = Refused(program, refuse, folder, stood)
+            first = none.first if opening in opened else 0
+            wanted = range(first + chance.randint(1, step), none.growths + 1, step)
+            found.append(Refused(program, refuse, folder, stood, wanted))
+            opened.add(opening)
+        except Differs as why:
+            print(f"jpa: {os.path.basename(folder.rstrip('/'))}: {why}")
+            return 1
+    tried, ended = (sum(getattr(one, name) for one in found) for name in ("tried", "ended"))
+    print(f"{tried} growths refused in {len(found)} runs; {ended} runs ended for it")
+    return 0
+
+
 def sampled(program: str, refuse: str, count: int, folders: list[str]) -> int:
     """Refuses so many growths by chance, four in each of some runs; 1 where one differs."""
-    with open(program, "rb") as file:
-        chance = random.Random(hashlib.sha256(file.read()).digest())
+    chance = chance_of(program)
     fitting = [folder for folder in folders if is_plain(folder)]
     chosen, tried, ended = chance.sample(fitting, min(len(fitting), -(-count // 4))), 0, 0
     for folder in chosen:
@@ -207,6 +235,8 @@ def main(given: list[str]) -> int:
         sys.exit(__doc__)
     if given[2].startswith("sample:"):
         return sampled(given[0], given[1], int(given[2][7:]), given[3:])
+    if given[2].startswith("every:"):
+        return each_of(given[0], given[1], int(given[2][6:]), given[3:])
     program, refuse, most = given[0], given[1], int(given[2])
     # For each mapping and cells of before the first run that was whole: its name, the growths of
     # its opening, and those that ended it.
