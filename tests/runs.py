@@ -154,7 +154,7 @@ def main(words: list[str]) -> int:
                 agree + (not why and not found), differ + bool(found), skipped + bool(why),
             )
             if why or found:
-                print(f"skipped {name}: {why}" if why else f"differs {name}: {found}")
+                print(f"skipped: {name}: {why}" if why else f"differs {name}: {found}")
     print(
         f"{agree} runs agree, {differ} differ"
         + (f", {skipped} are skipped" if is_any or skipped else "")
