@@ -117,6 +117,12 @@ class Skips(Copy):
                 **more,
             )
 
+    def test_a_process_that_a_script_leaves_is_not_waited_for(self) -> None:
+        self.put("tests/two.sh", "echo begun\nsleep 30 &\necho 'skipped: tests.few.C.t: x'\n")
+        begun = time.monotonic()
+        self.quick("2 passed, 0 failed, 1 skipped", 0, "begun")
+        self.assertLess(time.monotonic() - begun, 25)
+
     def test_all_scripts_skipped_is_no_pass(self) -> None:
         self.put("tests/one.sh", "exit 77\n")
         self.quick("0 passed, 1 failed, 1 skipped", 1, CI="true")
