@@ -101,6 +101,7 @@ def queries(count: int) -> list[Work]:
         Work("EXISTS by an equal value, of each",
              lambda n: asked(all_ + "EXISTS (SELECT 1 FROM Order q WHERE q.amount = o.amount"
                              " AND q.number <> o.number)"), orders),
+        # (these look at everything)
         Work("a query of a bound", lambda n: asked(all_ + "o.amount > 0"), is_linear=True),
         Work("a query of an equal value, once", lambda n: asked(all_ + "o.amount = 7"),
              is_linear=True),
