@@ -5,9 +5,9 @@ and beside many, and tells those that grow with what is beside them.
 No contract speaks of speed, so marks, look-ups and indexes could be lost with every proof standing.
 Counted is one commit of one object, a find, and queries that look up what they ask: beside 2,000
 and 20,000 stored objects, of which few are managed, and beside 100 and 1,600 that a manager holds.
-Each may take at most 1.5 times as much beside the many. Of a query that goes through all of a class
-what each of its objects takes is counted: a nested block, or the other side of a join, that is
-walked for each takes 10 or 16 times as much there.
+Each may take at most 1.5 times as much beside the many. Of queries that go through all of a class
+what each of its objects takes is counted, over 200 and 1,000: a nested block, or the other side of
+a join, that is walked for each takes five times as much there, and all of it some seconds.
 
 Beside these, calls are counted that do look at everything. Those must be told as grown: else what
 is counted here would show nothing.
@@ -31,7 +31,7 @@ sys.dont_write_bytecode = True
 TOP = os.path.dirname(os.path.dirname(os.path.abspath(__file__)))
 MAPPING = os.path.join(TOP, "tests/mappings/persons.json")
 WARM = 2
-STORED, MANAGED = (2000, 20000), (100, 1600)
+STORED, JOINED, MANAGED = (2000, 20000), (200, 1000), (100, 1600)
 EACH = 9  # orders of a person
 
 
@@ -73,21 +73,35 @@ def asked(text: str, **params: Any) -> list[str]:
     return [line("query", em=1, text=text, params=params)]
 
 
-def queries(count: int) -> list[Work]:
-    """Queries over so many objects. A turn's number is that of an order and of a person."""
-    orders, persons = count * EACH // (EACH + 1), count // (EACH + 1)
-    many, all_ = "SELECT COUNT(q) FROM ", "SELECT COUNT(o) FROM Order o WHERE "
+def queries() -> list[Work]:
+    """Queries of one variable. A turn's number is that of an order and of a person; the run's second
+    object is a person."""
+    all_ = "SELECT COUNT(o) FROM Order o WHERE "
     return [
         Work("query by key", lambda n: asked("SELECT o.amount FROM Order o WHERE o.number = 5")),
         Work("query by key, a parameter",
              lambda n: asked("SELECT o.amount FROM Order o WHERE o.number = :n", n=n + 2)),
         Work("query by reference",
-             lambda n: asked("SELECT o.number FROM Person p, Order o WHERE p.id = :n"
-                             " AND o.person = p", n=n)),
+             lambda n: asked("SELECT o.number FROM Order o WHERE o.person = :p", p={"object": 2})),
         Work("query along a link",
              lambda n: asked("SELECT o.person.id FROM Order o WHERE o.number = :n", n=n + 2)),
         Work("query of a collection",
              lambda n: asked("SELECT COUNT(o) FROM Person p JOIN p.orders o WHERE p.id = :n", n=n)),
+        # (these look at everything)
+        Work("a query of a bound", lambda n: asked(all_ + "o.amount > 0"), is_linear=True),
+        Work("a query of an equal value, once", lambda n: asked(all_ + "o.amount = 7"),
+             is_linear=True),
+    ]
+
+
+def beside_joined(count: int) -> list[Work]:
+    """Queries of two variables over so many stored objects."""
+    orders, persons = count * EACH // (EACH + 1), count // (EACH + 1)
+    many, all_ = "SELECT COUNT(q) FROM ", "SELECT COUNT(o) FROM Order o WHERE "
+    return [
+        Work("join of one person",
+             lambda n: asked("SELECT o.number FROM Person p, Order o WHERE p.id = :n"
+                             " AND o.person = p", n=n)),
         Work("EXISTS for one person",
              lambda n: asked("SELECT p.id FROM Person p WHERE p.id = :n AND EXISTS (SELECT o FROM"
                              " Order o WHERE o.person = p AND o.amount > 0)", n=n)),
@@ -102,19 +116,18 @@ def queries(count: int) -> list[Work]:
              lambda n: asked(all_ + "EXISTS (SELECT 1 FROM Order q WHERE q.amount = o.amount"
                              " AND q.number <> o.number)"), orders),
         # (these look at everything)
-        Work("a query of a bound", lambda n: asked(all_ + "o.amount > 0"), is_linear=True),
-        Work("a query of an equal value, once", lambda n: asked(all_ + "o.amount = 7"),
+        Work("a join of a bound",
+             lambda n: asked(many + "Person p, Order q WHERE q.amount > p.id"), persons,
              is_linear=True),
     ]
 
 
 def beside_stored(count: int) -> list[Work]:
-    """What is counted beside so many stored objects. Its own objects come behind the first, which
-    the run has found."""
-    step = 1 + EACH
+    """What is counted beside so many stored objects. Its own objects come behind the two that the
+    run has found."""
 
     def committed(n: int) -> list[str]:
-        return [line("begin", em=1), *new_order(n + 1, count + n), line("commit", em=1)]
+        return [line("begin", em=1), *new_order(n + 2, count + n), line("commit", em=1)]
 
     return [
         Work("commit of a new object", committed),
@@ -127,7 +140,7 @@ def beside_stored(count: int) -> list[Work]:
             line("executeUpdate", em=1, params={"n": n},
                  text="UPDATE Order o SET o.amount = :n WHERE o.number = 3"),
             line("commit", em=1)]),
-        *queries(count),
+        *queries(),
     ]
 
 
@@ -278,10 +291,12 @@ def all_counts(kind: type[Run], program: str, place: str) -> Iterator[tuple[str,
     """What is counted beside few and many objects, stored ones and then managed ones."""
     opened = line("createEntityManager")
     found = line("find", em=1, entity="Order", key=[2])
-    for count in STORED:
-        run, works = kind(program, filled(program, place, count)), beside_stored(count)
-        run.serve([opened, found])
-        yield "stored", count, works, counted(run, works)
+    person = line("find", em=1, entity="Person", key=[1])
+    for sizes, beside in ((STORED, beside_stored), (JOINED, beside_joined)):
+        for count in sizes:
+            run, works = kind(program, filled(program, place, count)), beside(count)
+            run.serve([opened, found, person])
+            yield "stored", count, works, counted(run, works)
     for count in MANAGED:
         run, works = kind(program, os.path.join(place, f"{count}.db")), beside_managed(count)
         run.serve([*new_objects(count), opened, found.replace('"em":1', '"em":2')])
