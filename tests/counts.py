@@ -74,8 +74,8 @@ def asked(text: str, **params: Any) -> list[str]:
 
 
 def queries() -> list[Work]:
-    """Queries of one variable. A turn's number is that of an order and of a person; the run's second
-    object is a person."""
+    """Queries of one variable. A turn's number is that of an order and of a person; the second
+    object of the run is a person."""
     all_ = "SELECT COUNT(o) FROM Order o WHERE "
     return [
         Work("query by key", lambda n: asked("SELECT o.amount FROM Order o WHERE o.number = 5")),
