@@ -12,4 +12,4 @@ if ! tools/dist fits || ! dist/jpa --version >/dev/null 2>&1; then
     echo "dist/jpa doesn't fit these sources, or doesn't run on this machine, so no wheel was tried"
     exit 77
 fi
-cd clients/python && PYTHONDONTWRITEBYTECODE=1 timeout 100 python3 ../../tests/unit.py tests.wheel 2>&1
+cd clients/python && PYTHONDONTWRITEBYTECODE=1 timeout 600 python3 ../../tests/unit.py tests.wheel 2>&1
