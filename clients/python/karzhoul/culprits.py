@@ -39,8 +39,8 @@ class Culprits:
     """The objects that a refused flush, commit or call was about."""
 
     def __init__(self, factory: EntityManagerFactory, refused: Refused) -> None:
-        self._factory, self._refused = factory, refused
-        self._concern = refused._concern or Concern(factory._kinds.made)
+        self._factory, self._refused, self._run = factory, refused, refused._run or factory._run
+        self._concern = refused._concern or Concern(self._run.made)
         self._described = entities_of(factory.mapping)
         self._keys: Dict[Entity, Optional[Key]] = {}
 
@@ -51,7 +51,7 @@ class Culprits:
         """What was to be inserted: what was persisted and what that leads to along cascades, but
         for what was loaded."""
         told = [it.of for it in self._refused.events if it.kind in _WRITTEN]
-        found = self._of([*self._concern.persisted, *told])
+        found = self.of([*self._concern.persisted, *told])
         found += self._beyond(found, "PERSIST")
         return [it for it in dict.fromkeys(found) if not self._was_loaded(it)][:_MOST]
 
@@ -65,33 +65,34 @@ class Culprits:
     @cached_property
     def _since(self) -> List[Entity]:
         """The last objects that were made or loaded since the last transaction."""
-        made = self._factory._kinds.made
-        return self._of(range(max(self._concern.since, made - _MOST) + 1, made + 1))
+        made = self._run.made
+        return self.of(range(max(self._concern.since, made - _MOST) + 1, made + 1))
 
     @cached_property
     def _changed(self) -> List[Entity]:
         """What was to be replaced, in the order in which that was told."""
         told = [it.of for it in self._refused.events if it.kind in _WRITTEN]
-        return [it for it in self._of(told) if self._was_loaded(it)][:_MOST]
+        return [it for it in self.of(told) if self._was_loaded(it)][:_MOST]
 
     @cached_property
     def _removed(self) -> List[Entity]:
         told = [it.of for it in self._refused.events if it.kind in _DROPPED]
-        found = self._of([*self._concern.removed, *told])
+        found = self.of([*self._concern.removed, *told])
         return list(dict.fromkeys([*found, *self._beyond(found, "REMOVE")]))[:_MOST]
 
-    def _of(self, told: Iterable[Any]) -> List[Entity]:
+    def of(self, told: Iterable[Any]) -> List[Entity]:
         """The objects of numbers, each once; those whose class isn't known are left out."""
         found: Dict[Entity, None] = {}
         for each in told:
             if isinstance(each, Entity):
                 found[each] = None
-            elif self._factory._kinds[each] is not None:
-                found[self._factory._object(each)] = None
+            elif self._run.kinds[each] is not None:
+                with self._factory._lock:  # So that no number becomes two objects.
+                    found[self._run.object(each)] = None
         return list(found)
 
     def _was_loaded(self, each: Entity) -> bool:
-        return self._factory._kinds.was_loaded(each._karzhoul_number)
+        return self._run.kinds.was_loaded(each._karzhoul_number)
 
     def _beyond(self, objects: Sequence[Entity], operation: str) -> List[Entity]:
         """What these lead to along relations that cascade an operation."""
@@ -241,7 +242,7 @@ class Culprits:
     def unpersisted(self) -> Iterator[str]:
         """What leads to a new object that isn't persisted, or to one that is removed."""
         loaded = [it for it in self._since if self._was_loaded(it)]
-        held = [it for ref in list(self._factory._objects.values()) if (it := ref()) is not None]
+        held = self._run.held()
         return _first(
             self._unpersisted(dict.fromkeys([*self._new, *self._changed, *loaded])),
             self._unpersisted([it for it in held if self._was_loaded(it)][:_MOST]),
@@ -304,7 +305,7 @@ class Culprits:
     def stale(self) -> Iterator[str]:
         """What another commit changed or removed since it was read."""
         told = [it.of for it in self._refused.events if it.kind in _WRITTEN | _DROPPED]
-        found = self._of([*told, *self._concern.locked, *self._concern.removed])
+        found = self.of([*told, *self._concern.locked, *self._concern.removed])
         perhaps: List[str] = []
         is_told = False
         for each in found[:_MOST]:

@@ -15,6 +15,7 @@ from .lines import LifecycleEvent, line_of, text_spelled
 
 if TYPE_CHECKING:
     from .factory import EntityManagerFactory
+    from .runs import Run
 
 E = TypeVar("E", bound="Entity")
 # A text or bytes have at most so many bytes.
@@ -29,8 +30,10 @@ class Entity:
     its attributes are the entity's members. The class of a subclass is a subclass.
     """
 
-    __slots__ = ("_karzhoul_number", "__weakref__")
+    __slots__ = ("_karzhoul_number", "_karzhoul_run", "__weakref__")
     _karzhoul_number: int
+    # The run of the program that knows it by that number.
+    _karzhoul_run: Run
     _karzhoul_factory: ClassVar[EntityManagerFactory]
     # The line that makes one.
     _karzhoul_line: ClassVar[bytes]
@@ -43,7 +46,8 @@ class Entity:
             raise TypeError(f"{cls.__name__}: the class of an entity takes no subclass of your own")
 
     def __new__(cls: Type[E], /, **values: Any) -> E:
-        made: E = cls._karzhoul_factory.ask_lines([cls._karzhoul_line], cls.__name__)[0]
+        factory = cls._karzhoul_factory
+        made: E = factory.ask_lines(None, [cls._karzhoul_line], cls.__name__)[0]
         return made
 
     def __init__(self, /, **values: Any) -> None:
@@ -74,7 +78,7 @@ def _named(entity: Entity, key: Optional[Sequence[Any]]) -> str:
     value = None if key is None else key[0] if parts == [name] else tuple(key)
     return (
         f"<{type(entity).__name__} "
-        f"{f'#{abs(entity._karzhoul_number)}' if key is None else f'{name}={value!r}'}>"
+        f"{f'#{entity._karzhoul_number}' if key is None else f'{name}={value!r}'}>"
     )
 
 
@@ -128,15 +132,15 @@ class EmbeddedId:
     def _karzhoul_assign(self, given: Union[Mapping[str, Any], Iterable[Any]]) -> None:
         """Sets all parts together, or none."""
         entity, values = self._karzhoul_entity, self._karzhoul_each(given)
-        factory = entity._karzhoul_factory
+        factory, run = entity._karzhoul_factory, entity._karzhoul_run
         lines = {
-            part: factory.set_line(entity, self._karzhoul_member(part), value)
+            part: run.set_line(entity, self._karzhoul_member(part), value)
             for part, value in values
         }
         for part, value in values:
             if not _fits(self._karzhoul_parts[part], value):
-                factory.ask_lines([lines[part]])  # It is refused, and so no other one is sent.
-        factory.tell(*lines.values())
+                factory.ask_lines(run, [lines[part]])  # It is refused, and no other one is sent.
+        factory.tell(run, *lines.values())
 
     def _karzhoul_each(
         self, given: Union[Mapping[str, Any], Iterable[Any]]
@@ -317,7 +321,7 @@ class Attribute(property):
 
         def assign(it: Entity, value: Any) -> None:
             if view is None:
-                it._karzhoul_factory.tell(self.line(it, value))
+                it._karzhoul_factory.tell(it._karzhoul_run, self.line(it, value))
             else:
                 view(it, name)._karzhoul_assign(value)
 
@@ -325,8 +329,7 @@ class Attribute(property):
 
     def line(self, entity: Entity, value: Any) -> bytes:
         """The line that sets it."""
-        factory = entity._karzhoul_factory
-        number, given = factory.number(entity), factory.given(value)
+        number, given = entity._karzhoul_number, entity._karzhoul_run.given(value)
         return f'{{"call":"set","object":{number}{self.between}{given}}}'.encode()
 
 

@@ -25,7 +25,10 @@ _KINDS = {"int": "a whole number", "text": "a text", "bytes": "bytes"}
 
 
 def explained(refused: Refused, factory: Optional[EntityManagerFactory]) -> str:
-    """What can be told of a refusal: at the least what it means."""
+    """What can be told of a refusal: at the least what it means. Of another run than the one that
+    is on, the numbers in its line are those of other objects, and it tells that alone."""
+    if factory is not None and refused._run is not factory._run:
+        return meaning(refused)
     told = list(islice(_told(refused, factory), _MOST + 1))
     if len(told) > _MOST:
         told[_MOST:] = ["and so on"]
@@ -126,8 +129,8 @@ def _of_objects(
     }
     way = ways.get(str(refused))
     try:
-        if refused.name == "EntityExists" and factory._kinds[number or 0] is not None:
-            return list(culprits.persisted(factory._object(int(str(number)))))
+        if refused.name == "EntityExists" and number and (found := culprits.of([number])):
+            return list(culprits.persisted(found[0]))
         return list(way()) if way is not None else []
     except (KarzhoulError, LookupError):  # As where 16 managers are open.
         return []

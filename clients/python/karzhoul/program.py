@@ -4,6 +4,7 @@ from __future__ import annotations
 
 import math
 import os
+import re
 import select
 import signal
 import sys
@@ -13,9 +14,12 @@ import weakref
 from contextlib import suppress
 from copy import copy
 from subprocess import DEVNULL, PIPE, Popen, TimeoutExpired
-from typing import IO, Iterator, List, NoReturn, Optional, Sequence, Set, Union
+from typing import IO, TYPE_CHECKING, Iterator, List, NoReturn, Optional, Sequence, Set, Union
 
-from .refusals import GivenUp, KarzhoulError, ProgramEnded, ProgramNotFound, refusal_of
+from .refusals import GivenUp, KarzhoulError, ProgramEnded, ProgramNotFound, Restarted, refusal_of
+
+if TYPE_CHECKING:
+    from .runs import Run
 
 _PATIENCE = 2.0
 _CHUNK = (1 << 16,)
@@ -50,9 +54,11 @@ class Exchange:
     interrupt, run between such steps alone.
     """
 
-    __slots__ = ("lines", "written", "read", "parts")
+    __slots__ = ("run", "lines", "written", "read", "parts")
 
-    def __init__(self, lines: Sequence[bytes]) -> None:
+    def __init__(self, lines: Sequence[bytes], run: Optional[Run] = None) -> None:
+        # Of what the lines name; None where they name nothing, until they are sent.
+        self.run = run
         self.lines = lines
         # Of a single line, which is its own part.
         self.written: List[int] = []
@@ -81,6 +87,17 @@ class Exchange:
         part = _Part(self.lines[0] + b"\n", 1)
         part.written, part.read = self.written, self.read
         return (part,)
+
+
+def of_before(line: bytes) -> str:
+    """What is said of a line that was made in a run which is over."""
+    found = re.search(rb'"(em|object)":([0-9]+)', line)
+    if found is None:
+        return "the call is of before a restart"
+    number = int(found[2])
+    if found[1] == b"em":
+        return f"manager {number} is of before a restart: create another one"
+    return f"object {number} is of before a restart: make or find it again"
 
 
 def _parts(lines: Sequence[bytes]) -> Iterator[_Part]:
@@ -137,18 +154,25 @@ class Program:
         self.pid = self._process.pid
         # Why the program answers no more; None while it does.
         self.fault: Optional[KarzhoulError] = None
+        # The run that is on.
+        self.run: Optional[Run] = None
 
     def replies(self, exchange: Exchange, timeout: Optional[float] = None) -> List[bytes]:
         """Does what is left to do of an exchange, and gives its replies. The program's end is a
         `ProgramEnded`, or the refusal that it ended with. A program that doesn't answer within
         so many seconds is ended, and so is one that is interrupted (by a `KeyboardInterrupt`) in
-        an exchange that was interrupted before: both are a `GivenUp`."""
+        an exchange that was interrupted before: both are a `GivenUp`. An exchange of another run
+        than the one that is on is `Restarted`, and nothing of it is sent."""
         if self._here is not _here:
             self.fault = ProgramEnded(None, "it is of the process that this one was forked from")
         if not self._end.alive:  # As at the interpreter's exit; its files' numbers may be reused.
             self.fault = self.fault or ProgramEnded(None)
         if self.fault:
             raise copy(self.fault)  # Whose traceback is its own, and no one's before.
+        if exchange.run is not self.run:
+            if exchange.run is not None:
+                raise Restarted(of_before(exchange.lines[0]))
+            exchange.run = self.run
         was_interrupted = exchange.parts is not None
         deadline = None if timeout is None else time.monotonic() + timeout
         try:

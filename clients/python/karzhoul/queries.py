@@ -14,6 +14,7 @@ from .rows import Names, Page, Row, Rows, as_row, as_rows
 
 if TYPE_CHECKING:
     from .factory import EntityManagerFactory
+    from .runs import Run
 
 # By name, or by number for ?1.
 Params = Optional[Union[Mapping[str, Any], Mapping[int, Any]]]
@@ -32,12 +33,10 @@ class Queries:
     """
 
     factory: EntityManagerFactory
+    _run: Run
+    # Its number as JSON.
+    _em: str
     _concern: Concern
-
-    if TYPE_CHECKING:
-
-        @property
-        def _em(self) -> str: ...
 
     def query(
         self,
@@ -216,7 +215,7 @@ class _Asked(NamedTuple):
         said, values = with_lists(text or self.text, {**(self.given or {}), **(more or {})})
         members = {"em": self.manager._em, "text": text_spelled(said)}
         if has_params:
-            spell = self.manager.factory.given
+            spell = self.manager._run.given
             listed = [f"{text_spelled(name)}:{spell(value)}" for name, value in values.items()]
             members["params"] = f"{{{','.join(listed)}}}"
         limits = (("first", first), ("max", most))
@@ -226,7 +225,8 @@ class _Asked(NamedTuple):
     def answers(self, lines: List[bytes], is_one: bool = False) -> List[Any]:
         """The answers to its lines: the first has rows, or one, with an item of its class."""
         try:
-            answers = self.manager.factory.ask_lines(lines, timeout=self.timeout)
+            manager = self.manager
+            answers = manager.factory.ask_lines(manager._run, lines, timeout=self.timeout)
         except Refused as refused:  # It may be that of the flush before a query.
             refused._concern = self.manager._concern
             raise

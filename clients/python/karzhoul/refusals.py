@@ -10,6 +10,7 @@ if TYPE_CHECKING:
     from .concern import Concern
     from .entities import Event
     from .factory import EntityManagerFactory
+    from .runs import Run
 
 
 class KarzhoulError(Exception):
@@ -82,8 +83,10 @@ class Refused(KarzhoulError):
     """
 
     number: ClassVar[int] = 0
-    # The factory whose call it is, and what its manager was told in the transaction.
+    # The factory whose call it is, the run that it was done in, and what its manager was told in the
+    # transaction.
     _factory: Optional[EntityManagerFactory] = None
+    _run: Optional[Run] = None
     _concern: Optional[Concern] = None
     # What marked its manager's transaction before, as its text and its line.
     _before: Optional[Tuple[str, str]] = None
@@ -98,7 +101,7 @@ class Refused(KarzhoulError):
 
     def __reduce__(self) -> Tuple[Any, ...]:
         # A copy, as for another process, has no objects, and no factory that could explain it.
-        of_this_process = ("_factory", "_concern")
+        of_this_process = ("_factory", "_run", "_concern")
         told = {name: it for name, it in vars(self).items() if name not in of_this_process}
         return _copied, (type(self), self.detail, {**told, "events": ()})
 
@@ -205,7 +208,7 @@ class Rollback(Refused, number=14):
         if self.detail is None or self.detail == "marked":
             return None
         cause = refusal_of(self.detail, self.events, self.line)
-        cause._factory, cause._concern = self._factory, self._concern
+        cause._factory, cause._run, cause._concern = self._factory, self._run, self._concern
         return cause
 
     def explain(self) -> str:

@@ -32,7 +32,7 @@ class EntityTransaction:
             # Before it is, so that no interrupt leaves one open that isn't known to be.
             self.is_active = True
             self._ask("begin")
-            self._manager.factory._marked.pop(self._manager.number, None)
+            self._manager._run.marked.pop(self._manager.number, None)
         except KarzhoulError:
             self.is_active = was_active
             raise
@@ -69,14 +69,15 @@ class EntityTransaction:
 
     def _end(self) -> None:
         self.is_active = False
-        self._manager._concern = Concern(self._manager.factory._kinds.made)
+        self._manager._concern = Concern(self._manager._run.made)
 
     def set_rollback_only(self) -> None:
         """Leaves it able only to roll back."""
-        self._manager.factory.tell(line_of("setRollbackOnly", {"em": self._manager._em}))
+        manager = self._manager
+        manager.factory.tell(manager._run, line_of("setRollbackOnly", {"em": manager._em}))
 
     def _ask(self, call: str) -> None:
-        self._manager.factory.ask(call, em=self._manager._em)
+        self._manager._ask(call)
 
     @begin_of_block
     def __enter__(self) -> EntityTransaction:
