@@ -19,8 +19,8 @@ from .lines import FlushModeType, LifecycleEvent, LockModeType
 from .managers import EntityManager
 from .refusals import (
     BadLine, Busy, Damaged, EntityExists, EntityNotFound, GivenUp, IllegalArgument,
-    IllegalState, KarzhoulError, Limit, Listener, Mapping, NoResult, NoSuchManager,
-    NoSuchObject, NonUniqueResult, NotServed, OptimisticLock, OutOfMemory, Overflow,
+    IllegalState, KarzhoulError, Limit, Listener, Mapping, NoFreeManager, NoResult,
+    NoSuchManager, NoSuchObject, NonUniqueResult, NotServed, OptimisticLock, OutOfMemory, Overflow,
     Persistence, ProgramEnded, ProgramNotFound, Refused, Restarted, Rollback, StoreFault,
     StoreInMemory, TransactionRequired,
 )
@@ -35,8 +35,8 @@ __all__ = [
     "Attempt", "EmbeddedId", "Entity", "EntityManager", "EntityManagerFactory", "EntityTransaction",
     "Event", "FlushModeType", "LifecycleEvent", "LockModeType", "Statistics", "refusals",
     "BadLine", "Busy", "Damaged", "EntityExists", "EntityNotFound", "GivenUp",
-    "IllegalArgument", "IllegalState", "KarzhoulError", "Limit", "Listener", "NoResult",
-    "NoSuchManager", "NoSuchObject", "NonUniqueResult", "NotServed", "OptimisticLock",
+    "IllegalArgument", "IllegalState", "KarzhoulError", "Limit", "Listener", "NoFreeManager",
+    "NoResult", "NoSuchManager", "NoSuchObject", "NonUniqueResult", "NotServed", "OptimisticLock",
     "OutOfMemory", "Overflow", "Persistence", "ProgramEnded", "ProgramNotFound", "Refused",
     "Restarted", "Rollback", "StoreFault", "StoreInMemory", "TransactionRequired",
 ]

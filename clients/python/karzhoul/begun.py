@@ -7,6 +7,7 @@ from typing import TYPE_CHECKING, Optional, Type
 
 from .interrupts import begin_of_block, end_of_block
 from .managers import EntityManager
+from .places import Place
 from .refusals import Busy, OptimisticLock, Refused, Rollback
 from .transactions import is_of_callback
 
@@ -24,7 +25,7 @@ class Begun(AbstractContextManager["EntityManager"]):
 
     @begin_of_block
     def __enter__(self) -> EntityManager:
-        manager = self._manager = self._factory.create_entity_manager()
+        manager = self._manager = self._factory._created(Place(True))
         try:
             manager.__enter__()
             manager.transaction().__enter__()

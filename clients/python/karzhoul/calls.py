@@ -26,7 +26,7 @@ from .tally import Tally
 _taken_off: Callable[
     [Deque[Tuple[Callable[[Event], None], Event]]], Tuple[Callable[[Event], None], Event]
 ] = deque.popleft
-RESTART = line_of("restart", {})
+CREATE, RESTART = line_of("createEntityManager", {}), line_of("restart", {})
 _REPLIES = Program.replies.__code__
 
 
@@ -36,7 +36,9 @@ class _Calls(Exchange):
 
     run: Optional[Run]
 
-    __slots__ = ("entity", "bad_line", "are_kept", "untold", "are_noted", "is_restart")
+    __slots__ = (
+        "entity", "bad_line", "are_kept", "untold", "are_noted", "is_restart", "is_left",
+    )
 
     def __init__(
         self, run: Optional[Run], lines: Sequence[bytes], entity: str, bad_line: Type[BadLine],
@@ -57,6 +59,8 @@ class _Calls(Exchange):
         self.are_noted = False
         # Whether another run is on once they are done.
         self.is_restart = False
+        # Whether they were interrupted, so that nobody waits for their answers.
+        self.is_left = False
 
     def join(self, run: Optional[Run], line: bytes) -> None:
         """Has them be of the run of one more line, of a pipeline."""
@@ -93,6 +97,8 @@ class Calls:
         self._callbacks: List[Tuple[Callable[[Event], None], FrozenSet[LifecycleEvent]]] = []
         self._untold: Deque[Tuple[Callable[[Event], None], Event]] = deque()
         self._is_telling = False
+        # Managers of a run, by their numbers, that are open and that nobody has.
+        self._left: List[Tuple[Run, int]] = []
 
     @property
     def _kinds(self) -> Classes:
@@ -135,7 +141,11 @@ class Calls:
             while self._calls:  # A callback that is told of what was kept may have added to it.
                 self._settle(timeout)
             calls = self._calls = _Calls(run, lines, entity, bad_line, False)
-            return self._answers(calls, timeout)
+            try:
+                return self._answers(calls, timeout)
+            except BaseException:
+                calls.is_left = True
+                raise
 
     def tell(self, run: Optional[Run], line: bytes, *more: bytes) -> None:
         """Does the calls of lines, which answer null; within a pipeline they are kept."""
@@ -214,7 +224,9 @@ class Calls:
             return
         self._refuse_within()
         try:
-            self._answers(calls, timeout)
+            answers = self._answers(calls, timeout)
+            if calls.is_left and calls.lines[0] == CREATE and calls.run is not None:
+                self._left.append((calls.run, answers[0]))
         except KarzhoulError:
             if self._calls is calls:  # The program has ended.
                 self._calls = None
@@ -222,6 +234,14 @@ class Calls:
                 raise
             # Else it is a refusal that nobody waits for; an end of the program is told by the next
             # call too.
+
+    def _has_left(self) -> bool:
+        """Whether calls or events are left that another call goes on with."""
+        return self._calls is not None or bool(self._untold)
+
+    def _is_ahead(self) -> bool:
+        """Whether this thread keeps all others from calling, as in a pipeline or a callback."""
+        return bool(self._lock._is_owned())  # type: ignore[attr-defined]
 
     def _refuse_within(self) -> None:
         """Refuses a call within another one of its thread that waits for its replies, as of a

@@ -15,6 +15,7 @@ from typing import Tuple
 from .concern import Concern
 from .entities import Entity
 from .lines import LifecycleEvent
+from .places import Place
 from .refusals import EntityNotFound, KarzhoulError, Refused
 from .show import value_text
 from .unit import EntityDescription, Member, MemberKind, entities_of
@@ -173,7 +174,7 @@ class Culprits:
     def _asked(self, text: str, key: Key) -> List[List[Any]]:
         """The first rows of a query for a key, as lists."""
         params = {f"k{place}": part for place, part in enumerate(key)}
-        with self._factory.create_entity_manager() as manager:
+        with self._factory._created(Place(True), at_once=True) as manager:
             rows = manager.query(text, params=params, max=_MOST_ROWS)
         return [row if isinstance(row, list) else [row] for row in rows]
 

@@ -14,67 +14,109 @@ from typing import (
 
 from .arguments import entity_named
 from .begun import Begun, is_too_late
-from .calls import Calls
+from .calls import CREATE, Calls
 from .classes import Classes, marked_text, marks_of
 from .entities import Attribute, E, Entity, classes_of
 from .finding import find_program
 from .lines import line_of
 from .managers import EntityManager
+from .memory import MemoryStore, room_words
+from .places import Place, Places
 from .program import Program, Words
 from .refusals import (
-    KarzhoulError, ProgramEnded, Refused, Restarted, StoreFault, StoreInMemory,
+    BadLine, KarzhoulError, ProgramEnded, Refused, Restarted, StoreFault,
 )
 from .refusals import Mapping as MappingRefused
 from .runs import Run
 from .tally import Statistics
 
 T = TypeVar("T")
-_CREATE = line_of("createEntityManager", {})
 
 
 def open(
     mapping: Union[Words, Mapping[str, Any]], db: Optional[Words] = None, *,
-    program: Optional[Words] = None, echo: bool = False
+    program: Optional[Words] = None, echo: bool = False, threads: bool = False,
+    wait: Optional[float] = 30.0,
 ) -> EntityManagerFactory:
     """Starts the program over a mapping (a file, a pipe, or what such a file says) and a database
-    file; without one the store is in memory.
+    file; without one the store is in memory, and goes with the factory (`memory.MemoryStore`).
+
+    With `threads` it is for a service of many threads, which goes on for ever. Where 16 managers
+    are open, `begin`, `retry` and `create_entity_manager` wait until one is closed, at most `wait`
+    seconds (None: for ever); then they raise `NoFreeManager`. And between transactions a new run is
+    begun before one has no objects left, as by `restart`: what is held of before is `Restarted`
+    where it is used, and so objects are for the block of their transaction (`places`).
 
     A mapping that is refused is a `refusals.Mapping` that says where it is wrong, a store a
     `Damaged`, or a `StoreFault` that says what is in the way. `program` names the program to start
     (`finding.find_program` tells where it is looked for else). With `echo` each line, its reply
     and its time are told on standard error; the logger `karzhoul` hears them at DEBUG.
     """
-    said: Optional[bytes] = None
-    faults: Tuple[str, ...] = ()
-    if isinstance(mapping, Mapping):
-        said = json.dumps(mapping).encode()
-    else:
-        try:
-            said = Path(mapping).read_bytes()
-        except OSError as unread:  # An empty file is refused in its place.
-            faults = (f"{os.fspath(mapping)} can't be read: {unread.strerror}",)
-    with _as_file(said or b"") as file:
-        words: List[Words] = [find_program(program), "--mapping", file]
+    said, faults = _said(mapping)
+    word = find_program(program)
+    store = _store_in_memory() if db is None else None
+    running: Optional[Program] = None
+    try:
         # A restart finds the store again wherever the process has gone.
-        running = Program(words + (["--db", os.path.abspath(db)] if db is not None else []))
+        place = os.path.abspath(db or "") if store is None else str(store.db)
+        running = _started(word, said, place, store)
+        app = EntityManagerFactory(running, json.loads(said), echo, store)
+        if threads:
+            app._places = Places(app, wait)
+        return app
+    except BaseException as fault:
+        if running is not None:
+            running.kill()
+        if store is not None:
+            store.close()
+        if isinstance(fault, MappingRefused):
+            from .linter import lint
+
+            fault.faults = faults or tuple(map(str, lint(said).findings))
+        raise
+
+
+def _said(mapping: Union[Words, Mapping[str, Any]]) -> Tuple[bytes, Tuple[str, ...]]:
+    """What a mapping says, and what is wrong where it can't be read: then it is as good as empty,
+    which is refused."""
+    if isinstance(mapping, Mapping):
+        return json.dumps(mapping).encode(), ()
+    try:
+        return Path(mapping).read_bytes(), ()
+    except OSError as unread:
+        return b"", (f"{os.fspath(mapping)} can't be read: {unread.strerror}",)
+
+
+def _started(program: Words, said: bytes, db: Words, store: Optional[MemoryStore]) -> Program:
+    """A program that answers calls, over a store; a `StoreFault` says what is in the way."""
+    with _as_file(said) as file:
+        folder = "" if store is None else str(store.folder)
+        running = Program([program, "--mapping", file, "--db", db], folder)
         try:
             running.start()
-            return EntityManagerFactory(running, json.loads(said or b""), echo)
+            return running
         except BaseException as fault:
             running.kill()
-            if isinstance(fault, MappingRefused):
-                from .linter import lint
-
-                fault.faults = faults or tuple(map(str, lint(said or b"").findings))
-            if isinstance(fault, StoreFault) and db is not None:
-                fault.why = _why_unopened(db)
+            if isinstance(fault, StoreFault):
+                fault.why = _why_unopened(db, store)
             raise
 
 
-def _why_unopened(db: Words) -> str:
+def _store_in_memory() -> MemoryStore:
+    try:
+        return MemoryStore()
+    except OSError as fault:
+        refused = StoreFault()
+        refused.why = f"no store in memory can be made: {fault}"
+        raise refused from fault
+
+
+def _why_unopened(db: Words, store: Optional[MemoryStore]) -> str:
+    if store is not None:
+        return room_words(store.folder)
     from .opening import why_unopened
 
-    return f"{os.fspath(db)} can't be opened: {why_unopened(Path(os.path.abspath(db)))}"
+    return f"{os.fspath(db)} can't be opened: {why_unopened(Path(db))}"
 
 
 @contextmanager
@@ -89,8 +131,15 @@ class EntityManagerFactory(Calls, AbstractContextManager["EntityManagerFactory"]
     """A running unit. A context manager that ends the program; threads may share it, and each call
     is done as a whole."""
 
-    def __init__(self, program: Program, mapping: Mapping[str, Any], echo: bool = False) -> None:
+    def __init__(
+        self, program: Program, mapping: Mapping[str, Any], echo: bool = False,
+        store: Optional[MemoryStore] = None,
+    ) -> None:
+        """With the store, where it is in memory."""
         super().__init__(mapping, classes_of(self, mapping), echo)
+        self._store = store
+        # Where it is opened for threads.
+        self._places: Optional[Places] = None
         self._begin_run(program)
 
     def _begin_run(self, program: Program) -> None:
@@ -98,8 +147,10 @@ class EntityManagerFactory(Calls, AbstractContextManager["EntityManagerFactory"]
         self._tally.unmarked = kinds.unmarked
         self.program, self._run = program, Run(self, kinds)
         self._turn += 1  # So that no collection shows what it read before.
-        # Last, since it says that all is done.
+        # Last but for what may be done again, since it says that all is done.
         program.run = self._run
+        if self._places is not None:
+            self._places.run_begun()
 
     def __exit__(self, kind: Optional[Type[BaseException]], *_: object) -> None:
         # What the block itself raised is told.
@@ -114,11 +165,13 @@ class EntityManagerFactory(Calls, AbstractContextManager["EntityManagerFactory"]
             if self._is_within():  # The call that waits is told of the end.
                 self.program.stop()
                 return
-            with closing(self.program):
+            with nullcontext() if self._store is None else closing(self._store), closing(self.program):
                 try:
                     self._settle(10)
                 finally:
                     self._calls = None
+        if self._places is not None:
+            self._places.wake()
 
     def restart(self) -> None:
         """Begins a new run, as after a `GivenUp`, a `ProgramEnded`, or where a run has made all its
@@ -128,15 +181,10 @@ class EntityManagerFactory(Calls, AbstractContextManager["EntityManagerFactory"]
         What isn't committed is gone. Objects and managers of before are `Restarted` where they are
         used, also by a call of another thread that waits meanwhile; classes and callbacks stay. In a
         pipeline the calls that were kept are sent first, and their first refusal is raised: then
-        nothing else was done. Of a store in memory it is `StoreInMemory`, and nothing was done.
+        nothing else was done.
         """
         with self._lock:
             self._refuse_within()
-            if "--db" not in self.program.words:
-                raise StoreInMemory(
-                    "the store is in memory, and a restart would lose it: open another factory by "
-                    "karzhoul.open"
-                )
             with suppress(ProgramEnded):
                 self.tell_kept(10)
             try:
@@ -148,19 +196,12 @@ class EntityManagerFactory(Calls, AbstractContextManager["EntityManagerFactory"]
         """Ends the program, and starts another one over its file. Numbers of generated keys that no
         commit has stored are given again."""
         with self._lock:
-            program, mapping, given, *rest = self.program.words
+            self._refuse_within()
+            program, *_, db = self.program.words
             self.program.close()
             self._calls = None
-            with _as_file(json.dumps(self.mapping).encode()) as file:
-                running = Program([program, mapping, file, *rest])
-                try:
-                    running.start()
-                    self._begin_run(running)
-                except BaseException as fault:
-                    running.kill()
-                    if isinstance(fault, StoreFault):
-                        fault.why = _why_unopened(rest[-1])
-                    raise
+            said = json.dumps(self.mapping).encode()
+            self._begin_run(_started(program, said, db, self._store))
 
     @overload
     def entity(self, name: str) -> Type[Entity]: ...
@@ -173,15 +214,58 @@ class EntityManagerFactory(Calls, AbstractContextManager["EntityManagerFactory"]
         makes a new object, as `Person(name="Ada")`."""
         return entity_named(self._classes, name)
 
+    def _renewed(self, may_start: bool) -> bool:
+        """A new run, where no transaction is open; whether one is on. A program that doesn't serve
+        that is started again, where it may be."""
+        try:
+            try:
+                self.ask_restart()
+            except BadLine:
+                if not may_start:
+                    return False
+                self._start_again()
+        except KarzhoulError:
+            return False
+        return True
+
     def create_entity_manager(self) -> EntityManager:
-        """A manager with an empty context."""
+        """A manager with an empty context. Opened for threads, the factory waits for one where 16
+        are open; `NoFreeManager` where none was closed in time."""
+        return self._created(Place(False))
+
+    def _created(self, place: Place, at_once: bool = False) -> EntityManager:
+        """A manager at a place, which is waited for, unless it is to be had at once."""
+        places = self._places
+        if places is None:
+            return self._manager(None)
+        try:
+            places.take(place, 0 if at_once else places.wait)
+            return self._manager(place)
+        except BaseException:
+            if place.run is not None:  # It was made, and nobody gets it.
+                self._left.append((place.run, place.number))
+            places.give_back(place)
+            raise
+
+    def _manager(self, place: Optional[Place]) -> EntityManager:
+        if self._left:
+            self._close_left()
         while True:
             run = self._run
             try:
-                return EntityManager(run, self.ask_lines(run, [_CREATE])[0])
+                return EntityManager(run, self.ask_lines(run, [CREATE])[0], place)
             except Restarted:  # While it waited.
                 if run is self._run:
                     raise
+
+    def _close_left(self) -> None:
+        """Closes the managers that nobody has; what these haven't committed is gone."""
+        with self._lock:
+            while self._left:
+                run, number = self._left.pop()
+                members = {"em": str(number)}
+                with suppress(KarzhoulError):
+                    self.ask_lines(run, [line_of("rollback", members), line_of("close", members)])
 
     def begin(self) -> Begun:
         """A new manager with its transaction open, for a block: the block's end commits, or rolls
@@ -222,6 +306,10 @@ class EntityManagerFactory(Calls, AbstractContextManager["EntityManagerFactory"]
     @echo.setter
     def echo(self, echoes: bool) -> None:
         self._tally.echo = echoes
+
+    def why_unwritten(self) -> str:
+        """Why a commit can't be written, as far as that can be told."""
+        return "" if self._store is None else room_words(self._store.folder)
 
     def statistics(self) -> Statistics:
         """How many calls there were of each name, how long they took, what was refused, and how

@@ -49,7 +49,7 @@ class Loader:
             self._stored = {top: stored.classes(top) for top in tops}
             if self._nexts:
                 self._nexts = {top: stored.next_number(top) for top in self._nexts}
-                app.restart()  # They were given out by that.
+                app._start_again()  # They were given out by that, and are given again.
         for target, keys in self._plan.abroad.items():
             self._look_abroad(target, keys)
         for top in self._plan.held:
@@ -217,7 +217,7 @@ class Loader:
         except Limit:
             if self._terms.is_dry:
                 raise
-            self._app.restart()
+            self._app._start_again()  # So that numbers which weren't stored are given again.
             self._writer.nexts = nexts
             self._writer.open()
             step()

@@ -6,6 +6,7 @@ from contextlib import AbstractContextManager
 from typing import (
     TYPE_CHECKING, Any, Iterable, Iterator, List, Optional, Type, Union, overload,
 )
+from weakref import ref
 
 from .concern import Concern
 from .entities import E, EmbeddedId, Entity
@@ -17,6 +18,7 @@ from .refusals import KarzhoulError, NoSuchManager, ProgramEnded, Refused, Resta
 from .transactions import Attempt, EntityTransaction, attempts
 
 if TYPE_CHECKING:
+    from .places import Place
     from .runs import Run
 
 
@@ -24,8 +26,12 @@ class EntityManager(Queries, AbstractContextManager["EntityManager"]):
     """A manager of objects, whose context lasts over its commits.
     `EntityManagerFactory.create_entity_manager` makes one."""
 
-    def __init__(self, run: Run, number: int) -> None:
+    def __init__(self, run: Run, number: int, place: Optional[Place] = None) -> None:
+        """With its place, where the factory has places."""
         self.factory, self.number = run.factory, number
+        self._place = place
+        if place is not None:
+            place.run, place.number, place.manager = run, number, ref(self)
         self._run, self._em = run, str(number)
         self._transaction = EntityTransaction(self)
         self._concern = Concern(run.made)
@@ -203,7 +209,16 @@ class EntityManager(Queries, AbstractContextManager["EntityManager"]):
 
     def close(self) -> None:
         """Ends the manager, which owns no open transaction."""
-        self._ask("close")
+        try:
+            self._ask("close")
+        except (NoSuchManager, ProgramEnded, Restarted):  # It is gone already.
+            self._give_place_back()
+            raise
+        self._give_place_back()
+
+    def _give_place_back(self) -> None:
+        if self._place is not None and self.factory._places is not None:
+            self.factory._places.give_back(self._place)
 
     def _ask(self, call: str, **members: str) -> Any:
         """Does a call of this manager, whose members are JSON, and gives its answer."""

@@ -26,8 +26,8 @@ _CHUNK = (1 << 16,)
 # How long a program may still take for its reply once it is interrupted a second time.
 _GRACE = 1.0
 # Ends the program's group at the end of input, which comes without a line where this process is
-# killed.
-_WATCH = 'read -r line || kill -KILL "-$1"'
+# killed, and removes what goes with it.
+_WATCH = 'read -r line || { kill -KILL "-$1"; [ -z "$2" ] || rm -rf -- "$2"; }'
 
 Words = Union[str, "os.PathLike[str]"]
 
@@ -130,7 +130,8 @@ class Program:
     What it tells on standard error goes to a file, and is told where it ends.
     """
 
-    def __init__(self, words: Sequence[Words]) -> None:
+    def __init__(self, words: Sequence[Words], folder: Words = "") -> None:
+        """With a folder that goes where this process is killed."""
         self.words, self._errors = words, tempfile.TemporaryFile()
         self._here = _here
         # In a group of its own, so that Ctrl-C at a terminal interrupts a call and doesn't end the
@@ -143,7 +144,7 @@ class Program:
         except OSError as fault:
             self._errors.close()
             raise ProgramNotFound(f"{words[0]!r} can't be started: {fault.strerror}") from fault
-        self._watch = _watch_of(self._process)
+        self._watch = _watch_of(self._process, folder)
         assert self._process.stdin is not None and self._process.stdout is not None
         # As `map` takes them.
         self._in, self._out = (self._process.stdin.fileno(),), (self._process.stdout.fileno(),)
@@ -296,14 +297,14 @@ _here = object()
 _watches: Set[_Process] = set()
 
 
-def _watch_of(process: _Process) -> _Process:
+def _watch_of(process: _Process, folder: Words) -> _Process:
     """A shell that ends a process where this one ends without a word, be it killed, also while the
-    process is at a long query.
+    process is at a long query; a folder that is named goes then.
 
     The kernel's own way to do so (PR_SET_PDEATHSIG) is Linux's alone, and would end the program
     with the thread that started it.
     """
-    words = ["/bin/sh", "-c", _WATCH, "karzhoul", str(process.pid)]
+    words = ["/bin/sh", "-c", _WATCH, "karzhoul", str(process.pid), folder]
     try:
         watch = _Process(
             words, bufsize=0, stdin=PIPE, stdout=DEVNULL, stderr=DEVNULL, cwd="/",

@@ -62,8 +62,14 @@ class Restarted(KarzhoulError):
     again."""
 
 
+class NoFreeManager(KarzhoulError):
+    """No manager was free within the time that is waited for one (`karzhoul.open(.., threads=True,
+    wait=..)`), or none can become free. Nothing was done."""
+
+
 class StoreInMemory(KarzhoulError):
-    """A restart was refused, since it would lose the store, which is in memory."""
+    """Nothing raises this any more: a store in memory is restarted as others are. It stays for the
+    `except` clauses that name it."""
 
 
 # The refusals by name, and those after which a transaction can only roll back.
@@ -308,6 +314,6 @@ def refusal_of(text: str, events: Tuple[Event, ...] = (), line: str = "") -> Ref
 
 
 __all__ = [
-    "GivenUp", "KarzhoulError", "NotServed", "ProgramEnded", "ProgramNotFound", "Refused",
+    "GivenUp", "KarzhoulError", "NoFreeManager", "NotServed", "ProgramEnded", "ProgramNotFound", "Refused",
     "Restarted", "StoreInMemory", *REFUSALS,
 ]

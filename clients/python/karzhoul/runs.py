@@ -11,7 +11,7 @@ from weakref import ref
 from .classes import Classes
 from .entities import Entity, Event
 from .lines import LifecycleEvent, spelled, text_spelled
-from .refusals import MARKING, REFUSALS, BadLine, Refused, Restarted
+from .refusals import MARKING, REFUSALS, BadLine, Refused, Restarted, StoreFault
 
 if TYPE_CHECKING:
     from .factory import EntityManagerFactory
@@ -165,6 +165,8 @@ class Run:
             why, events, line.decode(errors="replace")
         )
         made._factory, made._run = self.factory, self
+        if isinstance(made, StoreFault):
+            made.why = self.factory.why_unwritten()
         if found := _MANAGER.search(line):
             manager = int(found[1])
             made._before = self.marked.get(manager)

@@ -630,12 +630,6 @@ class OfTheProgram(ProgramTest):
             app.restart()
             self.assertEqual(present(app.create_entity_manager(), "Person", 1).name, "Ada")
 
-    def test_a_store_in_memory_is_not_restarted(self) -> None:
-        ada = self.committed(name="Ada")
-        with self.assertRaises(karzhoul.StoreInMemory):
-            self.app.restart()
-        self.assertEqual(ada.name, "Ada")
-
 
 if __name__ == "__main__":
     unittest.main()

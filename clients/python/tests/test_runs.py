@@ -5,6 +5,7 @@ from __future__ import annotations
 import contextlib
 import random
 import re
+import sys
 import threading
 import time
 import unittest
@@ -150,14 +151,15 @@ class Waiting(RunsTest):
         self.assertEqual(self.names(), list(NAMES))
 
     def test_an_embedded_id(self) -> None:
-        for call in (
+        calls: List[Callable[[Any], Any]] = [
             lambda place: place.at.shelf,
             lambda place: tuple(place.at),
             lambda place: setattr(place, "at", (9, "Eve", b"")),
             lambda place: setattr(place.at, "shelf", "Eve"),
-        ):
+        ]
+        for call in calls:
             self.app.restart()
-            place: Any = self.app.new("Place")
+            place = self.app.new("Place")
             fault = self.waits(lambda: call(place))
             self.assertIsInstance(fault, Restarted, repr(fault))
 
@@ -181,11 +183,12 @@ class Waiting(RunsTest):
     def test_new_objects_and_managers_name_nothing_of_before(self) -> None:
         """So what makes them waits, and they are of the next run."""
         told: List[Any] = []
-        for make in (
+        makes: List[Callable[[], Any]] = [
             lambda: told.append(self.app.new("Person", name="Eve").name),
             lambda: told.append(self.app.new_many("Person", [{"name": "Eve"}])[0].name),
-            lambda: told.append(self.app.create_entity_manager().find("Person", 3).name),
-        ):
+            lambda: told.append(present(self.app.create_entity_manager(), "Person", 3).name),
+        ]
+        for make in makes:
             self.app.restart()
             self.assertIn("it was done", str(self.waits(make)))
         self.assertEqual(told, ["Eve", "Eve", "Cyd"])
@@ -195,13 +198,14 @@ class Waiting(RunsTest):
 class Within(RunsTest):
     """Restarts by a callback, in the middle of what is several calls."""
 
+    done = False
+
     def restarts_at(self, kind: LifecycleEvent) -> None:
         def callback(event: karzhoul.Event) -> None:
             if not self.done:
                 self.done = True
                 self.restart_as_bob()
 
-        self.done = False
         self.app.listen(callback, kind)
 
     def test_calls_after_a_callback_that_restarts(self) -> None:
@@ -222,6 +226,7 @@ class Within(RunsTest):
         ada = manager.find("Person", 1)
         self.assertTrue(self.done)
         with self.assertRaises(Restarted):
+            assert ada is not None
             ada.name = "Eve"
         self.assertEqual(self.names(), list(NAMES))
 
@@ -248,7 +253,7 @@ class Together(RunsTest):
         order = present(manager, "Order", 1)
         bob, again = self.restart_as_bob(), self.again
         other = present(again, "Order", 2)
-        for call in (
+        calls: List[Callable[[], Any]] = [
             lambda: setattr(other, "person", ada),
             lambda: setattr(order, "person", bob),
             lambda: bob.orders.append(order),
@@ -266,7 +271,8 @@ class Together(RunsTest):
             lambda: self.app.get_many([ada, bob], "name"),
             lambda: again.fetch([bob, ada], "orders"),
             lambda: self.app.new_many("Order", [{"person": bob}, {"person": ada}]),
-        ):
+        ]
+        for call in calls:
             with self.assertRaises(Restarted):
                 call()
         with self.app.pipeline():
@@ -279,11 +285,12 @@ class Together(RunsTest):
         with karzhoul.open(MAPPING, program=PROGRAM) as other:
             eve = other.new("Person", name="Eve")
             bob = self.restart_as_bob()
-            for call in (
+            calls: List[Callable[[], Any]] = [
                 lambda: self.again.persist(eve),
                 lambda: self.app.get(eve, "name"),
                 lambda: bob.orders.append(eve),
-            ):
+            ]
+            for call in calls:
                 with self.assertRaisesRegex(ValueError, "no object of this factory"):
                     call()
 
@@ -390,7 +397,7 @@ class Many(RunsTest):
                 found.append(f"the orders {numbers} were read, and not {key + 1}")
             person.orders.remove(person.orders[0])
             person.orders.append(present(manager, "Order", key + 1))
-            shelf = manager.find("Place", (key + 1, NAMES[key], b"")).at.shelf
+            shelf = present(manager, "Place", (key + 1, NAMES[key], b"")).at.shelf
             if shelf != NAMES[key]:
                 found.append(f"the shelf {shelf} was read, and not {NAMES[key]}")
 
@@ -404,6 +411,131 @@ class Many(RunsTest):
             merged = manager.merge(person)
             if not merged.name.startswith(name):
                 found.append(f"{merged.name} was merged, and not {name}")
+
+
+@needs_program
+class ByCall(RunsTest):
+    """A restart that the program does itself."""
+
+    def test_the_program_goes_on(self) -> None:
+        pid = self.app.program.pid
+        self.app.restart()
+        for _ in range(3):
+            managers = [self.app.create_entity_manager() for _ in range(16)]
+            self.assertEqual([each.number for each in managers], list(range(1, 17)))
+            eve = self.Person(name="Eve")
+            self.assertEqual((eve._karzhoul_number, self.app.statistics().made), (1, 1))
+            self.app.restart()
+            self.assertEqual(self.app.statistics().made, 0)
+        self.assertEqual(self.app.program.pid, pid)
+        self.assertEqual(self.names(), list(NAMES))
+
+    def test_callbacks_and_classes_stay(self) -> None:
+        told: List[Any] = []
+        self.app.listen(lambda event: told.append(event.object.name), LifecycleEvent.POST_LOAD)
+        self.app.restart()
+        with self.app.begin() as manager:
+            self.assertIsInstance(manager.find("Person", 1), self.Person)
+        self.assertEqual(told, ["Ada"])
+
+    def test_what_is_not_committed_is_gone(self) -> None:
+        """Where a transaction is open the program is started again."""
+        pid, manager = self.app.program.pid, self.app.create_entity_manager()
+        with self.assertRaises(Restarted):
+            with manager.transaction():
+                present(manager, "Person", 1).name = "Eve"
+                manager.flush()
+                self.app.restart()
+        self.assertNotEqual(self.app.program.pid, pid)
+        self.assertFalse(manager.transaction().is_active)
+        self.assertEqual(self.names(), list(NAMES))
+
+    def test_a_program_that_has_ended(self) -> None:
+        self.app.program._process.kill()
+        with self.assertRaises(karzhoul.ProgramEnded):
+            self.names()
+        self.app.restart()
+        self.assertEqual(self.names(), list(NAMES))
+
+    def test_a_program_that_does_not_restart_itself(self) -> None:
+        """It is started again."""
+        pid = self.app.program.pid
+        with mock.patch.object(self.app, "ask_restart", mock.Mock(side_effect=karzhoul.BadLine)):
+            self.app.restart()
+        self.assertNotEqual(self.app.program.pid, pid)
+        self.assertEqual(self.names(), list(NAMES))
+
+    def test_no_generated_key_is_given_twice(self) -> None:
+        """Also none that a transaction had taken which was rolled back."""
+        manager = self.app.create_entity_manager()
+        manager.transaction().begin()
+        eve = self.Person(name="Eve")
+        manager.persist(eve)
+        taken = eve.id
+        manager.transaction().rollback()
+        self.app.restart()
+        with self.app.begin() as manager:
+            eve = self.Person(name="Eve")
+            manager.persist(eve)
+            self.assertGreater(eve.id, taken)
+
+    def test_a_line_of_one_s_own(self) -> None:
+        """It is known to restart, however it is written."""
+        restarts: List[Callable[[], Any]] = [
+            lambda: self.app.send_line(' { "call" : "\\u0072estart" } '),
+            lambda: self.app.ask("restart"),
+        ]
+        for restart in restarts:
+            _, ada, _ = self.swapped()
+            self.assertIsNone(restart())
+            self.again = self.app.create_entity_manager()
+            present(self.again, "Person", 2)
+            with self.assertRaises(Restarted):
+                ada.name = "Eve"
+            with self.again.transaction():
+                with self.assertRaises(karzhoul.IllegalState):
+                    restart()
+        self.assertEqual(self.names(), list(NAMES))
+
+    def test_an_interrupt_at_any_step(self) -> None:
+        """Ada is herself, or `Restarted`, and another call restarts."""
+        done = 0
+        for step in range(1, 400):
+            _, ada, _ = self.swapped()
+            if not interrupted_at_step(step, self.app.restart):
+                break
+            bob = present(self.app.create_entity_manager(), "Person", 2)
+            self.assertEqual(bob.name, "Bob")
+            try:
+                self.assertEqual(ada.name, "Ada")
+            except Restarted:
+                done += 1
+        else:
+            self.fail("a restart has more steps")
+        self.assertGreater(step, 10)
+        self.assertGreater(done, 3)
+        self.assertEqual(self.names(), list(NAMES))
+
+
+def interrupted_at_step(number: int, work: Callable[[], object]) -> bool:
+    """Does work, interrupted at its step of this number; whether it has as many."""
+    left, package = number, str(HERE.parent / "karzhoul")
+
+    def profile(frame: Any, event: str, _: object) -> None:
+        nonlocal left
+        if event in ("call", "c_return") and frame.f_code.co_filename.startswith(package):
+            left -= 1
+            if left == 0:
+                raise KeyboardInterrupt
+
+    try:
+        sys.setprofile(profile)
+        work()
+    except KeyboardInterrupt:
+        return True
+    finally:
+        sys.setprofile(None)
+    return False
 
 
 @needs_program
