@@ -143,12 +143,15 @@ class EntityManagerFactory(Calls, AbstractContextManager["EntityManagerFactory"]
         self._begin_run(program)
 
     def _begin_run(self, program: Program) -> None:
+        before: Optional[Run] = vars(self).get("_run")
         kinds = Classes(self._classes, marks_of(self.mapping))
         self._tally.unmarked = kinds.unmarked
         self.program, self._run = program, Run(self, kinds)
         self._turn += 1  # So that no collection shows what it read before.
         # Last but for what may be done again, since it says that all is done.
         program.run = self._run
+        if before is not None:
+            before.end()
         if self._places is not None:
             self._places.run_begun()
 

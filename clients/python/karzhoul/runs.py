@@ -45,6 +45,11 @@ class Run:
         """How many objects it has made, loads counted."""
         return self.kinds.made
 
+    def end(self) -> None:
+        """It is over: only those who hold its objects go on to hold it, and no more."""
+        self.kinds = Classes(self.factory._classes, {})
+        self.marked, self._objects = {}, {}
+
     # ---- the numbers of objects
 
     def number(self, entity: Entity) -> str:

@@ -326,7 +326,8 @@ class Many(RunsTest):
         found: List[str] = []
         counts = dict.fromkeys(("done", "Restarted"), 0)
         is_over = threading.Event()
-        works = (self.by_set, self.by_pipeline, self.by_collection, self.by_query)
+        works = [self.by_set, self.by_pipeline, self.by_collection, self.by_query]
+        works += [self.by_reading] * 4
         heard: List[str] = []
 
         def callback(event: karzhoul.Event) -> None:
@@ -356,21 +357,38 @@ class Many(RunsTest):
         threads = [threading.Thread(target=work, args=(place,)) for place in range(8)]
         for thread in threads:
             thread.start()
+        programs = {self.app.program.pid}
         for _ in range(self.RESTARTS):
             time.sleep(random.uniform(0, 0.01))
             self.app.restart()
+            programs.add(self.app.program.pid)
         is_over.set()
         for thread in threads:
             thread.join()
         self.assertEqual((found, heard), ([], []))
         self.assertGreater(counts["done"], 100)
         self.assertGreater(counts["Restarted"], 100)
+        # Some were done by the program itself, and some by another one, as transactions were open.
+        self.assertGreater(len(programs), self.RESTARTS // 50)
+        self.assertLess(len(programs), self.RESTARTS - self.RESTARTS // 50)
         stored = [re.sub("[0-9]+$", "", name) for name in self.names()]
         self.assertEqual(stored, list(NAMES))
 
     def drawn(self, chance: random.Random, manager: karzhoul.EntityManager) -> Tuple[str, Any]:
         key = chance.randrange(len(NAMES))
         return NAMES[key], present(manager, "Person", key + 1)
+
+    def by_reading(self, chance: random.Random, found: List[str]) -> None:
+        """Without a transaction, which would hold off a restart by the program itself."""
+        with self.app.create_entity_manager() as manager:
+            for _ in range(3):
+                name, person = self.drawn(chance, manager)
+                names = [person.name, *self.app.get_many([person], "name")]
+                names += [order.person.name for order in person.orders]
+                if {each.rstrip("0123456789") for each in names} != {name}:
+                    found.append(f"{names} were read, and not {name}")
+            manager.detach(person)
+            person.name = "Eve"  # Of what is detached nothing is stored.
 
     def by_set(self, chance: random.Random, found: List[str]) -> None:
         with self.app.begin() as manager:
