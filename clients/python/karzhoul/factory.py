@@ -256,7 +256,9 @@ class EntityManagerFactory(Calls, AbstractContextManager["EntityManagerFactory"]
         while True:
             run = self._run
             try:
-                return EntityManager(run, self.ask_lines(run, [CREATE])[0], place)
+                number: int = self.ask_lines(run, [CREATE])[0]
+                run.managers = number
+                return EntityManager(run, number, place)
             except Restarted:  # While it waited.
                 if run is self._run:
                     raise

@@ -9,7 +9,7 @@ from .factory import EntityManagerFactory
 from .lines import LifecycleEvent
 from .plans import Plan, Terms
 from .records import GREATEST, Key, Next, Record, Shape, named, shapes_of
-from .refusals import Limit, OutOfMemory, Persistence, Refused, StoreFault
+from .refusals import Limit, ObjectLimit, OutOfMemory, Persistence, Refused, StoreFault
 from .sources import RowFault, Source
 from .writing import Row, Writer
 
@@ -214,7 +214,7 @@ class Loader:
         """Does a step; where the run of the program has made all its objects, in the next run."""
         try:
             step()
-        except Limit:
+        except ObjectLimit:
             if self._terms.is_dry:
                 raise
             self._app._start_again()  # So that numbers which weren't stored are given again.

@@ -214,6 +214,10 @@ class Rollback(Refused, number=14):
         if self.detail is None or self.detail == "marked":
             return None
         cause = refusal_of(self.detail, self.events, self.line)
+        if isinstance(cause, Limit):
+            from .limits import told_apart
+
+            cause = told_apart(cause)
         cause._factory, cause._run, cause._concern = self._factory, self._run, self._concern
         return cause
 
@@ -247,36 +251,101 @@ class Busy(Refused, number=18):
     """No program answers this any more; its number stays."""
 
 
+MOST_LINE_BYTES = 1_048_576
 _RESTART = ": commit, and app.restart() opens the program again over its file"
-# What else a call may have too much of.
-_LONG = dict.fromkeys(
-    ("find", "getReference"), "; or the key has a text or bytes of over 65,535 bytes"
-)
-_LONG.update(
+_OBJECTS = f"a run makes at most 1,000,000 objects, loads counted{_RESTART}"
+_OPEN = "at most 16 managers are open at a time: close one that isn't used"
+_MADE = f"a run makes at most 1,000,000 managers{_RESTART}"
+_TEXT, _LINE = "a text or bytes have at most 65,535 bytes", "a line has at most 1,048,576 bytes"
+_QUERY = "the query is over the limits of docs/QUERIES.md"
+# What each call may have too much of.
+_OF_CALLS = {"set": _TEXT, "createEntityManager": f"{_OPEN}; and {_MADE}"}
+_OF_CALLS.update(
     dict.fromkeys(
-        ("query", "querySingle", "executeUpdate"),
-        "; or the query is over the limits of docs/QUERIES.md",
+        ("find", "getReference"),
+        f"{_OBJECTS}; or the key has a text or bytes of over 65,535 bytes",
     )
 )
+_OF_CALLS.update(dict.fromkeys(("query", "querySingle"), f"{_OBJECTS}; or {_QUERY}"))
+_OF_CALLS["executeUpdate"] = f"{_OBJECTS}; or {_TEXT}, and so has what an UPDATE puts together"
 
 
 class Limit(Refused, number=19):
-    """More than the program allows. It says which limits the call may have met, and what to do."""
+    """More than the program allows. It says which limits the call may have met, and what to do.
+
+    The program doesn't tell which limit it is. Where what was sent tells, it is a class of its own
+    below this one, whose `detail` says which: `ObjectLimit`, `ManagerLimit`, `TextLimit`,
+    `LineLimit` or `QueryLimit`. Of an UPDATE with CONCAT it can't be told.
+    """
+
+    kind: ClassVar[Optional[str]] = None
+
+    def __init__(
+        self, detail: Optional[str] = None, events: Tuple[Event, ...] = (), line: str = ""
+    ) -> None:
+        super().__init__(self.kind if detail is None else detail, events, line)
+        self.name = "Limit"
 
     def __str__(self) -> str:
+        return f"Limit: {self._sentence()}"
+
+    def _sentence(self) -> str:
+        """What there is too much of, and what to do."""
+        if len(self.line.encode(errors="replace")) > MOST_LINE_BYTES:
+            return _LINE
         found = re.match(r'\{"call":"(\w+)"', self.line)
-        call = found[1] if found else ""
-        if len(self.line.encode(errors="replace")) > 1_048_576:
-            return "Limit: a line has at most 1,048,576 bytes"
-        if call == "set":
-            return "Limit: a text or bytes have at most 65,535 bytes"
-        if call == "createEntityManager":
-            return (
-                f"Limit: at most 16 managers are open at a time: close one that isn't used; and a "
-                f"run makes 1,000,000{_RESTART}"
-            )
-        objects = f"a run makes at most 1,000,000 objects, loads counted{_RESTART}"
-        return f"Limit: {objects}{_LONG.get(call, '')}"
+        return _OF_CALLS.get(found[1] if found else "", _OBJECTS)
+
+
+class ObjectLimit(Limit):
+    """`Limit("objects")`: a run makes at most 1,000,000 objects, loads counted. A restart begins
+    another run."""
+
+    kind = "objects"
+
+    def _sentence(self) -> str:
+        return _OBJECTS
+
+
+class ManagerLimit(Limit):
+    """`Limit("managers")`: at most 16 managers are open at a time, and a run makes 1,000,000."""
+
+    kind = "managers"
+    # How many the run had made, where that is known.
+    made: Optional[int] = None
+
+    def _sentence(self) -> str:
+        if self.made is None:
+            return f"{_OPEN}; and {_MADE}"
+        return _OPEN if self.made < 1_000_000 else _MADE
+
+
+class TextLimit(Limit):
+    """`Limit("text")`: a text or bytes have at most 65,535 bytes."""
+
+    kind = "text"
+
+    def _sentence(self) -> str:
+        return _TEXT
+
+
+class LineLimit(Limit):
+    """`Limit("line")`: a line has at most 1,048,576 bytes."""
+
+    kind = "line"
+
+    def _sentence(self) -> str:
+        return _LINE
+
+
+class QueryLimit(Limit):
+    """`Limit("query")`: a query has at most 16,384 bytes, 32 parentheses within one another, and 8
+    variables."""
+
+    kind = "query"
+
+    def _sentence(self) -> str:
+        return _QUERY
 
 
 class Mapping(Refused, number=20):
@@ -314,6 +383,7 @@ def refusal_of(text: str, events: Tuple[Event, ...] = (), line: str = "") -> Ref
 
 
 __all__ = [
-    "GivenUp", "KarzhoulError", "NoFreeManager", "NotServed", "ProgramEnded", "ProgramNotFound", "Refused",
-    "Restarted", "StoreInMemory", *REFUSALS,
+    "GivenUp", "KarzhoulError", "LineLimit", "ManagerLimit", "NoFreeManager", "NotServed",
+    "ObjectLimit", "ProgramEnded", "ProgramNotFound", "QueryLimit", "Refused", "Restarted",
+    "StoreInMemory", "TextLimit", *REFUSALS,
 ]

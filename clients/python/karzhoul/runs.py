@@ -4,20 +4,19 @@ have their numbers in one run alone."""
 from __future__ import annotations
 
 import json
-import re
 from typing import TYPE_CHECKING, Any, Dict, List, Optional, Sequence, Tuple, Type, Union
 from weakref import ref
 
 from .classes import Classes
 from .entities import Entity, Event
 from .lines import LifecycleEvent, spelled, text_spelled
-from .refusals import MARKING, REFUSALS, BadLine, Refused, Restarted, StoreFault
+from .refusals import BadLine, Restarted
+from .refusing import refusal_told
 
 if TYPE_CHECKING:
     from .factory import EntityManagerFactory
 
 _decode = json.JSONDecoder().raw_decode
-_MANAGER = re.compile(rb'"em":([0-9]+)')
 _EVENTS = {kind.value: kind for kind in LifecycleEvent}
 _set_number = Entity.__dict__["_karzhoul_number"].__set__
 _set_run = Entity.__dict__["_karzhoul_run"].__set__
@@ -31,12 +30,14 @@ class Run:
     only while it is on. The calls of a factory alone have it read replies, one at a time.
     """
 
-    __slots__ = ("factory", "kinds", "marked", "_objects", "_most")
+    __slots__ = ("factory", "kinds", "marked", "managers", "_objects", "_most")
 
     def __init__(self, factory: EntityManagerFactory, kinds: Classes) -> None:
         self.factory, self.kinds = factory, kinds
         # The first refusal of each manager's transaction that marked it, by the manager's number.
         self.marked: Dict[int, Tuple[str, str]] = {}
+        # How many managers it has made, as far as they were created by the factory.
+        self.managers: Optional[int] = None
         self._objects: Dict[int, ref[Entity]] = {}
         self._most = 1000
 
@@ -165,21 +166,7 @@ class Run:
             return answer, events
         if "error" not in said:
             raise ValueError(f"{reply[:100]!r} is no reply")
-        refused, why = REFUSALS.get(said["error"]["name"], Refused), said["error"].get("why")
-        made = (bad_line if refused is BadLine else refused)(
-            why, events, line.decode(errors="replace")
-        )
-        made._factory, made._run = self.factory, self
-        if isinstance(made, StoreFault):
-            made.why = self.factory.why_unwritten()
-        if found := _MANAGER.search(line):
-            manager = int(found[1])
-            made._before = self.marked.get(manager)
-            if made.name in MARKING:
-                self.marked.setdefault(manager, (str(made), made.line))
-        # Which a traceback of Python 3.11 and later tells.
-        vars(made)["__notes__"] = ["its explain() says more"]
-        return made, events
+        return refusal_told(self, said["error"], events, line, bad_line), events
 
     def _event(self, name: str, number: int, *ran: str) -> Event:
         of: Union[Entity, int] = number if self.kinds[number] is None else self.object(number)
